@@ -1,0 +1,32 @@
+-- The regions of one chunk and class.
+use Rattle.std.specs.Prelude.{Bool, ◌≡◌, ◌+◌, ◌-◌, ◌*◌, List, min}
+use Rattle.nav_types.specs.declared.cells.Cell.{Cell}
+use Rattle.nav_types.specs.declared.cells.Chunk.{Chunk}
+use Rattle.nav_types.specs.declared.cells.Rect.{Rect}
+use Rattle.nav_types.specs.declared.cells.Size.{Size}
+use Rattle.nav_types.specs.Cells.{IsBefore, IsInRect}
+use Rattle.nav_types.specs.Counting.{AreFirsts}
+use Rattle.nav_types.specs.Regions.{passes_in, InOneRegion, HasRegion}
+use Rattle.chunk_regions.specs.Numbering.{Numbering, number_of}
+
+-- a chunk, the region numbers of its cells in the map, and the first cells of its regions in order
+pub record Labelling : Type 0 where
+  pub chunk : Chunk
+  pub cells : Numbering
+  pub firsts : List Cell
+
+-- the chunk's cells in a map of this size, where it has one: 96 by 96 navcells, fewer at the map's east and north side
+abbrev pub chunk_rect : Size → Chunk → Rect
+chunk_rect size chunk = record {
+  i0 = 96 * chunk.ci;
+  j0 = 96 * chunk.cj;
+  i1 = min (96 * chunk.ci + 95) (size.w - 1);
+  j1 = min (96 * chunk.cj + 95) (size.h - 1);
+}
+
+-- the labels are those of the chunk in a map of this size, where `passes` says which cells are passable for the class
+pub record AreLabels (passes : Cell → Bool) (size : Size) (chunk : Chunk) (labels : Labelling) : Type 0 where
+  pub of_chunk : labels.chunk ≡ chunk
+  pub extent : labels.cells.rect ≡ chunk_rect size chunk
+  pub numbers : (cell : Cell) → IsInRect labels.cells.rect cell → HasRegion passes chunk cell (number_of labels.cells cell)
+  pub first_cells : AreFirsts (passes_in passes chunk) (InOneRegion passes chunk) IsBefore labels.firsts

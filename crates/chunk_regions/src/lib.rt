@@ -1,0 +1,15 @@
+//! The regions of one chunk of a map: the groups of its passable cells that straight steps join inside the chunk.
+#![tactic(auto)]
+
+mod extent;
+mod flood;
+pub mod labels;
+pub mod laws;
+mod table;
+
+pub use labels::{Labels, label};
+pub use laws::{one_area, one_region, same_area, same_region, straight_steps_join};
+pub use nav_types::Chunk;
+
+#[cfg(test)]
+mod tests;

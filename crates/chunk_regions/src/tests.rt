@@ -1,0 +1,351 @@
+ghost use Rattle.std.specs.Prelude.{◌≡◌, ◌*◌, ◌<◌};
+
+use super::*;
+use nav_types::{Cell, Class, NoMemory, Rect, Size, Steps, View};
+use std::alloc::{AllocError, Global};
+use std::marker::Brand;
+use std::sync::ledger::{Blank, Ledger};
+use std::test::Fail;
+
+/// A map of one class: `tiles` says for each cell, in the order of cells, whether it is passable.
+#[derive(Drop)]
+struct Sketch {
+    size: Size,
+    tiles: Vec<bool>,
+}
+
+impl View for Sketch {
+    ghost use Rattle.std.specs.Prelude.{◌+◌, ◌*◌, ◌&&◌, nat_lt, slice_index_or, false};
+    ghost use Rattle.std.proofs.lemmas.Bool.{and_parts, ltb-true};
+
+    ghost extent = { λ sketch. sketch.size };
+
+    ghost class_count = { λ _. 1 };
+
+    ghost passes = { λ sketch _ cell. nat_lt cell.i sketch.size.w
+        && (nat_lt cell.j sketch.size.h && slice_index_or sketch.tiles.items (cell.j * sketch.size.w + cell.i) false) };
+
+    fn size(&self) -> Size {
+        self.size
+    }
+
+    fn classes(&self) -> u8 {
+        1
+    }
+
+    fn passable(&self, _class: Class, cell: Cell) -> bool {
+        let place = cell.j as usize * self.size.w as usize + cell.i as usize;
+        cell.i < self.size.w
+            && (cell.j < self.size.h && self.tiles.get(place).copied().unwrap_or(false))
+    }
+
+    ghost within = { λ sketch _ cell passes. let column = and_parts _ _ passes in
+        record { column = ltb-true _ _ column.0; row = ltb-true _ _ (and_parts _ _ column.1).0 } };
+}
+
+/// The labels of a chunk, where the work is counted in a ledger of its own.
+fn counted<L: Ledger>(
+    alloc: Global,
+    sketch: &Sketch,
+    chunk: Chunk,
+    blank: Blank,
+) -> Result<Labels, NoMemory>
+    requires name { blank.name ≡ L.name }
+    requires parts { blank.parts ≡ L.parts }
+    requires some { 0 < L.parts }
+    requires columns { 96 * chunk.ci < sketch.now.size.w }
+    requires rows { 96 * chunk.cj < sketch.now.size.h }
+{
+    label(
+        alloc,
+        sketch,
+        Class::new(0),
+        chunk,
+        &mut Steps::<L>::new(blank),
+    )
+}
+
+/// The labels of a chunk. None where the chunk has no cell in the map, or there is no memory.
+fn labelled(alloc: Global, sketch: &Sketch, chunk: Chunk) -> Option<Labels> {
+    if 96 * chunk.ci as u32 >= sketch.size.w as u32
+        || 96 * chunk.cj as u32 >= sketch.size.h as u32
+    {
+        return None;
+    }
+    counted::<Brand>(alloc, sketch, chunk, Blank::new(1)).ok()
+}
+
+/// The map of rows of text, `#` for an impassable cell.
+fn drawn(alloc: Global, text: &str) -> Result<Option<Sketch>, AllocError> {
+    let mut tiles = Vec::new(alloc);
+    let mut rows = 0u16;
+    for row in text.split('/') {
+        rows = rows.saturating_add(1);
+        for tile in row.bytes() {
+            tiles.push(tile != b'#')?;
+        }
+    }
+    let width = tiles.len() / rows.max(1) as usize;
+    let size = Size::new(u16::try_from(width).unwrap_or(0), rows);
+    Ok(size.map(|size| Sketch { size, tiles }))
+}
+
+/// The numbers of the labels' cells in the order of cells, with spaces between.
+fn numbers_text(alloc: Global, labels: &Labels) -> Result<String, AllocError> {
+    let rect = labels.rect();
+    let mut text = String::new(alloc);
+    for j in rect.j0..=rect.j1 {
+        for i in rect.i0..=rect.i1 {
+            let cell = Cell::new(i, j);
+            if !text.is_empty() {
+                text.push(' ')?;
+            }
+            write!(text, "{}", labels.at(cell))?;
+        }
+    }
+    Ok(text)
+}
+
+// The rows of one chunk from row 0 up, joined by `/`, with `#` for an impassable cell; then the region numbers in
+// the order of cells.
+const CHUNKS: [(&str, &str); 40] = [
+    (
+        "..#.....#./....#..#../#..#....../#..##.#.../#...###..#/....####../.#.#..##../##..#.....",
+        "1 1 0 1 1 1 1 1 0 1 1 1 1 1 0 1 1 0 1 1 0 1 1 0 1 1 1 1 1 1 0 1 1 0 0 1 0 1 1 1 0 1 1 1 0 0 0 1 1 0 1 1 1 1 0 0 0 0 1 1 1 0 1 0 1 1 0 0 1 1 0 0 1 1 0 1 1 1 1 1",
+    ),
+    (
+        ".#./##./.##/###/###/##./##./###/#../#.#/..#/##./###/###",
+        "1 0 2 0 0 2 3 0 0 0 0 0 0 0 0 0 0 4 0 0 4 0 0 0 0 5 5 0 5 0 5 5 0 0 0 6 0 0 0 0 0 0",
+    ),
+    (
+        "##.../#.###/#.#.#/.####/#..../#####/..##./####.",
+        "0 0 1 1 1 0 2 0 0 0 0 2 0 3 0 4 0 0 0 0 0 5 5 5 5 0 0 0 0 0 6 6 0 0 7 0 0 0 0 7",
+    ),
+    (
+        "##.#.#./##...../..####.",
+        "0 0 1 0 1 0 1 0 0 1 1 1 1 1 2 2 0 0 0 0 1",
+    ),
+    (
+        "..#.....#..../........#..#./.#..##.....#./........#..../.##....#...../....#...#.#../#.......#..../..#.##....#.#",
+        "1 1 0 1 1 1 1 1 0 1 1 1 1 1 1 1 1 1 1 1 1 0 1 1 0 1 1 0 1 1 0 0 1 1 1 1 1 0 1 1 1 1 1 1 1 1 1 0 1 1 1 1 1 0 0 1 1 1 1 0 1 1 1 1 1 1 1 1 1 0 1 1 1 0 1 0 1 1 0 1 1 1 1 1 1 1 0 1 1 1 1 1 1 0 1 0 0 1 1 1 1 0 1 0",
+    ),
+    ("#/#/#/./#/#/#/./././#/#/.", "0 0 0 1 0 0 0 2 2 2 0 0 3"),
+    (
+        "...../...../...../...../...../.....",
+        "1 1 1 1 1 1 1 1 1 1 1 1 1 1 1 1 1 1 1 1 1 1 1 1 1 1 1 1 1 1",
+    ),
+    ("#/#/#/#/#/././#", "0 0 0 0 0 1 1 0"),
+    (
+        "##./#../.##/###/###/#../##.",
+        "0 0 1 0 1 1 2 0 0 0 0 0 0 0 0 0 3 3 0 0 3",
+    ),
+    (
+        "............/............/............/............",
+        "1 1 1 1 1 1 1 1 1 1 1 1 1 1 1 1 1 1 1 1 1 1 1 1 1 1 1 1 1 1 1 1 1 1 1 1 1 1 1 1 1 1 1 1 1 1 1 1",
+    ),
+    (
+        "##/##/##/##/##/##/##/##/##/##/##/##/##",
+        "0 0 0 0 0 0 0 0 0 0 0 0 0 0 0 0 0 0 0 0 0 0 0 0 0 0",
+    ),
+    (
+        ".#..##..#..###/##..###.######/.###.###.####./#...#####.##.#",
+        "1 0 2 2 0 0 3 3 0 4 4 0 0 0 0 0 2 2 0 0 0 3 0 0 0 0 0 0 5 0 0 0 6 0 0 0 7 0 0 0 0 8 0 9 9 9 0 0 0 0 0 10 0 0 11 0",
+    ),
+    (
+        "#######.#/###.##.#./.##..####/##.#####./..#..##.#/##.#.####/#..####.#",
+        "0 0 0 0 0 0 0 1 0 0 0 0 2 0 0 3 0 4 5 0 0 2 2 0 0 0 0 0 0 6 0 0 0 0 0 7 8 8 0 9 9 0 0 10 0 0 0 11 0 9 0 0 0 0 0 11 11 0 0 0 0 12 0",
+    ),
+    (
+        "##.../....#/...../#.#../#..../..#../.##../...../#..##/..##.",
+        "0 0 1 1 1 1 1 1 1 0 1 1 1 1 1 0 1 0 1 1 0 1 1 1 1 1 1 0 1 1 1 0 0 1 1 1 1 1 1 1 0 1 1 0 0 1 1 0 0 2",
+    ),
+    (
+        ".........../.........../.........../.........../.........../.........../...........",
+        "1 1 1 1 1 1 1 1 1 1 1 1 1 1 1 1 1 1 1 1 1 1 1 1 1 1 1 1 1 1 1 1 1 1 1 1 1 1 1 1 1 1 1 1 1 1 1 1 1 1 1 1 1 1 1 1 1 1 1 1 1 1 1 1 1 1 1 1 1 1 1 1 1 1 1 1 1",
+    ),
+    (
+        "######/######/######/######/######/######/######/######/######/######/######/######/######",
+        "0 0 0 0 0 0 0 0 0 0 0 0 0 0 0 0 0 0 0 0 0 0 0 0 0 0 0 0 0 0 0 0 0 0 0 0 0 0 0 0 0 0 0 0 0 0 0 0 0 0 0 0 0 0 0 0 0 0 0 0 0 0 0 0 0 0 0 0 0 0 0 0 0 0 0 0 0 0",
+    ),
+    (
+        "##....##/#.##.#.#/.####.../.#.#.##./.#...#.#/#...####/#....#.#/#......./.##.....",
+        "0 0 1 1 1 1 0 0 0 2 0 0 1 0 3 0 4 0 0 0 0 3 3 3 4 0 5 0 5 0 0 3 4 0 5 5 5 0 6 0 0 5 5 5 0 0 0 0 0 5 5 5 5 0 5 0 0 5 5 5 5 5 5 5 7 0 0 5 5 5 5 5",
+    ),
+    ("./#/././././#/././#/.", "1 0 2 2 2 2 0 3 3 0 4"),
+    ("#.#.#.", "0 1 0 2 0 3"),
+    (
+        "#../.#./#.#/..#/.#./..#/.#./.../#../.../#.#/.#./##./..#",
+        "0 1 1 2 0 1 0 3 0 3 3 0 3 0 4 3 3 0 3 0 3 3 3 3 0 3 3 3 3 3 0 3 0 5 0 6 0 0 6 7 7 0",
+    ),
+    (
+        ".##.#..#./.#....#../..##....#/......###/##..##.##/........./....#..##/.#.#.#.../.#.######/#..#...#./....##.#.",
+        "1 0 0 1 0 1 1 0 1 1 0 1 1 1 1 0 1 1 1 1 0 0 1 1 1 1 0 1 1 1 1 1 1 0 0 0 0 0 1 1 0 0 1 0 0 1 1 1 1 1 1 1 1 1 1 1 1 1 0 1 1 0 0 1 0 1 0 2 0 1 1 1 1 0 1 0 0 0 0 0 0 0 1 1 0 3 3 3 0 4 1 1 1 1 0 0 3 0 4",
+    ),
+    (
+        "##..##.#./.#.#..#../...##....",
+        "0 0 1 1 0 0 2 0 3 1 0 1 0 3 3 0 3 3 1 1 1 0 0 3 3 3 3",
+    ),
+    (
+        "....../....../....../....../....../....../....../....../....../....../....../....../......",
+        "1 1 1 1 1 1 1 1 1 1 1 1 1 1 1 1 1 1 1 1 1 1 1 1 1 1 1 1 1 1 1 1 1 1 1 1 1 1 1 1 1 1 1 1 1 1 1 1 1 1 1 1 1 1 1 1 1 1 1 1 1 1 1 1 1 1 1 1 1 1 1 1 1 1 1 1 1 1",
+    ),
+    (
+        "..#....#.../###...#.#.#/#.#.##..##./....#.....#/#....#..#../..##..#...#/.#...#...#./#..##....../....#....#.",
+        "1 1 0 2 2 2 2 0 3 3 3 0 0 0 2 2 2 0 4 0 3 0 0 2 0 2 0 0 4 4 0 0 5 2 2 2 2 0 4 4 4 4 4 0 0 2 2 2 2 0 4 4 0 4 4 2 2 0 0 2 2 0 4 4 4 0 2 0 2 2 2 0 4 4 4 0 4 0 2 2 0 0 4 4 4 4 4 4 2 2 2 2 0 4 4 4 4 0 4",
+    ),
+    (
+        "###...#..../....#..####/..#......#./..#.#.#..../##......#.#/....##.#.##",
+        "0 0 0 1 1 1 0 2 2 2 2 1 1 1 1 0 1 1 0 0 0 0 1 1 0 1 1 1 1 1 1 0 1 1 1 0 1 0 1 0 1 1 1 1 0 0 1 1 1 1 1 1 0 1 0 1 1 1 1 0 0 1 0 3 0 0",
+    ),
+    (
+        "..##../..###./###..#/##..##/#.#..#/##.###/.....#/..##../...#../#.##.#/#####./#.####/.#..##",
+        "1 1 0 0 2 2 1 1 0 0 0 2 0 0 0 3 3 0 0 0 3 3 0 0 0 4 0 3 3 0 0 0 5 0 0 0 5 5 5 5 5 0 5 5 0 0 5 5 5 5 5 0 5 5 0 5 0 0 5 0 0 0 0 0 0 6 0 7 0 0 0 0 8 0 9 9 0 0",
+    ),
+    (
+        ".#.#####.../..##..#...#/.#.#..#.###",
+        "1 0 2 0 0 0 0 0 3 3 3 1 1 0 0 4 4 0 3 3 3 0 1 0 5 0 4 4 0 3 0 0 0",
+    ),
+    ("./#/./#/./#/#/./#/#/.", "1 0 2 0 3 0 0 4 0 0 5"),
+    (
+        "....../....../....../....../....../....../....../....../......",
+        "1 1 1 1 1 1 1 1 1 1 1 1 1 1 1 1 1 1 1 1 1 1 1 1 1 1 1 1 1 1 1 1 1 1 1 1 1 1 1 1 1 1 1 1 1 1 1 1 1 1 1 1 1 1",
+    ),
+    ("#/./#/#/#/#", "0 1 0 0 0 0"),
+    ("#/./#", "0 1 0"),
+    (
+        "....##.##.#../.##..#.....##/######.#.##../....#.....#.#/.#####.#..#../#.####..#..##/####.#..#.#.#/##..#.#....##/###.##.##.###",
+        "1 1 1 1 0 0 2 0 0 2 0 3 3 1 0 0 1 1 0 2 2 2 2 2 0 0 0 0 0 0 0 0 2 0 2 0 0 4 4 5 5 5 5 0 2 2 2 2 2 0 4 0 5 0 0 0 0 0 2 0 2 2 0 4 4 0 6 0 0 0 0 2 2 0 2 2 0 0 0 0 0 0 7 0 2 2 0 2 0 8 0 0 0 9 9 0 10 0 2 2 2 2 0 0 0 0 0 9 0 0 11 0 0 2 0 0 0",
+    ),
+    (
+        "#.#.#.####../.#..########/##.##.#####./###.####..##/.###.####.##/.#####.#.##./###.####..../##.#..###..#/..#.#.######/###.########/##..#####.##/....####...#/###...#..##./####.#.#.##.",
+        "0 1 0 2 0 3 0 0 0 0 4 4 5 0 2 2 0 0 0 0 0 0 0 0 0 0 2 0 0 6 0 0 0 0 0 7 0 0 0 8 0 0 0 0 9 9 0 0 10 0 0 0 11 0 0 0 0 9 0 0 10 0 0 0 0 0 12 0 13 0 0 13 0 0 0 14 0 0 0 0 13 13 13 13 0 0 15 0 16 16 0 0 0 13 13 0 17 17 0 18 0 16 0 0 0 0 0 0 0 0 0 18 0 0 0 0 0 0 0 0 0 0 18 18 0 0 0 0 0 19 0 0 18 18 18 18 0 0 0 0 19 19 19 0 0 0 0 18 18 18 0 19 19 0 0 20 0 0 0 0 18 0 21 0 19 0 0 20",
+    ),
+    (
+        "##.##########/####.#.##.#.#/#############/..#..#.#.#.##",
+        "0 0 1 0 0 0 0 0 0 0 0 0 0 0 0 0 0 2 0 3 0 0 4 0 5 0 0 0 0 0 0 0 0 0 0 0 0 0 0 6 6 0 7 7 0 8 0 9 0 10 0 0",
+    ),
+    (
+        ".###/.##./####/.#.#/.##./..#./.#../####/##.#/###./##..",
+        "1 0 0 0 1 0 0 2 0 0 0 0 3 0 4 0 3 0 0 5 3 3 0 5 3 0 5 5 0 0 0 0 0 0 6 0 0 0 0 7 0 0 7 7",
+    ),
+    ("###./####", "0 0 0 1 0 0 0 0"),
+    (
+        "............../............../............../............../............../............../............../............../............../............../..............",
+        "1 1 1 1 1 1 1 1 1 1 1 1 1 1 1 1 1 1 1 1 1 1 1 1 1 1 1 1 1 1 1 1 1 1 1 1 1 1 1 1 1 1 1 1 1 1 1 1 1 1 1 1 1 1 1 1 1 1 1 1 1 1 1 1 1 1 1 1 1 1 1 1 1 1 1 1 1 1 1 1 1 1 1 1 1 1 1 1 1 1 1 1 1 1 1 1 1 1 1 1 1 1 1 1 1 1 1 1 1 1 1 1 1 1 1 1 1 1 1 1 1 1 1 1 1 1 1 1 1 1 1 1 1 1 1 1 1 1 1 1 1 1 1 1 1 1 1 1 1 1 1 1 1 1",
+    ),
+    (
+        "##.../##..#/#..../##.##",
+        "0 0 1 1 1 0 0 1 1 0 0 1 1 1 1 0 0 1 0 0",
+    ),
+    (
+        "###/.#./###/###/#.#/##./###/#../.##/#.#/###/#../.#./##.",
+        "0 0 0 1 0 2 0 0 0 0 0 0 0 3 0 0 0 4 0 0 0 0 5 5 6 0 0 0 7 0 0 0 0 0 8 8 9 0 8 0 0 8",
+    ),
+    (
+        ".#####/.#.#.#/#..#.#/###.##",
+        "1 0 0 0 0 0 1 0 2 0 3 0 0 2 2 0 3 0 0 0 0 4 0 0",
+    ),
+];
+
+#[test]
+fn chunks_have_their_regions(rt: HostRuntime) -> Result<(), Fail> {
+    for (rows, numbers) in CHUNKS {
+        let sketch = drawn(rt.alloc(), rows)?.ok_or("a size")?;
+        let labels = labelled(rt.alloc(), &sketch, Chunk { cj: 0, ci: 0 }).ok_or("labels")?;
+        let text = numbers_text(rt.alloc(), &labels)?;
+        assert_eq!(rt; text.as_str(), numbers, "in {rows}");
+    }
+    Ok(())
+}
+
+/// How a test's chunk of 96 by 96 navcells looks.
+#[derive(Clone, Copy)]
+enum Look {
+    Open,
+    Comb,
+    Random,
+}
+
+/// A map of one whole chunk: open, a comb whose teeth stand on row 0, or five cells of eight passable at random.
+fn whole_chunk(alloc: Global, size: Size, look: Look) -> Result<Sketch, AllocError> {
+    let mut tiles = Vec::new(alloc);
+    let mut seed = 12345u32;
+    for j in 0..96u32 {
+        for i in 0..96u32 {
+            seed = seed.wrapping_mul(1_103_515_245).wrapping_add(12345) & 0x7fff_ffff;
+            let passable = match look {
+                Look::Open => true,
+                Look::Comb => j == 0 || i % 2 == 0,
+                Look::Random => (seed >> 16) % 8 >= 3,
+            };
+            tiles.push(passable)?;
+        }
+    }
+    Ok(Sketch { size, tiles })
+}
+
+// How a whole chunk looks, with its number of regions, the first cell of the last one, the number of the last cell
+// and the sum of all numbers.
+const WHOLE: [(Look, u16, (u16, u16), u16, u64); 3] = [
+    (Look::Open, 1, (0, 0), 1, 9216),
+    (Look::Comb, 1, (0, 0), 0, 4656),
+    (Look::Random, 183, (90, 95), 0, 84776),
+];
+
+#[test]
+fn whole_chunks_are_quick(rt: HostRuntime) -> Result<(), Fail> {
+    let size = Size::new(96, 96).ok_or("a size")?;
+    for (look, count, last, corner, sum) in WHOLE {
+        let sketch = whole_chunk(rt.alloc(), size, look)?;
+        let labels = labelled(rt.alloc(), &sketch, Chunk { cj: 0, ci: 0 }).ok_or("labels")?;
+        let rect = labels.rect();
+        let mut total = 0u64;
+        for j in rect.j0..=rect.j1 {
+            for i in rect.i0..=rect.i1 {
+                total = total.saturating_add(u64::from(labels.at(Cell::new(i, j))));
+            }
+        }
+        assert_eq!(rt; total, sum);
+        assert_eq!(rt; labels.count(), count);
+        assert!(rt; count >= 1);
+        assert_eq!(rt; labels.first(count), Cell::new(last.0, last.1));
+        assert_eq!(rt;
+            rect,
+            Rect {
+                i0: 0,
+                j0: 0,
+                i1: 95,
+                j1: 95
+            }
+        );
+        assert_eq!(rt; labels.at(Cell::new(rect.i1, rect.j1)), corner);
+    }
+    Ok(())
+}
+
+/// What threads may share and pass on.
+fn crosses_threads<T: Send + Sync>(_value: &T) {}
+
+#[test]
+fn a_border_chunk_is_smaller(rt: HostRuntime) -> Result<(), Fail> {
+    let size = Size::new(98, 97).ok_or("a size")?;
+    let sketch = Sketch {
+        size,
+        tiles: vec![in rt.alloc(); true; 9506]?,
+    };
+    let labels = labelled(rt.alloc(), &sketch, Chunk { cj: 1, ci: 1 }).ok_or("labels")?;
+    assert_eq!(rt; labels.chunk(), Chunk { cj: 1, ci: 1 });
+    assert_eq!(rt;
+        labels.rect(),
+        Rect {
+            i0: 96,
+            j0: 96,
+            i1: 97,
+            j1: 96
+        }
+    );
+    assert_eq!(rt; labels.count(), 1);
+    assert_eq!(rt; labels.first(1), Cell::new(96, 96));
+    crosses_threads(&labels);
+    Ok(())
+}

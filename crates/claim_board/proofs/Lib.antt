@@ -1,0 +1,5 @@
+pub mod Totals
+pub mod Numbers
+pub mod Keeps
+pub mod Whole
+pub mod Left

@@ -1,0 +1,7 @@
+use Rattle.std.proofs.Common.{rules}
+use Rattle.claim_board.proofs.Keeps.{joins}
+use Rattle.claim_board.proofs.claims.Claims.join.Goals as goal
+
+pub join_seat-requires : goal.join_seat-requires
+join_seat-requires c =
+    (search rules, search rules, search rules, search rules, joins _ _ _ _ _ (search rules))

@@ -1,0 +1,5 @@
+pub mod Canonical
+pub mod Digits
+pub mod Magnitudes
+pub mod ReadsBack
+pub mod Units

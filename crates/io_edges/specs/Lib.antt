@@ -1,0 +1,4 @@
+pub mod Faults
+pub mod Counts
+pub mod Memory
+pub mod Adapters

@@ -1,0 +1,76 @@
+-- What a direction is: how far it goes in each of the four straight ones, and what its step costs.
+use Rattle.std.specs.Prelude.{ℕ, Bool, true, false, ◌≡◌, ◌+◌}
+use Rattle.nav_types.specs.declared.cells.Cell.{Cell}
+use Rattle.nav_types.specs.declared.directions.Dir.{Dir}
+use Rattle.nav_types.specs.declared.directions.Dir.TheVariants.{N, E, S, W, NE, SE, SW, NW}
+
+-- columns gained by a step
+abbrev pub east : Dir → ℕ
+east N = 0
+east E = 1
+east S = 0
+east W = 0
+east NE = 1
+east SE = 1
+east SW = 0
+east NW = 0
+
+-- columns lost by a step
+abbrev pub west : Dir → ℕ
+west N = 0
+west E = 0
+west S = 0
+west W = 1
+west NE = 0
+west SE = 0
+west SW = 1
+west NW = 1
+
+-- rows gained by a step
+abbrev pub north : Dir → ℕ
+north N = 1
+north E = 0
+north S = 0
+north W = 0
+north NE = 1
+north SE = 0
+north SW = 0
+north NW = 1
+
+-- rows lost by a step
+abbrev pub south : Dir → ℕ
+south N = 0
+south E = 0
+south S = 1
+south W = 0
+south NE = 0
+south SE = 1
+south SW = 1
+south NW = 0
+
+-- N, E, S and W are straight, the others are diagonal
+abbrev pub is_straight : Dir → Bool
+is_straight N = true
+is_straight E = true
+is_straight S = true
+is_straight W = true
+is_straight NE = false
+is_straight SE = false
+is_straight SW = false
+is_straight NW = false
+
+-- the cost of one step, in units of 65536 for a straight one
+abbrev pub step_cost : Dir → ℕ
+step_cost N = 65536
+step_cost E = 65536
+step_cost S = 65536
+step_cost W = 65536
+step_cost NE = 92682
+step_cost SE = 92682
+step_cost SW = 92682
+step_cost NW = 92682
+
+-- one step in the direction leads from one cell to the other
+pub record Leads (dir : Dir) (from to : Cell) : Type 0 where
+  pub columns : to.i + west dir ≡ from.i + east dir
+  pub rows : to.j + south dir ≡ from.j + north dir

@@ -1,0 +1,7 @@
+-- The sides of a map.
+use Rattle.std.specs.Prelude.{ℕ, ◌≤◌}
+
+-- a side of a map, in navcells
+pub record IsSide (side : ℕ) : Type 0 where
+  pub some : 1 ≤ side
+  pub few : side ≤ 2048

@@ -1,0 +1,79 @@
+ghost use Rattle.std.specs.Prelude.{◌≡◌, ◌<◌};
+
+use crate::*;
+use std::marker::Brand;
+use std::sync::ledger::{Blank, Ledger};
+use std::test::Fail;
+
+/// A map of 3 by 3 cells whose middle cell alone is blocked.
+#[derive(Drop)]
+struct Ring {
+    size: Size,
+}
+
+impl View for Ring {
+    ghost use Rattle.std.specs.Prelude.{nat_lt, ◌&&◌, ◌==◌, not};
+    ghost use Rattle.std.proofs.Common.{rules};
+
+    ghost extent = { λ r. r.size };
+
+    ghost class_count = { λ _. 1 };
+
+    ghost passes = { λ r _ cell. nat_lt cell.i r.size.w && nat_lt cell.j r.size.h && not ((cell.i == 1) && (cell.j == 1)) };
+
+    ghost within = { λ r class cell passes. Prim.search rules };
+
+    fn size(&self) -> Size {
+        self.size
+    }
+
+    fn classes(&self) -> u8 {
+        1
+    }
+
+    fn passable(&self, _class: Class, cell: Cell) -> bool {
+        cell.i < self.size.w && cell.j < self.size.h && !(cell.i == 1 && cell.j == 1)
+    }
+}
+
+/// Ticks twice, on any ledger.
+fn tick_twice<L: Ledger>(blank: Blank)
+    requires name { blank.name ≡ L.name }
+    requires parts { blank.parts ≡ L.parts }
+    requires some { 0 < L.parts }
+{
+    let mut steps: Steps<L> = Steps::new(blank);
+    steps.tick();
+    steps.tick();
+}
+
+#[test]
+fn ticks_are_counted() {
+    tick_twice::<Brand>(Blank::new(1));
+}
+
+#[test]
+fn sequences_keep_their_items(rt: HostRuntime) -> Result<(), Fail> {
+    let mut bytes = Bytes::new(rt.alloc());
+    bytes.extend(b"ab")?;
+    assert!(rt; bytes.push(b'c').is_ok());
+    let mut copy = bytes.copy(rt.alloc())?;
+    assert_eq!(rt; copy.take_first(), Some(b'a'));
+    assert_eq!(rt; copy.as_slice(), b"bc".as_slice());
+    assert_eq!(rt; bytes.len(), 3);
+    Ok(())
+}
+
+#[test]
+fn no_step_cuts_a_corner(rt: HostRuntime) {
+    let Some(size) = Size::new(3, 3) else {
+        return;
+    };
+    let ring = Ring { size };
+    let class = Class::new(0);
+    let start = Cell::new(0, 0);
+    assert_eq!(rt; step(&ring, class, start, Dir::N), Some(Cell::new(0, 1)));
+    assert_eq!(rt; step(&ring, class, start, Dir::NE), None);
+    assert_eq!(rt; step(&ring, class, Cell::new(0, 1), Dir::NE), None);
+    assert_eq!(rt; step(&ring, class, start, Dir::W), None);
+}

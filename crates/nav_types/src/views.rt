@@ -1,0 +1,142 @@
+ghost use Rattle.std.specs.Prelude.{◌≡◌, ◌+◌, ◌<◌, ◌≤◌, IfSome, IfNone, ℕ};
+ghost use Rattle.nav_types.specs.Cells.{IsInside};
+ghost use Rattle.nav_types.specs.Directions.{Leads};
+ghost use Rattle.nav_types.specs.Walks.{Step};
+
+use crate::cells::{Cell, Class, Rect, Size};
+use crate::directions::Dir;
+
+/// A map as a search sees it: for each class, which cells are passable.
+pub trait View {
+    ghost use Rattle.std.specs.Prelude.{ℕ, Bool, ◌≡◌, ◌<◌, ◌≤◌, IsTrue};
+    ghost use Rattle.nav_types.specs.declared.cells.Cell.{Cell};
+    ghost use Rattle.nav_types.specs.declared.cells.Size.{Size};
+    ghost use Rattle.nav_types.specs.Cells.{IsInside};
+
+    ghost extent: { Self → Size };
+
+    ghost class_count: { Self → ℕ };
+
+    ghost passes: { Self → ℕ → Cell → Bool };
+
+    /// The size of the map.
+    fn size(&self) -> Size
+        ensures { result ≡ extent self.now };
+
+    /// The number of passability classes, from 1 to 16.
+    fn classes(&self) -> u8
+        ensures count { result ≡ class_count self.now }
+        ensures some { 1 ≤ result }
+        ensures few { result ≤ 16 };
+
+    /// Whether the cell is passable for the class.
+    fn passable(&self, class: Class, cell: Cell) -> bool
+        requires class { class < class_count self.now }
+        requires inside { IsInside (extent self.now) cell }
+        ensures { result ≡ passes self.now class cell };
+
+    // Only cells inside the map pass.
+    ghost within: { (view : Self) (class : ℕ) (cell : Cell) → IsTrue (passes view class cell) → IsInside (extent view) cell };
+}
+
+/// A map whose areas are numbered.
+pub trait Areas: View {
+    ghost use Rattle.std.specs.Prelude.{ℕ, ◌≡◌, ◌<◌, ◌↔◌, IsTrue, IsFalse};
+    ghost use Rattle.nav_types.specs.declared.cells.Cell.{Cell};
+    ghost use Rattle.nav_types.specs.Cells.{IsInside};
+    ghost use Rattle.nav_types.specs.Walks.{Joined};
+
+    ghost has_area: { Self → ℕ → Cell → ℕ → Type 0 };
+
+    /// The number of the cell's area for the class; 0 exactly for an impassable cell.
+    fn area(&self, class: Class, cell: Cell) -> u32
+        requires class { class < Self.class_count self.now }
+        requires inside { IsInside (Self.extent self.now) cell }
+        ensures { has_area self.now class cell result };
+
+    // 0 goes with an impassable cell.
+    ghost blocked: { (map : Self) (class : ℕ) (cell : Cell) (area : ℕ) → has_area map class cell area → (area ≡ 0) ↔ IsFalse (Self.passes map class cell) };
+
+    // Two passable cells have one number exactly where a legal walk joins them.
+    ghost joined: { (map : Self) (class : ℕ) (a b : Cell) (m n : ℕ) → IsTrue (Self.passes map class a) → IsTrue (Self.passes map class b)
+        → has_area map class a m → has_area map class b n → (m ≡ n) ↔ Joined (Self.passes map class) a b };
+}
+
+/// What a search looks for: a set of cells, and a rectangle that holds them.
+pub trait Aim {
+    ghost use Rattle.std.specs.Prelude.{Bool, ◌≡◌, IsTrue};
+    ghost use Rattle.nav_types.specs.declared.cells.Cell.{Cell};
+    ghost use Rattle.nav_types.specs.declared.cells.Size.{Size};
+    ghost use Rattle.nav_types.specs.Cells.{IsInside};
+    ghost use Rattle.nav_types.specs.Frames.{IsFrame};
+
+    ghost sound: { Self → Size → Type 0 };
+
+    ghost hit: { Self → Size → Cell → Bool };
+
+    ghost framed: { Self → Size → Cell → Bool };
+
+    /// Whether the aim hits the cell.
+    fn hits(&self, size: Size, cell: Cell) -> bool
+        requires sound { sound self.now size }
+        requires inside { IsInside size cell }
+        ensures { result ≡ hit self.now size cell };
+
+    /// The rectangle of the aim in a map of this size: its cells are exactly the framed ones.
+    fn bounds(&self, size: Size) -> Rect
+        requires { sound self.now size }
+        ensures { IsFrame (framed self.now size) size result };
+
+    // Each inside cell that a sound aim hits is framed.
+    ghost hits_framed: { (aim : Self) (size : Size) (cell : Cell) → sound aim size → IsInside size cell
+        → IsTrue (hit aim size cell) → IsTrue (framed aim size cell) };
+}
+
+/// The place that a step leads to along one side of a map. None exactly where it lies outside.
+fn shifted(place: u16, gained: u16, lost: u16, side: u16) -> Option<u16>
+    requires inside { place < side }
+    requires gains { gained ≤ 1 }
+    requires side { side ≤ 2048 }
+    ensures some { IfSome result (λ next. (next + lost ≡ place + gained) × (next < side)) }
+    ensures none { IfNone result ((next : ℕ) → next + lost ≡ place + gained → side ≤ next) }
+{
+    let ahead = place + gained;
+    if ahead < lost || ahead - lost >= side {
+        return None;
+    }
+    Some(ahead - lost)
+}
+
+/// The cell that one step in the direction leads to. None exactly where it lies outside the map.
+fn neighbour(size: Size, cell: Cell, dir: Dir) -> Option<Cell>
+    requires { IsInside size cell }
+    ensures leads { IfSome result (Leads dir cell) }
+    ensures inside { IfSome result (IsInside size) }
+    ensures none { IfNone result ((next : Cell) → Leads dir cell next → ¬ IsInside size next) }
+{
+    let Some(i) = shifted(cell.i, dir.east(), dir.west(), size.w) else {
+        return None;
+    };
+    let Some(j) = shifted(cell.j, dir.north(), dir.south(), size.h) else {
+        return None;
+    };
+    Some(Cell::new(i, j))
+}
+
+/// The cell that one legal step in the direction leads to. None exactly where that step is not legal.
+pub fn step<V: View>(view: &V, class: Class, cell: Cell, dir: Dir) -> Option<Cell>
+    requires class { class < V.class_count view.now }
+    requires inside { IsInside (V.extent view.now) cell }
+    ensures some { IfSome result (Step (V.passes view.now class) dir cell) }
+    ensures none { IfNone result ((next : Cell) → ¬ Step (V.passes view.now class) dir cell next) }
+{
+    let size = view.size();
+    let Some(to) = neighbour(size, cell, dir) else {
+        return None;
+    };
+    let open = view.passable(class, cell)
+        && view.passable(class, to)
+        && view.passable(class, Cell::new(to.i, cell.j))
+        && view.passable(class, Cell::new(cell.i, to.j));
+    if open { Some(to) } else { None }
+}

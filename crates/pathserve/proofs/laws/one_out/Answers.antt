@@ -1,0 +1,5 @@
+use Rattle.pathserve.proofs.TopTexts as law
+use Rattle.pathserve.proofs.laws.one_out.Goals as goal
+
+pub returns : goal.returns
+returns c = law.one_out

@@ -1,0 +1,30 @@
+//! Laws of the output text: it is one, and what a run that stops early has written is a prefix of it.
+ghost use Rattle.std.specs.Prelude.{◌≡◌, ◌≢◌, ◌++◌, ◌<◌, ℕ, List, length};
+ghost use Rattle.pathserve.specs.Lines.{full_lines};
+ghost use Rattle.pathserve.specs.Script.{Stop, bad_line, stuck_by, beginning, walk, reading};
+ghost use Rattle.pathserve.specs.Output.{IsOut, IsBeginning, IsTakenText};
+
+/// An input has at most one output text.
+pub fn one_out()
+    ensures { (bytes a b : List ℕ) → IsOut bytes a → IsOut bytes b → a ≡ b }
+{}
+
+/// A beginning of the output text is a prefix of it.
+pub fn beginning_is_prefix()
+    ensures { (bytes out whole : List ℕ) → IsBeginning bytes out → IsOut bytes whole → (rest : List ℕ) × (whole ≡ out ++ rest) }
+{}
+
+/// The text of the turns taken is one, and it is a beginning of the output text.
+pub fn taken_text()
+    ensures one { (bytes rest a b : List ℕ) → IsTakenText bytes rest a → IsTakenText bytes rest b → a ≡ b }
+    ensures beginning { (bytes rest out : List ℕ) → IsTakenText bytes rest out → IsBeginning bytes out }
+{}
+
+/// The line that stops an input does not lie among the full lines taken: no beginning of them stops, and a bad line comes
+/// after them.
+pub fn stop_is_not_taken()
+    ensures no_stop { (bytes rest out : List ℕ) (text : IsTakenText bytes rest out) (front back : List (List ℕ)) (stop : Stop)
+        → full_lines text.taken ≡ front ++ back → (walk front beginning).ends ≢ stuck_by stop }
+    ensures later { (bytes rest out : List ℕ) (text : IsTakenText bytes rest out) (n : ℕ)
+        → (reading bytes beginning).ends ≡ stuck_by (bad_line n) → length (full_lines text.taken) < n }
+{}

@@ -1,0 +1,57 @@
+-- Cells and their places in a map's table.
+use Rattle.std.proofs.Common.{ℕ, Bool, true, false, not, ◌&&◌, eqb, ◌≡◌, ◌*◌, ◌<◌, ◌≤◌, inl, inr, sym, ap, ◌∙◌, arith}
+use Rattle.std.proofs.Math.Nat.{mul_comm}
+use Rattle.std.proofs.lemmas.Bool.{cases_order, and_parts, and_from, not-false, not_from_true, both_ways, eqb-true, eq-eqb}
+use Rattle.std.proofs.lemmas.Nat.{mul-add-lt, div-mul-add, mod-mul-add, div-add-mod', same_from_place, div_below, mod_below}
+use Rattle.nav_types.specs.declared.cells.Cell.{Cell}
+use Rattle.nav_types.specs.declared.cells.Size.{Size}
+use Rattle.nav_types.specs.Cells.{cell_at, IsInside, IsNotAfter}
+use Rattle.walks.specs.Tables.{place_of, cell_of}
+
+pub same_cell : (a b : Cell) → a.j ≡ b.j → a.i ≡ b.i → a ≡ b
+same_cell a b rows columns = ap (λ (j : ℕ). cell_at a.i j) rows ∙ ap (λ (i : ℕ). cell_at i b.j) columns
+
+pub place_of-lt : (size : Size) (cell : Cell) → IsInside size cell → place_of size cell < size.w * size.h
+place_of-lt size cell inside = mul-add-lt cell.j size.w cell.i size.h inside.row inside.column
+
+pub place_of-inj : (size : Size) (a b : Cell) → IsInside size a → IsInside size b → place_of size a ≡ place_of size b → a ≡ b
+place_of-inj size a b in_a in_b e =
+    let parts = same_from_place a.j a.i b.j b.i size.w in_a.column in_b.column e in
+    same_cell a b parts.0 parts.1
+
+pub cell_of-inside : (size : Size) (place : ℕ) → place < size.w * size.h → IsInside size (cell_of size place)
+cell_of-inside size place below =
+    let wide = size.wide in
+    let some : 0 < size.w = omega (arith, wide.some) in
+    let turned : place < size.h * size.w = omega (arith, mul_comm size.w size.h) in
+    record { column = mod_below place size.w some; row = div_below place size.w size.h some turned }
+
+pub place_of-cell_of : (size : Size) (place : ℕ) → place_of size (cell_of size place) ≡ place
+place_of-cell_of size place = div-add-mod' place size.w
+
+pub cell_of-place_of : (size : Size) (cell : Cell) → IsInside size cell → cell_of size (place_of size cell) ≡ cell
+cell_of-place_of size cell inside =
+    same_cell (cell_of size (place_of size cell)) cell (div-mul-add cell.j size.w cell.i inside.column) (mod-mul-add cell.j size.w cell.i inside.column)
+
+pub not_after : (size : Size) (a b : Cell) → IsInside size a → IsInside size b → place_of size a ≤ place_of size b → IsNotAfter a b
+not_after size a b in_a in_b below =
+    elim (cases_order a.j b.j) [
+      | inl same ↦ inr (same, (let rows : a.j * size.w ≡ b.j * size.w = ap (λ (j : ℕ). j * size.w) same in omega arith))
+      | inr order ↦ elim order [
+        | inl before ↦ inl before
+        | inr after ↦
+            let far = mul-add-lt b.j size.w b.i a.j after in_b.column in
+            absurd (omega (arith, far, mul_comm size.w a.j))
+      ]
+    ]
+
+pub same_tested : (a b : Cell) (test : Bool) → test ≡ not (eqb a.j b.j && eqb a.i b.i) → test ≡ false → a ≡ b
+same_tested a b test is tested =
+    let parts = and_parts (eqb a.j b.j) (eqb a.i b.i) (not-false (eqb a.j b.j && eqb a.i b.i) (sym is ∙ tested)) in
+    same_cell a b (eqb-true a.j b.j parts.0) (eqb-true a.i b.i parts.1)
+
+pub other_tested : (a b : Cell) (test : Bool) → test ≡ not (eqb a.j b.j && eqb a.i b.i) → test ≡ true → b ≡ a → ⊥
+other_tested a b test is tested same =
+    let rows = eq-eqb a.j b.j (ap (λ (cell : Cell). cell.j) (sym same)) in
+    let columns = eq-eqb a.i b.i (ap (λ (cell : Cell). cell.i) (sym same)) in
+    both_ways test (is ∙ not_from_true (eqb a.j b.j && eqb a.i b.i) (and_from (eqb a.j b.j) (eqb a.i b.i) rows columns)) tested

@@ -1,0 +1,5 @@
+pub mod CellPlaces
+pub mod Walking
+pub mod Sweeping
+pub mod Tracing
+pub mod OneAnswer
