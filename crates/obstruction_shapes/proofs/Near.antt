@@ -1,0 +1,20 @@
+-- Nothing is blocked out of reach.
+use Rattle.std.proofs.Common.{◌+◌, ◌*◌, ℤ, leb-true}
+use Rattle.std.specs.Prelude.{unsigned_abs, IsTrue}
+use Rattle.nav_types.specs.declared.cells.Cell.{Cell}
+use Rattle.obstruction_shapes.specs.declared.shapes.Shape.{Shape}
+use Rattle.obstruction_shapes.specs.Shapes.{turned_of, square, HasUnitVector}
+use Rattle.obstruction_shapes.specs.Blocking.{from_centre, along, across, beyond, blocked, reach, IsNear}
+use Rattle.obstruction_shapes.proofs.Turning.{signs, near_both}
+
+-- each cell that the shape blocks is near
+pub blocked_near : (shape : Shape) (clearance : ℤ) (cell : Cell) → HasUnitVector shape
+    → IsTrue (blocked shape clearance cell) → IsNear shape clearance cell
+unfolding blocked reach
+blocked_near shape clearance cell unit hit =
+    let s = turned_of shape in let px = from_centre cell.i s.x in let pz = from_centre cell.j s.z in
+    let du = along px pz s.ux s.uz in let dv = across px pz s.ux s.uz in
+    let near = near_both (unsigned_abs px) (unsigned_abs pz) (unsigned_abs s.ux) (unsigned_abs s.uz) (unsigned_abs du) (unsigned_abs dv)
+    (unsigned_abs s.hw) (unsigned_abs s.hh) (unsigned_abs clearance) (signs px pz s.ux s.uz) unit.long unit.short
+    (leb-true (square (beyond du s.hw) + square (beyond dv s.hh)) (square (65536 * unsigned_abs clearance)) hit) in
+    record { column = near.0; row = near.1 }

@@ -1,0 +1,75 @@
+ghost use Rattle.std.specs.Prelude.{◌≡◌, ◌≤◌, ◌<◌, ◌^◌, ℕ, pos, ◌≤ℤ◌, ◌↔◌, unsigned_abs, IfSome, IfNone, IsTrue};
+ghost use Rattle.nav_types.specs.declared.cells.Cell.{Cell};
+ghost use Rattle.nav_types.specs.Cells.{IsInside, IsInRect, IsRectInside};
+ghost use Rattle.obstruction_shapes.specs.Shapes.{Fits};
+ghost use Rattle.obstruction_shapes.specs.Blocking.{from_centre, blocked, reach, IsNear};
+
+use crate::shapes::Shape;
+use fixed_point::Fixed;
+use nav_types::{Rect, Size};
+
+/// The cells of a map that are near enough to the shape to be blocked for a class with this clearance:
+/// those whose middle is no further than the reach from the shape's middle, along both axes (`IsNear`,
+/// `reach`). They are a rectangle, and `None` says that there are none. Every cell of the map that the
+/// shape blocks is one of them.
+///
+/// The shape fits the map.
+pub fn reach_rect(shape: &Shape, clearance: Fixed, size: Size) -> Option<Rect>
+    requires { Fits size shape.now }
+    ensures inside { IfSome result (λ rect. IsRectInside size rect) }
+    ensures near { IfSome result (λ rect. (cell : Cell) → IsInside size cell → (IsInRect rect cell ↔ IsNear shape.now clearance cell)) }
+    ensures none_near { IfNone result ((cell : Cell) → IsInside size cell → ¬ IsNear shape.now clearance cell) }
+    ensures blocked { IfSome result (λ rect. (cell : Cell) → IsInside size cell → IsTrue (blocked shape.now clearance cell) → IsInRect rect cell) }
+    ensures none_blocked { IfNone result ((cell : Cell) → IsInside size cell → ¬ IsTrue (blocked shape.now clearance cell)) }
+{
+    let turned = shape.turned();
+    let reach = reach_of(shape, clearance);
+    let Some((i0, i1)) = columns_near(turned.x, reach, size.w) else {
+        return None;
+    };
+    let Some((j0, j1)) = columns_near(turned.z, reach, size.h) else {
+        return None;
+    };
+    Some(Rect { i0, j0, i1, j1 })
+}
+
+/// How far from the shape's middle a cell can be blocked, in units.
+fn reach_of(shape: &Shape, clearance: Fixed) -> u64
+    ensures value { result ≡ reach shape.now clearance }
+    ensures bounded { result ≤ 2 ^ 34 }
+{
+    let turned = shape.turned();
+    let sides = magnitude(turned.hw) + magnitude(turned.hh);
+    let extent = sides + 2 * magnitude(clearance);
+    extent + extent / 64 + 1
+}
+
+/// The magnitude of a length, in units.
+fn magnitude(length: Fixed) -> u64
+    ensures value { result ≡ unsigned_abs length }
+    ensures bounded { result ≤ 2 ^ 31 }
+{
+    u64::from(length.raw().unsigned_abs())
+}
+
+/// The first and the last of `count` columns (or rows) whose middle is no further than `reach` from a
+/// coordinate. `None` where there are none.
+fn columns_near(x: Fixed, reach: u64, count: u16) -> Option<(u16, u16)>
+    requires on_map { pos 0 ≤ℤ x }
+    requires reach { reach ≤ 2 ^ 34 }
+    requires count { 0 < count }
+    ensures inside { IfSome result (λ span. (span.0 ≤ span.1) × (span.1 < count)) }
+    ensures near { IfSome result (λ span. (i : ℕ) → i < count → (((span.0 ≤ i) × (i ≤ span.1)) ↔ (unsigned_abs (from_centre i x) ≤ reach))) }
+    ensures none_near { IfNone result ((i : ℕ) → i < count → ¬ (unsigned_abs (from_centre i x) ≤ reach)) }
+{
+    let x = magnitude(x);
+    let first = (x + 32767).saturating_sub(reach) / 65536;
+    if x + reach < 32768 {
+        return None;
+    }
+    let last = ((x + reach - 32768) / 65536).min(u64::from(count) - 1);
+    if first > last {
+        return None;
+    }
+    Some((first as u16, last as u16))
+}

@@ -1,0 +1,7 @@
+pub mod ChainLemmas
+pub mod RowLemmas
+pub mod ForestLemmas
+pub mod LinkLemmas
+pub mod NumberLemmas
+pub mod AreaLemmas
+pub mod UniqueLemmas

@@ -1,0 +1,22 @@
+use Rattle.std.proofs.Common.{List, subst, arith}
+use Rattle.std.proofs.lemmas.List.{take_all}
+use Rattle.reach_sets.specs.declared.regions.RegionId.{RegionId}
+use Rattle.reach_sets.proofs.LinkLemmas.{HoldLinks, links_more, together}
+use Rattle.reach_sets.proofs.forests.join_links.Goals as goal
+
+pub loop-link-preserved : goal.loop-link-preserved
+loop-link-preserved c =
+    let loop = c.loop-link in
+    let none : RegionId × RegionId = (record { chunk = 0; region = 0 }, record { chunk = 0; region = 0 }) in
+    let step = links_more c.args.offsets.now c.args.links.now loop.link-index none loop.parents c.join.new.parents c.place_of.result c.place_of-in-loop-link.result c.loop-link-test.true c.requires.exist loop.invariant.only loop.invariant.all c.place_of.ensures.place c.place_of-in-loop-link.ensures.place c.join.ensures in
+    record { forest = c.join.ensures.forest; only = step.0; all = step.1 }
+
+pub returns : goal.returns
+returns c =
+    let loop = c.loop-link in let links = c.args.links.now in
+    let P : List (RegionId × RegionId) → Type 0 = λ read. HoldLinks c.args.offsets.now read loop.parents in
+    record {
+      forest = loop.invariant.forest;
+      each = omega (arith, loop.auto.parents, c.requires.each);
+      together = together c.args.offsets.now links loop.parents loop.invariant.only (subst P (take_all loop.link-index links (omega arith)) loop.invariant.all);
+    }

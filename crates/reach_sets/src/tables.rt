@@ -1,0 +1,94 @@
+ghost use Rattle.std.specs.Prelude.{◌≡◌, ◌≢◌, ◌<◌, ◌≤◌, ◌↔◌, ℕ, List, length, sum, slice_index, All, IsTrue, IfOk};
+ghost use Rattle.reach_sets.specs.declared.regions.RegionId.{RegionId};
+ghost use Rattle.reach_sets.specs.Rows.{IsRegion};
+ghost use Rattle.reach_sets.specs.AreaNumbers.{AreaNumbers, AreAreas, area_of};
+
+use crate::forests::{forest_of, number_trees};
+use crate::offsets::Offsets;
+use crate::regions::{Links, RegionId};
+use nav_types::NoMemory;
+use std::alloc::Global;
+use std::marker::Model;
+
+/// The areas of all regions. Two regions are of one area exactly where a chain of links joins them.
+/// Contracts see the number of regions of each chunk, the area of each region in the order of regions,
+/// and the number of areas.
+#[derive(Drop)]
+pub struct AreaTable {
+    offsets: Offsets,
+    areas: Vec<u32>,
+    count: u32,
+}
+
+impl Model for AreaTable {
+    ghost use Rattle.std.specs.Prelude.{◌≡◌, length, sum};
+    ghost use Rattle.reach_sets.specs.AreaNumbers.{AreaNumbers};
+
+    ghost Value = { AreaNumbers };
+
+    ghost view = { λ t. record { regions = t.offsets; areas = t.areas.items; count = t.count } };
+
+    ghost invariant = { λ t. length t.areas.items ≡ sum t.offsets };
+}
+
+impl AreaTable {
+    /// The areas of these regions under these links, by `AreAreas`: areas are numbered from 1 in the order
+    /// of their first regions, by chunk, then by number. `regions` has the number of regions of each chunk,
+    /// in the order chunk row, chunk column. Each link names regions that exist.
+    ///
+    /// Links are joined in a forest whose ways are halved as they are climbed, so the work is nearly in
+    /// proportion to the regions and links, and the memory to the regions.
+    pub fn build(alloc: Global, regions: &[u16], links: &Links) -> Result<AreaTable, NoMemory>
+        requires exist { All (λ link. IsRegion regions.now link.0 × IsRegion regions.now link.1) links.now }
+        requires few { sum regions.now < 4294967296 }
+        ensures areas { IfOk result (λ table. AreAreas regions.now links.now table) }
+    {
+        let offsets = Offsets::new(alloc, regions)?;
+        let parents = forest_of(alloc, &offsets, links.as_slice())?;
+        let (areas, count) = number_trees(alloc, &parents)?;
+        Ok(AreaTable {
+            offsets,
+            areas,
+            count,
+        })
+    }
+
+    /// The area of a region, from 1; 0 for region 0.
+    /// The chunk exists, and the region is 0 or one of the chunk's.
+    pub fn area(&self, region: RegionId) -> u32
+        requires chunk { region.chunk < length self.now.regions }
+        requires region { region.region ≤ slice_index self.now.regions region.chunk }
+        ensures area { result ≡ area_of self.now region }
+    {
+        if region.region == 0 {
+            return 0;
+        }
+        self.areas[self.offsets.place_of(region) as usize]
+    }
+
+    /// How many areas there are.
+    pub fn count(&self) -> u32
+        ensures { result ≡ self.now.count }
+    {
+        self.count
+    }
+
+    /// Whether the two are regions of one area. Region 0 is in no area, so it is with none, itself included.
+    pub fn same(&self, a: RegionId, b: RegionId) -> bool
+        requires a_chunk { a.chunk < length self.now.regions }
+        requires a_region { a.region ≤ slice_index self.now.regions a.chunk }
+        requires b_chunk { b.chunk < length self.now.regions }
+        requires b_region { b.region ≤ slice_index self.now.regions b.chunk }
+        ensures { IsTrue result
+            ↔ ((area_of self.now a ≡ area_of self.now b) × (area_of self.now a ≢ 0)) }
+    {
+        let area = self.area(a);
+        area != 0 && area == self.area(b)
+    }
+}
+
+/// Regions and links have one table of areas.
+pub fn one_table()
+    ensures { (regions : List ℕ) (links : List (RegionId × RegionId)) (one other : AreaNumbers)
+        → AreAreas regions links one → AreAreas regions links other → one ≡ other }
+{}

@@ -1,0 +1,4 @@
+pub mod OrderLemmas
+pub mod PairLemmas
+pub mod MeetLemmas
+pub mod EdgeLemmas
