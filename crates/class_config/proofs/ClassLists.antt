@@ -1,0 +1,226 @@
+-- Lists of classes: what is found by name, and what is read of items.
+use Rattle.std.proofs.Common.{◌≡◌, ◌≢◌, ℕ, zero, suc, ◌+◌, ◌++◌, ◌&&◌, ◌||◌, List, [], ◌∷◌, length, map, Bool, true, false, not, Option, Some, None, is_some, option_map, option_and_then, nat_le, cond, refl, ap, sym, ◌∙◌, ℤ, append-nil}
+use Rattle.std.specs.Prelude.{All, bytes_eq, codes, slice_get, ◌↔◌, position}
+use Rattle.std.specs.List.{list_all, list_any, filter_map, cons_option, position_from}
+use Rattle.std.specs.Option.{option_map_or}
+use Rattle.std.proofs.lemmas.Bool.{and_parts}
+use Rattle.std.proofs.lemmas.Slice.Eq.{bytes_eq-Decides}
+use Rattle.std.proofs.lemmas.List.Elements.{All-head, All-tail, All-cons, All-nil, filter_map-append}
+use Rattle.std.proofs.lemmas.List.Folds.{list_all-map}
+use Rattle.std.proofs.lemmas.List.{length-map}
+use Rattle.std.proofs.lemmas.Iterator.Adapters.{position_from-zero}
+use Rattle.serde_json.specs.Data.{Data}
+use Rattle.serde_json.specs.Find.{as_array}
+use Rattle.serde_json.specs.View.{view, items_of, items_view}
+use Rattle.serde_json.specs.declared.value.Value.{Value}
+use Rattle.class_config.specs.declared.table.PassabilityClass.{PassabilityClass}
+use Rattle.class_config.specs.Forms.{has_keys, text_under, some_if, is_class_name}
+use Rattle.class_config.specs.Classes.{is_class, is_clearance, class_of, class_with, clearance_under, has_name, are_distinct, is_table, list_of, are_classes, classes_of}
+
+-- ---- tests
+
+and_both : (x y : Bool) → x ≡ true → y ≡ true → (x && y) ≡ true
+and_both true y h k = k
+and_both false y h k = h
+
+-- the second of two tests decides where the first holds
+pub and_second : (a b r : Bool) → a ≡ true → (a && b) ≡ r → b ≡ r
+and_second true b r h e = e
+and_second false b r h e = absurd (cc)
+
+-- the first of two tests decides where it fails
+pub and_first : (a b r : Bool) → a ≡ false → (a && b) ≡ r → a ≡ r
+and_first true b r h e = absurd (cc)
+and_first false b r h e = e
+
+-- ---- finding by name
+
+no_place : (name : List ℕ) (classes : List PassabilityClass) (i : ℕ) → is_some (position_from (λ class. bytes_eq class.name name) i classes) ≡ false
+    → All (λ class. class.name ≢ name) classes
+no_place name [] i none = All-nil (λ (class : PassabilityClass). class.name ≢ name)
+no_place name (class ∷ classes) i none = by_test (bytes_eq class.name name) (bytes_eq-Decides class.name name).1 (no_place name classes (i + 1)) none
+  where
+    by_test : (same : Bool) → (class.name ≡ name → same ≡ true)
+        → (is_some (position_from (λ other. bytes_eq other.name name) (i + 1) classes) ≡ false → All (λ other. other.name ≢ name) classes)
+        → is_some (cond same (Some i) (position_from (λ other. bytes_eq other.name name) (i + 1) classes)) ≡ false → All (λ other. other.name ≢ name) (class ∷ classes)
+    by_test true tells rest h = absurd (cc)
+    by_test false tells rest h =
+        All-cons (λ (other : PassabilityClass). other.name ≢ name) class classes (λ e. let t : false ≡ true = tells e in cc) (rest h)
+
+no_place-from : (name : List ℕ) (classes : List PassabilityClass) (i : ℕ) → All (λ class. class.name ≢ name) classes
+    → is_some (position_from (λ class. bytes_eq class.name name) i classes) ≡ false
+no_place-from name [] i none = refl
+no_place-from name (class ∷ classes) i none =
+    by_test (bytes_eq class.name name) (bytes_eq-Decides class.name name).0
+    (no_place-from name classes (i + 1) (All-tail (λ (other : PassabilityClass). other.name ≢ name) class classes none))
+  where
+    by_test : (same : Bool) → (same ≡ true → class.name ≡ name) → is_some (position_from (λ other. bytes_eq other.name name) (i + 1) classes) ≡ false
+        → is_some (cond same (Some i) (position_from (λ other. bytes_eq other.name name) (i + 1) classes)) ≡ false
+    by_test true tells rest = absurd (All-head (λ (other : PassabilityClass). other.name ≢ name) class classes none (tells refl))
+    by_test false tells rest = rest
+
+-- there is no place exactly where no class has the name
+position-none : (name : List ℕ) (classes : List PassabilityClass)
+    → (is_some (position (λ class. bytes_eq class.name name) classes) ≡ false) ↔ All (λ class. class.name ≢ name) classes
+position-none name classes =
+    let same = position_from-zero (λ (class : PassabilityClass). bytes_eq class.name name) classes in
+    (λ none. no_place name classes 0 (ap is_some (sym same) ∙ none), λ none. ap is_some same ∙ no_place-from name classes 0 none)
+
+-- ---- what is read of items
+
+list_any-filter_map : {X Y : Type 0} (p : Y → Bool) (f : X → Option Y) (xs : List X) → list_any p (filter_map f xs) ≡ list_any (λ x. option_map_or p (f x) false) xs
+list_any-filter_map p f [] = refl
+list_any-filter_map {X} {Y} p f (x ∷ xs) = by_first (f x) (list_any-filter_map p f xs)
+  where
+    by_first : (o : Option Y) {rest : Bool} → list_any p (filter_map f xs) ≡ rest → list_any p (cons_option o (filter_map f xs)) ≡ (option_map_or p o false || rest)
+    by_first None e = e
+    by_first (Some y) e = ap (λ r. p y || r) e
+
+filter_map-map : {X Y Z : Type 0} (f : Y → Option Z) (h : X → Y) (xs : List X) → filter_map f (map h xs) ≡ filter_map (λ x. f (h x)) xs
+filter_map-map f h [] = refl
+filter_map-map f h (x ∷ xs) = ap (cons_option (f (h x))) (filter_map-map f h xs)
+
+-- where each item gives something, there are as many
+length-filter_map : {X Y : Type 0} (f : X → Option Y) (xs : List X) → list_all (λ x. is_some (f x)) xs ≡ true → length (filter_map f xs) ≡ length xs
+length-filter_map f [] each = refl
+length-filter_map {X} {Y} f (x ∷ xs) each = by_first (f x) (length-filter_map f xs) each
+  where
+    by_first : (o : Option Y) → (list_all (λ x. is_some (f x)) xs ≡ true → length (filter_map f xs) ≡ length xs) → (is_some o && list_all (λ x. is_some (f x)) xs) ≡ true → length (cons_option o (filter_map f xs)) ≡ suc (length xs)
+    by_first None rest h = absurd (cc)
+    by_first (Some y) rest h = ap suc (rest h)
+
+-- what each item gives passes a test that whatever is given passes
+list_all-filter_map : {X Y : Type 0} (p : Y → Bool) (f : X → Option Y) → ((x : X) (y : Y) → f x ≡ Some y → p y ≡ true) → (xs : List X) → list_all p (filter_map f xs) ≡ true
+list_all-filter_map p f passes [] = refl
+list_all-filter_map {X} {Y} p f passes (x ∷ xs) = by_first (f x) (passes x) (list_all-filter_map p f passes xs)
+  where
+    by_first : (o : Option Y) → ((y : Y) → o ≡ Some y → p y ≡ true) → list_all p (filter_map f xs) ≡ true → list_all p (cons_option o (filter_map f xs)) ≡ true
+    by_first None given rest = rest
+    by_first (Some y) given rest = and_both (p y) (list_all p (filter_map f xs)) (given y refl) rest
+
+-- one item more
+pub filter_map-more : {X Y : Type 0} (f : X → Option Y) (before now : List X) (ys : List Y) (x : X) (y : Y)
+    → now ≡ before ++ x ∷ [] → ys ≡ filter_map f before → f x ≡ Some y → ys ++ y ∷ [] ≡ filter_map f now
+filter_map-more f before now ys x y e is gives =
+    let one : filter_map f (x ∷ []) ≡ y ∷ [] = ap (λ o. cons_option o []) gives in
+    ap (λ l. l ++ y ∷ []) is ∙ ap (λ l. filter_map f before ++ l) (sym one) ∙ sym (filter_map-append f before (x ∷ [])) ∙ ap (filter_map f) (sym e)
+
+-- one item more, which gives nothing
+pub filter_map-less : {X Y : Type 0} (f : X → Option Y) (before now : List X) (ys : List Y) (x : X)
+    → now ≡ before ++ x ∷ [] → ys ≡ filter_map f before → f x ≡ None → ys ≡ filter_map f now
+filter_map-less f before now ys x e is gives =
+    let one : filter_map f (x ∷ []) ≡ [] = ap (λ o. cons_option o []) gives in
+    is ∙ sym (append-nil (filter_map f before)) ∙ ap (λ l. filter_map f before ++ l) (sym one) ∙ sym (filter_map-append f before (x ∷ [])) ∙ ap (filter_map f) (sym e)
+
+-- ---- distinct names
+
+-- the first item is a class, whose name no other may have
+pub distinct-class : {X : Type 0} (f : X → Option PassabilityClass) (items : List X) (first : X) (rest : List X) (class : PassabilityClass) (name : List ℕ) (found others : Bool)
+    → items ≡ first ∷ rest → Some class ≡ f first → name ≡ class.name
+    → found ≡ list_any (λ x. option_map_or (λ other. bytes_eq other.name name) (f x) false) rest
+    → others ≡ are_distinct (filter_map f rest) → (not found && others) ≡ are_distinct (filter_map f items)
+distinct-class f items first rest class name found others e gives named has distinct =
+    let same : found ≡ has_name class.name (filter_map f rest) =
+    has ∙ ap (λ n. list_any (λ x. option_map_or (λ other. bytes_eq other.name n) (f x) false) rest) named
+    ∙ sym (list_any-filter_map (λ other. bytes_eq other.name class.name) f rest) in
+    ap (λ t. not t && others) same ∙ ap (λ t. not (has_name class.name (filter_map f rest)) && t) distinct
+    ∙ ap (λ o. are_distinct (cons_option o (filter_map f rest))) gives ∙ ap (λ xs. are_distinct (filter_map f xs)) (sym e)
+
+-- ---- the table
+
+class_from_test : (test : Bool) (made class : PassabilityClass) → is_class made ≡ test → some_if test made ≡ Some class → is_class class ≡ true
+class_from_test true made class is e = let same : made ≡ class = cc in ap is_class (sym same) ∙ is
+class_from_test false made class is e = absurd (cc)
+
+class_from_parts : (name : Option (List ℕ)) (raw : Option ℤ) (class : PassabilityClass) → class_with name raw ≡ Some class → is_class class ≡ true
+class_from_parts None raw class e = absurd (cc)
+class_from_parts (Some name) None class e = absurd (cc)
+class_from_parts (Some name) (Some raw) class e =
+    class_from_test (is_class_name name && is_clearance raw) (record { name = name; clearance = raw }) class refl e
+
+class_from_keys : (keys : Bool) (name : Option (List ℕ)) (raw : Option ℤ) (class : PassabilityClass) → cond keys (class_with name raw) None ≡ Some class → is_class class ≡ true
+class_from_keys true name raw class e = class_from_parts name raw class e
+class_from_keys false name raw class e = absurd (cc)
+
+-- what is read of an item is a class that a map may have
+is_class-class_of : (d : Data) (class : PassabilityClass) → class_of d ≡ Some class → is_class class ≡ true
+is_class-class_of d class e =
+    class_from_keys (has_keys (codes "name" ∷ codes "clearance" ∷ []) d) (text_under (codes "name") d) (clearance_under d) class e
+
+-- what is read of classes is a table
+is_table-filter_map : (items : List Data) → are_classes items ≡ true → is_table (filter_map class_of items) ≡ true
+is_table-filter_map items h =
+    let few = nat_le 1 (length items) && nat_le (length items) 16 in
+    let each = list_all (λ d. is_some (class_of d)) items in
+    let classes = filter_map class_of items in
+    let outer = and_parts (few && each) (are_distinct classes) h in
+    let inner = and_parts few each outer.0 in
+    let same : length classes ≡ length items = length-filter_map class_of items inner.1 in
+    and_both (nat_le 1 (length classes) && nat_le (length classes) 16 && list_all is_class classes) (are_distinct classes)
+    (and_both (nat_le 1 (length classes) && nat_le (length classes) 16) (list_all is_class classes)
+    (ap (λ n. nat_le 1 n && nat_le n 16) same ∙ inner.0) (list_all-filter_map is_class class_of is_class-class_of items))
+    outer.1
+
+list_all-slice_get : {X : Type 0} (p : X → Bool) (xs : List X) (k : ℕ) (x : X) → list_all p xs ≡ true → slice_get xs k ≡ Some x → p x ≡ true
+list_all-slice_get p [] k x each is = absurd (cc)
+list_all-slice_get p (y ∷ ys) zero x each is = let same : y ≡ x = cc in ap p (sym same) ∙ (and_parts (p y) (list_all p ys) each).0
+list_all-slice_get p (y ∷ ys) (suc k) x each is = list_all-slice_get p ys k x (and_parts (p y) (list_all p ys) each).1 is
+
+-- each class of a table is one that a map may have
+pub is_class-slice_get : (classes : List PassabilityClass) (k : ℕ) (class : PassabilityClass) → is_table classes ≡ true → slice_get classes k ≡ Some class
+    → is_class class ≡ true
+is_class-slice_get classes k class table is =
+    let few = nat_le 1 (length classes) && nat_le (length classes) 16 in
+    let first = and_parts (few && list_all is_class classes) (are_distinct classes) table in
+    list_all-slice_get is_class classes k class (and_parts few (list_all is_class classes) first.0).1 is
+
+-- the clearance of such a class is from 0 to 64 navcells
+pub is_clearance-is_class : (class : PassabilityClass) → is_class class ≡ true → is_clearance class.clearance ≡ true
+is_clearance-is_class class h = (and_parts (is_class_name class.name) (is_clearance class.clearance) h).1
+
+list_of-items_of : (ds : List Data) → list_of (items_of ds) ≡ ds
+list_of-items_of [] = refl
+list_of-items_of (d ∷ ds) = ap (λ rest. d ∷ rest) (list_of-items_of ds)
+
+-- what an array with these items describes
+classes_of-array : (d : Data) (values : List Value) → Some (items_view values) ≡ as_array d
+    → classes_of d ≡ some_if (are_classes (map view values)) (filter_map class_of (map view values))
+classes_of-array d values e =
+    ap (λ found. option_and_then (λ items. some_if (are_classes items) (filter_map class_of items)) (option_map list_of found)) (sym e)
+    ∙ ap (λ items. some_if (are_classes items) (filter_map class_of items)) (list_of-items_of (map view values))
+
+-- the tests of the items of an array tell whether they are the classes of a map
+pub are_classes-values : (values : List Value) (all distinct : Bool)
+    → all ≡ (nat_le 1 (length values) && nat_le (length values) 16 && list_all (λ value. is_some (class_of (view value))) values)
+    → distinct ≡ are_distinct (filter_map (λ value. class_of (view value)) values) → (all && distinct) ≡ are_classes (map view values)
+are_classes-values values all distinct e h =
+    let n = length (map view values) in
+    let each = list_all (λ d. is_some (class_of d)) (map view values) in
+    let lengths : length values ≡ n = sym (length-map values view) in
+    let tests : list_all (λ value. is_some (class_of (view value))) values ≡ each = sym (list_all-map (λ d. is_some (class_of d)) view values) in
+    ap (λ t. t && distinct) (e ∙ ap (λ m. nat_le 1 m && nat_le m 16 && list_all (λ value. is_some (class_of (view value))) values) lengths
+    ∙ ap (λ t. nat_le 1 n && nat_le n 16 && t) tests)
+    ∙ ap (λ t. nat_le 1 n && nat_le n 16 && each && t) (h ∙ ap are_distinct (sym (filter_map-map class_of view values)))
+
+-- an array whose items are not the classes of a map describes none
+pub no_classes-array : (d : Data) (values : List Value) (test : Bool) → Some (items_view values) ≡ as_array d → test ≡ are_classes (map view values) → test ≡ false
+    → classes_of d ≡ None
+no_classes-array d values test e is fails =
+    classes_of-array d values e ∙ ap (λ t. some_if t (filter_map class_of (map view values))) (sym is ∙ fails)
+
+pub classes-array : (d : Data) (values : List Value) (classes : List PassabilityClass) (test : Bool) → Some (items_view values) ≡ as_array d
+    → test ≡ are_classes (map view values) → test ≡ true → classes ≡ filter_map (λ value. class_of (view value)) values → classes_of d ≡ Some classes
+classes-array d values classes test e is holds read =
+    classes_of-array d values e ∙ ap (λ t. some_if t (filter_map class_of (map view values))) (sym is ∙ holds)
+    ∙ ap Some (filter_map-map class_of view values ∙ sym read)
+
+pub is_table-values : (values : List Value) (classes : List PassabilityClass) (test : Bool) → test ≡ are_classes (map view values) → test ≡ true
+    → classes ≡ filter_map (λ value. class_of (view value)) values → is_table classes ≡ true
+is_table-values values classes test is holds read =
+    ap is_table (read ∙ sym (filter_map-map class_of view values)) ∙ is_table-filter_map (map view values) (sym is ∙ holds)
+
+-- there is no place that was found exactly where no class has the name
+pub none_found : (name : List ℕ) (classes : List PassabilityClass) (found : Option ℕ) → found ≡ position (λ class. bytes_eq class.name name) classes
+    → (is_some found ≡ false) ↔ All (λ class. class.name ≢ name) classes
+none_found name classes found e =
+    let both = position-none name classes in (λ none. both.0 (ap is_some (sym e) ∙ none), λ none. ap is_some e ∙ both.1 none)

@@ -1,0 +1,2 @@
+pub mod FormKeys
+pub mod ClassLists

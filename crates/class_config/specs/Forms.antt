@@ -1,0 +1,32 @@
+-- Forms over the reading of serde_json: objects with exactly the keys of a form, the strings under them, and class names.
+use Rattle.std.specs.Prelude.{ℕ, ◌+◌, ◌&&◌, ◌||◌, ◌==◌, List, length, Bool, false, nat_le, if◌then◌else◌, Option, Some, None, is_some, option_and_then}
+use Rattle.std.specs.List.{list_all}
+use Rattle.std.specs.Char.{is_ascii_alphanumeric}
+use Rattle.serde_json.specs.Data.{Data, object, array, Members, no_members, member, null, boolean, number, string}
+use Rattle.serde_json.specs.Find.{get, get_member, as_str}
+
+abbrev pub member_count : Members → ℕ
+member_count no_members = 0
+member_count (member key d ms) = member_count ms + 1
+
+-- an object with exactly these keys, in any order; an object has each key once
+abbrev pub has_keys : List (List ℕ) → Data → Bool
+has_keys keys null = false
+has_keys keys (boolean b) = false
+has_keys keys (number n) = false
+has_keys keys (string s) = false
+has_keys keys (array ds) = false
+has_keys keys (object ms) = (member_count ms == length keys) && list_all (λ key. is_some (get_member key ms)) keys
+
+-- the string under a key
+abbrev pub text_under : List ℕ → Data → Option (List ℕ)
+text_under key d = option_and_then as_str (get key d)
+
+-- a value where the test holds, and else none
+abbrev pub some_if : {T : Type 0} → Bool → T → Option T
+some_if test value = if test then Some value else None
+
+-- a class name: 1 to 64 bytes, each an ASCII letter, a digit, `-` (45) or `_` (95)
+abbrev pub is_class_name : List ℕ → Bool
+is_class_name name = nat_le 1 (length name) && nat_le (length name) 64
+    && list_all (λ byte. is_ascii_alphanumeric byte || byte == 45 || byte == 95) name

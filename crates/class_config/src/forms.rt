@@ -1,0 +1,99 @@
+//! The forms of a class and of its name, over the reading of a JSON text.
+ghost use Rattle.std.specs.Prelude.{◌≡◌, ◌==◌, ◌||◌, IsTrue, IfSome, is_some, map, option_map};
+ghost use Rattle.std.specs.List.{list_all};
+ghost use Rattle.std.specs.Char.{is_ascii_alphanumeric};
+ghost use Rattle.serde_json.specs.Find.{as_object, get};
+ghost use Rattle.serde_json.specs.View.{view};
+ghost use Rattle.class_config.specs.Forms as form;
+ghost use Rattle.class_config.specs.Classes.{class_of, is_clearance};
+
+use fixed_point::Fixed;
+use serde_json::Value;
+
+/// The most that a clearance may be, in navcells.
+const MAX_CLEARANCE: i32 = 64;
+
+/// A class as it stands in a value, with its name lent.
+#[derive(Clone, Copy)]
+pub struct Reading<'v> {
+    pub name: &'v str,
+    pub clearance: Fixed,
+}
+
+/// The class that a value is, if it is one.
+pub fn reading_of(value: &Value) -> Option<Reading<'_>>
+    ensures class { option_map (λ reading. record { name = reading.name.now; clearance = reading.clearance }) result ≡ class_of (view value.now) }
+    ensures name { IfSome result (λ reading. IsTrue (form.is_class_name reading.name.now)) }
+{
+    if !has_keys(value, &["name", "clearance"]) {
+        return None;
+    }
+    let (Some(name), Some(text)) = (text_under(value, "name"), text_under(value, "clearance"))
+    else {
+        return None;
+    };
+    let Ok(clearance) = Fixed::parse(text.as_bytes()) else {
+        return None;
+    };
+    if is_class_name(name.as_bytes()) && is_clearance(clearance) {
+        Some(Reading { name, clearance })
+    } else {
+        None
+    }
+}
+
+/// Whether the number is from 0 to 64.
+fn is_clearance(clearance: Fixed) -> bool
+    ensures { result ≡ is_clearance clearance }
+{
+    let raw = clearance.raw();
+    0 <= raw && raw <= MAX_CLEARANCE * 65536
+}
+
+/// Whether the bytes are of the form of a class name.
+pub fn is_class_name(name: &[u8]) -> bool
+    ensures { result ≡ form.is_class_name name.now }
+{
+    1 <= name.len() && name.len() <= 64 && are_name_bytes(name)
+}
+
+/// Whether each byte may stand in a class name.
+fn are_name_bytes(name: &[u8]) -> bool
+    ensures { result ≡ list_all (λ byte. is_ascii_alphanumeric byte || byte == 45 || byte == 95) name.now }
+{
+    name.iter().all(|byte| byte.is_ascii_alphanumeric() || *byte == b'-' || *byte == b'_')
+}
+
+/// The string under a key.
+fn text_under<'v>(value: &'v Value, key: &str) -> Option<&'v str>
+    ensures { option_map (λ text. text.now) result ≡ form.text_under key.now (view value.now) }
+{
+    value.get(key).and_then(Value::as_str)
+}
+
+/// Whether the value is an object with exactly these keys.
+fn has_keys(value: &Value, keys: &[&str]) -> bool
+    ensures { result ≡ form.has_keys (map (λ key. key.now) keys.now) (view value.now) }
+{
+    match member_count(value) {
+        Some(count) => count == keys.len() && has_each(value, keys),
+        None => false,
+    }
+}
+
+/// The number of members of an object.
+fn member_count(value: &Value) -> Option<usize>
+    ensures { result ≡ option_map form.member_count (as_object (view value.now)) }
+{
+    match value.as_object() {
+        Some(members) => Some(members.len()),
+        None => None,
+    }
+}
+
+/// Whether the value is an object that has each of these keys, or there is no key.
+fn has_each(value: &Value, keys: &[&str]) -> bool
+    ensures { result ≡ list_all (λ key. is_some (get key.now (view value.now))) keys.now }
+{
+    keys.iter().all(|key| value.get(*key).is_some())
+}
