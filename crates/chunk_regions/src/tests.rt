@@ -106,8 +106,8 @@ fn numbers_text(alloc: Global, labels: &Labels) -> Result<String, AllocError> {
     Ok(text)
 }
 
-// The rows of one chunk from row 0 up, joined by `/`, with `#` for an impassable cell; then the region numbers in
-// the order of cells.
+// The rows of one chunk from the first row up, joined by `/`, with `#` for an impassable cell; then the
+// region numbers in the order of cells.
 const CHUNKS: [(&str, &str); 40] = [
     (
         "..#.....#./....#..#../#..#....../#..##.#.../#...###..#/....####../.#.#..##../##..#.....",
@@ -266,17 +266,18 @@ enum Look {
     Random,
 }
 
-/// A map of one whole chunk: open, a comb whose teeth stand on row 0, or five cells of eight passable at random.
+/// A map of one whole chunk: open, a comb whose teeth stand on its first row, or five cells of eight
+/// passable at random.
 fn whole_chunk(alloc: Global, size: Size, look: Look) -> Result<Sketch, AllocError> {
     let mut tiles = Vec::new(alloc);
-    let mut seed = 12345u32;
+    let mut noise = 12345u32;
     for j in 0..96u32 {
         for i in 0..96u32 {
-            seed = seed.wrapping_mul(1_103_515_245).wrapping_add(12345) & 0x7fff_ffff;
+            noise = noise.wrapping_mul(1_103_515_245).wrapping_add(12345) & 0x7fff_ffff;
             let passable = match look {
                 Look::Open => true,
                 Look::Comb => j == 0 || i % 2 == 0,
-                Look::Random => (seed >> 16) % 8 >= 3,
+                Look::Random => (noise >> 16) % 8 >= 3,
             };
             tiles.push(passable)?;
         }

@@ -1,2 +1,3 @@
+pub mod Plane
 pub mod Raw
 pub mod Text

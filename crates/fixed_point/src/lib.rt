@@ -11,6 +11,7 @@ ghost use Rattle.fixed_point.specs.Raw.{floor_of, centre_of};
 use std::marker::Model;
 
 mod laws;
+pub mod plane;
 mod reading;
 #[cfg(test)]
 mod tests;

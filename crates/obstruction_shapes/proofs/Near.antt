@@ -2,9 +2,10 @@
 use Rattle.std.proofs.Common.{◌+◌, ◌*◌, ℤ, leb-true}
 use Rattle.std.specs.Prelude.{unsigned_abs, IsTrue}
 use Rattle.nav_types.specs.declared.cells.Cell.{Cell}
+use Rattle.fixed_point.specs.Plane.{square, from_centre, along, across, beyond}
 use Rattle.obstruction_shapes.specs.declared.shapes.Shape.{Shape}
-use Rattle.obstruction_shapes.specs.Shapes.{turned_of, square, HasUnitVector}
-use Rattle.obstruction_shapes.specs.Blocking.{from_centre, along, across, beyond, blocked, reach, IsNear}
+use Rattle.obstruction_shapes.specs.Shapes.{turned_of, HasUnitVector}
+use Rattle.obstruction_shapes.specs.Blocking.{blocked, reach, IsNear}
 use Rattle.obstruction_shapes.proofs.Turning.{signs, near_both}
 
 -- each cell that the shape blocks is near

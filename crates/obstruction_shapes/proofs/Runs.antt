@@ -3,9 +3,10 @@ use Rattle.std.proofs.Common.{◌≡◌, ℕ, ◌+◌, ◌-◌, ◌*◌, ◌<◌
 use Rattle.std.specs.Prelude.{unsigned_abs, IsTrue}
 use borrow.Author.Differences.{up, down, sum_is_lem, neg_is}
 use Rattle.nav_types.specs.Cells.{cell_at}
+use Rattle.fixed_point.specs.Plane.{square, from_centre, along, across, beyond}
 use Rattle.obstruction_shapes.specs.declared.shapes.Shape.{Shape}
-use Rattle.obstruction_shapes.specs.Shapes.{turned_of, square}
-use Rattle.obstruction_shapes.specs.Blocking.{from_centre, along, across, beyond, blocked}
+use Rattle.obstruction_shapes.specs.Shapes.{turned_of}
+use Rattle.obstruction_shapes.specs.Blocking.{blocked}
 use Rattle.std.proofs.lemmas.Int.{ints}
 use Rattle.std.proofs.lemmas.Bool.{cases_lt}
 use Rattle.std.proofs.Math.Nat.{mul-le-mul, mul-le-mul_left, le_of_mul-le-mul_left}

@@ -4,7 +4,7 @@ use Rattle.std.specs.Prelude.{unsigned_abs}
 use Rattle.std.proofs.lemmas.Int.{ints}
 use Rattle.std.proofs.lemmas.Bool.{cases_lt}
 use Rattle.std.proofs.Math.Nat.{mul-le-mul, mul-le-mul_right, mul-le-mul_left}
-use Rattle.obstruction_shapes.specs.Blocking.{along, across}
+use Rattle.fixed_point.specs.Plane.{along, across}
 
 -- with d along and e across: the products have signs that add up in one of them and take away in the other
 pub record Adding (p q u v d e : ℕ) : Type 0 where

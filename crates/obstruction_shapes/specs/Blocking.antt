@@ -1,25 +1,9 @@
 -- Which cells a shape blocks, and how far it reaches. All numbers are raw: a unit of length is a navcell's side over 65536.
-use Rattle.std.specs.Prelude.{ℕ, ◌+◌, ◌-◌, ◌*◌, ◌/◌, ◌≤◌, Bool, nat_le, ℤ, ◌+ℤ◌, ◌-ℤ◌, ◌*ℤ◌, unsigned_abs}
+use Rattle.std.specs.Prelude.{ℕ, ◌+◌, ◌*◌, ◌/◌, ◌≤◌, Bool, nat_le, ℤ, unsigned_abs}
 use Rattle.nav_types.specs.declared.cells.Cell.{Cell}
-use Rattle.fixed_point.specs.Raw.{centre_of}
+use Rattle.fixed_point.specs.Plane.{square, from_centre, along, across, beyond}
 use Rattle.obstruction_shapes.specs.declared.shapes.Shape.{Shape}
-use Rattle.obstruction_shapes.specs.Shapes.{turned_of, square}
-
--- from a coordinate to the middle of column (or row) i
-abbrev pub from_centre : ℕ → ℤ → ℤ
-from_centre i x = centre_of i -ℤ x
-
--- how far the point (px, pz) from a square's middle lies along the unit vector (ux, uz), times 65536
-abbrev pub along : ℤ → ℤ → ℤ → ℤ → ℤ
-along px pz ux uz = px *ℤ ux +ℤ pz *ℤ uz
-
--- how far it lies across the unit vector, times 65536
-abbrev pub across : ℤ → ℤ → ℤ → ℤ → ℤ
-across px pz ux uz = pz *ℤ ux -ℤ px *ℤ uz
-
--- how far a length lies past a half side, and 0 within it, times 65536
-abbrev pub beyond : ℤ → ℤ → ℕ
-beyond length half = unsigned_abs length - 65536 * unsigned_abs half
+use Rattle.obstruction_shapes.specs.Shapes.{turned_of}
 
 -- the shape blocks the cell with this clearance: the cell's middle is at most the clearance away from the square
 unfoldable pub blocked : Shape → ℤ → Cell → Bool

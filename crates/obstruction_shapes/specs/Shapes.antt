@@ -1,6 +1,7 @@
 -- Shapes and where they fit. All numbers are raw: a unit of length is a navcell's side over 65536.
-use Rattle.std.specs.Prelude.{ℕ, ◌+◌, ◌*◌, ◌^◌, ◌≤◌, ℤ, pos, ◌≤ℤ◌, ◌<ℤ◌, unsigned_abs}
+use Rattle.std.specs.Prelude.{◌*◌, ℤ, pos, ◌≤ℤ◌}
 use Rattle.nav_types.specs.declared.cells.Size.{Size}
+use Rattle.fixed_point.specs.Plane.{IsUnitVector, IsOnAxis}
 use Rattle.obstruction_shapes.specs.declared.shapes.Shape.{Shape}
 use Rattle.obstruction_shapes.specs.declared.shapes.Shape.TheVariants.{Unit as UnitShape, Square}
 use Rattle.obstruction_shapes.specs.declared.shapes.Turned.{Turned}
@@ -15,28 +16,14 @@ abbrev pub moved_to : Shape → ℤ → ℤ → Shape
 moved_to (UnitShape _ _ half) x z = UnitShape x z half
 moved_to (Square _ _ ux uz hw hh) x z = Square x z ux uz hw hh
 
--- n times n
-abbrev pub square : ℕ → ℕ
-square n = n * n
-
 -- a half side: from 0 to 256 navcells
 pub record IsHalfSide (half : ℤ) : Type 0 where
   pub low : pos 0 ≤ℤ half
   pub high : half ≤ℤ pos (256 * 65536)
 
--- a unit vector, of length 1 within what rounding to whole units brings: its squared length is 2^32 within 2^25
-pub record IsUnitVector (ux uz : ℤ) : Type 0 where
-  pub long : 2 ^ 32 ≤ square (unsigned_abs ux) + square (unsigned_abs uz) + 2 ^ 25
-  pub short : square (unsigned_abs ux) + square (unsigned_abs uz) ≤ 2 ^ 32 + 2 ^ 25
-
 -- the shape lies along a unit vector
 abbrev pub HasUnitVector : Shape → Type 0
 HasUnitVector shape = IsUnitVector (turned_of shape).ux (turned_of shape).uz
-
--- the coordinate lies on a map with `count` navcells along its axis
-pub record IsOnAxis (count : ℕ) (x : ℤ) : Type 0 where
-  pub low : pos 0 ≤ℤ x
-  pub high : x <ℤ pos (65536 * count)
 
 -- the shape fits a map of this size: its middle lies on it, and its sides and its unit vector are in their limits
 pub record Fits (size : Size) (shape : Shape) : Type 0 where

@@ -1,11 +1,12 @@
-ghost use Rattle.std.specs.Prelude.{◌≡◌, ◌≤◌, ◌<◌, ◌^◌, ℕ, pos, ◌≤ℤ◌, ◌↔◌, unsigned_abs, IfSome, IfNone, IsTrue};
+ghost use Rattle.std.specs.Prelude.{◌≡◌, ◌≤◌, ◌^◌, ◌↔◌, IfSome, IfNone, IsTrue};
 ghost use Rattle.nav_types.specs.declared.cells.Cell.{Cell};
 ghost use Rattle.nav_types.specs.Cells.{IsInside, IsInRect, IsRectInside};
 ghost use Rattle.obstruction_shapes.specs.Shapes.{Fits};
-ghost use Rattle.obstruction_shapes.specs.Blocking.{from_centre, blocked, reach, IsNear};
+ghost use Rattle.obstruction_shapes.specs.Blocking.{blocked, reach, IsNear};
 
 use crate::shapes::Shape;
 use fixed_point::Fixed;
+use fixed_point::plane::{columns_near, magnitude};
 use nav_types::{Rect, Size};
 
 /// The cells of a map that are near enough to the shape to be blocked for a class with this clearance:
@@ -42,34 +43,4 @@ fn reach_of(shape: &Shape, clearance: Fixed) -> u64
     let sides = magnitude(turned.hw) + magnitude(turned.hh);
     let extent = sides + 2 * magnitude(clearance);
     extent + extent / 64 + 1
-}
-
-/// The magnitude of a length, in units.
-fn magnitude(length: Fixed) -> u64
-    ensures value { result ≡ unsigned_abs length }
-    ensures bounded { result ≤ 2 ^ 31 }
-{
-    u64::from(length.raw().unsigned_abs())
-}
-
-/// The first and the last of `count` columns (or rows) whose middle is no further than `reach` from a
-/// coordinate. `None` where there are none.
-fn columns_near(x: Fixed, reach: u64, count: u16) -> Option<(u16, u16)>
-    requires on_map { pos 0 ≤ℤ x }
-    requires reach { reach ≤ 2 ^ 34 }
-    requires count { 0 < count }
-    ensures inside { IfSome result (λ span. (span.0 ≤ span.1) × (span.1 < count)) }
-    ensures near { IfSome result (λ span. (i : ℕ) → i < count → (((span.0 ≤ i) × (i ≤ span.1)) ↔ (unsigned_abs (from_centre i x) ≤ reach))) }
-    ensures none_near { IfNone result ((i : ℕ) → i < count → ¬ (unsigned_abs (from_centre i x) ≤ reach)) }
-{
-    let x = magnitude(x);
-    let first = (x + 32767).saturating_sub(reach) / 65536;
-    if x + reach < 32768 {
-        return None;
-    }
-    let last = ((x + reach - 32768) / 65536).min(u64::from(count) - 1);
-    if first > last {
-        return None;
-    }
-    Some((first as u16, last as u16))
 }

@@ -1,8 +1,9 @@
-ghost use Rattle.std.specs.Prelude.{◌≡◌, ◌≤◌, ◌^◌, ◌↔◌, IsTrue, Some, codes, unsigned_abs};
+ghost use Rattle.std.specs.Prelude.{◌≡◌, ◌↔◌, IsTrue, Some, codes};
 ghost use Rattle.std.specs.Result.{OkIff};
-ghost use Rattle.obstruction_shapes.specs.Shapes.{turned_of, moved_to, Fits, IsHalfSide, IsUnitVector, IsOnAxis, square};
+ghost use Rattle.obstruction_shapes.specs.Shapes.{turned_of, moved_to, Fits, IsHalfSide};
 
 use fixed_point::Fixed;
+use fixed_point::plane::{is_on_axis, is_unit_vector};
 use nav_types::Size;
 use std::error::Error;
 use std::fmt;
@@ -129,33 +130,9 @@ pub fn check(shape: Shape, size: Size) -> Result<Shape, BadShape>
     }
 }
 
-/// Whether the coordinate lies on a map with `count` navcells along its axis.
-fn is_on_axis(x: Fixed, count: u16) -> bool
-    ensures { IsTrue result ↔ IsOnAxis count x }
-{
-    x.raw() >= 0 && i64::from(x.raw()) < 65536 * i64::from(count)
-}
-
 /// Whether a half side is from 0 to 256 navcells.
 fn is_half_side(half: Fixed) -> bool
     ensures { IsTrue result ↔ IsHalfSide half }
 {
     half.raw() >= 0 && half.raw() <= MAX_HALF_SIDE
-}
-
-/// Whether the squared length of a vector is 2^32 within 2^25.
-fn is_unit_vector(ux: Fixed, uz: Fixed) -> bool
-    ensures { IsTrue result ↔ IsUnitVector ux uz }
-{
-    let squared = squared_component(ux) + squared_component(uz);
-    squared >= (1 << 32) - (1 << 25) && squared <= (1 << 32) + (1 << 25)
-}
-
-/// The square of a component, in units: at most 2^62.
-fn squared_component(component: Fixed) -> u64
-    ensures value { result ≡ square (unsigned_abs component) }
-    ensures bounded { result ≤ 2 ^ 62 }
-{
-    let magnitude = u64::from(component.raw().unsigned_abs());
-    magnitude * magnitude
 }

@@ -1,0 +1,40 @@
+-- Cells that a legal walk joins.
+use Rattle.std.proofs.Common.{ℕ, Bool, List, [], ◌∷◌, ◌≡◌, ◌↔◌, ◌==◌, IsTrue, IsFalse, subst, sym, ◌∙◌, inl, inr}
+use Rattle.std.proofs.lemmas.Bool.{eqb-true, eq-eqb, both_ways, cases_Bool}
+use Rattle.nav_types.specs.declared.cells.Cell.{Cell}
+use Rattle.nav_types.specs.declared.cells.Size.{Size}
+use Rattle.nav_types.specs.declared.directions.Dir.{Dir}
+use Rattle.nav_types.specs.Cells.{IsInside}
+use Rattle.nav_types.specs.Walks.{IsWalk, Joined}
+use Rattle.goal_reach.specs.Targets.{IsAreaOf}
+
+-- a walk from a passable cell ends at one
+pub walk_end : (passes : Cell → Bool) (from : Cell) (dirs : List Dir) (to : Cell) → IsTrue (passes from) → IsWalk passes from dirs to → IsTrue (passes to)
+walk_end passes from [] to start same = let P : Cell → Type 0 = λ cell. IsTrue (passes cell) in subst P same start
+walk_end passes from (dir ∷ dirs) to start (next, walked) = walk_end passes next dirs to walked.0.next walked.1
+
+-- what is joined to a passable cell is passable
+pub joined_passes : (passes : Cell → Bool) (start cell : Cell) → IsTrue (passes start) → Joined passes start cell → IsTrue (passes cell)
+joined_passes passes start cell passable joined = walk_end passes start joined.0 cell passable joined.1
+
+-- what is joined to a passable cell lies in the map
+pub joined_inside : (passes : Cell → Bool) (size : Size) → ((cell : Cell) → IsTrue (passes cell) → IsInside size cell) → (start cell : Cell) → IsTrue (passes start) → Joined passes start cell → IsInside size cell
+joined_inside passes size within start cell passable joined = within cell (joined_passes passes start cell passable joined)
+
+-- a cell is joined to the start exactly where its area has the start's number
+pub same_area : (passes : Cell → Bool) (HasNumber : Cell → ℕ → Type 0) (start cell : Cell) (area number : ℕ)
+    → ((c : Cell) (n : ℕ) → HasNumber c n → (n ≡ 0) ↔ IsFalse (passes c))
+    → ((a b : Cell) (m n : ℕ) → IsTrue (passes a) → IsTrue (passes b) → HasNumber a m → HasNumber b n → (m ≡ n) ↔ Joined passes a b)
+    → IsAreaOf passes HasNumber start area → HasNumber cell number → IsTrue (number == area) ↔ Joined passes start cell
+same_area passes HasNumber start cell area number blocked joined own numbered = (
+  (λ test.
+      let same : number ≡ area = eqb-true number area test in
+      let free : IsTrue (passes cell) = elim (cases_Bool (passes cell)) [
+        | inl passing ↦ passing
+        | inr not ↦ absurd (both_ways (passes start) ((blocked start area own.numbered).0 (sym same ∙ (blocked cell number numbered).1 not)) own.passable)
+      ] in
+      (joined start cell area number own.passable free own.numbered numbered).0 (sym same)),
+  (λ walk.
+      let free = joined_passes passes start cell own.passable walk in
+      eq-eqb number area (sym ((joined start cell area number own.passable free own.numbered numbered).1 walk))),
+)

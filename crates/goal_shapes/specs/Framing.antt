@@ -1,0 +1,30 @@
+-- Each goal cell is framed.
+use Rattle.std.proofs.Common.{◌+◌, ◌*◌, ◌<◌, ◌≤◌, ℕ, suc, ⊎_elim, arith, leb-true, le-leb, refl}
+use Rattle.std.specs.Prelude.{unsigned_abs, IsTrue, nat_le}
+use Rattle.std.proofs.lemmas.Bool.{and_parts, and_from, cases_lt}
+use Rattle.std.proofs.Math.Nat.{mul-le-mul}
+use Rattle.nav_types.specs.declared.cells.Cell.{Cell}
+use Rattle.fixed_point.specs.Plane.{square}
+use Rattle.goal_shapes.specs.declared.goals.Goal.{Goal}
+use Rattle.goal_shapes.specs.declared.goals.Goal.TheVariants.{Point, Circle, NotCircle, Square, NotSquare}
+use Rattle.goal_shapes.specs.Goals.{gap, meets_axes, meets_sides, contains, framed}
+
+-- a square is no more than another only where its root is
+root_le : (a b : ℕ) → square a ≤ square b → a ≤ b
+root_le a b h = ⊎_elim (λ (g : b < a). let k : suc b * suc b ≤ a * a = mul-le-mul g g in absurd (omega arith)) (λ (l : a ≤ b). l) (cases_lt b a)
+
+-- both parts of a sum of squares are near
+both_near : (a b r : ℕ) → IsTrue (nat_le (square a + square b) (square r)) → (IsTrue (nat_le a r)) × (IsTrue (nat_le b r))
+both_near a b r hit = let sum = leb-true (square a + square b) (square r) hit in
+    (le-leb a r (root_le a r (omega arith)), le-leb b r (root_le b r (omega arith)))
+
+pub contains_framed : (goal : Goal) (cell : Cell) → IsTrue (contains goal cell) → IsTrue (framed goal cell)
+unfolding contains framed
+contains_framed (Point x z) cell hit = hit
+contains_framed (Circle x z r) cell hit =
+    let near = both_near (gap cell.i x) (gap cell.j z) (unsigned_abs r) hit in
+    and_from (nat_le (gap cell.i x) (unsigned_abs r)) (nat_le (gap cell.j z) (unsigned_abs r)) near.0 near.1
+contains_framed (NotCircle x z r) cell hit = refl
+contains_framed (Square x z ux uz hw hh) cell hit =
+    (and_parts (meets_axes x z ux uz hw hh cell) (meets_sides x z ux uz hw hh cell) hit).0
+contains_framed (NotSquare x z ux uz hw hh) cell hit = refl

@@ -1,0 +1,132 @@
+-- Goals: their cells, how remote a cell is from them, and their boxes.
+-- All numbers are raw: a unit of length is a navcell's side over 65536. A place along a unit vector is in units over 65536.
+use Rattle.std.specs.Prelude.{◌≡◌, ℕ, ◌+◌, ◌-◌, ◌*◌, ◌^◌, min, Bool, true, ◌&&◌, ◌||◌, nat_le, List, [], ◌∷◌, ℤ, pos, ◌-ℤ◌, unsigned_abs}
+use Rattle.std.specs.List.{list_any}
+use Rattle.std.specs.Ordering.{int_eq}
+use Rattle.nav_types.specs.declared.cells.Cell.{Cell}
+use Rattle.fixed_point.specs.Raw.{floor_of}
+use Rattle.fixed_point.specs.Plane.{square, from_centre, along, across, beyond}
+use Rattle.goal_shapes.specs.declared.goals.Goal.{Goal}
+use Rattle.goal_shapes.specs.declared.goals.Goal.TheVariants.{Point, Circle, NotCircle, Square, NotSquare}
+
+-- ---- points
+
+-- the cell holds the point
+pub record Holds (x z : ℤ) (cell : Cell) : Type 0 where
+  pub column : floor_of x ≡ pos cell.i
+  pub row : floor_of z ≡ pos cell.j
+
+-- whether it does
+abbrev pub holds : ℤ → ℤ → Cell → Bool
+holds x z cell = int_eq (floor_of x) (pos cell.i) && int_eq (floor_of z) (pos cell.j)
+
+-- the columns (or rows) from the one that holds a coordinate to column i
+abbrev pub columns_from : ℕ → ℤ → ℕ
+columns_from i x = unsigned_abs (pos i -ℤ floor_of x)
+
+-- ---- circles
+
+-- by how much column (or row) i lies away from a coordinate, and 0 where it holds it
+abbrev pub gap : ℕ → ℤ → ℕ
+gap i x = unsigned_abs (from_centre i x) - 32768
+
+-- from a coordinate to the first edge of column (or row) i
+abbrev pub from_edge : ℕ → ℤ → ℤ
+from_edge i x = pos (65536 * i) -ℤ x
+
+-- the squared length of the way (px, pz)
+abbrev pub squared_length : ℤ → ℤ → ℕ
+squared_length px pz = square (unsigned_abs px) + square (unsigned_abs pz)
+
+-- the squared distance of a cell's middle from the point (x, z)
+abbrev pub squared_distance : ℤ → ℤ → Cell → ℕ
+squared_distance x z cell = squared_length (from_centre cell.i x) (from_centre cell.j z)
+
+-- some point of the cell lies no further than r from the point (x, z)
+abbrev pub meets_circle : ℤ → ℤ → ℤ → Cell → Bool
+meets_circle x z r cell = nat_le (square (gap cell.i x) + square (gap cell.j z)) (square (unsigned_abs r))
+
+-- the column and the row of the cell lie no further than r from the point (x, z)
+abbrev pub is_near_circle : ℤ → ℤ → ℤ → Cell → Bool
+is_near_circle x z r cell = nat_le (gap cell.i x) (unsigned_abs r) && nat_le (gap cell.j z) (unsigned_abs r)
+
+-- the four corners of a cell, as numbers of navcells
+abbrev pub corners_of : Cell → List (ℕ × ℕ)
+corners_of cell = (cell.i, cell.j) ∷ (cell.i + 1, cell.j) ∷ (cell.i, cell.j + 1) ∷ (cell.i + 1, cell.j + 1) ∷ []
+
+-- the corner lies no nearer than r to the point (x, z)
+abbrev pub is_off_circle : ℤ → ℤ → ℤ → ℕ × ℕ → Bool
+is_off_circle x z r corner = nat_le (square (unsigned_abs r)) (squared_length (from_edge corner.0 x) (from_edge corner.1 z))
+
+-- ---- squares
+
+-- an axis of the map separates no square with these half sides from a cell whose middle is p away along the axis,
+-- where the square's unit vector has the component `main` along that axis and `other` along the other
+unfoldable pub meets_axis : ℤ → ℤ → ℤ → ℤ → ℤ → Bool
+meets_axis p main other hw hh = let n = squared_length main other in
+    nat_le (unsigned_abs p * n)
+    (32768 * n + 65536 * (unsigned_abs hw * unsigned_abs main + unsigned_abs hh * unsigned_abs other))
+
+-- an axis of the square, with this half side along it, separates it from no cell whose middle has this place along the axis
+abbrev pub meets_side : ℤ → ℤ → ℤ → ℤ → Bool
+meets_side length half ux uz =
+    nat_le (unsigned_abs length) (65536 * unsigned_abs half + 32768 * (unsigned_abs ux + unsigned_abs uz))
+
+-- no axis of the map separates the square and the cell
+abbrev pub meets_axes : ℤ → ℤ → ℤ → ℤ → ℤ → ℤ → Cell → Bool
+meets_axes x z ux uz hw hh cell =
+    meets_axis (from_centre cell.i x) ux uz hw hh && meets_axis (from_centre cell.j z) uz ux hw hh
+
+-- no axis of the square separates them
+abbrev pub meets_sides : ℤ → ℤ → ℤ → ℤ → ℤ → ℤ → Cell → Bool
+meets_sides x z ux uz hw hh cell =
+    let px = from_centre cell.i x in let pz = from_centre cell.j z in
+    meets_side (along px pz ux uz) hw ux uz && meets_side (across px pz ux uz) hh ux uz
+
+-- the square meets the cell: no axis of either separates them
+abbrev pub meets_square : ℤ → ℤ → ℤ → ℤ → ℤ → ℤ → Cell → Bool
+meets_square x z ux uz hw hh cell = meets_axes x z ux uz hw hh cell && meets_sides x z ux uz hw hh cell
+
+-- the corner does not lie within the square, off its rim
+abbrev pub is_off_square : ℤ → ℤ → ℤ → ℤ → ℤ → ℤ → ℕ × ℕ → Bool
+is_off_square x z ux uz hw hh corner =
+    let px = from_edge corner.0 x in let pz = from_edge corner.1 z in
+    nat_le (65536 * unsigned_abs hw) (unsigned_abs (along px pz ux uz))
+    || nat_le (65536 * unsigned_abs hh) (unsigned_abs (across px pz ux uz))
+
+-- how deep a length lies within a half side, and 0 past it, times 65536
+abbrev pub within : ℤ → ℤ → ℕ
+within length half = 65536 * unsigned_abs half - unsigned_abs length
+
+-- ---- goals
+
+-- the cell is a goal cell: it holds the point, it meets the circle or the square, or some corner of it lies off them
+unfoldable pub contains : Goal → Cell → Bool
+contains (Point x z) cell = holds x z cell
+contains (Circle x z r) cell = meets_circle x z r cell
+contains (NotCircle x z r) cell = list_any (is_off_circle x z r) (corners_of cell)
+contains (Square x z ux uz hw hh) cell = meets_square x z ux uz hw hh cell
+contains (NotSquare x z ux uz hw hh) cell = list_any (is_off_square x z ux uz hw hh) (corners_of cell)
+
+-- how remote the cell is from the goal. A point: the squared distance from the cell that holds it. A circle: that of the
+-- cell's middle from the circle's, and 2^56 less that where it is turned inside out. A square: the squared distance of the
+-- cell's middle past its sides, times 2^32, and how deep it lies within them, times 65536, where it is turned inside out
+unfoldable pub remoteness : Goal → Cell → ℕ
+remoteness (Point x z) cell = 2 ^ 32 * (square (columns_from cell.i x) + square (columns_from cell.j z))
+remoteness (Circle x z r) cell = squared_distance x z cell
+remoteness (NotCircle x z r) cell = 2 ^ 56 - squared_distance x z cell
+remoteness (Square x z ux uz hw hh) cell =
+    let px = from_centre cell.i x in let pz = from_centre cell.j z in
+    square (beyond (along px pz ux uz) hw) + square (beyond (across px pz ux uz) hh)
+remoteness (NotSquare x z ux uz hw hh) cell =
+    let px = from_centre cell.i x in let pz = from_centre cell.j z in
+    min (within (along px pz ux uz) hw) (within (across px pz ux uz) hh)
+
+-- the cell lies in the goal's box: in the cell that holds the point, no further than the radius from a circle's middle
+-- along each axis of the map, where no axis of the map separates it from the square, and anywhere for the others
+unfoldable pub framed : Goal → Cell → Bool
+framed (Point x z) cell = holds x z cell
+framed (Circle x z r) cell = is_near_circle x z r cell
+framed (NotCircle x z r) cell = true
+framed (Square x z ux uz hw hh) cell = meets_axes x z ux uz hw hh cell
+framed (NotSquare x z ux uz hw hh) cell = true

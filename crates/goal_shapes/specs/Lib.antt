@@ -1,0 +1,4 @@
+pub mod Framing
+pub mod Goals
+pub mod Limits
+pub mod Words

@@ -1,0 +1,96 @@
+ghost use Rattle.std.specs.Prelude.{◌≤◌, ◌<◌, ◌^◌, ◌↔◌, ℕ, true, unsigned_abs};
+ghost use Rattle.nav_types.specs.declared.cells.Cell.{Cell};
+ghost use Rattle.nav_types.specs.Cells.{IsInside, IsInRect, IsRectInside};
+ghost use Rattle.nav_types.specs.Frames.{IsFrame};
+ghost use Rattle.fixed_point.specs.Plane.{from_centre, IsOnAxis};
+ghost use Rattle.goal_shapes.specs.Limits.{AreSides};
+ghost use Rattle.goal_shapes.specs.Goals.{holds, is_near_circle, meets_axes};
+
+use crate::points::cell_of_point;
+use crate::squares::{Turned, axis_reach};
+use fixed_point::Fixed;
+use fixed_point::plane::{columns_near, magnitude};
+use nav_types::{Rect, Size};
+
+/// The box of the one cell that holds a point of the map.
+pub(crate) fn point_box(x: Fixed, z: Fixed, size: Size) -> Rect
+    requires column { IsOnAxis size.w x }
+    requires row { IsOnAxis size.h z }
+    ensures { IsFrame (holds x z) size result }
+{
+    match cell_of_point(x, z, size) {
+        Some(cell) => Rect {
+            i0: cell.i,
+            j0: cell.j,
+            i1: cell.i,
+            j1: cell.j,
+        },
+        None => unreachable!(),
+    }
+}
+
+/// The box of the cells whose column and row lie no further than `r` from a point of the map.
+pub(crate) fn circle_box(x: Fixed, z: Fixed, r: Fixed, size: Size) -> Rect
+    requires column { IsOnAxis size.w x }
+    requires row { IsOnAxis size.h z }
+    ensures { IsFrame (is_near_circle x z r) size result }
+{
+    let reach = 32768 + magnitude(r);
+    near_box(x, z, reach, reach, size)
+}
+
+impl Turned {
+    /// The box of the cells that no axis of the map separates from the rectangle, whose middle lies on
+    /// the map.
+    pub(crate) fn square_box(&self, size: Size) -> Rect
+        requires sides { AreSides self.now.ux self.now.uz self.now.hw self.now.hh }
+        requires column { IsOnAxis size.w self.now.x }
+        requires row { IsOnAxis size.h self.now.z }
+        ensures { IsFrame (meets_axes self.now.x self.now.z self.now.ux self.now.uz self.now.hw self.now.hh) size result }
+    {
+        let reach_x = axis_reach(self.ux, self.uz, self.hw, self.hh);
+        let reach_z = axis_reach(self.uz, self.ux, self.hw, self.hh);
+        near_box(self.x, self.z, reach_x, reach_z, size)
+    }
+}
+
+/// The box of the cells whose middle is no further than the reaches from a point of the map along the axes.
+fn near_box(x: Fixed, z: Fixed, reach_x: u64, reach_z: u64, size: Size) -> Rect
+    requires column { IsOnAxis size.w x }
+    requires row { IsOnAxis size.h z }
+    requires columns { (32768 ≤ reach_x) × (reach_x ≤ 2 ^ 34) }
+    requires rows { (32768 ≤ reach_z) × (reach_z ≤ 2 ^ 34) }
+    ensures inside { IsRectInside size result }
+    ensures near { (cell : Cell) → IsInside size cell → (IsInRect result cell ↔ ((unsigned_abs (from_centre cell.i x) ≤ reach_x) × (unsigned_abs (from_centre cell.j z) ≤ reach_z))) }
+{
+    let (i0, i1) = reached(x, reach_x, size.w);
+    let (j0, j1) = reached(z, reach_z, size.h);
+    Rect { i0, j0, i1, j1 }
+}
+
+/// The first and the last of `count` columns (or rows) whose middle is no further than the reach from a
+/// coordinate on the map. That of the column that holds it is.
+fn reached(x: Fixed, reach: u64, count: u16) -> (u16, u16)
+    requires on_map { IsOnAxis count x }
+    requires reach { (32768 ≤ reach) × (reach ≤ 2 ^ 34) }
+    ensures order { result.0 ≤ result.1 }
+    ensures inside { result.1 < count }
+    ensures near { (i : ℕ) → i < count → (((result.0 ≤ i) × (i ≤ result.1)) ↔ (unsigned_abs (from_centre i x) ≤ reach)) }
+{
+    match columns_near(x, reach, count) {
+        Some(span) => span,
+        None => unreachable!(),
+    }
+}
+
+/// The whole map.
+pub(crate) fn whole_map(size: Size) -> Rect
+    ensures { IsFrame (λ _. true) size result }
+{
+    Rect {
+        i0: 0,
+        j0: 0,
+        i1: size.w - 1,
+        j1: size.h - 1,
+    }
+}

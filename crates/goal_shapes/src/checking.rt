@@ -1,0 +1,92 @@
+ghost use Rattle.std.specs.Prelude.{◌≤◌, ◌↔◌, IsTrue, IsErrOf, Some, codes};
+ghost use Rattle.std.specs.Result.{OkIff};
+ghost use Rattle.goal_shapes.specs.Limits.{AreSides, IsUpTo, IsWellFormed, IsGoalInside, IsSound};
+
+use crate::goals::Goal;
+use fixed_point::Fixed;
+use fixed_point::plane::{is_on_axis, is_unit_vector};
+use nav_types::Size;
+use std::error::Error;
+use std::fmt;
+
+/// The greatest radius and half side of a goal, in navcells.
+const MAX_LENGTH: u16 = 4096;
+
+/// Why a goal is refused for a map.
+#[derive(Clone, Copy, Debug, PartialEq, Eq)]
+pub enum GoalRefusal {
+    /// The radius, a half side or the unit vector is out of its limits.
+    BadShape,
+    /// The goal's middle does not lie on the map.
+    GoalOutside,
+}
+
+impl fmt::Display for GoalRefusal {
+    ghost use Rattle.goal_shapes.specs.declared.checking.GoalRefusal.{GoalRefusal};
+    ghost use Rattle.goal_shapes.specs.Words.{refusal_text};
+
+    ghost output = { λ refusal. Some (refusal_text refusal) };
+
+    fn fmt<W: fmt::Write>(&self, f: &mut fmt::Formatter<W>) -> fmt::Result {
+        match *self {
+            GoalRefusal::BadShape => f.write_str("the goal's shape is out of its limits"),
+            GoalRefusal::GoalOutside => f.write_str("the goal's middle lies outside the map"),
+        }
+    }
+}
+
+impl Error for GoalRefusal {}
+
+/// Hands the goal back where it is sound for a map of this size (`IsSound`). `BadShape` exactly where its
+/// radius or a half side is not from 0 to 4096 navcells or its unit vector is not of length 1 within its
+/// limits (`IsWellFormed`), and else `GoalOutside` exactly where its middle does not lie on the map
+/// (`IsGoalInside`).
+pub fn check(goal: Goal, size: Size) -> Result<Goal, GoalRefusal>
+    ensures sound { OkIff result (IsSound size goal) goal }
+    ensures bad_shape { IsErrOf result GoalRefusal.BadShape ↔ ¬ IsWellFormed goal }
+    ensures outside { IsErrOf result GoalRefusal.GoalOutside ↔ (IsWellFormed goal × ¬ IsGoalInside size goal) }
+{
+    if !is_well_formed(&goal) {
+        return Err(GoalRefusal::BadShape);
+    }
+    if !is_inside(&goal, size) {
+        return Err(GoalRefusal::GoalOutside);
+    }
+    Ok(goal)
+}
+
+/// Whether the goal's radius or sides are in their limits.
+fn is_well_formed(goal: &Goal) -> bool
+    ensures { IsTrue result ↔ IsWellFormed goal.now }
+{
+    match *goal {
+        Goal::Point { .. } => true,
+        Goal::Circle { r, .. } => is_up_to(MAX_LENGTH, r),
+        Goal::NotCircle { r, .. } => is_up_to(MAX_LENGTH, r),
+        Goal::Square { ux, uz, hw, hh, .. } => are_sides(ux, uz, hw, hh),
+        Goal::NotSquare { ux, uz, hw, hh, .. } => are_sides(ux, uz, hw, hh),
+    }
+}
+
+/// Whether the goal's middle lies on a map of this size.
+fn is_inside(goal: &Goal, size: Size) -> bool
+    ensures { IsTrue result ↔ IsGoalInside size goal.now }
+{
+    let (x, z) = goal.middle();
+    is_on_axis(x, size.w) && is_on_axis(z, size.h)
+}
+
+/// Whether the sides of a square are in their limits.
+fn are_sides(ux: Fixed, uz: Fixed, hw: Fixed, hh: Fixed) -> bool
+    ensures { IsTrue result ↔ AreSides ux uz hw hh }
+{
+    is_unit_vector(ux, uz) && is_up_to(MAX_LENGTH, hw) && is_up_to(MAX_LENGTH, hh)
+}
+
+/// Whether the length is from 0 to `most` navcells, which is at most 4096.
+pub(crate) fn is_up_to(most: u16, length: Fixed) -> bool
+    requires { most ≤ 4096 }
+    ensures { IsTrue result ↔ IsUpTo most length }
+{
+    length.raw() >= 0 && length.raw() <= 65536 * i32::from(most)
+}

@@ -1,0 +1,14 @@
+pub mod Counting
+pub mod ChunkLemmas
+pub mod RegionLemmas
+pub mod LinkLemmas
+pub mod AreaLemmas
+pub mod TallyLemmas
+pub mod BuildLemmas
+pub mod SameLemmas
+pub mod FittingLemmas
+pub mod PassingLemmas
+pub mod EditingLemmas
+pub mod PaintLemmas
+pub mod CellLists
+pub mod VersionLemmas

@@ -1,0 +1,385 @@
+-- What the parts of a version say of its map and its obstructions.
+use Rattle.std.proofs.Common.{◌≡◌, ◌≢◌, ℕ, zero, suc, ◌+◌, ◌-◌, ◌*◌, ◌/◌, ◌<◌, ◌≤◌, ◌==◌, ◌↔◌, ◌⊎◌, Bool, true, false, ◌&&◌, ◌||◌, not, cond, List, [], ◌∷◌, ◌++◌, length, map as each_of, get_or, refl, sym, ap, subst, ◌∙◌, inl, inr, ⊎_elim, arith, Some, option_map, length-append}
+use Rattle.std.specs.Prelude.{nat_lt, IsTrue, IsFalse, slice_get}
+use Rattle.std.specs.List.{count_by, sum_by, range_with_len}
+use Rattle.std.specs.Int.{bit_at}
+use Rattle.std.proofs.lemmas.Bool.{and_parts, and_from, and_left, and_right, not-true, not_from_false, not_from_true, cases_Bool, false_from_ne_true, lt-ltb, eqb-true, eq-eqb}
+use Rattle.std.proofs.lemmas.Option.{same_Some, slice_get-map, slice_get_within, slice_get-get_or, get_or_from_slice_get, slice_get_read}
+use Rattle.std.proofs.lemmas.List.{length-map}
+use Rattle.std.proofs.lemmas.List.FromFn.{length-map-range_with_len, get_or-map-range_with_len, sum_by-map-range_with_len_more}
+use Rattle.std.proofs.lemmas.List.Sums.{sum_by-cons}
+use Rattle.nav_types.specs.declared.cells.Cell.{Cell}
+use Rattle.nav_types.specs.declared.cells.Chunk.{Chunk}
+use Rattle.nav_types.specs.declared.cells.Rect.{Rect}
+use Rattle.nav_types.specs.declared.cells.Size.{Size}
+use Rattle.nav_types.specs.Cells.{IsInside, IsInRect, chunk_of}
+use Rattle.nav_types.specs.Counting.{Counts}
+use Rattle.nav_types.specs.Regions.{HasRelabelled}
+use Rattle.lane_rows.specs.Rows.{has_class}
+use Rattle.navcell_grid.specs.Grids.{GridCells, number_at, is_passable}
+use Rattle.chunk_regions.specs.Numbering.{Numbering, columns, rows, number_of}
+use Rattle.chunk_regions.specs.Labelling.{chunk_rect}
+use Rattle.chunk_regions.proofs.CellLemmas.{same_chunk}
+use Rattle.chunk_regions.proofs.LabelLemmas.{in_rect, in_chunk}
+use Rattle.region_edges.specs.Edges.{PassesInside}
+use Rattle.obstruction_store.specs.Standing.{Standing, AllFit}
+use Rattle.grid_versions.specs.Maps.{Map}
+use Rattle.grid_versions.specs.Passing.{passable_at, is_inside, has_base, is_blocked}
+use Rattle.grid_versions.specs.Painting.{is_covered, IsPainted, IsReadFrom, IsPaintedChunk, ArePaintedChunks, free_count, DiffersIn, AreDiffering, SameExtents}
+use Rattle.grid_versions.specs.Chunks.{chunk_count, chunk_place, chunk_numbered, IsChunkInside, AreOfChunks}
+use Rattle.grid_versions.specs.Tables.{Tables, AreTables}
+use Rattle.grid_versions.specs.Tallying.{AreTablesOf, Differs, AreMarks, AreMarksOf}
+use Rattle.grid_versions.specs.Versions.{AreParts}
+use Rattle.grid_versions.proofs.Counting.{Counts-carried, same_pair}
+use Rattle.grid_versions.proofs.ChunkLemmas.{AreOfChunks-at, chunk_inside, item_at, numbered_inside}
+use Rattle.grid_versions.proofs.TallyLemmas.{Counts-chunks, all_relabelled}
+use Rattle.grid_versions.proofs.PassingLemmas.{inside_from, inside_to}
+use Rattle.grid_versions.proofs.CellLists.{free_counted}
+
+-- ---- one more table
+
+item_of_push : {A : Type 0} (xs : List A) (y x : A) (k : ℕ) → slice_get (xs ++ y ∷ []) k ≡ Some x → (slice_get xs k ≡ Some x) ⊎ ((k ≡ length xs) × (y ≡ x))
+item_of_push [] y x zero at = inr (refl, same_Some y x at)
+item_of_push [] y x (suc k) at = absurd (cc)
+item_of_push (z ∷ xs) y x zero at = inl at
+item_of_push (z ∷ xs) y x (suc k) at = elim (item_of_push xs y x k at) [
+  | inl here ↦ inl here
+  | inr last ↦ inr (omega (arith, last.0), last.1)
+]
+
+pub AreTablesOf-none : (passes : ℕ → Cell → Bool) (size : Size) → AreTablesOf 0 passes size []
+AreTablesOf-none passes size = record { each = refl; are = λ class tables at. absurd (cc) }
+
+pub AreTablesOf-push : (classes : ℕ) (passes : ℕ → Cell → Bool) (size : Size) (all : List Tables) (one : Tables)
+    → AreTablesOf classes passes size all → AreTables (passes classes) size one → AreTablesOf (classes + 1) passes size (all ++ one ∷ [])
+AreTablesOf-push classes passes size all one of is =
+    let each = of.each in
+    record {
+      each = omega (arith, length-append all (one ∷ []));
+      are = λ class tables at. elim (item_of_push all one tables class at) [
+        | inl here ↦ of.are class tables here
+        | inr last ↦
+            let same : classes ≡ class = omega (arith, last.0) in
+            subst (λ (k : ℕ). AreTables (passes k) size tables) same (subst (λ (t : Tables). AreTables (passes classes) size t) last.1 is)
+      ];
+    }
+
+-- ---- covered and passable cells
+
+module _ (map : Map) (standing : Standing) where
+  -- a cell of the map is passable for a class of the map where nothing covers it
+  pub passable-inside : (k : ℕ) (cell : Cell) → k < length map.classes → IsInside map.size cell
+      → passable_at map standing k cell ≡ not (is_covered map standing k cell)
+  unfolding passable_at
+  passable-inside k cell class inside =
+      let known = and_from (nat_lt k (length map.classes)) (is_inside map.size cell) (lt-ltb k (length map.classes) class) (inside_to map.size cell inside) in
+      ap (λ b. b && not (is_covered map standing k cell)) known
+
+  -- only cells of the map are passable
+  pub passable_within : (k : ℕ) → PassesInside (passable_at map standing k) map.size
+  unfolding passable_at
+  passable_within k cell passes =
+      let all = and_parts (nat_lt k (length map.classes) && is_inside map.size cell) (not (is_covered map standing k cell)) passes in
+      inside_from map.size cell (and_parts (nat_lt k (length map.classes)) (is_inside map.size cell) all.0).1
+
+  -- the bits of a painted grid say which cells are passable
+  painted-passes : (grid : GridCells) (k : ℕ) (cell : Cell) → IsPainted map standing grid → k < length map.classes
+      → is_passable grid k cell ≡ passable_at map standing k cell
+  unfolding passable_at
+  painted-passes grid k cell painted class = ⊎_elim
+      (λ (inside : is_inside map.size cell ≡ true).
+      ap (λ (s : Size). is_inside s cell && not (has_class k (number_at grid cell))) painted.size
+      ∙ ap (λ b. is_inside map.size cell && not b) (painted.bits k cell (inside_from map.size cell inside))
+      ∙ ap (λ b. b && is_inside map.size cell && not (is_covered map standing k cell)) (sym (lt-ltb k (length map.classes) class)))
+      (λ (out : is_inside map.size cell ≡ false).
+      ap (λ (s : Size). is_inside s cell && not (has_class k (number_at grid cell))) painted.size
+      ∙ and_left (is_inside map.size cell) (not (has_class k (number_at grid cell))) out
+      ∙ sym (and_left (nat_lt k (length map.classes) && is_inside map.size cell) (not (is_covered map standing k cell))
+      (and_right (nat_lt k (length map.classes)) (is_inside map.size cell) out)))
+      (cases_Bool (is_inside map.size cell))
+
+  -- the tables of a painted grid are those of the map
+  pub tables_painted : (grid : GridCells) (classes : ℕ) (all : List Tables) → IsPainted map standing grid → classes ≡ length map.classes
+      → AreTablesOf classes (is_passable grid) grid.size all → AreTablesOf (length map.classes) (passable_at map standing) map.size all
+  tables_painted grid classes all painted count of =
+      let each = of.each in
+      record {
+        each = each ∙ count;
+        are = λ class tables at.
+            let low : class < length map.classes = omega (arith, slice_get_within all class tables at) in
+            let same : is_passable grid class ≡ passable_at map standing class = λ i cell. painted-passes grid class cell painted low i in
+            subst (λ (passes : Cell → Bool). AreTables passes map.size tables) same
+            (subst (λ (s : Size). AreTables (is_passable grid class) s tables) painted.size (of.are class tables at));
+      }
+
+  -- a cell of a chunk's rectangle lies in the map
+  pub rect_inside : (size : Size) (chunk : Chunk) (cell : Cell) → IsInRect (chunk_rect size chunk) cell → IsInside size cell
+  rect_inside size chunk cell inside =
+      let east = inside.east in let north = inside.north in
+      let wide = size.wide.some in let high = size.high.some in
+      record { column = omega arith; row = omega arith }
+
+  -- what is read from a painted grid is painted
+  pub cells_painted : (grid : GridCells) (all : List Numbering) → IsPainted map standing grid
+      → AreOfChunks grid.size (chunk_count grid.size) (IsReadFrom grid) all → ArePaintedChunks map standing all
+  cells_painted grid all painted of = record {
+    each = of.each ∙ ap (λ (s : Size). chunk_count s) painted.size;
+    are = λ place item at.
+        let read = of.are place item at in
+        let extent : item.rect ≡ chunk_rect map.size (chunk_numbered map.size place) =
+        read.extent ∙ ap (λ (s : Size). chunk_rect s (chunk_numbered s place)) painted.size in
+        record {
+          extent = extent;
+          whole = read.whole;
+          bits = λ k cell inside.
+              ap (λ n. has_class k n) (read.numbers cell inside)
+              ∙ painted.bits k cell (rect_inside map.size (chunk_numbered map.size place) cell (subst (λ (r : Rect). IsInRect r cell) extent inside));
+        };
+  }
+
+  -- a cell lies in its own chunk's rectangle
+  pub own_rect : (cell : Cell) → IsInside map.size cell → IsInRect (chunk_rect map.size (chunk_of cell)) cell
+  own_rect cell inside = in_rect map.size (chunk_of cell) cell inside refl refl
+
+  -- a painted chunk's free cells are passable
+  pub chunk-passes : (chunk : Chunk) (cells : Numbering) (k : ℕ) (cell : Cell) → IsPaintedChunk map standing chunk cells → k < length map.classes
+      → IsInRect (chunk_rect map.size chunk) cell → not (has_class k (number_of cells cell)) ≡ passable_at map standing k cell
+  chunk-passes chunk cells k cell painted class inside =
+      ap not (painted.bits k cell (subst (λ (r : Rect). IsInRect r cell) (sym painted.extent) inside))
+      ∙ sym (passable-inside k cell class (rect_inside map.size chunk cell inside))
+
+  -- ---- how many cells are passable
+
+  free_passable : (chunk : Chunk) (cells : Numbering) (k : ℕ) → IsPaintedChunk map standing chunk cells → IsChunkInside map.size chunk → k < length map.classes
+      → Counts (λ (cell : Cell). (chunk_of cell ≡ chunk) × IsTrue (passable_at map standing k cell)) (free_count k cells.numbers)
+  free_passable chunk cells k painted lies class =
+      let column = lies.column in let row = lies.row in
+      let wide = map.size.wide.some in let high = map.size.high.some in
+      let rect = chunk_rect map.size chunk in
+      let ordered : rect.i0 ≤ rect.i1 = omega arith in
+      let upright : rect.j0 ≤ rect.j1 = omega arith in
+      let Free : Cell → Type 0 = λ cell. IsInRect cells.rect cell × IsFalse (has_class k (number_of cells cell)) in
+      Counts-carried Free (λ (cell : Cell). (chunk_of cell ≡ chunk) × IsTrue (passable_at map standing k cell)) (λ cell. cell) (free_count k cells.numbers)
+      (λ cell is.
+      let inside = subst (λ (r : Rect). IsInRect r cell) painted.extent is.0 in
+      let place = in_chunk map.size chunk cell inside in (
+        same_chunk (chunk_of cell) chunk place.0 place.1,
+        sym (chunk-passes chunk cells k cell painted class inside) ∙ not_from_false (has_class k (number_of cells cell)) is.1,
+      ))
+      (λ cell is.
+      let inside : IsInRect rect cell = subst (λ (c : Chunk). IsInRect (chunk_rect map.size c) cell) is.0 (own_rect cell (passable_within k cell is.1)) in (
+        cell,
+        (
+          (
+            subst (λ (r : Rect). IsInRect r cell) (sym painted.extent) inside,
+            not-true (has_class k (number_of cells cell)) (chunk-passes chunk cells k cell painted class inside ∙ is.1),
+          ),
+          refl,
+        ),
+      ))
+      (λ a b is_a is_b same. same)
+      (free_counted cells k
+      (subst (λ (r : Rect). r.i0 ≤ r.i1) (sym painted.extent) ordered)
+      (subst (λ (r : Rect). r.j0 ≤ r.j1) (sym painted.extent) upright)
+      painted.whole)
+
+  numbered_low : (all : List Numbering) → length all ≡ chunk_count map.size → (place : ℕ) (item : Numbering) → slice_get all place ≡ Some item
+      → IsChunkInside map.size (chunk_numbered map.size place)
+  numbered_low all long place item at = numbered_inside map.size place (omega (arith, slice_get_within all place item at))
+
+  pub passable_counted : (all : List Numbering) (k : ℕ) → ArePaintedChunks map standing all → k < length map.classes
+      → Counts (λ (cell : Cell). IsTrue (passable_at map standing k cell)) (sum_by (λ (cells : Numbering). free_count k cells.numbers) all)
+  passable_counted all k painted class =
+      let Is : Chunk → Numbering → Type 0 = λ chunk cells. IsPaintedChunk map standing chunk cells × IsChunkInside map.size chunk in
+      let count : Numbering → ℕ = λ cells. free_count k cells.numbers in
+      let Kind : Chunk → Cell → Type 0 = λ chunk cell. (chunk_of cell ≡ chunk) × IsTrue (passable_at map standing k cell) in
+      Counts-carried (λ (p : Chunk × Cell). IsChunkInside map.size p.0 × Kind p.0 p.1) (λ (cell : Cell). IsTrue (passable_at map standing k cell)) (λ p. p.1) (sum_by count all)
+      (λ p is. is.1.1)
+      (λ cell is. ((chunk_of cell, cell), ((chunk_inside map.size cell (passable_within k cell is), (refl, is)), refl)))
+      (λ a b is_a is_b same. same_pair a b (sym is_a.1.0 ∙ ap (λ (cell : Cell). chunk_of cell) same ∙ is_b.1.0) same)
+      (Counts-chunks map.size Is Kind count all
+      (record { each = painted.each; are = λ place item at. (painted.are place item at, numbered_low all painted.each place item at) })
+      (λ chunk cells is. free_passable chunk cells k is.0 is.1 class))
+
+-- ---- what differs between two versions
+
+not-injective : (x y : Bool) → not x ≡ not y → x ≡ y
+not-injective true true same = refl
+not-injective true false same = absurd (cc)
+not-injective false true same = absurd (cc)
+not-injective false false same = refl
+
+sum_each : {X Y : Type 0} (g : Y → ℕ) (f : X → Y) (xs : List X) → sum_by g (each_of f xs) ≡ sum_by (λ x. g (f x)) xs
+sum_each g f [] = refl
+sum_each g f (x ∷ xs) =
+    sum_by-cons g (f x) (each_of f xs) ∙ ap (λ n. g (f x) + n) (sum_each g f xs) ∙ sym (sum_by-cons (λ y. g (f y)) x xs)
+
+mark_low : (bits : List ℕ) (place : ℕ) (mark : Bool) (k : ℕ) → slice_get (each_of (has_class k) bits) place ≡ Some mark → place < length bits
+mark_low bits place mark k at = omega (arith, slice_get_within (each_of (has_class k) bits) place mark at, length-map bits (has_class k))
+
+marks_low : (marks : ℕ → List Bool) (classes k : ℕ) (ms : List Bool) → slice_get (each_of marks (range_with_len 0 classes)) k ≡ Some ms → k < classes
+marks_low marks classes k ms at =
+    omega (arith, slice_get_within (each_of marks (range_with_len 0 classes)) k ms at, length-map-range_with_len marks 0 classes)
+
+marks_at : (marks : ℕ → List Bool) (classes k : ℕ) (ms : List Bool) → k < classes → slice_get (each_of marks (range_with_len 0 classes)) k ≡ Some ms → marks k ≡ ms
+marks_at marks classes k ms low at =
+    sym (get_or-map-range_with_len marks 0 classes k k ms low (omega arith))
+    ∙ get_or_from_slice_get (each_of marks (range_with_len 0 classes)) k ms ms at
+
+module _ (map : Map) (old new : Standing) (before now : List Numbering) (were : ArePaintedChunks map old before) (are : ArePaintedChunks map new now) where
+  pub same_extents : SameExtents before now
+  same_extents =
+      let one = were.each in let two = are.each in
+      record {
+        each = one ∙ sym two;
+        rects = λ place a b at_a at_b. (were.are place a at_a).extent ∙ sym (are.are place b at_b).extent;
+      }
+
+  -- a cell that is passable in one of the two and not in the other lies in the map
+  differing_in : (k : ℕ) (cell : Cell) → passable_at map old k cell ≢ passable_at map new k cell → IsInside map.size cell
+  differing_in k cell differ = ⊎_elim
+      (λ (was : passable_at map old k cell ≡ true). passable_within map old k cell was)
+      (λ (was_not : passable_at map old k cell ≡ false). ⊎_elim
+      (λ (is : passable_at map new k cell ≡ true). passable_within map new k cell is)
+      (λ (is_not : passable_at map new k cell ≡ false). absurd (differ (was_not ∙ sym is_not)))
+      (cases_Bool (passable_at map new k cell)))
+      (cases_Bool (passable_at map old k cell))
+
+  -- a bit of a chunk differs exactly where a cell is passable in one of the two and not in the other
+  differs_where : (k : ℕ) (chunk : Chunk) (a b : Numbering) → k < length map.classes → IsPaintedChunk map old chunk a → IsPaintedChunk map new chunk b
+      → DiffersIn k a b ↔ Differs (passable_at map old k) (passable_at map new k) chunk
+  differs_where k chunk a b class was is = (
+    λ differs.
+        let inside = subst (λ (r : Rect). IsInRect r differs.cell) is.extent differs.inside in
+        let place = in_chunk map.size chunk differs.cell inside in (
+          differs.cell,
+          (
+            same_chunk (chunk_of differs.cell) chunk place.0 place.1,
+            λ same.
+                differs.apart (not-injective (has_class k (number_of a differs.cell)) (has_class k (number_of b differs.cell))
+                (chunk-passes map old chunk a k differs.cell was class inside ∙ same ∙ sym (chunk-passes map new chunk b k differs.cell is class inside))),
+          ),
+        ),
+    λ differs.
+        let cell = differs.0 in
+        let inside : IsInRect (chunk_rect map.size chunk) cell =
+        subst (λ (c : Chunk). IsInRect (chunk_rect map.size c) cell) differs.1.0 (own_rect map old cell (differing_in k cell differs.1.1)) in
+        record {
+          cell = cell;
+          inside = subst (λ (r : Rect). IsInRect r cell) (sym is.extent) inside;
+          apart = λ same. differs.1.1 (sym (chunk-passes map old chunk a k cell was class inside) ∙ ap not same ∙ chunk-passes map new chunk b k cell is class inside);
+        },
+  )
+
+  -- the marks of a class are its bits
+  marks_of : (bits : List ℕ) (k : ℕ) → AreDiffering before now bits → k < length map.classes
+      → AreMarks (passable_at map old k) (passable_at map new k) map.size (each_of (has_class k) bits)
+  marks_of bits k differing class =
+      let each = differing.each in
+      record {
+        each = length-map bits (has_class k) ∙ each ∙ are.each;
+        are = λ place mark at.
+            let low : place < length bits = mark_low bits place mark k at in
+            let set = get_or bits place 0 in
+            let set_at : slice_get bits place ≡ Some set = slice_get-get_or bits place 0 low in
+            let mark_is : has_class k set ≡ mark =
+            same_Some (has_class k set) mark (ap (λ o. option_map (has_class k) o) (sym set_at) ∙ sym (slice_get-map (has_class k) bits place) ∙ at) in
+            let was = item_at map.size (chunk_count map.size) (IsPaintedChunk map old) before were place (omega (arith, are.each)) in
+            let is = item_at map.size (chunk_count map.size) (IsPaintedChunk map new) now are place (omega (arith, are.each)) in
+            let bit = differing.are place was.0 is.0 set was.1 is.1 set_at k in
+            let cells = differs_where k (chunk_numbered map.size place) was.0 is.0 class (were.are place was.0 was.1) (are.are place is.0 is.1) in (
+              λ marked. cells.0 (bit.0 (eqb-true (bit_at set k) 1 (mark_is ∙ marked))),
+              λ differs. sym mark_is ∙ eq-eqb (bit_at set k) 1 (bit.1 (cells.1 differs)),
+            );
+      }
+
+  pub relabelled_counted : (bits : List ℕ) (classes : ℕ) → AreDiffering before now bits → classes ≡ length map.classes
+      → HasRelabelled (length map.classes) (passable_at map old) (passable_at map new) (sum_by (λ k. count_by (has_class k) bits) (range_with_len 0 classes))
+  relabelled_counted bits classes differing count =
+      let marks : ℕ → List Bool = λ k. each_of (has_class k) bits in
+      let all = each_of marks (range_with_len 0 classes) in
+      let counted : List Bool → ℕ = λ ms. count_by (λ mark. mark) ms in
+      let total : sum_by counted all ≡ sum_by (λ k. count_by (has_class k) bits) (range_with_len 0 classes) =
+      sum_each counted marks (range_with_len 0 classes)
+      ∙ ap (λ (f : ℕ → ℕ). sum_by f (range_with_len 0 classes)) (λ i k. sum_each (λ (mark : Bool). cond mark 1 0) (has_class k) bits i) in
+      subst (λ n. HasRelabelled (length map.classes) (passable_at map old) (passable_at map new) n) total
+      (all_relabelled (length map.classes) (passable_at map old) (passable_at map new) map.size all (passable_within map old) (passable_within map new)
+      (record {
+        each = length-map-range_with_len marks 0 classes ∙ count;
+        are = λ k ms at.
+            let low : k < classes = marks_low marks classes k ms at in
+            let is : marks k ≡ ms = marks_at marks classes k ms low at in
+            subst (λ (m : List Bool). AreMarks (passable_at map old k) (passable_at map new k) map.size m) is (marks_of bits k differing (omega (arith, count)));
+      }))
+
+-- ---- loops
+
+pub sum_range_more : (f : ℕ → ℕ) (n : ℕ) → sum_by f (range_with_len 0 (n + 1)) ≡ sum_by f (range_with_len 0 n) + f n
+sum_range_more f n =
+    sym (sum_each f (λ (k : ℕ). k) (range_with_len 0 (n + 1)))
+    ∙ sum_by-map-range_with_len_more f (λ k. k) 0 n n (omega arith)
+    ∙ ap (λ m. m + f n) (sum_each f (λ (k : ℕ). k) (range_with_len 0 n))
+
+-- each chunk before place n is compared
+abbrev pub AreCompared : List Numbering → List Numbering → List ℕ → Type 0
+AreCompared before now bits = (place : ℕ) (a b : Numbering) (set : ℕ) → slice_get before place ≡ Some a → slice_get now place ≡ Some b
+    → slice_get bits place ≡ Some set → (k : ℕ) → (bit_at set k ≡ 1) ↔ DiffersIn k a b
+
+pub compared_more : (before now : List Numbering) (bits : List ℕ) (n set : ℕ) (a b : Numbering) → length bits ≡ n → AreCompared before now bits
+    → slice_get before n ≡ Some a → slice_get now n ≡ Some b → ((k : ℕ) → (bit_at set k ≡ 1) ↔ DiffersIn k a b)
+    → AreCompared before now (bits ++ set ∷ [])
+compared_more before now bits n set a b long each at_a at_b is place c d other at_c at_d at k = elim (item_of_push bits set other place at) [
+  | inl here ↦ each place c d other at_c at_d here k
+  | inr last ↦
+      let same : n ≡ place = omega (arith, last.0) in
+      let first : a ≡ c = same_Some a c (sym at_a ∙ ap (λ i. slice_get before i) same ∙ at_c) in
+      let second : b ≡ d = same_Some b d (sym at_b ∙ ap (λ i. slice_get now i) same ∙ at_d) in
+      subst (λ (s : ℕ). (bit_at s k ≡ 1) ↔ DiffersIn k c d) last.1
+      (subst (λ (y : Numbering). (bit_at set k ≡ 1) ↔ DiffersIn k c y) second
+      (subst (λ (x : Numbering). (bit_at set k ≡ 1) ↔ DiffersIn k x b) first (is k)))
+]
+
+-- ---- a version from its parts
+
+pub parts_of : (map : Map) (standing : Standing) (grid : GridCells) (classes : ℕ) (cells : List Numbering) (tables : List Tables)
+    → AllFit map.size standing → IsPainted map standing grid → AreOfChunks grid.size (chunk_count grid.size) (IsReadFrom grid) cells
+    → classes ≡ length map.classes → classes ≤ 16 → AreTablesOf classes (is_passable grid) grid.size tables → AreParts map standing cells tables
+parts_of map standing grid classes cells tables fit painted read count few made =
+    let each = made.each in
+    record {
+      fit = fit;
+      cells_are = cells_painted map standing grid cells painted read;
+      tables_are = tables_painted map standing grid classes tables painted count made;
+      few = omega arith;
+    }
+
+-- the tables at a class's place are those of the class
+pub class_table : (map : Map) (standing : Standing) (cells : List Numbering) (tables : List Tables) → AreParts map standing cells tables
+    → (class index : ℕ) (found : Tables) → class < length map.classes → index ≡ class → found ≡ get_or tables index found
+    → AreTables (passable_at map standing class) map.size found
+class_table map standing cells tables parts class index found low same read =
+    let each = parts.tables_are.each in
+    let at : slice_get tables index ≡ Some found = slice_get_read tables (length tables) index found refl (omega arith) read in
+    parts.tables_are.are class found (ap (λ i. slice_get tables i) (sym same) ∙ at)
+
+-- the numbers at the place of a cell's chunk are the chunk's
+pub cell_chunk : (map : Map) (standing : Standing) (cells : List Numbering) (tables : List Tables) → AreParts map standing cells tables
+    → (cell : Cell) (place : ℕ) (found : Numbering) → IsInside map.size cell → place ≡ chunk_place map.size (chunk_of cell) → slice_get cells place ≡ Some found
+    → IsPaintedChunk map standing (chunk_of cell) found
+cell_chunk map standing cells tables parts cell place found inside same at =
+    AreOfChunks-at map.size (chunk_count map.size) (IsPaintedChunk map standing) cells (chunk_of cell) found parts.cells_are (chunk_inside map.size cell inside)
+    (ap (λ i. slice_get cells i) (sym same) ∙ at)
+
+pub in_own_rect : (map : Map) (standing : Standing) (cell : Cell) (found : Numbering) → IsInside map.size cell → IsPaintedChunk map standing (chunk_of cell) found
+    → IsInRect found.rect cell
+in_own_rect map standing cell found inside painted =
+    subst (λ (r : Rect). IsInRect r cell) (sym painted.extent) (own_rect map standing cell inside)
+
+pub free_is_passable : (map : Map) (standing : Standing) (cell : Cell) (found : Numbering) (k : ℕ) → IsInside map.size cell → k < length map.classes
+    → IsPaintedChunk map standing (chunk_of cell) found → not (has_class k (number_of found cell)) ≡ passable_at map standing k cell
+free_is_passable map standing cell found k inside class painted =
+    chunk-passes map standing (chunk_of cell) found k cell painted class (own_rect map standing cell inside)
+
+-- two versions of one map have the chunks of one another
+pub chunks_of_one_map : (one other : Map) (standing : Standing) (cells : List Numbering) → one ≡ other → ArePaintedChunks one standing cells → ArePaintedChunks other standing cells
+chunks_of_one_map one other standing cells same of = subst (λ (m : Map). ArePaintedChunks m standing cells) same of

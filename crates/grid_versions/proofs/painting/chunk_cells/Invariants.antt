@@ -1,0 +1,6 @@
+use Rattle.grid_versions.specs.Chunks.{AreOfChunks}
+use Rattle.grid_versions.specs.Painting.{IsReadFrom}
+use Rattle.grid_versions.proofs.painting.chunk_cells.Given as goal
+
+abbrev pub invariant-loop-place : goal.invariant-loop-place
+invariant-loop-place l = AreOfChunks l.size l.place (IsReadFrom l.grid) l.all

@@ -1,0 +1,83 @@
+ghost use Rattle.std.specs.Prelude.{ℕ, ◌≡◌, ◌+◌, ◌<◌, ◌≤◌, IfSome, IfNone};
+ghost use Rattle.grid_versions.specs.Chunks.{chunk_columns, chunk_rows, chunk_count, chunk_place, chunk_numbered, beyond, IsChunkInside};
+
+use nav_types::limits::CHUNK_SIDE;
+use nav_types::{Chunk, Size};
+use region_edges::Side;
+
+/// How many columns of chunks a map of this size has, from 1 to 22.
+pub fn columns(size: Size) -> u16
+    ensures value { result ≡ chunk_columns size }
+    ensures some { 1 ≤ result }
+    ensures few { result ≤ 22 }
+{
+    (size.w + (CHUNK_SIDE - 1)) / CHUNK_SIDE
+}
+
+/// How many rows of chunks a map of this size has, from 1 to 22.
+pub fn rows(size: Size) -> u16
+    ensures value { result ≡ chunk_rows size }
+    ensures some { 1 ≤ result }
+    ensures few { result ≤ 22 }
+{
+    (size.h + (CHUNK_SIDE - 1)) / CHUNK_SIDE
+}
+
+/// How many chunks a map of this size has, from 1 to 484.
+pub fn count(size: Size) -> u32
+    ensures value { result ≡ chunk_count size }
+    ensures few { result ≤ 484 }
+{
+    u32::from(rows(size)) * u32::from(columns(size))
+}
+
+/// The place of a chunk in the order chunk row, chunk column, from 0.
+pub fn place_of(size: Size, chunk: Chunk) -> u32
+    requires { IsChunkInside size chunk }
+    ensures value { result ≡ chunk_place size chunk }
+    ensures within { result < chunk_count size }
+{
+    u32::from(chunk.cj) * u32::from(columns(size)) + u32::from(chunk.ci)
+}
+
+/// The chunk at a place.
+pub fn numbered(size: Size, place: u32) -> Chunk
+    requires { place < chunk_count size }
+    ensures value { result ≡ chunk_numbered size place }
+    ensures inside { IsChunkInside size result }
+{
+    let columns = u32::from(columns(size));
+    Chunk {
+        cj: (place / columns) as u16,
+        ci: (place % columns) as u16,
+    }
+}
+
+/// The neighbour of a chunk on that side. None exactly where it has no cell in the map.
+pub fn neighbour(size: Size, chunk: Chunk, side: Side) -> Option<Chunk>
+    requires { IsChunkInside size chunk }
+    ensures some { IfSome result (λ there. there ≡ beyond side chunk) }
+    ensures inside { IfSome result (IsChunkInside size) }
+    ensures none { IfNone result (IsChunkInside size (beyond side chunk) → ⊥) }
+{
+    let (ci, cj) = match side {
+        Side::East => (chunk.ci + 1, chunk.cj),
+        Side::North => (chunk.ci, chunk.cj + 1),
+    };
+    if ci < columns(size) && cj < rows(size) {
+        Some(Chunk { cj, ci })
+    } else {
+        None
+    }
+}
+
+/// By how much the place of a neighbour on that side is above a chunk's own, at most 22.
+pub fn step_to(size: Size, side: Side) -> u32
+    ensures value { (place : ℕ) → chunk_place size (beyond side (chunk_numbered size place)) ≡ place + result }
+    ensures few { result ≤ 22 }
+{
+    match side {
+        Side::East => 1,
+        Side::North => u32::from(columns(size)),
+    }
+}

@@ -1,0 +1,115 @@
+ghost use Rattle.std.specs.Prelude.{◌≡◌, ◌+◌, ◌^◌, ◌<◌, ◌≤◌, OnOk, IfOk};
+ghost use Rattle.nav_types.specs.Cells.{IsInside};
+ghost use Rattle.reach_sets.specs.AreaNumbers.{area_of};
+ghost use Rattle.grid_versions.specs.Chunks.{chunk_count};
+ghost use Rattle.grid_versions.specs.Tables.{AreTables, AreOfMap, region_of, region_total, edge_total};
+
+mod borders;
+mod labelling;
+mod sums;
+
+use crate::chunks;
+use crate::sharing::SharedList;
+use chunk_regions::Labels;
+use nav_types::{Cell, Class, NoMemory, Size, Steps, View};
+use reach_sets::{AreaTable, RegionId};
+use region_edges::{Edges, Side};
+use std::alloc::Global;
+use std::marker::Model;
+use std::sync::ledger::Ledger;
+
+/// What is known of one class of a map: the regions of each chunk, the region edges to its east and its north
+/// neighbour, and the areas. Contracts see these lists (`Tables`). Labels and edges may be shared with other tables.
+#[derive(Drop)]
+pub struct ClassTables {
+    labels: SharedList<Labels>,
+    east: SharedList<Edges>,
+    north: SharedList<Edges>,
+    areas: AreaTable,
+}
+
+impl Model for ClassTables {
+    ghost use Rattle.grid_versions.specs.Tables.{Tables, AreFew};
+
+    ghost Value = { Tables };
+
+    ghost view = { λ t. record { labels = t.labels; east = t.east; north = t.north; areas = t.areas } };
+
+    ghost invariant = { λ t. AreFew (record { labels = t.labels; east = t.east; north = t.north; areas = t.areas }) };
+}
+
+impl ClassTables {
+    /// The tables of a class, made from the map's cells alone (`AreTables`). Each chunk is labelled once, which is
+    /// one step of work. The work grows with the map's cells. It refuses for want of memory alone.
+    pub fn build<V: View, L: Ledger>(
+        alloc: Global,
+        view: &V,
+        class: Class,
+        steps: &mut Steps<L>,
+    ) -> Result<ClassTables, NoMemory>
+        requires { class < V.class_count view.now }
+        ensures tables { IfOk result (AreTables (V.passes view.now class) (V.extent view.now)) }
+        ensures ticks { OnOk result (steps.new ≡ steps.old + chunk_count (V.extent view.now)) }
+        ensures most { steps.new ≤ steps.old + chunk_count (V.extent view.now) }
+    {
+        let size = view.size();
+        let labels = labelling::all_labels(alloc, view, class, steps)?;
+        let east = borders::all_edges(alloc, size, &labels, Side::East)?;
+        let north = borders::all_edges(alloc, size, &labels, Side::North)?;
+        let counts = sums::region_counts(alloc, &labels)?;
+        let links = borders::all_links(alloc, size, &east, &north)?;
+        let areas = AreaTable::build(alloc, counts.as_slice(), &links)?;
+        Ok(ClassTables {
+            labels,
+            east,
+            north,
+            areas,
+        })
+    }
+
+    /// The region of a cell: its chunk's place, and its number in the chunk, which is 0 exactly for an impassable
+    /// cell (`region_of`). The tables are of a map of this size.
+    pub fn region(&self, size: Size, cell: Cell) -> RegionId
+        requires tables { AreOfMap size self.now }
+        requires inside { IsInside size cell }
+        ensures { result ≡ region_of size self.now cell }
+    {
+        let place = chunks::place_of(size, cell.chunk());
+        RegionId {
+            chunk: place,
+            region: self.labels.at(place as usize).at(cell),
+        }
+    }
+
+    /// The number of a cell's area, from 1; 0 exactly for an impassable cell. The tables are of a map of this size.
+    pub fn area(&self, size: Size, cell: Cell) -> u32
+        requires tables { AreOfMap size self.now }
+        requires inside { IsInside size cell }
+        ensures { result ≡ area_of self.now.areas (region_of size self.now cell) }
+    {
+        self.areas.area(self.region(size, cell))
+    }
+
+    /// How many regions all chunks have together.
+    pub fn regions(&self) -> u64
+        ensures total { result ≡ region_total self.now }
+        ensures few { result ≤ 4460544 }
+    {
+        sums::region_sum(&self.labels)
+    }
+
+    /// How many region edges all pairs of neighbouring chunks have together.
+    pub fn edges(&self) -> u64
+        ensures total { result ≡ edge_total self.now }
+        ensures few { result < 2 ^ 37 }
+    {
+        sums::edge_sum(&self.east) + sums::edge_sum(&self.north)
+    }
+
+    /// How many areas there are.
+    pub fn areas(&self) -> u32
+        ensures { result ≡ self.now.areas.count }
+    {
+        self.areas.count()
+    }
+}

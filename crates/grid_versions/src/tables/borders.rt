@@ -1,0 +1,125 @@
+ghost use Rattle.std.specs.Prelude.{Bool, ◌≡◌, ◌++◌, ◌<◌, ◌≤◌, ◌↔◌, ◌⊎◌, OnOk, IfOk, map, length, Contains};
+ghost use Rattle.nav_types.specs.declared.cells.Cell.{Cell};
+ghost use Rattle.reach_sets.specs.declared.regions.RegionId.{RegionId};
+ghost use Rattle.region_edges.specs.Edges.{AreEdges, PassesInside};
+ghost use Rattle.grid_versions.specs.Chunks.{chunk_count, chunk_numbered, beyond};
+ghost use Rattle.grid_versions.specs.Tables.{AreAllLabels, AreAllEdges};
+ghost use Rattle.grid_versions.specs.Building.{IsLaidOut, IsSideLink, link_between};
+
+use crate::chunks;
+use crate::sharing::SharedList;
+use chunk_regions::Labels;
+use nav_types::{NoMemory, Size};
+use reach_sets::{Links, RegionId};
+use region_edges::{Edges, Side, between};
+use std::alloc::Global;
+
+/// The region edges of the chunk at a place to its neighbour on that side; none where the map has no such neighbour.
+fn edges_at(
+    alloc: Global,
+    size: Size,
+    labels: &SharedList<Labels>,
+    place: u32,
+    side: Side,
+) -> Result<Edges, NoMemory>
+    requires labels { IsLaidOut size labels.now }
+    requires within { place < chunk_count size }
+    ensures { IfOk result (λ edges. (passes : Cell → Bool) → PassesInside passes size
+        → AreAllLabels passes size labels.now
+        → AreEdges passes (chunk_numbered size place) (beyond side (chunk_numbered size place)) edges) }
+{
+    let here = chunks::numbered(size, place);
+    match chunks::neighbour(size, here, side) {
+        Some(there) => {
+            let to = chunks::place_of(size, there);
+            between(
+                alloc,
+                labels.at(place as usize),
+                labels.at(to as usize),
+                side,
+            )
+        }
+        None => Ok(Edges::new(alloc)),
+    }
+}
+
+/// The region edges of each chunk to its neighbour on that side.
+pub fn all_edges(
+    alloc: Global,
+    size: Size,
+    labels: &SharedList<Labels>,
+    side: Side,
+) -> Result<SharedList<Edges>, NoMemory>
+    requires { IsLaidOut size labels.now }
+    ensures { IfOk result (λ all. (passes : Cell → Bool) → PassesInside passes size
+        → AreAllLabels passes size labels.now
+        → AreAllEdges side passes size all) }
+{
+    let mut all = SharedList::new(alloc);
+    for place in 0..chunks::count(size) {
+        let edges = edges_at(alloc, size, labels, place, side)?;
+        all.push(alloc, edges)?;
+    }
+    Ok(all)
+}
+
+/// Appends the edges of two chunks as links, where the chunks are named by their places.
+fn push_links(
+    links: &mut Links,
+    here: u32,
+    there: u32,
+    edges: &[(u16, u16)],
+) -> Result<(), NoMemory>
+    ensures { OnOk result (links.new ≡ links.old ++ map (link_between here there) edges.now) }
+{
+    for edge in edges {
+        let from = RegionId {
+            chunk: here,
+            region: edge.0,
+        };
+        let to = RegionId {
+            chunk: there,
+            region: edge.1,
+        };
+        links.push((from, to))?;
+    }
+    Ok(())
+}
+
+/// Appends all edges on that side as links.
+fn push_side(
+    links: &mut Links,
+    size: Size,
+    edges: &SharedList<Edges>,
+    side: Side,
+) -> Result<(), NoMemory>
+    requires { length edges.now ≤ chunk_count size }
+    ensures { OnOk result ((link : RegionId × RegionId)
+        → Contains links.new link ↔ (Contains links.old link ⊎ IsSideLink size side edges.now link)) }
+{
+    let step = chunks::step_to(size, side);
+    for place in 0..edges.len() {
+        let here = place as u32;
+        push_links(links, here, here + step, edges.at(place).as_slice())?;
+    }
+    Ok(())
+}
+
+/// All edges as links.
+pub fn all_links(
+    alloc: Global,
+    size: Size,
+    east: &SharedList<Edges>,
+    north: &SharedList<Edges>,
+) -> Result<Links, NoMemory>
+    requires east { length east.now ≤ chunk_count size }
+    requires north { length north.now ≤ chunk_count size }
+    ensures { IfOk result (λ links. (link : RegionId × RegionId)
+        → Contains links link
+        ↔ (IsSideLink size Side.East east.now link ⊎ IsSideLink size Side.North north.now link)) }
+{
+    let mut links = Links::new(alloc);
+    push_side(&mut links, size, east, Side::East)?;
+    push_side(&mut links, size, north, Side::North)?;
+    Ok(links)
+}

@@ -1,0 +1,31 @@
+ghost use Rattle.std.specs.Prelude.{◌≡◌, ◌+◌, ◌<◌, ◌≤◌, OnOk, IfOk};
+ghost use Rattle.grid_versions.specs.Chunks.{chunk_count};
+ghost use Rattle.grid_versions.specs.Tables.{AreAllLabels};
+
+use crate::chunks;
+use crate::sharing::SharedList;
+use chunk_regions::{Labels, label};
+use nav_types::{Class, NoMemory, Steps, View};
+use std::alloc::Global;
+use std::sync::ledger::Ledger;
+
+/// The regions of each chunk of the map, in the order chunk row, chunk column. Each chunk is one step of work.
+pub fn all_labels<V: View, L: Ledger>(
+    alloc: Global,
+    view: &V,
+    class: Class,
+    steps: &mut Steps<L>,
+) -> Result<SharedList<Labels>, NoMemory>
+    requires { class < V.class_count view.now }
+    ensures labels { IfOk result (AreAllLabels (V.passes view.now class) (V.extent view.now)) }
+    ensures ticks { OnOk result (steps.new ≡ steps.old + chunk_count (V.extent view.now)) }
+    ensures most { steps.new ≤ steps.old + chunk_count (V.extent view.now) }
+{
+    let size = view.size();
+    let mut all = SharedList::new(alloc);
+    for place in 0..chunks::count(size) {
+        let labels = label(alloc, view, class, chunks::numbered(size, place), steps)?;
+        all.push(alloc, labels)?;
+    }
+    Ok(all)
+}

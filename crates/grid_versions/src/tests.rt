@@ -1,0 +1,308 @@
+//! Small maps, and one of the largest size.
+ghost use Rattle.std.specs.Prelude.{◌≡◌, ◌<◌, IfOk};
+ghost use Rattle.obstruction_store.specs.Standing.{AllFit};
+
+use crate::*;
+use class_config::ClassTable;
+use fixed_point::Fixed;
+use nav_types::{Areas, Cell, Class, NoMemory, Rect, Size, Steps, View};
+use obstruction_shapes::{Obstruction, Shape};
+use obstruction_store::{Store, all_fit_in_empty};
+use reach_sets::RegionId;
+use serde_json::Value;
+use std::alloc::Global;
+use std::marker::Brand;
+use std::sync::ledger::{Blank, Ledger};
+use std::test::Fail;
+
+/// So many classes of one clearance, named by letters from `a` on.
+fn classes_of(alloc: Global, count: u8, clearance: &str) -> Result<ClassTable, Fail> {
+    let mut text = String::from_str(alloc, "[")?;
+    for number in 0..count.min(16) {
+        text.push_str(if number == 0 {
+            "{\"name\":\""
+        } else {
+            ",{\"name\":\""
+        })?;
+        text.push((b'a' + number) as char)?;
+        text.push_str("\",\"clearance\":\"")?;
+        text.push_str(clearance)?;
+        text.push_str("\"}")?;
+    }
+    text.push_str("]")?;
+    let value = Value::from_str(alloc, text.as_str()).map_err(|_| "no value")?;
+    Ok(ClassTable::read(alloc, &value).map_err(|_| "no classes")?)
+}
+
+/// A map of one caller; none where it breaks a limit.
+fn spec_of(
+    alloc: Global,
+    [w, h]: [u16; 2],
+    classes: ClassTable,
+    base: &[(Rect, u16)],
+) -> Result<Option<MapSpec>, Fail> {
+    let size = Size::new(w, h).ok_or("no such size")?;
+    let mut rects = BaseRects::new(alloc);
+    rects.extend(base)?;
+    Ok(MapSpec::new(3, size, 1, classes, rects))
+}
+
+/// A map of so many classes of one clearance, with nothing impassable from the start.
+fn open_map(alloc: Global, sides: [u16; 2], count: u8, clearance: &str) -> Result<MapSpec, Fail> {
+    let classes = classes_of(alloc, count, clearance)?;
+    Ok(spec_of(alloc, sides, classes, &[])?.ok_or("no such map")?)
+}
+
+/// A version, where the work is counted in a ledger of its own.
+fn counted_build<L: Ledger>(
+    alloc: Global,
+    map: &MapSpec,
+    shapes: &Store,
+    blank: Blank,
+) -> Result<Version, NoMemory>
+    requires name { blank.name ≡ L.name }
+    requires parts { blank.parts ≡ L.parts }
+    requires some { 0 < L.parts }
+    requires fit { AllFit map.now.size shapes.now }
+{
+    Version::build(alloc, map, shapes, &mut Steps::<L>::new(blank))
+}
+
+/// The version of a map on which nothing stands.
+fn opened(alloc: Global, map: &MapSpec) -> Result<Version, NoMemory> {
+    all_fit_in_empty();
+    let shapes = Store::new(alloc)?;
+    counted_build::<Brand>(alloc, map, &shapes, Blank::new(1))
+}
+
+/// The version after edits, where the work is counted in a ledger of its own.
+fn counted_next<L: Ledger>(
+    version: &Version,
+    alloc: Global,
+    edits: &Edits,
+    blank: Blank,
+) -> Result<Next, NoMemory>
+    requires name { blank.name ≡ L.name }
+    requires parts { blank.parts ≡ L.parts }
+    requires some { 0 < L.parts }
+{
+    version.next(alloc, edits, &mut Steps::<L>::new(blank))
+}
+
+/// The version after edits.
+fn after(version: &Version, alloc: Global, edits: &[Edit]) -> Result<Next, NoMemory> {
+    let mut list = Edits::new(alloc);
+    list.extend(edits)?;
+    counted_next::<Brand>(version, alloc, &list, Blank::new(1))
+}
+
+/// The add of a square of the axes, by its middle and its half side in units.
+fn add(id: u32, [x, z, half]: [i32; 3], mask: u16) -> Edit {
+    let shape = Shape::Unit {
+        x: Fixed::from_raw(x),
+        z: Fixed::from_raw(z),
+        half: Fixed::from_raw(half),
+    };
+    Edit::Add {
+        id,
+        obstruction: Obstruction { shape, mask },
+    }
+}
+
+/// The move to a place in units.
+fn move_to(id: u32, x: i32, z: i32) -> Edit {
+    Edit::Move {
+        id,
+        x: Fixed::from_raw(x),
+        z: Fixed::from_raw(z),
+    }
+}
+
+/// Whether the cell is passable in any view; none where that is outside the view.
+fn look<V: View>(view: &V, class: u8, i: u16, j: u16) -> Option<bool> {
+    if class < view.classes() && view.size().has(Cell::new(i, j)) {
+        Some(view.passable(Class::new(class), Cell::new(i, j)))
+    } else {
+        None
+    }
+}
+
+/// The area of the cell in any map; none where that is outside the map.
+fn area_in<A: Areas>(map: &A, class: u8, i: u16, j: u16) -> Option<u32> {
+    if class < map.classes() && map.size().has(Cell::new(i, j)) {
+        Some(map.area(Class::new(class), Cell::new(i, j)))
+    } else {
+        None
+    }
+}
+
+/// The region of the cell; none where that is outside the map.
+fn region_in(version: &Version, class: u8, i: u16, j: u16) -> Option<RegionId> {
+    let map = version.map();
+    if class < map.classes().count() && map.size().has(Cell::new(i, j)) {
+        Some(version.region(Class::new(class), Cell::new(i, j)))
+    } else {
+        None
+    }
+}
+
+/// How many cells are passable for the class; none where the map has no such class.
+fn passable_in(version: &Version, class: u8) -> Option<u32> {
+    if class < version.map().classes().count() {
+        Some(version.passable_cells(Class::new(class)))
+    } else {
+        None
+    }
+}
+
+/// What edits after edits make of a map on which nothing stands.
+fn replayed(alloc: Global, map: &MapSpec, first: &[Edit], then: &[Edit]) -> Result<Next, NoMemory> {
+    let open = opened(alloc, map)?;
+    let begun = after(&open, alloc, first)?;
+    after(&begun.version, alloc, then)
+}
+
+/// The relabelled number, and the numbers of regions, edges and areas.
+fn numbers_of(next: &Next) -> [u64; 4] {
+    let tallies = next.version.tallies();
+    let relabelled = u64::from(next.relabelled);
+    [relabelled, tallies.regions, tallies.edges, tallies.areas]
+}
+
+/// What threads may share.
+fn shared<T: Send + Sync>(value: &T) -> &T {
+    value
+}
+
+/// The middle of the cell (1, 0), and a half side of a quarter.
+const MIDDLE: [i32; 3] = [98_304, 32_768, 16_384];
+
+/// On 3 by 1 cells, two obstructions over the middle, of which one is removed.
+#[test]
+fn a_cell_stays_blocked_by_the_other_obstruction(rt: HostRuntime) -> Result<(), Fail> {
+    let alloc = rt.alloc();
+    let map = open_map(alloc, [3, 1], 1, "0")?;
+    let both = [add(1, MIDDLE, 1), add(2, MIDDLE, 65_535)];
+    let next = replayed(alloc, &map, &both, &[Edit::Remove { id: 1 }])?;
+    assert_eq!(rt; numbers_of(&next), [0, 2, 0, 2]);
+    assert_eq!(rt; look(shared(&next.version), 0, 1, 0), Some(false));
+    Ok(())
+}
+
+/// On 192 by 1 cells, with clearance 1, a unit at (95, 0.5) of half 0.5 blocks the columns 93 to 96.
+#[test]
+fn an_obstruction_blocks_in_both_chunks(rt: HostRuntime) -> Result<(), Fail> {
+    let alloc = rt.alloc();
+    let map = open_map(alloc, [192, 1], 1, "1")?;
+    let next = replayed(
+        alloc,
+        &map,
+        &[],
+        &[add(7, [6_225_920, 32_768, 32_768], 65_535)],
+    )?;
+    assert_eq!(rt; numbers_of(&next), [2, 2, 0, 2]);
+    assert_eq!(rt; passable_in(&next.version, 0), Some(188));
+    assert_eq!(rt; area_in(&next.version, 0, 92, 0), Some(1));
+    assert_eq!(rt; area_in(&next.version, 0, 93, 0), Some(0));
+    let last = region_in(&next.version, 0, 97, 0);
+    assert_eq!(rt;
+        last,
+        Some(RegionId {
+            chunk: 1,
+            region: 1
+        })
+    );
+    Ok(())
+}
+
+/// A mask names the classes that an obstruction blocks; the mask 0 names none.
+#[test]
+fn classes_out_of_the_mask_stay_free(rt: HostRuntime) -> Result<(), Fail> {
+    let alloc = rt.alloc();
+    let map = open_map(alloc, [3, 1], 2, "0")?;
+    let edits = [add(1, MIDDLE, 2), add(2, [32_768, 32_768, 16_384], 0)];
+    let next = replayed(alloc, &map, &[], &edits)?;
+    assert_eq!(rt; numbers_of(&next), [1, 3, 0, 3]);
+    assert_eq!(rt; next.version.shapes().count(), 2);
+    Ok(())
+}
+
+/// A move, and each refusal but that of a full store. An add is judged by its shape before its number.
+#[test]
+fn moves_and_refusals(rt: HostRuntime) -> Result<(), Fail> {
+    let alloc = rt.alloc();
+    let map = open_map(alloc, [3, 1], 1, "0")?;
+    let edits = [
+        move_to(1, 32_768, 32_768),
+        move_to(2, 32_768, 32_768),
+        move_to(1, 196_608, 32_768),
+        add(1, [196_608, 32_768, 16_384], 1),
+        add(1, [163_840, 32_768, 16_384], 1),
+        Edit::Remove { id: 2 },
+    ];
+    let next = replayed(alloc, &map, &[add(1, MIDDLE, 1)], &edits)?;
+    let replies = [
+        EditReply::Moved(1),
+        EditReply::Refused(Refusal::UnknownId),
+        EditReply::Refused(Refusal::BadShape),
+        EditReply::Refused(Refusal::BadShape),
+        EditReply::Refused(Refusal::DuplicateId),
+        EditReply::Refused(Refusal::UnknownId),
+    ];
+    assert_eq!(rt; next.replies.as_slice(), replies.as_slice());
+    assert_eq!(rt; numbers_of(&next), [1, 1, 0, 1]);
+    assert_eq!(rt; look(&next.version, 0, 0, 0), Some(false));
+    Ok(())
+}
+
+/// The cells of a rectangle that are impassable from the start.
+#[test]
+fn base_rectangles_are_impassable(rt: HostRuntime) -> Result<(), Fail> {
+    let alloc = rt.alloc();
+    let mut rect = Rect {
+        i0: 1,
+        j0: 1,
+        i1: 1,
+        j1: 1,
+    };
+    let holed = spec_of(alloc, [3, 3], classes_of(alloc, 2, "0")?, &[(rect, 1)])?;
+    let holed = opened(alloc, &holed.ok_or("no such map")?)?;
+    assert_eq!(rt; passable_in(&holed, 0), Some(8));
+    assert_eq!(rt; passable_in(&holed, 1), Some(9));
+    rect.i1 = 3;
+    let beyond = spec_of(alloc, [3, 3], classes_of(alloc, 2, "0")?, &[(rect, 1)])?;
+    assert!(rt; beyond.is_none());
+    Ok(())
+}
+
+/// A map with no passable cell.
+#[test]
+fn a_map_without_a_passable_cell(rt: HostRuntime) -> Result<(), Fail> {
+    let alloc = rt.alloc();
+    let all = Rect {
+        i0: 0,
+        j0: 0,
+        i1: 2,
+        j1: 2,
+    };
+    let full = spec_of(alloc, [3, 3], classes_of(alloc, 1, "0")?, &[(all, 1)])?;
+    let next = replayed(alloc, &full.ok_or("no such map")?, &[], &[])?;
+    assert_eq!(rt; passable_in(&next.version, 0), Some(0));
+    assert_eq!(rt; numbers_of(&next), [0, 0, 0, 0]);
+    Ok(())
+}
+
+/// The largest map with 16 classes, and an obstruction over the cell (1024, 1024).
+#[test]
+fn the_largest_map(rt: HostRuntime) -> Result<(), Fail> {
+    let alloc = rt.alloc();
+    let map = open_map(alloc, [2048, 2048], 16, "0")?;
+    let next = after(
+        &opened(alloc, &map)?,
+        alloc,
+        &[add(1, [67_141_632, 67_141_632, 16_384], 65_535)],
+    )?;
+    assert_eq!(rt; numbers_of(&next), [16, 7744, 14_784, 16]);
+    assert_eq!(rt; passable_in(&next.version, 15), Some(4_194_303));
+    Ok(())
+}

@@ -1,0 +1,254 @@
+//! Versions of a map.
+ghost use Rattle.std.specs.Prelude.{ℕ, ◌≡◌, ◌+◌, ◌*◌, ◌<◌, ◌≤◌, length, IfOk, OnOk, IsTrue};
+ghost use Rattle.nav_types.specs.declared.cells.Cell.{Cell};
+ghost use Rattle.nav_types.specs.Cells.{IsInside, chunk_of};
+ghost use Rattle.nav_types.specs.Counting.{Counts};
+ghost use Rattle.nav_types.specs.Regions.{HasRegion, HasTallies, HasRelabelled};
+ghost use Rattle.obstruction_store.specs.Standing.{AllFit};
+ghost use Rattle.grid_versions.specs.Chunks.{chunk_count, chunk_place};
+
+use crate::applying::apply_all;
+use crate::chunk_cells::ChunkCells;
+use crate::chunks;
+use crate::class_tables::class_tables;
+use crate::edits::{EditReplies, Edits};
+use crate::maps::MapSpec;
+use crate::painting::{chunk_cells, painted};
+use crate::relabelling::relabelled;
+use crate::sharing::SharedList;
+use crate::tables::ClassTables;
+use nav_types::{Areas, Cell, Class, NoMemory, Size, Steps, View};
+use obstruction_store::Store;
+use reach_sets::RegionId;
+use std::alloc::Global;
+use std::marker::Model;
+use std::sync::ledger::Ledger;
+
+/// How many regions, region edges and areas all classes of a version have together.
+#[derive(Clone, Copy, Debug, PartialEq, Eq)]
+pub struct Tallies {
+    pub regions: u64,
+    pub edges: u64,
+    pub areas: u64,
+}
+
+/// A map with the obstructions that stand on it: which cells are passable for each class, and the regions, region
+/// edges and areas. Contracts see the map and the standing obstructions (`MapState`).
+///
+/// A version never changes, and threads may share it.
+#[derive(Drop)]
+pub struct Version {
+    map: MapSpec,
+    shapes: Store,
+    cells: SharedList<ChunkCells>,
+    tables: Vec<ClassTables>,
+}
+
+/// What edits make of a version.
+#[derive(Drop)]
+pub struct Next {
+    /// The version after the edits.
+    pub version: Version,
+    /// The reply to each edit.
+    pub replies: EditReplies,
+    /// The number of pairs of chunk and class in which some cell is passable in one of the two versions and not in
+    /// the other.
+    pub relabelled: u32,
+}
+
+impl Model for Version {
+    ghost use Rattle.std.specs.FinMap as fin_map;
+    ghost use Rattle.std.specs.Coded.{coded_ℕ};
+    ghost use Rattle.obstruction_shapes.specs.contracts.shapes.Obstruction.{the_row as obstruction_row};
+    ghost use Rattle.grid_versions.specs.contracts.maps.MapSpec.{the_row as map_row};
+    ghost use Rattle.grid_versions.specs.Versions.{MapState, state_of, state_code};
+
+    ghost Value = { MapState };
+
+    ghost coded = { state_code map_row.coded (fin_map.code coded_ℕ obstruction_row.coded) };
+
+    ghost use Rattle.grid_versions.specs.Versions.{AreParts};
+
+    ghost view = { λ v. state_of v.map v.shapes };
+
+    ghost invariant = { λ v. AreParts v.map v.shapes v.cells v.tables.items };
+}
+
+impl Version {
+    ghost use Rattle.grid_versions.specs.Editing.{edited_all, edit_replies};
+    ghost use Rattle.grid_versions.specs.Versions.{passes_of, AreParts};
+
+    /// The version of this map and these obstructions, all of which fit the map. It is made from nothing: the work
+    /// grows with the map's cells and classes. It refuses for want of memory alone.
+    pub fn build<L: Ledger>(
+        alloc: Global,
+        map: &MapSpec,
+        shapes: &Store,
+        steps: &mut Steps<L>,
+    ) -> Result<Version, NoMemory>
+        requires { AllFit map.now.size shapes.now }
+        ensures map { IfOk result (λ version. version.map ≡ map.now) }
+        ensures standing { IfOk result (λ version. version.standing ≡ shapes.now) }
+        ensures ticks { OnOk result (steps.new
+            ≡ steps.old + length map.now.classes * chunk_count map.now.size) }
+    {
+        let grid = painted(alloc, map, shapes)?;
+        let cells = chunk_cells(alloc, &grid)?;
+        let tables = class_tables(alloc, &grid, map.classes().count(), steps)?;
+        Ok(Version {
+            map: map.copy(alloc)?,
+            shapes: shapes.copy(alloc)?,
+            cells,
+            tables,
+        })
+    }
+
+    /// The version after the edits, which are applied in their order, each with its reply (`edit_reply`, `edited`).
+    /// This version stays as it is. It refuses for want of memory alone.
+    ///
+    /// `relabelled` is the number of pairs of chunk and class in which some cell is passable in one of the two
+    /// versions and not in the other (`HasRelabelled`).
+    pub fn next<L: Ledger>(
+        &self,
+        alloc: Global,
+        edits: &Edits,
+        steps: &mut Steps<L>,
+    ) -> Result<Next, NoMemory>
+        ensures map { IfOk result (λ next. next.version.map ≡ self.now.map) }
+        ensures standing { IfOk result (λ next. next.version.standing
+            ≡ edited_all self.now.map self.now.standing edits.now) }
+        ensures replies { IfOk result (λ next. next.replies
+            ≡ edit_replies self.now.map self.now.standing edits.now) }
+        ensures relabelled { IfOk result (λ next. HasRelabelled (length self.now.map.classes)
+            (passes_of self.now) (passes_of next.version) next.relabelled) }
+    {
+        let mut shapes = self.shapes.copy(alloc)?;
+        let replies = apply_all(alloc, &self.map, &mut shapes, edits.as_slice())?;
+        let version = Version::build(alloc, &self.map, &shapes, steps)?;
+        let relabelled = version.relabelled_from(alloc, self)?;
+        Ok(Next {
+            version,
+            replies,
+            relabelled,
+        })
+    }
+
+    /// The number of pairs of chunk and class in which some cell is passable in one of the two versions of a map
+    /// and not in the other.
+    fn relabelled_from(&self, alloc: Global, before: &Version) -> Result<u32, NoMemory>
+        requires { before.now.map ≡ self.now.map }
+        ensures { IfOk result (HasRelabelled (length self.now.map.classes)
+            (passes_of before.now) (passes_of self.now)) }
+    {
+        relabelled(
+            alloc,
+            &before.cells,
+            &self.cells,
+            self.map.classes().count(),
+        )
+    }
+
+    /// The region of a cell for a class: its chunk by the place in the order chunk row, chunk column, and its number
+    /// in the chunk, which is 0 exactly for an impassable cell (`HasRegion`).
+    pub fn region(&self, class: Class, cell: Cell) -> RegionId
+        requires class { class < length self.now.map.classes }
+        requires inside { IsInside self.now.map.size cell }
+        ensures chunk { result.chunk ≡ chunk_place self.now.map.size (chunk_of cell) }
+        ensures region { HasRegion (passes_of self.now class) (chunk_of cell) cell result.region }
+    {
+        self.tables[usize::from(class.number())].region(self.map.size(), cell)
+    }
+
+    /// How many regions, region edges and areas all classes have together (`HasTallies`).
+    pub fn tallies(&self) -> Tallies
+        ensures { HasTallies (length self.now.map.classes) (passes_of self.now)
+            result.regions result.edges result.areas }
+    {
+        let mut tallies = Tallies {
+            regions: 0,
+            edges: 0,
+            areas: 0,
+        };
+        for tables in &self.tables {
+            tallies.regions += tables.regions();
+            tallies.edges += tables.edges();
+            tallies.areas += u64::from(tables.areas());
+        }
+        tallies
+    }
+
+    /// How many cells are passable for the class. The number is kept per chunk, so no cell is looked at.
+    pub fn passable_cells(&self, class: Class) -> u32
+        requires { class < length self.now.map.classes }
+        ensures { Counts (λ (cell : Cell). IsTrue (passes_of self.now class cell)) result }
+    {
+        let mut count = 0;
+        for place in 0..self.cells.len() {
+            count += u32::from(self.cells.at(place).free(class));
+        }
+        count
+    }
+
+    /// The map.
+    pub fn map(&self) -> &MapSpec
+        ensures { result.now ≡ self.now.map }
+    {
+        &self.map
+    }
+
+    /// The standing obstructions, all of which fit the map.
+    pub fn shapes(&self) -> &Store
+        ensures standing { result.now ≡ self.now.standing }
+        ensures fit { AllFit self.now.map.size result.now }
+    {
+        &self.shapes
+    }
+}
+
+impl View for Version {
+    ghost use Rattle.grid_versions.specs.Versions.{MapState, passes_of};
+    ghost use Rattle.grid_versions.specs.PassingLaws.{passes_within};
+    ghost use Rattle.std.specs.Prelude.{length};
+
+    ghost extent = { λ v. v.map.size };
+
+    ghost class_count = { λ v. length v.map.classes };
+
+    ghost passes = { passes_of };
+
+    ghost within = { passes_within };
+
+    /// The size of the map, in navcells.
+    fn size(&self) -> Size {
+        self.map.size()
+    }
+
+    /// The number of passability classes of the map.
+    fn classes(&self) -> u8 {
+        self.map.classes().count()
+    }
+
+    /// Whether the cell is passable for the class (`passable_at`): no base rectangle and no standing obstruction covers
+    /// it for the class.
+    fn passable(&self, class: Class, cell: Cell) -> bool {
+        let place = chunks::place_of(self.map.size(), cell.chunk());
+        self.cells.at(place as usize).is_free(class, cell)
+    }
+}
+
+impl Areas for Version {
+    ghost use Rattle.nav_types.specs.Regions.{HasArea};
+    ghost use Rattle.grid_versions.specs.Versions.{passes_of};
+    ghost use Rattle.grid_versions.specs.PassingLaws.{area_zero, area_joined};
+
+    ghost has_area = { λ v class cell area. HasArea (passes_of v class) cell area };
+
+    ghost blocked = { λ v class cell area has. area_zero (passes_of v class) cell area has };
+
+    ghost joined = { λ v class a b m n pa pb ha hb. area_joined (passes_of v class) a b m n pa pb ha hb };
+
+    /// The number of the cell's area for the class; 0 exactly for an impassable cell (`HasArea`).
+    fn area(&self, class: Class, cell: Cell) -> u32 {
+        self.tables[usize::from(class.number())].area(self.map.size(), cell)
+    }
+}

@@ -1,0 +1,165 @@
+-- Entries in the order of their numbers: what is among them, and lists of numbers that rise.
+use Rattle.std.proofs.Common.{◌≡◌, ◌≢◌, ◌⊎◌, ◌↔◌, ℕ, ◌<◌, Bool, true, false, ◌&&◌, cond, T, List, [], ◌∷◌, map, Some, Contains, refl, sym, ap, inl, inr, ◌∙◌, arith}
+use Rattle.std.proofs.lemmas.Map.Keys.{IsStrictlyIncreasing-from_sorted, sorted_from_strictly_increasing, sorted_head, sorted_tail}
+use Rattle.std.proofs.lemmas.List.Elements.{All-from_recursion, All-contains}
+use Rattle.std.proofs.lemmas.Option.{same_Some}
+use Rattle.std.specs.Cmp.{ranked, nat_cmp_is}
+use Rattle.std.specs.FinMap as finite
+use Rattle.std.specs.FinMap.{FinMap, find, is_sorted}
+use Rattle.std.specs.FinMap.Entries.{below_all}
+use Rattle.std.specs.List.{AllByRecursion}
+use Rattle.std.specs.List.Sorted.{IsStrictlySortedBy, IsStrictlyIncreasing}
+use Rattle.std.specs.Ordering.{nat_cmp, eq_by_cmp, is_lt, is_eq}
+use Rattle.std.specs.declared.cmp.Ordering.{Ordering}
+use Rattle.std.specs.declared.cmp.Ordering.TheVariants.{Less, Equal, Greater}
+use Rattle.slab.proofs.SlabLemmas.{Contains-cons, Contains-cons_cases}
+
+-- ---- comparing numbers
+pub ties_at : (a b : ℕ) → a ≡ b → eq_by_cmp nat_cmp a b ≡ true
+ties_at a b same = ap is_eq (sym (nat_cmp_is a b Equal same))
+
+apart_at : (a b : ℕ) → b < a → eq_by_cmp nat_cmp a b ≡ false
+apart_at a b above = ap is_eq (sym (nat_cmp_is a b Greater above))
+
+same_by : (a b : ℕ) (r : Ordering) → r ≡ nat_cmp a b → is_eq r ≡ true → a ≡ b
+same_by a b Less e is = absurd (cc)
+same_by a b Equal e is = ranked a b Equal e
+same_by a b Greater e is = absurd (cc)
+
+pub same_at : (a b : ℕ) → eq_by_cmp nat_cmp a b ≡ true → a ≡ b
+same_at a b is = same_by a b (nat_cmp a b) refl is
+
+-- two numbers that differ do not tie
+pub apart_by : (a b : ℕ) → a ≢ b → eq_by_cmp nat_cmp a b ≡ false
+apart_by a b differs = elim (eq_by_cmp nat_cmp a b) as (λ r. eq_by_cmp nat_cmp a b ≡ r → r ≡ false) [
+  | true ↦ λ ties. absurd (differs (same_at a b ties))
+  | false ↦ λ ties. refl
+] refl
+
+less_by : (a b : ℕ) (r : Ordering) → r ≡ nat_cmp a b → T (is_lt r) → a < b
+less_by a b Less e is = ranked a b Less e
+less_by a b Equal e is = absurd is
+less_by a b Greater e is = absurd is
+
+pub less_than : (a b : ℕ) (r : Ordering) → T (is_lt r) → r ≡ Less
+less_than a b Less is = refl
+less_than a b Equal is = absurd is
+less_than a b Greater is = absurd is
+
+pub first : (a b : Bool) → T (a && b) → T a
+first true b p = tt
+first false b p = p
+
+pub second : (a b : Bool) → T (a && b) → T b
+second true b p = p
+second false b p = absurd p
+
+-- ---- entries in order
+below_listed : {X : Type 0} (x n : ℕ) (v : X) (es : List (ℕ × X)) → T (below_all nat_cmp x es) → Contains es (n, v) → x < n
+below_listed x n v [] below listed = absurd (omega (arith, listed.1))
+below_listed x n v (e ∷ es) below listed = elim (Contains-cons_cases e (n, v) es listed) [
+  | inl here ↦
+      let less = less_by x e.0 (nat_cmp x e.0) refl (first _ _ below) in
+      let at : e.0 ≡ n = ap (λ p. p.0) here in omega arith
+  | inr later ↦ below_listed x n v es (second _ _ below) later
+]
+
+found_from_listed : {X : Type 0} (n : ℕ) (v : X) (es : List (ℕ × X)) → T (is_sorted nat_cmp es) → Contains es (n, v)
+    → find nat_cmp n es ≡ Some v
+found_from_listed n v [] sorted listed = absurd (omega (arith, listed.1))
+found_from_listed n v (e ∷ es) sorted listed = elim (Contains-cons_cases e (n, v) es listed) [
+  | inl here ↦
+      let at : n ≡ e.0 = sym (ap (λ p. p.0) here) in
+      ap (λ b. cond b (Some e.1) (find nat_cmp n es)) (ties_at n e.0 at) ∙ ap (λ p. Some p.1) here
+  | inr later ↦
+      let above = below_listed e.0 n v es (first _ _ sorted) later in
+      ap (λ b. cond b (Some e.1) (find nat_cmp n es)) (apart_at n e.0 above) ∙ found_from_listed n v es (second _ _ sorted) later
+]
+
+listed_from_found : {X : Type 0} (n : ℕ) (v : X) (es : List (ℕ × X)) → find nat_cmp n es ≡ Some v → Contains es (n, v)
+listed_from_found n v [] found = absurd (cc)
+listed_from_found {X} n v (e ∷ es) found =
+    elim (eq_by_cmp nat_cmp n e.0) as (λ b. eq_by_cmp nat_cmp n e.0 ≡ b → cond b (Some e.1) (find nat_cmp n es) ≡ Some v → Contains (e ∷ es) (n, v)) [
+      | true ↦ λ ties is.
+          let number = sym (same_at n e.0 ties) in
+          let value = same_Some e.1 v is in
+          (0, omega arith, λ i. (number i, value i))
+      | false ↦ λ ties is. Contains-cons e (n, v) es (listed_from_found n v es is)
+    ] refl found
+
+-- an entry is in the map's list exactly where the map has its value under its number
+pub Contains-entries : {X : Type 0} (m : FinMap nat_cmp X) (n : ℕ) (v : X)
+    → Contains (finite.entries m) (n, v) ↔ (finite.get m n ≡ Some v)
+Contains-entries m n v = (
+  λ listed. finite.get-entries m n ∙ found_from_listed n v (finite.entries m) (finite.entries_sorted m) listed,
+  λ found. listed_from_found n v (finite.entries m) (sym (finite.get-entries m n) ∙ found),
+)
+
+keys_below : {X : Type 0} (x : ℕ) (es : List (ℕ × X)) → T (below_all nat_cmp x es)
+    → AllByRecursion (λ y. nat_cmp x y ≡ Less) (map (λ e. e.0) es)
+keys_below x [] below = tt
+keys_below x (e ∷ es) below = (less_than x e.0 (nat_cmp x e.0) (first _ _ below), keys_below x es (second _ _ below))
+
+keys_sorted : {X : Type 0} (es : List (ℕ × X)) → T (is_sorted nat_cmp es) → IsStrictlySortedBy nat_cmp (map (λ e. e.0) es)
+unfolding IsStrictlySortedBy
+keys_sorted [] sorted = tt
+keys_sorted (e ∷ es) sorted = (keys_below e.0 es (first _ _ sorted), keys_sorted es (second _ _ sorted))
+
+-- the numbers of a map's entries rise
+pub IsStrictlyIncreasing-keys : {X : Type 0} (m : FinMap nat_cmp X) → IsStrictlyIncreasing (finite.keys m)
+IsStrictlyIncreasing-keys m =
+    IsStrictlyIncreasing-from_sorted (finite.keys m) (keys_sorted (finite.entries m) (finite.entries_sorted m))
+
+-- ---- rising lists
+-- each later number is greater than the first
+above_first : (x n : ℕ) (xs : List ℕ) → IsStrictlySortedBy nat_cmp (x ∷ xs) → Contains xs n → x < n
+above_first x n xs sorted listed =
+    let below = All-from_recursion (λ y. nat_cmp x y ≡ Less) xs (sorted_head nat_cmp x xs sorted) in
+    ranked x n Less (sym (All-contains (λ y. nat_cmp x y ≡ Less) xs n below listed))
+
+-- a number of the other list is its first one, or is a later one and greater
+in_other : (y n : ℕ) (ys : List ℕ) → IsStrictlySortedBy nat_cmp (y ∷ ys) → Contains (y ∷ ys) n → (y ≡ n) ⊎ ((y < n) × Contains ys n)
+in_other y n ys sorted listed = elim (Contains-cons_cases y n ys listed) [
+  | inl here ↦ inl here
+  | inr later ↦ inr (above_first y n ys sorted later, later)
+]
+
+contains_first : (x : ℕ) (xs : List ℕ) → Contains (x ∷ xs) x
+contains_first x xs = (0, omega arith, refl)
+
+same_first : (x y : ℕ) (xs ys : List ℕ) → IsStrictlySortedBy nat_cmp (x ∷ xs) → IsStrictlySortedBy nat_cmp (y ∷ ys)
+    → ((n : ℕ) → Contains (x ∷ xs) n → Contains (y ∷ ys) n) → ((n : ℕ) → Contains (y ∷ ys) n → Contains (x ∷ xs) n) → x ≡ y
+same_first x y xs ys rises rises' to from =
+    elim (in_other y x ys rises' (to x (contains_first x xs))) [
+      | inl same ↦ sym same
+      | inr above ↦ elim (in_other x y xs rises (from y (contains_first y ys))) [
+        | inl same ↦ same
+        | inr below ↦ absurd (omega (arith, above.0, below.0))
+      ]
+    ]
+
+later_in_other : (x y : ℕ) (xs ys : List ℕ) → x ≡ y → IsStrictlySortedBy nat_cmp (x ∷ xs) → IsStrictlySortedBy nat_cmp (y ∷ ys)
+    → ((n : ℕ) → Contains (x ∷ xs) n → Contains (y ∷ ys) n) → (n : ℕ) → Contains xs n → Contains ys n
+later_in_other x y xs ys same rises rises' to n listed =
+    let above = above_first x n xs rises listed in
+    elim (in_other y n ys rises' (to n (Contains-cons x n xs listed))) [
+      | inl here ↦ absurd (omega arith)
+      | inr later ↦ later.1
+    ]
+
+same_sorted : (xs ys : List ℕ) → IsStrictlySortedBy nat_cmp xs → IsStrictlySortedBy nat_cmp ys
+    → ((n : ℕ) → Contains xs n → Contains ys n) → ((n : ℕ) → Contains ys n → Contains xs n) → xs ≡ ys
+same_sorted [] [] rises rises' to from = refl
+same_sorted [] (y ∷ ys) rises rises' to from = absurd (omega (arith, (from y (contains_first y ys)).1))
+same_sorted (x ∷ xs) [] rises rises' to from = absurd (omega (arith, (to x (contains_first x xs)).1))
+same_sorted (x ∷ xs) (y ∷ ys) rises rises' to from =
+    let same = same_first x y xs ys rises rises' to from in
+    let rest = same_sorted xs ys (sorted_tail nat_cmp x xs rises) (sorted_tail nat_cmp y ys rises')
+    (later_in_other x y xs ys same rises rises' to) (later_in_other y x ys xs (sym same) rises' rises from) in
+    λ i. same i ∷ rest i
+
+-- two rising lists of the same numbers are equal
+pub same_rising : (xs ys : List ℕ) → IsStrictlyIncreasing xs → IsStrictlyIncreasing ys
+    → ((n : ℕ) → Contains xs n → Contains ys n) → ((n : ℕ) → Contains ys n → Contains xs n) → xs ≡ ys
+same_rising xs ys rises rises' to from =
+    same_sorted xs ys (sorted_from_strictly_increasing xs rises) (sorted_from_strictly_increasing ys rises') to from

@@ -1,0 +1,59 @@
+//! The standing obstructions that reach into a rectangle.
+ghost use Rattle.std.specs.Prelude.{◌↔◌, IsTrue, IfOk};
+ghost use Rattle.nav_types.specs.declared.cells.Cell.{Cell};
+ghost use Rattle.nav_types.specs.Cells.{IsInRect};
+ghost use Rattle.obstruction_shapes.specs.Shapes.{Fits};
+ghost use Rattle.obstruction_store.specs.Standing.{AllFit};
+ghost use Rattle.obstruction_store.specs.Touching.{Touches, AreTouching};
+
+use crate::stores::Store;
+use fixed_point::Fixed;
+use nav_types::{NoMemory, Rect, Sequence, Size};
+use obstruction_shapes::{Shape, reach_rect};
+use std::alloc::Global;
+
+/// Numbers of obstructions.
+pub type Ids = Sequence<u32>;
+
+impl Store {
+    /// The numbers of the standing obstructions that touch the rectangle, rising, each once: those whose
+    /// reach for this clearance has a cell of the map in common with it (`AreTouching`, `Touches`).
+    ///
+    /// Each standing shape fits the size.
+    pub fn touching(
+        &self,
+        alloc: Global,
+        rect: Rect,
+        clearance: Fixed,
+        size: Size,
+    ) -> Result<Ids, NoMemory>
+        requires { AllFit size self.now }
+        ensures { IfOk result (λ ids. AreTouching size rect clearance self.now ids) }
+    {
+        let mut ids = Ids::new(alloc);
+        for (id, obstruction) in self.entries() {
+            if touches(&obstruction.shape, rect, clearance, size) {
+                ids.push(id)?;
+            }
+        }
+        Ok(ids)
+    }
+}
+
+/// Whether the shape, which fits the size, touches the rectangle (`Touches`).
+fn touches(shape: &Shape, rect: Rect, clearance: Fixed, size: Size) -> bool
+    requires { Fits size shape.now }
+    ensures { IsTrue result ↔ Touches size rect clearance shape.now }
+{
+    match reach_rect(shape, clearance, size) {
+        Some(reach) => have_common_cell(reach, rect),
+        None => false,
+    }
+}
+
+/// Whether a cell lies in both rectangles.
+fn have_common_cell(a: Rect, b: Rect) -> bool
+    ensures { IsTrue result ↔ ((cell : Cell) × (IsInRect a cell × IsInRect b cell)) }
+{
+    a.i0.max(b.i0) <= a.i1.min(b.i1) && a.j0.max(b.j0) <= a.j1.min(b.j1)
+}
