@@ -9,3 +9,4 @@ pub mod Tallying
 pub mod Painting
 pub mod Versions
 pub mod PassingLaws
+pub mod Words

@@ -57,16 +57,21 @@ pub enum Refusal {
 }
 
 impl fmt::Display for Refusal {
+    ghost use Rattle.std.specs.Prelude.{Some};
+    ghost use Rattle.grid_versions.specs.Words.{refusal_text};
+
+    ghost output = { λ refusal. Some (refusal_text refusal) };
+
     fn fmt<W: fmt::Write>(&self, f: &mut fmt::Formatter<W>) -> fmt::Result {
-        f.write_str(match self {
-            Refusal::BadShape => "the shape is not within its limits",
-            Refusal::DuplicateId => "an obstruction stands under this number",
-            Refusal::StoreFull => "too many obstructions stand",
-            Refusal::UnknownId => "no obstruction stands under this number",
-            Refusal::UnknownClass => "no class has this name",
-            Refusal::StartOutside => "the start lies outside the map",
-            Refusal::GoalOutside => "the goal lies outside the map",
-        })
+        match *self {
+            Refusal::BadShape => f.write_str("the shape is not within its limits"),
+            Refusal::DuplicateId => f.write_str("an obstruction stands under this number"),
+            Refusal::StoreFull => f.write_str("too many obstructions stand"),
+            Refusal::UnknownId => f.write_str("no obstruction stands under this number"),
+            Refusal::UnknownClass => f.write_str("no class has this name"),
+            Refusal::StartOutside => f.write_str("the start lies outside the map"),
+            Refusal::GoalOutside => f.write_str("the goal lies outside the map"),
+        }
     }
 }
 

@@ -29,21 +29,31 @@ pub enum MoveRefusal {
 pub struct UnknownId;
 
 impl fmt::Display for AddRefusal {
+    ghost use Rattle.obstruction_store.specs.Words.{add_refusal_text};
+
+    ghost output = { λ refusal. Some (add_refusal_text refusal) };
+
     fn fmt<W: fmt::Write>(&self, f: &mut fmt::Formatter<W>) -> fmt::Result {
-        f.write_str(match self {
-            AddRefusal::DuplicateId => "an obstruction stands under this number",
-            AddRefusal::StoreFull => "too many obstructions stand",
-            AddRefusal::NoMemory => "out of memory",
-        })
+        match *self {
+            AddRefusal::DuplicateId => f.write_str("an obstruction stands under this number"),
+            AddRefusal::StoreFull => f.write_str("too many obstructions stand"),
+            AddRefusal::NoMemory => f.write_str("out of memory"),
+        }
     }
 }
 
 impl fmt::Display for MoveRefusal {
+    ghost use Rattle.obstruction_store.specs.Words.{move_refusal_text};
+
+    ghost output = { λ refusal. Some (move_refusal_text refusal) };
+
     fn fmt<W: fmt::Write>(&self, f: &mut fmt::Formatter<W>) -> fmt::Result {
-        f.write_str(match self {
-            MoveRefusal::UnknownId => "no obstruction stands under this number",
-            MoveRefusal::BadShape => "the shape does not fit the map at its new place",
-        })
+        match *self {
+            MoveRefusal::UnknownId => f.write_str("no obstruction stands under this number"),
+            MoveRefusal::BadShape => {
+                f.write_str("the shape does not fit the map at its new place")
+            }
+        }
     }
 }
 

@@ -24,7 +24,7 @@ fn unit(x: i16, z: i16, half: i16) -> Shape {
     }
 }
 
-/// A small unit in row 0, with its middle at `x` quarters, that blocks the classes of the mask.
+/// A small unit in the first row, with its middle at `x` quarters, that blocks the classes of the mask.
 fn small_at(x: i16, mask: u16) -> Obstruction {
     Obstruction {
         shape: unit(x, 2, 1),
