@@ -64,15 +64,17 @@ fn are_name_bytes(name: &[u8]) -> bool
     name.iter().all(|byte| byte.is_ascii_alphanumeric() || *byte == b'-' || *byte == b'_')
 }
 
-/// The string under a key.
-fn text_under<'v>(value: &'v Value, key: &str) -> Option<&'v str>
+/// The string under a key (`text_under`). None where the value is no object, has no such key, or has another
+/// value than a string under it.
+pub fn text_under<'v>(value: &'v Value, key: &str) -> Option<&'v str>
     ensures { option_map (λ text. text.now) result ≡ form.text_under key.now (view value.now) }
 {
     value.get(key).and_then(Value::as_str)
 }
 
-/// Whether the value is an object with exactly these keys.
-fn has_keys(value: &Value, keys: &[&str]) -> bool
+/// Whether the value is an object with exactly these keys (`has_keys`). They are distinct, and stand in any
+/// order.
+pub fn has_keys(value: &Value, keys: &[&str]) -> bool
     ensures { result ≡ form.has_keys (map (λ key. key.now) keys.now) (view value.now) }
 {
     match member_count(value) {

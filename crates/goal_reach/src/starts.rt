@@ -6,8 +6,7 @@ ghost use Rattle.goal_reach.specs.Starts.{IsStartCell, IsBlockedAt};
 
 use crate::choices::{Choice, least_cell};
 use fixed_point::Fixed;
-use fixed_point::plane::{offset, squared};
-use goal_shapes::cell_of_point;
+use goal_shapes::{cell_of_point, squared_distance};
 use nav_types::{Cell, Class, Size, View};
 
 /// The start cell of the point (`x`, `z`) for a class (`IsStartCell`): the cell that holds the point, where
@@ -79,11 +78,4 @@ impl<V: View> Choice for PassableCells<'_, V> {
             None
         }
     }
-}
-
-/// The squared distance from a point to the middle of a cell (`squared_distance`), in units squared.
-fn squared_distance(x: Fixed, z: Fixed, cell: Cell) -> u128
-    ensures { result ≡ squared_distance x z cell }
-{
-    squared(offset(cell.i, x).unsigned_abs()) + squared(offset(cell.j, z).unsigned_abs())
 }

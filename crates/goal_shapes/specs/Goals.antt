@@ -67,7 +67,8 @@ meets_axis p main other hw hh = let n = squared_length main other in
     nat_le (unsigned_abs p * n)
     (32768 * n + 65536 * (unsigned_abs hw * unsigned_abs main + unsigned_abs hh * unsigned_abs other))
 
--- an axis of the square, with this half side along it, separates it from no cell whose middle has this place along the axis
+-- an axis of the square, with this half side along it, separates it from no cell whose middle has this place along
+-- the axis
 abbrev pub meets_side : ℤ → ℤ → ℤ → ℤ → Bool
 meets_side length half ux uz =
     nat_le (unsigned_abs length) (65536 * unsigned_abs half + 32768 * (unsigned_abs ux + unsigned_abs uz))
@@ -108,9 +109,10 @@ contains (NotCircle x z r) cell = list_any (is_off_circle x z r) (corners_of cel
 contains (Square x z ux uz hw hh) cell = meets_square x z ux uz hw hh cell
 contains (NotSquare x z ux uz hw hh) cell = list_any (is_off_square x z ux uz hw hh) (corners_of cell)
 
--- how remote the cell is from the goal. A point: the squared distance from the cell that holds it. A circle: that of the
--- cell's middle from the circle's, and 2^56 less that where it is turned inside out. A square: the squared distance of the
--- cell's middle past its sides, times 2^32, and how deep it lies within them, times 65536, where it is turned inside out
+-- How remote the cell is from the goal. A point: the squared distance from the cell that holds it. A circle: that of
+-- the cell's middle from the circle's, and 2^56 less that where it is turned inside out. A square: the squared distance
+-- of the cell's middle past its sides, times 2^32, and how deep it lies within them, times 65536, where it is turned
+-- inside out
 unfoldable pub remoteness : Goal → Cell → ℕ
 remoteness (Point x z) cell = 2 ^ 32 * (square (columns_from cell.i x) + square (columns_from cell.j z))
 remoteness (Circle x z r) cell = squared_distance x z cell

@@ -7,8 +7,8 @@ use fixed_point::Fixed;
 use fixed_point::plane::{magnitude, offset, squared};
 use nav_types::Cell;
 
-/// The squared distance of the cell's middle from the point (`x`, `z`), in units.
-pub(crate) fn distance_squared(x: Fixed, z: Fixed, cell: Cell) -> u128
+/// The squared distance from the point (`x`, `z`) to the middle of a cell, in units squared.
+pub fn squared_distance(x: Fixed, z: Fixed, cell: Cell) -> u128
     ensures { result ≡ squared_distance x z cell }
 {
     length_squared(offset(cell.i, x), offset(cell.j, z))

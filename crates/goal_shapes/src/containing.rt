@@ -4,7 +4,7 @@ ghost use Rattle.goal_shapes.specs.Limits.{IsWellFormed, IsSound};
 ghost use Rattle.goal_shapes.specs.Goals.{contains, remoteness, framed};
 
 use crate::boxes::{circle_box, point_box, whole_map};
-use crate::circles::{circle_meets, distance_squared, leaves_circle};
+use crate::circles::{circle_meets, leaves_circle, squared_distance};
 use crate::goals::Goal;
 use crate::points::{is_held, squared_cells_from};
 use crate::squares::Turned;
@@ -68,8 +68,8 @@ pub fn remoteness(goal: &Goal, cell: Cell) -> u128
 {
     match *goal {
         Goal::Point { x, z } => squared_cells_from(x, z, cell),
-        Goal::Circle { x, z, .. } => distance_squared(x, z, cell),
-        Goal::NotCircle { x, z, .. } => (1u128 << 56).saturating_sub(distance_squared(x, z, cell)),
+        Goal::Circle { x, z, .. } => squared_distance(x, z, cell),
+        Goal::NotCircle { x, z, .. } => (1u128 << 56).saturating_sub(squared_distance(x, z, cell)),
         Goal::Square {
             x,
             z,

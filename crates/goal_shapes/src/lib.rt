@@ -20,6 +20,7 @@ mod squares;
 mod tests;
 
 pub use checking::{GoalRefusal, check};
+pub use circles::squared_distance;
 pub use containing::{cell_box, contains, remoteness};
 pub use goals::{Goal, GoalSpec};
 pub use growing::{BadShape, grown};

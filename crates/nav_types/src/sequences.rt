@@ -45,6 +45,14 @@ impl<T> Model for Sequence<T> {
     ghost view = { λ s. s.items.items };
 }
 
+impl<T> From<Vec<T>> for Sequence<T> {
+    ghost from_gives = { λ items list. list ≡ items.items };
+
+    fn from(items: Vec<T>) -> Sequence<T> {
+        Sequence { items }
+    }
+}
+
 impl<T> Sequence<T> {
     /// The empty list. It takes no memory yet.
     pub fn new(alloc: Global) -> Sequence<T>

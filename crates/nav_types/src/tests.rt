@@ -65,6 +65,13 @@ fn sequences_keep_their_items(rt: HostRuntime) -> Result<(), Fail> {
 }
 
 #[test]
+fn a_vector_becomes_a_list_as_it_is(rt: HostRuntime) -> Result<(), Fail> {
+    let list = Bytes::from(Vec::from_slice(rt.alloc(), b"abc")?);
+    assert_eq!(rt; list.as_slice(), b"abc".as_slice());
+    Ok(())
+}
+
+#[test]
 fn no_step_cuts_a_corner(rt: HostRuntime) {
     let Some(size) = Size::new(3, 3) else {
         return;

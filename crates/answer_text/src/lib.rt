@@ -1,0 +1,17 @@
+//! The texts of a run: the answers of each turn, the summary of its turns, and the line that names a bad
+//! line of a script. Each text is a list of ASCII bytes.
+#![tactic(auto)]
+
+mod counting;
+mod laws;
+mod lines;
+mod pieces;
+mod summary;
+#[cfg(test)]
+mod tests;
+mod turns;
+
+pub use laws::waypoint_is_canonical;
+pub use lines::{bad_line_text, write_reply};
+pub use summary::summary_text;
+pub use turns::turn_text;

@@ -1,0 +1,16 @@
+pub mod FoundGoals
+pub mod Answered
+pub mod OneAnswer
+pub mod TurnByTurn
+pub mod Threads
+pub mod CallerLists
+pub mod MergedReplies
+pub mod StagedTurns
+pub mod Grounded
+pub mod DeliveredReplies
+pub mod Answering
+pub mod Keeping
+pub mod OneRun
+pub mod Settling
+pub mod Arriving
+pub mod MachineSteps

@@ -1,0 +1,242 @@
+-- What the machine of the code holds, through its events.
+use Rattle.std.proofs.Common.{◌≡◌, ℕ, ◌<◌, List, [], ◌∷◌, ◌++◌, Option, None, Some, length, set, replicate, slice_index, slice_index_or, refl, sym, ap, ◌∙◌, subst, arith}
+use Rattle.std.specs.Prelude.{nat_lt, slice_get, IsSome, ◌↔◌}
+use Rattle.std.proofs.lemmas.List.{map_push}
+use Rattle.std.proofs.lemmas.Option.{slice_get-get_or}
+use Rattle.grid_versions.specs.Maps.{Map}
+use Rattle.turn_core.specs.declared.events.Event.{Event}
+use Rattle.turn_core.specs.declared.events.Event.TheVariants.{Post as Posting, Stage, Start, Claim, Finish, Deliver, Collect}
+use Rattle.turn_core.specs.declared.events.Why.{Why}
+use Rattle.turn_core.specs.declared.posts.Post.{Post}
+use Rattle.turn_core.specs.declared.posts.Request.{Request}
+use Rattle.turn_core.specs.declared.replies.Reply.{Reply}
+use Rattle.turn_core.specs.declared.replies.Reply.TheVariants.{Nowhere}
+use Rattle.turn_core.specs.declared.machines.running.RunningTurn.{RunningTurn}
+use Rattle.turn_core.specs.declared.machines.delivered.DeliveredTurn.{DeliveredTurn}
+use Rattle.turn_core.specs.declared.machines.Machine.TheInside.{Inside}
+use Rattle.turn_core.specs.Solving.{IsAnswerTo}
+use Rattle.turn_core.specs.Words.{Standing, MapState, bare}
+use Rattle.turn_core.specs.Turns.{after_turn, standing, jobs}
+use Rattle.turn_core.specs.States.{State, Run, list_of, stands_after_done, stands_in_run}
+use Rattle.turn_core.specs.Table.{unless, or_else, why_not, why_none_staged, why_running, running_turn, why_no_caller, why_no_claim, why_no_finish, why_collected, last_turn}
+use Rattle.turn_core.specs.Effects.{joined_up, known, given_turn, started, claimed, finished, delivered, collected, AnswersJob, IsStep, IsCollect}
+use Rattle.turn_core.specs.Facts.{WhileRunning, Facts}
+use Rattle.turn_core.specs.Merging.{edits_told_in, merged_turn}
+use Rattle.turn_core.specs.Runs.{run_of, option_run_of, option_posts_of, base_of, IsReadyOn, posts_in, gathered, replies_to, with_claim, IsHeldOn, HasUnclaimed, HasJob, HasPlace, AnswersOn, AnswersHeld, PutsIn, PutsAnswer}
+use Rattle.turn_core.specs.Machines.{state_of, HoldsRun, HoldsStaged, Holds}
+use Rattle.turn_core.proofs.CallerLists.{none_at}
+use Rattle.turn_core.proofs.Threads.{standing_more}
+use Rattle.turn_core.proofs.Answering.{length_answers}
+use Rattle.turn_core.proofs.Keeping.{first_none, second_none, unless_none, is_less}
+use Rattle.turn_core.proofs.MergedReplies.{merged_turn_given}
+use Rattle.turn_core.proofs.DeliveredReplies.{gathered_at, gathered_push}
+
+pub same_state : (s t : State) → s.map ≡ t.map → s.posted ≡ t.posted → s.taken ≡ t.taken → s.staged ≡ t.staged → s.running ≡ t.running → s.done ≡ t.done → s.replies ≡ t.replies → s.collected ≡ t.collected → s ≡ t
+same_state s t a b c d e f g h = λ i. record { map = a i; posted = b i; taken = c i; staged = d i; running = e i; done = f i; replies = g i; collected = h i }
+
+-- all replies to a caller are those in the delivered turns
+pub caller_replies : (n : ℕ) (ds : List DeliveredTurn) (c : ℕ) → list_of (gathered (replicate n []) ds) c ≡ replies_to c ds
+caller_replies n ds c = gathered_at (replicate n []) ds c ∙ ap (λ (l : List Reply). l ++ replies_to c ds) (none_at Reply n c)
+
+-- Claims
+
+pub unclaimed_held : (last : ℕ) (version : MapState) (o : Option RunningTurn) → HoldsRun version o → why_no_claim last (option_run_of o) ≡ None → HasUnclaimed o
+unclaimed_held last version None held why = tt
+unclaimed_held last version (Some run) held why =
+    let less : run.claimed < length (jobs run.posts) = is_less run.claimed (length (jobs run.posts)) (unless_none (nat_lt run.claimed (length (jobs run.posts))) _ why) in
+    omega (arith, ap length held.jobs)
+
+pub claim_holds : (version : MapState) (o : Option RunningTurn) → HoldsRun version o → HoldsRun version (with_claim o)
+claim_holds version None held = tt
+claim_holds version (Some run) held = record { map = held.map; standing = held.standing; edits = held.edits; jobs = held.jobs }
+
+pub claimed_is : (a : Inside) (o : Option RunningTurn) → a.running ≡ o → state_of (record a { running = with_claim o }) ≡ claimed (state_of a) (option_run_of o)
+claimed_is a None e = ap (λ (o : Option RunningTurn). state_of (record a { running = o })) (sym e)
+claimed_is a (Some run) e = refl
+
+pub claim_stays : (version : MapState) (o : Option RunningTurn) → base_of version (with_claim o) ≡ base_of version o
+claim_stays version None = refl
+claim_stays version (Some run) = refl
+
+-- the version that is held stays, and so does the staged turn
+pub claimed_holds : (a : Inside) → Holds a → Holds (record a { running = with_claim a.running })
+claimed_holds a holds = record {
+  standing = holds.standing;
+  running = claim_holds a.version a.running holds.running;
+  staged = subst (λ (v : MapState). HoldsStaged v a.staged) (sym (claim_stays a.version a.running)) holds.staged;
+}
+
+-- Finishes
+
+pub job_held : (last job : ℕ) (version : MapState) (o : Option RunningTurn) → HoldsRun version o → WhileRunning version.map version.standing (option_run_of o)
+    → why_no_finish job last (option_run_of o) ≡ None → HasJob o job
+job_held last job version None held f why = cc
+job_held last job version (Some run) held f why =
+    let less : job < run.claimed = is_less job run.claimed (unless_none (nat_lt job run.claimed) _ (first_none (unless (nat_lt job run.claimed) _) _ why)) in
+    omega (arith, f.claimed, ap length held.jobs)
+
+pub place_held : (last job : ℕ) (version : MapState) (o : Option RunningTurn) → HoldsRun version o → WhileRunning version.map version.standing (option_run_of o)
+    → why_no_finish job last (option_run_of o) ≡ None → HasPlace o job
+place_held last job version None held f why = cc
+place_held last job version (Some run) held f why =
+    let less : job < run.claimed = is_less job run.claimed (unless_none (nat_lt job run.claimed) _ (first_none (unless (nat_lt job run.claimed) _) _ why)) in
+    omega (arith, f.claimed, length_answers version.map (after_turn version.map version.standing run.posts) (jobs run.posts) run.answers.items f.answers)
+
+pub put_holds : (version : MapState) (old new : Option RunningTurn) (job : ℕ) (answer : Reply) → PutsAnswer old new job answer → HoldsRun version old → HoldsRun version new
+put_holds version None new job answer puts held = absurd puts
+put_holds version (Some old) None job answer puts held = absurd puts
+put_holds version (Some old) (Some new) job answer puts held = record {
+  map = ap (λ (v : MapState). v.map) puts.version ∙ held.map;
+  standing = ap (λ (v : MapState). v.standing) puts.version ∙ held.standing ∙ ap (after_turn version.map version.standing) (sym puts.posts);
+  edits = puts.edits ∙ held.edits ∙ ap (edits_told_in version.map version.standing) (sym puts.posts);
+  jobs = puts.jobs ∙ held.jobs ∙ ap jobs (sym puts.posts);
+}
+
+put_stays : (version : MapState) (old new : Option RunningTurn) (job : ℕ) (answer : Reply) → PutsAnswer old new job answer → base_of version new ≡ base_of version old
+put_stays version None new job answer puts = absurd puts
+put_stays version (Some old) None job answer puts = absurd puts
+put_stays version (Some old) (Some new) job answer puts = puts.version
+
+pub finished_holds : (a : Inside) (new : Option RunningTurn) (job : ℕ) (answer : Reply) → PutsAnswer a.running new job answer → Holds a → Holds (record a { running = new })
+finished_holds a new job answer puts holds = record {
+  standing = holds.standing;
+  running = put_holds a.version a.running new job answer puts holds.running;
+  staged = subst (λ (v : MapState). HoldsStaged v a.staged) (sym (put_stays a.version a.running new job answer puts)) holds.staged;
+}
+
+put_run : (old new : RunningTurn) (job : ℕ) (answer : Reply) → PutsIn old new job answer → run_of new ≡ record (run_of old) { answers = set old.answers.items job (Some answer) }
+put_run old new job answer puts = λ i. record { turn = puts.posts i; claimed = puts.claimed i; answers = puts.answers i }
+
+pub finished_is : (a : Inside) (old new : Option RunningTurn) (job : ℕ) (answer : Reply) → PutsAnswer old new job answer
+    → state_of (record a { running = new }) ≡ finished (state_of a) job answer (option_run_of old)
+finished_is a None new job answer puts = absurd puts
+finished_is a (Some old) None job answer puts = absurd puts
+finished_is a (Some old) (Some new) job answer puts = ap (λ (r : Run). record (state_of a) { running = Some r }) (put_run old new job answer puts)
+
+answers_step : (m : Map) (final : Standing) (version : MapState) (qs : List Request) (job : ℕ) (answer : Reply) (o : Option Request) → slice_get qs job ≡ o → version.map ≡ m → version.standing ≡ final
+    → AnswersOn version o answer → (request : Request) × ((slice_get qs job ≡ Some request) × IsAnswerTo m final request answer)
+answers_step m final version qs job answer None e f g x = absurd x
+answers_step m final version qs job answer (Some q) e f g x =
+    (q, (e, subst (λ (n : Map). IsAnswerTo n final q answer) f (subst (λ (s : Standing). IsAnswerTo version.map s q answer) g x)))
+
+pub answers_job : (a : Inside) (job : ℕ) (answer : Reply) (o : Option RunningTurn) → Holds a → HoldsRun a.version o → AnswersHeld o job answer → AnswersJob (state_of a) job answer (option_run_of o)
+answers_job a job answer None holds held x = absurd x
+answers_job a job answer (Some run) holds held x =
+    answers_step a.version.map (stands_in_run (state_of a) (run_of run)) run.version (jobs run.posts) job answer (slice_get run.jobs job)
+    (ap (λ (qs : List Request). slice_get qs job) (sym held.jobs)) held.map
+    (held.standing ∙ ap (λ (s : Standing). after_turn a.version.map s run.posts) holds.standing) x
+
+-- what holds of the running turn, on the version that is held
+pub while_held : (a : Inside) → Holds a → Facts (state_of a) → WhileRunning a.version.map a.version.standing (option_run_of a.running)
+while_held a holds f = subst (λ (s : Standing). WhileRunning a.version.map s (option_run_of a.running)) (sym holds.standing) f.running
+
+-- Starts
+
+-- no turn runs where one can start
+not_running : (number : ℕ) (o : Option RunningTurn) → why_running number (option_run_of o) ≡ None → o ≡ None
+not_running number None e = refl
+not_running number (Some run) e = cc
+
+pub start_none : (s : State) → why_not s Start ≡ None → (o : Option RunningTurn) → s.running ≡ option_run_of o → o ≡ None
+start_none s why o e =
+    not_running (running_turn s) o
+    (ap (why_running (running_turn s)) (sym e) ∙ second_none (why_none_staged (last_turn s) s.staged) (why_running (running_turn s) s.running) why)
+
+pub started_holds : (a : Inside) (ready : RunningTurn) → Holds a → a.staged ≡ Some ready → a.running ≡ None → (b : Inside) → b.version ≡ a.version → b.delivered ≡ a.delivered → b.running ≡ Some ready → b.staged ≡ None → Holds b
+started_holds a ready holds is none b version delivered running staged =
+    let ready_on : IsReadyOn a.version ready =
+    subst (λ (o : Option RunningTurn). HoldsStaged (base_of a.version o) (Some ready)) none (subst (HoldsStaged (base_of a.version a.running)) is holds.staged) in
+    record {
+      standing = ap (λ (v : MapState). v.standing) version ∙ holds.standing
+          ∙ ap (λ (v : MapState). standing v.map bare (posts_in a.delivered.items)) (sym version)
+          ∙ ap (λ (d : _). standing b.version.map bare (posts_in d.items)) (sym delivered);
+      running = subst (HoldsRun b.version) (sym running) (subst (λ (v : MapState). IsHeldOn v ready) (sym version) ready_on.held_on);
+      staged = subst (HoldsStaged (base_of b.version b.running)) (sym staged) tt;
+    }
+
+pub started_is : (a b : Inside) (ready : RunningTurn) → Holds a → a.staged ≡ Some ready → a.running ≡ None
+    → b.version ≡ a.version → b.posted ≡ a.posted → b.taken ≡ a.taken → b.staged ≡ None → b.running ≡ Some ready → b.delivered ≡ a.delivered → b.collected ≡ a.collected
+    → state_of b ≡ started (state_of a) (state_of a).staged
+started_is a b ready holds is none version posted taken staged running delivered collected =
+    let ready_on : IsReadyOn a.version ready =
+    subst (λ (o : Option RunningTurn). HoldsStaged (base_of a.version o) (Some ready)) none (subst (HoldsStaged (base_of a.version a.running)) is holds.staged) in
+    same_state (state_of b) (started (state_of a) (Some ready.posts))
+    (ap (λ (v : MapState). v.map) version) (ap (λ (v : _). v.items) posted) (ap (λ (v : _). v.items) taken) (ap option_posts_of staged)
+    (ap option_run_of running ∙ ap (λ (r : Run). Some r) ready_on.begins)
+    (ap (λ (d : _). posts_in d.items) delivered)
+    (ap (λ (v : MapState). gathered (replicate v.map.callers []) b.delivered.items) version ∙ ap (λ (d : _). gathered (replicate a.version.map.callers []) d.items) delivered)
+    (ap (λ (v : _). v.items) collected)
+    ∙ ap (λ (o : Option RunningTurn). started (state_of a) (option_posts_of o)) (sym is)
+
+-- Deliveries
+
+pub delivered_holds : (a : Inside) (run : RunningTurn) (ds : List DeliveredTurn) (turn : DeliveredTurn) → Holds a → IsHeldOn a.version run → ds ≡ a.delivered.items ++ turn ∷ [] → turn.posts ≡ run.posts
+    → run.version.standing ≡ standing run.version.map bare (posts_in ds)
+delivered_holds a run ds turn holds held pushed same =
+    held.standing
+    ∙ ap (λ (s : Standing). after_turn a.version.map s run.posts) holds.standing
+    ∙ sym (standing_more a.version.map bare (posts_in a.delivered.items) run.posts)
+    ∙ ap (λ (t : List (List Post)). standing a.version.map bare (posts_in a.delivered.items ++ t ∷ [])) (sym same)
+    ∙ ap (standing a.version.map bare) (sym (map_push (λ (d : DeliveredTurn). d.posts) a.delivered.items turn))
+    ∙ ap (λ (l : List DeliveredTurn). standing a.version.map bare (posts_in l)) (sym pushed)
+    ∙ ap (λ (m : Map). standing m bare (posts_in ds)) (sym held.map)
+
+pub delivered_is : (a b : Inside) (run : RunningTurn) (turn : DeliveredTurn) → Holds a → IsHeldOn a.version run → a.running ≡ Some run
+    → b.version ≡ run.version → b.posted ≡ a.posted → b.taken ≡ a.taken → b.staged ≡ a.staged → b.running ≡ None → b.collected ≡ a.collected
+    → b.delivered.items ≡ a.delivered.items ++ turn ∷ [] → turn.posts ≡ run.posts → turn.replies ≡ merged_turn run.posts run.edits (known run.answers.items)
+    → state_of b ≡ delivered (state_of a) (state_of a).running
+delivered_is a b run turn holds held is version posted taken staged none collected pushed posts replies =
+    let m : Map = a.version.map in
+    let map_is : b.version.map ≡ m = ap (λ (v : MapState). v.map) version ∙ held.map in
+    let given : turn.replies ≡ given_turn m (stands_after_done (state_of a)) run.posts (known run.answers.items) =
+    replies
+    ∙ ap (λ (es : List Reply). merged_turn run.posts es (known run.answers.items)) held.edits
+    ∙ merged_turn_given m a.version.standing run.posts (known run.answers.items)
+    ∙ ap (λ (s : Standing). given_turn m s run.posts (known run.answers.items)) holds.standing in
+    let lists : List (List Reply) = gathered (replicate m.callers []) a.delivered.items in
+    same_state (state_of b) (delivered (state_of a) (Some (run_of run)))
+    map_is (ap (λ (v : _). v.items) posted) (ap (λ (v : _). v.items) taken) (ap option_posts_of staged) (ap option_run_of none)
+    (ap posts_in pushed ∙ map_push (λ (d : DeliveredTurn). d.posts) a.delivered.items turn ∙ ap (λ (t : List (List Post)). posts_in a.delivered.items ++ t ∷ []) posts)
+    (ap (λ (n : Map). gathered (replicate n.callers []) b.delivered.items) map_is
+    ∙ ap (gathered (replicate m.callers [])) pushed
+    ∙ gathered_push (replicate m.callers []) a.delivered.items turn
+    ∙ ap (joined_up lists) given)
+    (ap (λ (v : _). v.items) collected)
+    ∙ ap (λ (o : Option RunningTurn). delivered (state_of a) (option_run_of o)) (sym is)
+
+-- Collects
+
+pub reply_left : (s : State) (c : ℕ) → or_else (why_no_caller s.map.callers c) (why_collected (slice_index s.collected c) (length (list_of s.replies c))) ≡ None
+    → slice_get (list_of s.replies c) (slice_index s.collected c) ≡ None → ⊥
+reply_left s c why none =
+    let k : ℕ = slice_index s.collected c in
+    let replies : List Reply = list_of s.replies c in
+    let less : k < length replies = is_less k (length replies) (unless_none (nat_lt k (length replies)) _ (second_none (why_no_caller s.map.callers c) _ why)) in
+    let found = slice_get-get_or replies k Nowhere less in
+    cc
+
+pub caller_is : (s : State) (c : ℕ) (rest : Option Why) → or_else (why_no_caller s.map.callers c) rest ≡ None → c < s.map.callers
+caller_is s c rest why = is_less c s.map.callers (unless_none (nat_lt c s.map.callers) _ (first_none (why_no_caller s.map.callers c) rest why))
+
+-- Replies handed out
+
+none_handed : (h : Option Reply) → h ≡ None → IsSome h → ⊥
+none_handed None e x = cc
+none_handed (Some r) e x = cc
+
+some_handed : (h : Option Reply) (r : Reply) → h ≡ Some r → IsSome h
+some_handed h r e = subst IsSome (sym e) refl
+
+-- a reply is handed out exactly where the event is a collect
+pub handed_is : (old : State) (event : Event) (handed : Option Reply) (new : State) → IsStep old event handed new → IsSome handed ↔ IsCollect event
+handed_is old (Posting c p) handed new step = (none_handed handed step.effect.0, λ x. absurd x)
+handed_is old (Stage takes) handed new step = (none_handed handed step.effect.0, λ x. absurd x)
+handed_is old Start handed new step = (none_handed handed step.effect.0, λ x. absurd x)
+handed_is old Claim handed new step = (none_handed handed step.effect.0, λ x. absurd x)
+handed_is old (Finish job) handed new step = (none_handed handed step.effect.0, λ x. absurd x)
+handed_is old Deliver handed new step = (none_handed handed step.effect.0, λ x. absurd x)
+handed_is old (Collect c) handed new step =
+    let k : ℕ = slice_index old.collected c in
+    let replies : List Reply = list_of old.replies c in
+    let less : k < length replies = is_less k (length replies) (unless_none (nat_lt k (length replies)) _ (second_none (why_no_caller old.map.callers c) _ step.enabled)) in
+    (λ x. tt, λ x. some_handed handed (slice_index_or replies k Nowhere) (step.effect.0 ∙ slice_get-get_or replies k Nowhere less))

@@ -1,0 +1,126 @@
+-- A request has one answer on a map with what stands on it.
+use Rattle.std.proofs.Common.{◌≡◌, ℕ, Bool, true, false, ℤ, List, [], ◌∷◌, Option, None, Some, Ok, Err, refl, sym, ap, ◌∙◌, subst, inl, inr}
+use Rattle.std.specs.Prelude.{Result}
+use Rattle.nav_types.specs.declared.cells.Cell.{Cell}
+use Rattle.nav_types.specs.declared.cells.Chunk.{Chunk}
+use Rattle.nav_types.specs.Cells.{chunk_of, IsBefore}
+use Rattle.nav_types.specs.Walks.{Joined}
+use Rattle.nav_types.specs.Regions.{passes_in, InOneRegion, IsAreaBefore, HasRegion, HasArea}
+use Rattle.chunk_regions.proofs.CellLemmas.{IsBefore-asym, IsBefore-cases, IsAreaBefore-asym, IsAreaBefore-cases}
+use Rattle.chunk_regions.proofs.StepLemmas.{Joined-sym, Joined-trans, JoinedStraight-sym, JoinedStraight-trans}
+use Rattle.chunk_regions.proofs.NumberLemmas.{HasNumber-unique}
+use Rattle.goal_shapes.specs.declared.goals.Goal.{Goal}
+use Rattle.goal_reach.specs.declared.targets.Target.{Target}
+use Rattle.goal_reach.specs.Targets.{AreTargets, hit_by}
+use Rattle.goal_reach.proofs.Targeting.{one_target}
+use Rattle.goal_reach.proofs.Starting.{one_holder, one_start}
+use Rattle.walks.specs.Chosen.{IsAnswer}
+use Rattle.walks.proofs.OneAnswer.{one_answer}
+use Rattle.grid_versions.specs.declared.edits.Refusal.{Refusal}
+use Rattle.grid_versions.specs.Maps.{Map}
+use Rattle.grid_versions.specs.Passing.{passable_at}
+use Rattle.turn_core.specs.declared.posts.Request.{Request}
+use Rattle.turn_core.specs.declared.posts.Request.TheVariants.{Path as AsksPath, Region as AsksRegion}
+use Rattle.turn_core.specs.declared.replies.PathAnswer.{PathAnswer}
+use Rattle.turn_core.specs.declared.replies.RegionAnswer.{RegionAnswer}
+use Rattle.turn_core.specs.declared.replies.Reply.{Reply}
+use Rattle.turn_core.specs.declared.replies.Reply.TheVariants.{Path as IsPath, Region as IsRegion}
+use Rattle.turn_core.specs.Words.{Standing}
+use Rattle.turn_core.specs.Finding.{class_named, is_on_map, goal_found}
+use Rattle.turn_core.specs.Solving.{IsImpassable, is_near, IsPathAnswer, IsPathTo, IsPathFound, IsRegionAnswer, IsRegionAt, IsAnswerAt, IsAnswerTo, AreAnswersTo}
+
+one_region : (passes : Cell → Bool) (chunk : Chunk) (cell : Cell) (m n : ℕ) → HasRegion passes chunk cell m → HasRegion passes chunk cell n → m ≡ n
+one_region passes chunk cell m n one two =
+    let P = passes_in passes chunk in
+    HasNumber-unique P (InOneRegion passes chunk) IsBefore (JoinedStraight-sym P) (JoinedStraight-trans P) IsBefore-asym IsBefore-cases cell m n one two
+
+one_area : (passes : Cell → Bool) (cell : Cell) (m n : ℕ) → HasArea passes cell m → HasArea passes cell n → m ≡ n
+one_area passes cell m n one two =
+    HasNumber-unique passes (Joined passes) IsAreaBefore (Joined-sym passes) (Joined-trans passes) IsAreaBefore-asym IsAreaBefore-cases cell m n one two
+
+-- ---- paths
+
+same_path : (a b : PathAnswer) → a.start ≡ b.start → a.end ≡ b.end → a.near ≡ b.near → a.cost.0 ≡ b.cost.0 → a.corners ≡ b.corners → a ≡ b
+same_path a b p q r s t = λ i. record { start = p i; end = q i; near = r i; cost = record { 0 = s i }; corners = t i }
+
+-- the answer of a walk to the target of the other path, which is the same
+one_walk : (passes : Cell → Bool) (a b : PathAnswer) (goal : Goal) (t u : Target) → a.start ≡ b.start → AreTargets passes a.start goal t → AreTargets passes b.start goal u
+    → a.near ≡ is_near t → b.near ≡ is_near u → IsAnswer passes a.start (hit_by t) a.end a.cost.0 a.corners → IsAnswer passes b.start (hit_by u) b.end b.cost.0 b.corners → a ≡ b
+one_walk passes a b goal t u start at bt an bn aw bw =
+    let same : t ≡ u = one_target passes a.start goal t u at (subst (λ (c : Cell). AreTargets passes c goal u) (sym start) bt) in
+    let moved : IsAnswer passes a.start (hit_by u) b.end b.cost.0 b.corners =
+    subst (λ (c : Cell). IsAnswer passes c (hit_by u) b.end b.cost.0 b.corners) (sym start) bw in
+    let walk : IsAnswer passes a.start (hit_by t) b.end b.cost.0 b.corners =
+    subst (λ (v : Target). IsAnswer passes a.start (hit_by v) b.end b.cost.0 b.corners) (sym same) moved in
+    let one = one_answer passes a.start (hit_by t) a.end b.end a.cost.0 b.cost.0 a.corners b.corners aw walk in
+    same_path a b start one.0 (an ∙ ap is_near same ∙ sym bn) one.1.0 one.1.1
+
+one_path : (passes : Cell → Bool) (x z : ℤ) (goal : Goal) (a b : PathAnswer) → IsPathAnswer passes x z goal a → IsPathAnswer passes x z goal b → a ≡ b
+one_path passes x z goal a b p q =
+    one_walk passes a b goal p.target q.target (one_start passes x z a.start b.start p.start_cell q.start_cell)
+    p.targets q.targets p.nearness q.nearness p.walk q.walk
+
+-- a start is passable
+path_passes : (passes : Cell → Bool) (x z : ℤ) (goal : Goal) (a : PathAnswer) → IsImpassable passes → IsPathAnswer passes x z goal a → ⊥
+path_passes passes x z goal a none is =
+    let no : passes a.start ≡ false = none a.start in
+    let yes : passes a.start ≡ true = is.start_cell.passable in
+    cc
+
+one_path_to : (passes : Cell → Bool) (x z : ℤ) (goal : Goal) (a b : Reply) → IsPathTo passes x z goal a → IsPathTo passes x z goal b → a ≡ b
+one_path_to passes x z goal a b (inl p) (inl q) = p.1 ∙ sym q.1
+one_path_to passes x z goal a b (inl p) (inr q) = absurd (path_passes passes x z goal q.0 p.0 q.1.1)
+one_path_to passes x z goal a b (inr p) (inl q) = absurd (path_passes passes x z goal p.0 q.0 p.1.1)
+one_path_to passes x z goal a b (inr p) (inr q) = p.1.0 ∙ ap IsPath (one_path passes x z goal p.0 q.0 p.1.1 q.1.1) ∙ sym q.1.0
+
+one_path_found : (passes : Cell → Bool) (x z : ℤ) (found : Result Goal Refusal) (a b : Reply) → IsPathFound passes x z found a → IsPathFound passes x z found b → a ≡ b
+one_path_found passes x z (Err refusal) a b p q = p ∙ sym q
+one_path_found passes x z (Ok goal) a b p q = one_path_to passes x z goal a b p q
+
+-- ---- regions
+
+same_region_answer : (a b : RegionAnswer) → a.ci ≡ b.ci → a.cj ≡ b.cj → a.region ≡ b.region → a.area ≡ b.area → a ≡ b
+same_region_answer a b p q r s = λ i. record { ci = p i; cj = q i; region = r i; area = s i }
+
+one_region_answer : (passes : Cell → Bool) (x z : ℤ) (a b : RegionAnswer) → IsRegionAnswer passes x z a → IsRegionAnswer passes x z b → a ≡ b
+one_region_answer passes x z a b p q =
+    let same : p.cell ≡ q.cell = one_holder x z p.cell q.cell p.holder q.holder in
+    let region : HasRegion passes (chunk_of p.cell) p.cell b.region = subst (λ (c : Cell). HasRegion passes (chunk_of c) c b.region) (sym same) q.region_number in
+    let area : HasArea passes p.cell b.area = subst (λ (c : Cell). HasArea passes c b.area) (sym same) q.area_number in
+    same_region_answer a b
+    (p.chunk_column ∙ ap (λ (c : Cell). (chunk_of c).ci) same ∙ sym q.chunk_column)
+    (p.chunk_row ∙ ap (λ (c : Cell). (chunk_of c).cj) same ∙ sym q.chunk_row)
+    (one_region passes (chunk_of p.cell) p.cell a.region b.region p.region_number region)
+    (one_area passes p.cell a.area b.area p.area_number area)
+
+one_region_at : (passes : Cell → Bool) (x z : ℤ) (a b : Reply) → IsRegionAt passes x z a → IsRegionAt passes x z b → a ≡ b
+one_region_at passes x z a b p q = p.1.0 ∙ ap IsRegion (one_region_answer passes x z p.0 q.0 p.1.1 q.1.1) ∙ sym q.1.0
+
+-- ---- requests
+
+one_at : (named : Option ℕ) (on_map : Bool) (Answers : ℕ → Reply → Type 0) (a b : Reply)
+    → ((class : ℕ) → Answers class a → Answers class b → a ≡ b) → IsAnswerAt named on_map Answers a → IsAnswerAt named on_map Answers b → a ≡ b
+one_at None on_map Answers a b one p q = p ∙ sym q
+one_at (Some class) false Answers a b one p q = p ∙ sym q
+one_at (Some class) true Answers a b one p q = one class p q
+
+pub one_answer_to : (map : Map) (standing : Standing) (request : Request) (a b : Reply) → IsAnswerTo map standing request a → IsAnswerTo map standing request b → a ≡ b
+unfolding IsAnswerTo
+one_answer_to map standing (AsksPath name x z goal) a b p q =
+    let Answers : ℕ → Reply → Type 0 = λ class. IsPathFound (passable_at map standing class) x z (goal_found map standing goal) in
+    one_at (class_named map name) (is_on_map map.size x z) Answers a b
+    (λ class. one_path_found (passable_at map standing class) x z (goal_found map standing goal) a b) p q
+one_answer_to map standing (AsksRegion name x z) a b p q =
+    let Answers : ℕ → Reply → Type 0 = λ class. IsRegionAt (passable_at map standing class) x z in
+    one_at (class_named map name) (is_on_map map.size x z) Answers a b (λ class. one_region_at (passable_at map standing class) x z a b) p q
+
+pub one_answers : (map : Map) (standing : Standing) (requests : List Request) (a b : List Reply) → AreAnswersTo map standing requests a → AreAnswersTo map standing requests b → a ≡ b
+one_answers map standing [] [] [] p q = refl
+one_answers map standing [] [] (y ∷ b) p q = absurd q
+one_answers map standing [] (x ∷ a) b p q = absurd p
+one_answers map standing (request ∷ requests) [] b p q = absurd p
+one_answers map standing (request ∷ requests) (x ∷ a) [] p q = absurd q
+one_answers map standing (request ∷ requests) (x ∷ a) (y ∷ b) p q =
+    let first : x ≡ y = one_answer_to map standing request x y p.0 q.0 in
+    let rest : a ≡ b = one_answers map standing requests a b p.1 q.1 in
+    cc

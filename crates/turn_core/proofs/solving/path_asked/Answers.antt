@@ -1,0 +1,53 @@
+use Rattle.std.proofs.Common.{◌≡◌, ◌∙◌, sym, ap, ℕ, Some, false, true}
+use Rattle.nav_types.specs.declared.cells.Size.{Size}
+use Rattle.grid_versions.specs.Maps.{Map}
+use Rattle.grid_versions.specs.Passing.{passable_at}
+use Rattle.turn_core.specs.declared.replies.Reply.{Reply}
+use Rattle.turn_core.specs.declared.replies.Reply.TheVariants.{Refused}
+use Rattle.turn_core.specs.Finding.{class_named, is_on_map, goal_found}
+use Rattle.turn_core.specs.Solving.{IsPathFound}
+use Rattle.turn_core.proofs.Answered.{on_map_held, answered_at, answered_ok, outside_at, found_ok, found_err}
+use Rattle.turn_core.proofs.solving.path_asked.Goals as goal
+
+pub returns-then-is_none : goal.returns-then-is_none
+returns-then-is_none c =
+    let map = c.args.version.now.map in
+    let Answers : ℕ → Reply → Type 0 =
+    λ class. IsPathFound (passable_at map c.args.version.now.standing class) c.args.x c.args.z (goal_found map c.args.version.now.standing c.args.goal.now) in
+    let has : class_named map c.args.name.now ≡ Some c.in-Some.class = cc in
+    let size : map.size ≡ c.size.result = sym (c.size.ensures ∙ ap (λ (m : Map). m.size) c.map-2.ensures) in
+    let off : is_on_map map.size c.args.x c.args.z ≡ false =
+    ap (λ (s : Size). is_on_map s c.args.x c.args.z) size
+    ∙ on_map_held c.size.result c.args.x c.args.z c.cell_of_point.result c.cell_of_point.ensures.on_map
+    ∙ c.if-is_none.ensures in
+    outside_at (class_named map c.args.name.now) (is_on_map map.size c.args.x c.args.z) Answers c.in-Some.class has off
+
+pub returns-in-Ok : goal.returns-in-Ok
+returns-in-Ok c =
+    let map = c.args.version.now.map in
+    let Answers : ℕ → Reply → Type 0 =
+    λ class. IsPathFound (passable_at map c.args.version.now.standing class) c.args.x c.args.z (goal_found map c.args.version.now.standing c.args.goal.now) in
+    let has : class_named map c.args.name.now ≡ Some c.in-Some.class = cc in
+    let size : map.size ≡ c.size.result = sym (c.size.ensures ∙ ap (λ (m : Map). m.size) c.map-2.ensures) in
+    let on : is_on_map map.size c.args.x c.args.z ≡ true =
+    ap (λ (s : Size). is_on_map s c.args.x c.args.z) size
+    ∙ on_map_held c.size.result c.args.x c.args.z c.cell_of_point.result c.cell_of_point.ensures.on_map
+    ∙ c.if-is_none.ensures in
+    answered_ok (class_named map c.args.name.now) (is_on_map map.size c.args.x c.args.z) Answers c.path_to.result c.in-Some.class has on
+    (found_ok (passable_at map c.args.version.now.standing c.in-Some.class) c.args.x c.args.z c.in-Ok.goal
+    (goal_found map c.args.version.now.standing c.args.goal.now) c.path_to.result c.in-Ok.ensures.found c.path_to.ensures)
+
+pub returns-in-Err : goal.returns-in-Err
+returns-in-Err c =
+    let map = c.args.version.now.map in
+    let Answers : ℕ → Reply → Type 0 =
+    λ class. IsPathFound (passable_at map c.args.version.now.standing class) c.args.x c.args.z (goal_found map c.args.version.now.standing c.args.goal.now) in
+    let has : class_named map c.args.name.now ≡ Some c.in-Some.class = cc in
+    let size : map.size ≡ c.size.result = sym (c.size.ensures ∙ ap (λ (m : Map). m.size) c.map-2.ensures) in
+    let on : is_on_map map.size c.args.x c.args.z ≡ true =
+    ap (λ (s : Size). is_on_map s c.args.x c.args.z) size
+    ∙ on_map_held c.size.result c.args.x c.args.z c.cell_of_point.result c.cell_of_point.ensures.on_map
+    ∙ c.if-is_none.ensures in
+    answered_at (class_named map c.args.name.now) (is_on_map map.size c.args.x c.args.z) Answers (Refused c.in-Err.refusal) c.in-Some.class has on
+    (found_err (passable_at map c.args.version.now.standing c.in-Some.class) c.args.x c.args.z c.in-Err.refusal
+    (goal_found map c.args.version.now.standing c.args.goal.now) c.in-Err.ensures.found)

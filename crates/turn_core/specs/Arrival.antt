@@ -1,0 +1,63 @@
+-- The events that bring the machine to a journal, and the state that they leave.
+use Rattle.std.specs.Prelude.{ℕ, zero, suc, ◌≡◌, ◌+◌, ◌≤◌, None, List, [], ◌∷◌, ◌++◌, length, map, replicate, slice_index}
+use Rattle.grid_versions.specs.Maps.{Map}
+use Rattle.turn_core.specs.declared.events.Event.{Event}
+use Rattle.turn_core.specs.declared.events.Event.TheVariants.{Post as Posting, Stage, Start, Claim, Finish, Deliver, Collect}
+use Rattle.turn_core.specs.declared.posts.Post.{Post}
+use Rattle.turn_core.specs.declared.replies.Reply.{Reply}
+use Rattle.turn_core.specs.Turns.{jobs, of_caller}
+use Rattle.turn_core.specs.States.{State, list_of}
+use Rattle.turn_core.specs.Facts.{HaveLists}
+
+-- a caller posts these posts, one after another
+abbrev pub posts_of : ℕ → List Post → List Event
+posts_of caller posts = map (Posting caller) posts
+
+-- each caller, from the given number on, posts its list
+abbrev pub post_events : ℕ → List (List Post) → List Event
+post_events caller [] = []
+post_events caller (posts ∷ posted) = posts_of caller posts ++ post_events (caller + 1) posted
+
+-- so many jobs, from the given number on, are finished in their order
+abbrev pub finishes : ℕ → ℕ → List Event
+finishes job zero = []
+finishes job (suc count) = Finish job ∷ finishes (job + 1) count
+
+-- the turn is staged, started, claimed job by job, finished job by job, and delivered
+abbrev pub whole_turn : List (List Post) → List Event
+whole_turn turn =
+    Stage (map length turn) ∷ Start ∷ replicate (length (jobs turn)) Claim ++ finishes 0 (length (jobs turn)) ++ Deliver ∷ []
+
+-- the turns of a journal, one after another
+abbrev pub turn_events : List (List (List Post)) → List Event
+turn_events [] = []
+turn_events (turn ∷ journal) = whole_turn turn ++ turn_events journal
+
+-- each caller, from the given number on, collects as many replies as its number says
+abbrev pub collect_events : ℕ → List ℕ → List Event
+collect_events caller [] = []
+collect_events caller (count ∷ counts) = replicate count (Collect caller) ++ collect_events (caller + 1) counts
+
+-- all posts, caller by caller; then the turns of the journal; then the collects, caller by caller
+abbrev pub arrival : List (List (List Post)) → List (List Post) → List ℕ → List Event
+arrival journal posted counts = post_events 0 posted ++ turn_events journal ++ collect_events 0 counts
+
+-- A journal on a map, a list of posts for each caller and a number for each caller, where each caller's posts in the
+-- journal, turn after turn, are the first of its list, and its number is at most the number of these.
+pub record CanArrive (m : Map) (journal : List (List (List Post))) (posted : List (List Post)) (counts : List ℕ) : Type 0 where
+  pub turns : HaveLists m.callers journal
+  pub lists : length posted ≡ m.callers
+  pub numbers : length counts ≡ m.callers
+  pub first : (caller : ℕ) → (rest : List Post) × (of_caller caller journal ++ rest ≡ list_of posted caller)
+  pub few : (caller : ℕ) → slice_index counts caller ≤ length (of_caller caller journal)
+
+-- the state has these posted lists, done turns and collected numbers, as many posts taken as the journal holds, and the
+-- replies of one thread to the journal; nothing is staged or running
+pub record HasArrived (s : State) (journal : List (List (List Post))) (posted : List (List Post)) (counts : List ℕ) (all : List (List (List Reply))) : Type 0 where
+  pub posted_lists : s.posted ≡ posted
+  pub taken : (caller : ℕ) → slice_index s.taken caller ≡ length (of_caller caller journal)
+  pub done : s.done ≡ journal
+  pub replies : (caller : ℕ) → list_of s.replies caller ≡ of_caller caller all
+  pub collected : s.collected ≡ counts
+  pub staged : s.staged ≡ None
+  pub running : s.running ≡ None

@@ -1,0 +1,13 @@
+pub mod Words
+pub mod Finding
+pub mod Solving
+pub mod Turns
+pub mod States
+pub mod Table
+pub mod Refusals
+pub mod Effects
+pub mod Facts
+pub mod Arrival
+pub mod Merging
+pub mod Runs
+pub mod Machines

@@ -1,0 +1,88 @@
+-- Turns: what stands after posts, the requests of a turn, and the replies that one thread gives.
+use Rattle.std.specs.Prelude.{ℕ, ◌≡◌, Option, None, Some, List, [], ◌∷◌, map, filter_map, flat_map, slice_index_or}
+use Rattle.grid_versions.specs.Maps.{Map}
+use Rattle.turn_core.specs.declared.posts.Post.{Post}
+use Rattle.turn_core.specs.declared.posts.Request.{Request}
+use Rattle.turn_core.specs.declared.replies.Reply.{Reply}
+use Rattle.turn_core.specs.declared.replies.TurnReplies.{TurnReplies}
+use Rattle.turn_core.specs.Solving.{IsAnswerTo}
+use Rattle.turn_core.specs.Words.{Standing, bare, edited, edit_reply, request_of, TellsNumbers}
+
+-- what stands after posts, one after another
+abbrev pub after : Map → Standing → List Post → Standing
+after m s [] = s
+after m s (post ∷ posts) = after m (edited m s post) posts
+
+-- what stands after a turn: its edits are made caller by caller, and post by post
+abbrev pub after_turn : Map → Standing → List (List Post) → Standing
+after_turn m s [] = s
+after_turn m s (posts ∷ turn) = after_turn m (after m s posts) turn
+
+-- what stands after the turns of a journal, one after another
+abbrev pub standing : Map → Standing → List (List (List Post)) → Standing
+standing m s [] = s
+standing m s (turn ∷ journal) = standing m (after_turn m s turn) journal
+
+-- the requests among posts, in their order
+abbrev pub requests : List Post → List Request
+requests posts = filter_map request_of posts
+
+-- the jobs of a turn: its requests caller by caller, in the order of the posts. A job's number is its place
+abbrev pub jobs : List (List Post) → List Request
+jobs turn = flat_map requests turn
+
+-- Where `s` stands before a post and `final` after the edits of its turn, the post gets the reply: an edit gets its
+-- own, and a request its answer on what stands in the end.
+abbrev pub Gets : Map → Standing → Standing → Post → Option Request → Reply → Type 0
+Gets m final s post None reply = reply ≡ edit_reply m s post
+Gets m final s post (Some request) reply = IsAnswerTo m final request reply
+
+-- the replies to the posts of one caller
+abbrev pub AreReplies : Map → Standing → Standing → List Post → List Reply → Type 0
+AreReplies m final s [] [] = Unit {0}
+AreReplies m final s [] (reply ∷ replies) = ⊥
+AreReplies m final s (post ∷ posts) [] = ⊥
+AreReplies m final s (post ∷ posts) (reply ∷ replies) =
+    Gets m final s post (request_of post) reply × AreReplies m final (edited m s post) posts replies
+
+-- the replies to the posts of a turn, caller by caller
+abbrev pub AreTurnReplies : Map → Standing → Standing → List (List Post) → List (List Reply) → Type 0
+AreTurnReplies m final s [] [] = Unit {0}
+AreTurnReplies m final s [] (replies ∷ rest) = ⊥
+AreTurnReplies m final s (posts ∷ turn) [] = ⊥
+AreTurnReplies m final s (posts ∷ turn) (replies ∷ rest) =
+    AreReplies m final s posts replies × AreTurnReplies m final (after m s posts) turn rest
+
+-- the replies that one thread gives to a journal, turn by turn and caller by caller, from what stands before it
+abbrev pub OneThread : Map → Standing → List (List (List Post)) → List (List (List Reply)) → Type 0
+OneThread m s [] [] = Unit {0}
+OneThread m s [] (replies ∷ all) = ⊥
+OneThread m s (turn ∷ journal) [] = ⊥
+OneThread m s (turn ∷ journal) (replies ∷ all) =
+    AreTurnReplies m (after_turn m s turn) s turn replies × OneThread m (after_turn m s turn) journal all
+
+-- the numbers that go with the replies to each turn of a journal
+abbrev pub TellNumbers : Map → Standing → List (List (List Post)) → List TurnReplies → Type 0
+TellNumbers m s [] [] = Unit {0}
+TellNumbers m s [] (told ∷ all) = ⊥
+TellNumbers m s (turn ∷ journal) [] = ⊥
+TellNumbers m s (turn ∷ journal) (told ∷ all) =
+    TellsNumbers m s (after_turn m s turn) told × TellNumbers m (after_turn m s turn) journal all
+
+-- the answer to a turn before which `s` stands: the replies of one thread, with the turn's numbers
+pub record IsTurnTold (m : Map) (s : Standing) (turn : List (List Post)) (told : TurnReplies) : Type 0 where
+  pub replies : AreTurnReplies m (after_turn m s turn) s turn told.replies
+  pub numbers : TellsNumbers m s (after_turn m s turn) told
+
+-- what is replied to each caller in each turn
+abbrev pub replies_in : List TurnReplies → List (List (List Reply))
+replies_in all = map (λ told. told.replies) all
+
+-- the answer to a journal on a map where nothing stands yet: the replies of one thread, with the numbers of each turn
+pub record IsOneThread (m : Map) (journal : List (List (List Post))) (all : List TurnReplies) : Type 0 where
+  pub replies : OneThread m bare journal (replies_in all)
+  pub numbers : TellNumbers m bare journal all
+
+-- what turns have of the caller of a number, turn after turn
+abbrev pub of_caller : {A : Type 0} → ℕ → List (List (List A)) → List A
+of_caller {A} caller turns = flat_map (λ turn. slice_index_or turn caller []) turns

@@ -1,0 +1,88 @@
+//! Events of the turn machine, and why one is not enabled.
+ghost use Rattle.std.specs.Prelude.{Some};
+ghost use Rattle.turn_core.specs.Refusals.{text_of};
+
+use crate::posts::Post;
+use nav_types::{NoMemory, Sequence};
+use std::error::Error;
+use std::fmt;
+
+/// How many posts of each caller a stage takes, by the callers' numbers.
+pub type Takes = Sequence<u64>;
+
+/// An event of the turn machine.
+#[derive(Debug, Drop)]
+pub enum Event {
+    /// A caller posts.
+    Post { caller: u8, post: Post },
+    /// The next posts of each caller, as many as `takes` says, become the staged turn.
+    Stage { takes: Takes },
+    /// The staged turn becomes the running one.
+    Start,
+    /// The least job of the running turn that is not claimed is claimed.
+    Claim,
+    /// A claimed job of the running turn gets its answer.
+    Finish { job: u64 },
+    /// The replies of the running turn go to their callers, and no turn runs.
+    Deliver,
+    /// A caller takes its next reply.
+    Collect { caller: u8 },
+}
+
+/// Why an event is not enabled, with the value that shows it. Turns are numbered from 1 as they are staged,
+/// and the last turn is the one that was staged last, or 0 where none was.
+#[derive(Clone, Copy, Debug, PartialEq, Eq)]
+pub enum Why {
+    /// There are only so many callers.
+    Callers(u8),
+    /// The turn of this number is staged.
+    Staged(u64),
+    /// The caller of this number is the first that has fewer posts than are to be taken: so many.
+    Posted(u8, u64),
+    /// No turn is staged; the last turn has this number.
+    NoneStaged(u64),
+    /// The turn of this number runs.
+    Running(u64),
+    /// No turn runs; the last turn has this number.
+    NoneRunning(u64),
+    /// All jobs of the running turn are claimed: so many.
+    AllClaimed(u64),
+    /// Only so many jobs of the running turn are claimed.
+    Claimed(u64),
+    /// The job of this number is answered.
+    Answered(u64),
+    /// Only so many jobs of the running turn are claimed, and there are more.
+    Unclaimed(u64),
+    /// The job of this number is the least that is not answered.
+    Unanswered(u64),
+    /// The caller has collected all of its replies: so many.
+    Collected(u64),
+}
+
+/// Why a step was not made.
+#[derive(Clone, Copy, Debug, PartialEq, Eq)]
+pub enum StepRefusal {
+    /// The event is not enabled.
+    NotEnabled(Why),
+    /// There was no memory.
+    NoMemory,
+}
+
+impl From<NoMemory> for StepRefusal {
+    fn from(_refused: NoMemory) -> StepRefusal {
+        StepRefusal::NoMemory
+    }
+}
+
+impl fmt::Display for StepRefusal {
+    ghost output = { λ refusal. Some (text_of refusal) };
+
+    fn fmt<W: fmt::Write>(&self, f: &mut fmt::Formatter<W>) -> fmt::Result {
+        match self {
+            StepRefusal::NotEnabled(_) => f.write_str("the event is not enabled"),
+            StepRefusal::NoMemory => f.write_str("there is no memory"),
+        }
+    }
+}
+
+impl Error for StepRefusal {}

@@ -1,0 +1,90 @@
+//! Laws of turns, of the machine and of its runs.
+ghost use Rattle.std.specs.Prelude.{◌≡◌, ℕ, ◌++◌, List, Option, None, length, slice_index, take};
+ghost use Rattle.grid_versions.specs.Maps.{Map};
+ghost use Rattle.turn_core.specs.declared.events.Event.{Event};
+ghost use Rattle.turn_core.specs.declared.posts.Post.{Post};
+ghost use Rattle.turn_core.specs.declared.posts.Request.{Request};
+ghost use Rattle.turn_core.specs.declared.replies.Reply.{Reply};
+ghost use Rattle.turn_core.specs.declared.replies.TurnReplies.{TurnReplies};
+ghost use Rattle.turn_core.specs.Solving.{IsAnswerTo};
+ghost use Rattle.turn_core.specs.Words.{Standing, bare};
+ghost use Rattle.turn_core.specs.Turns.{IsTurnTold, OneThread, IsOneThread, of_caller};
+ghost use Rattle.turn_core.specs.States.{State, opening, list_of};
+ghost use Rattle.turn_core.specs.Effects.{IsStep, IsRun};
+ghost use Rattle.turn_core.specs.Facts.{Facts};
+ghost use Rattle.turn_core.specs.Arrival.{arrival, CanArrive, HasArrived};
+
+/// A law: a request has one answer on a map with what stands on it.
+pub fn one_answer()
+    ensures { (m : Map) (standing : Standing) (request : Request) (a b : Reply)
+        → IsAnswerTo m standing request a → IsAnswerTo m standing request b → a ≡ b }
+{}
+
+/// A law: a journal has one list of replies.
+pub fn one_list_of_replies()
+    ensures { (m : Map) (standing : Standing) (journal : List (List (List Post))) (a b : List (List (List Reply)))
+        → OneThread m standing journal a → OneThread m standing journal b → a ≡ b }
+{}
+
+/// A law: a turn has one answer, with its numbers.
+pub fn turns_are_told_once()
+    ensures { (m : Map) (standing : Standing) (turn : List (List Post)) (a b : TurnReplies)
+        → IsTurnTold m standing turn a → IsTurnTold m standing turn b → a ≡ b }
+{}
+
+/// A law: a journal has one answer, with the numbers of each turn.
+pub fn one_thread_answers_once()
+    ensures { (m : Map) (journal : List (List (List Post))) (a b : List TurnReplies)
+        → IsOneThread m journal a → IsOneThread m journal b → a ≡ b }
+{}
+
+/// A law: the answer to the first turns of a journal is the first of the answer to all of it.
+pub fn answer_to_first_turns()
+    ensures { (m : Map) (journal rest : List (List (List Post))) (all : List TurnReplies)
+        → IsOneThread m (journal ++ rest) all → IsOneThread m journal (take (length journal) all) }
+{}
+
+/// A law: what holds of each state that the machine reaches holds of the state in which it opens.
+pub fn facts_hold_at_opening()
+    ensures { (m : Map) → Facts (opening m) }
+{}
+
+/// A law: each step keeps what holds of each state that the machine reaches.
+pub fn facts_are_kept()
+    ensures { (old : State) (event : Event) (handed : Option Reply) (new : State)
+        → Facts old → IsStep old event handed new → Facts new }
+{}
+
+/// A law: the facts hold after each run from the state in which the machine opens.
+pub fn facts_hold_after_runs()
+    ensures { (m : Map) (events : List Event) (handed : List (Option Reply)) (new : State)
+        → IsRun (opening m) events handed new → Facts new }
+{}
+
+/// A law: events lead to one state, and hand out the same replies.
+pub fn one_run()
+    ensures replies { (old : State) (events : List Event) (a b : List (Option Reply)) (s t : State)
+        → IsRun old events a s → IsRun old events b t → a ≡ b }
+    ensures state { (old : State) (events : List Event) (a b : List (Option Reply)) (s t : State)
+        → IsRun old events a s → IsRun old events b t → s ≡ t }
+{}
+
+/// A law: the machine can come to each journal that one thread answers. Where each caller's posts in the
+/// journal are the first of its list, and it is to collect no more replies than these, each event of the
+/// arrival is enabled in its turn, and the state that they leave is the one wanted.
+pub fn each_journal_is_reached()
+    ensures reached { (m : Map) (journal : List (List (List Post))) (posted : List (List Post)) (counts : List ℕ) (all : List (List (List Reply)))
+        → CanArrive m journal posted counts → OneThread m bare journal all
+        → (handed : List (Option Reply)) × ((new : State) × (IsRun (opening m) (arrival journal posted counts) handed new × HasArrived new journal posted counts all)) }
+    ensures each { (m : Map) (journal : List (List (List Post))) (posted : List (List Post)) (counts : List ℕ) (all : List (List (List Reply)))
+        (handed : List (Option Reply)) (new : State)
+        → CanArrive m journal posted counts → OneThread m bare journal all
+        → IsRun (opening m) (arrival journal posted counts) handed new → HasArrived new journal posted counts all }
+{}
+
+/// A law: where nothing is staged or running and all posts are taken, each post has exactly one reply.
+pub fn settled_posts_have_one_reply()
+    ensures { (s : State) → Facts s → s.staged ≡ None → s.running ≡ None
+        → ((caller : ℕ) → slice_index s.taken caller ≡ length (list_of s.posted caller))
+        → (caller : ℕ) → length (list_of s.replies caller) ≡ length (list_of s.posted caller) }
+{}

@@ -1,0 +1,61 @@
+//! The next turn, out of what the callers posted.
+ghost use Rattle.std.specs.Prelude.{◌≡◌, ◌+◌, ◌<◌, ◌^◌, IfOk, drop, length, map, take, slice_index};
+ghost use Rattle.turn_core.specs.Effects.{next_posts, added_up};
+
+use crate::posts::{Post, Posts, TurnPosts};
+use crate::{copying, merging};
+use nav_types::{NoMemory, Sequence};
+use std::alloc::Global;
+
+/// A turn, and how many posts of each caller are taken with it.
+#[derive(Drop)]
+pub(crate) struct NextTurn {
+    pub turn: TurnPosts,
+    pub taken: Vec<u64>,
+}
+
+/// The next turn: of each caller's posts, after those that are taken, as many as `takes` says.
+pub(crate) fn next_turn(
+    alloc: Global,
+    posted: &[Posts],
+    taken: &[u64],
+    takes: &[u64],
+) -> Result<NextTurn, NoMemory>
+    requires { length taken.now ≡ length posted.now }
+    ensures turn { IfOk result (λ next. next.turn ≡ next_posts posted.now taken.now takes.now) }
+    ensures taken { IfOk result (λ next. next.taken.items ≡ added_up taken.now (map length (next_posts posted.now taken.now takes.now))) }
+{
+    let mut turn = Sequence::new(alloc);
+    let mut raised = Vec::new(alloc);
+    for (caller, posts) in posted.iter().enumerate() {
+        let from = number_at(taken, caller);
+        let part = part_of(posts.as_slice(), from, number_at(takes, caller));
+        raised.push(from + part.len() as u64)?;
+        turn.push(copying::copied_items(alloc, part)?)?;
+    }
+    Ok(NextTurn {
+        turn,
+        taken: raised,
+    })
+}
+
+/// The number at a place, or 0 past the end.
+pub(crate) fn number_at(numbers: &[u64], at: usize) -> u64
+    ensures value { result ≡ slice_index numbers.now at }
+    ensures fits { result < 2 ^ 64 }
+{
+    if at < numbers.len() { numbers[at] } else { 0 }
+}
+
+/// As many posts as `count` says, after the first `from`; fewer where there are fewer.
+fn part_of(posts: &[Post], from: u64, count: u64) -> &[Post]
+    ensures value { result.now ≡ take count (drop from posts.now) }
+    ensures fits { from + length result.now < 2 ^ 64 }
+{
+    let rest = merging::past(posts, from as usize);
+    if (count as usize) < rest.len() {
+        &rest[..count as usize]
+    } else {
+        rest
+    }
+}

@@ -1,0 +1,144 @@
+//! Replies to posts, and lists of them.
+ghost use Rattle.std.specs.Prelude.{◌≡◌, IfOk};
+
+use crate::copying::Copied;
+use grid_versions::{EditReply, Refusal, Tallies};
+use nav_types::{Cell, Cost, NoMemory, Sequence};
+use std::alloc::Global;
+use walks::Corners;
+
+/// The reply to a post.
+#[derive(Debug, Drop)]
+pub enum Reply {
+    /// The obstruction was added under this number.
+    Added(u32),
+    /// The obstruction of this number was removed.
+    Removed(u32),
+    /// The obstruction of this number was moved.
+    Moved(u32),
+    /// The post was refused, and changed nothing.
+    Refused(Refusal),
+    /// No cell of the map is passable for the class.
+    Nowhere,
+    /// The path that was asked for.
+    Path(PathAnswer),
+    /// The region and the area that were asked for.
+    Region(RegionAnswer),
+}
+
+/// A reply to a request.
+pub type Answer = Reply;
+
+/// A path: the chosen walk from `start` to `end` costs `cost` and turns at `corners`. It ends at a goal
+/// cell, or where `near` at the cell of the start's area that is least remote from the goal.
+#[derive(Debug, Drop)]
+pub struct PathAnswer {
+    pub start: Cell,
+    pub end: Cell,
+    pub near: bool,
+    pub cost: Cost,
+    pub corners: Corners,
+}
+
+/// The chunk of a cell by its column and row among the chunks, the number of the cell's region in it, and
+/// the number of its area. The last two are 0 where the cell is not passable.
+#[derive(Clone, Copy, Debug, PartialEq, Eq)]
+pub struct RegionAnswer {
+    pub ci: u16,
+    pub cj: u16,
+    pub region: u16,
+    pub area: u32,
+}
+
+/// The answers to the requests of a turn, by their job numbers.
+pub type Answers = Sequence<Answer>;
+
+/// The replies to the posts of one caller, in order.
+pub type Replies = Sequence<Reply>;
+
+/// The replies of a turn to each caller, by the callers' numbers.
+pub type CallerReplies = Sequence<Replies>;
+
+/// The replies of a turn, with the numbers of regions, edges and areas of all classes after it, and the
+/// number of pairs of class and chunk of which the turn changed some cell.
+#[derive(Debug, Drop)]
+pub struct TurnReplies {
+    pub tallies: Tallies,
+    pub relabelled: u32,
+    pub replies: CallerReplies,
+}
+
+/// The replies of turns, one after another.
+pub type AllReplies = Sequence<TurnReplies>;
+
+impl PathAnswer {
+    /// The same path once more.
+    pub fn copy(&self, alloc: Global) -> Result<PathAnswer, NoMemory>
+        ensures { IfOk result (λ made. made ≡ self.now) }
+    {
+        Ok(PathAnswer {
+            start: self.start,
+            end: self.end,
+            near: self.near,
+            cost: self.cost,
+            corners: self.corners.copy(alloc)?,
+        })
+    }
+}
+
+impl Reply {
+    /// The same reply once more.
+    pub fn copy(&self, alloc: Global) -> Result<Reply, NoMemory>
+        ensures { IfOk result (λ made. made ≡ self.now) }
+    {
+        match self {
+            Reply::Added(id) => Ok(Reply::Added(*id)),
+            Reply::Removed(id) => Ok(Reply::Removed(*id)),
+            Reply::Moved(id) => Ok(Reply::Moved(*id)),
+            Reply::Refused(refusal) => Ok(Reply::Refused(*refusal)),
+            Reply::Nowhere => Ok(Reply::Nowhere),
+            Reply::Path(path) => Ok(Reply::Path(path.copy(alloc)?)),
+            Reply::Region(region) => Ok(Reply::Region(*region)),
+        }
+    }
+}
+
+impl TurnReplies {
+    /// The same replies once more.
+    pub fn copy(&self, alloc: Global) -> Result<TurnReplies, NoMemory>
+        ensures { IfOk result (λ made. made ≡ self.now) }
+    {
+        Ok(TurnReplies {
+            tallies: self.tallies,
+            relabelled: self.relabelled,
+            replies: self.replies.copy(alloc)?,
+        })
+    }
+}
+
+impl From<EditReply> for Reply {
+    ghost use Rattle.turn_core.specs.Words.{reply_of};
+
+    ghost from_gives = { λ edit reply. reply ≡ reply_of edit };
+
+    fn from(reply: EditReply) -> Reply {
+        match reply {
+            EditReply::Added(id) => Reply::Added(id),
+            EditReply::Removed(id) => Reply::Removed(id),
+            EditReply::Moved(id) => Reply::Moved(id),
+            EditReply::Refused(refusal) => Reply::Refused(refusal),
+        }
+    }
+}
+
+impl Copied for Reply {
+    fn copy(&self, alloc: Global) -> Result<Reply, NoMemory> {
+        self.copy(alloc)
+    }
+}
+
+impl Copied for TurnReplies {
+    fn copy(&self, alloc: Global) -> Result<TurnReplies, NoMemory> {
+        self.copy(alloc)
+    }
+}

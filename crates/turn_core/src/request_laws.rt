@@ -1,0 +1,34 @@
+//! Laws of requests and of their answers.
+ghost use Rattle.std.specs.Prelude.{◌≡◌, ◌↔◌, ℕ, ℤ, List, IsTrue};
+ghost use Rattle.nav_types.specs.declared.cells.Size.{Size};
+ghost use Rattle.fixed_point.specs.Plane.{IsOnAxis};
+ghost use Rattle.goal_shapes.specs.declared.goals.Goal.{Goal};
+ghost use Rattle.goal_shapes.specs.Limits.{IsUpTo, IsWellFormed};
+ghost use Rattle.grid_versions.specs.Maps.{Map};
+ghost use Rattle.turn_core.specs.declared.posts.Request.{Request};
+ghost use Rattle.turn_core.specs.declared.replies.Reply.{Reply};
+ghost use Rattle.turn_core.specs.declared.replies.TurnReplies.{TurnReplies};
+ghost use Rattle.turn_core.specs.Words.{Standing, TellsNumbers};
+ghost use Rattle.turn_core.specs.Finding.{is_on_map, is_up_to, is_well_formed};
+ghost use Rattle.turn_core.specs.Solving.{AreAnswersTo};
+
+/// A law: the tests of points, lengths and goals hold exactly where what they test does.
+pub fn tests_hold_where_they_should()
+    ensures on_map { (size : Size) (x z : ℤ) → IsTrue (is_on_map size x z) ↔ (IsOnAxis size.w x × IsOnAxis size.h z) }
+    ensures up_to { (most : ℕ) (length : ℤ) → IsTrue (is_up_to most length) ↔ IsUpTo most length }
+    ensures well_formed { (goal : Goal) → IsTrue (is_well_formed goal) ↔ IsWellFormed goal }
+{}
+
+/// A law: requests have one list of answers on a map with what stands on it.
+pub fn one_list_of_answers()
+    ensures { (map : Map) (standing : Standing) (requests : List Request) (a b : List Reply)
+        → AreAnswersTo map standing requests a → AreAnswersTo map standing requests b → a ≡ b }
+{}
+
+/// A law: a turn has one set of numbers.
+pub fn one_set_of_numbers()
+    ensures tallies { (map : Map) (before after : Standing) (a b : TurnReplies)
+        → TellsNumbers map before after a → TellsNumbers map before after b → a.tallies ≡ b.tallies }
+    ensures relabelled { (map : Map) (before after : Standing) (a b : TurnReplies)
+        → TellsNumbers map before after a → TellsNumbers map before after b → a.relabelled ≡ b.relabelled }
+{}

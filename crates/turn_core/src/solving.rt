@@ -1,0 +1,131 @@
+//! The answers to requests on a version.
+ghost use Rattle.std.specs.Prelude.{◌≡◌, ◌<◌, ℤ, IfOk, length};
+ghost use Rattle.fixed_point.specs.Plane.{IsOnAxis};
+ghost use Rattle.nav_types.specs.Cells.{IsInside};
+ghost use Rattle.goal_shapes.specs.Goals.{Holds};
+ghost use Rattle.goal_shapes.specs.Limits.{IsSound};
+ghost use Rattle.grid_versions.specs.Passing.{passable_at};
+ghost use Rattle.turn_core.specs.Finding.{class_named, is_on_map, goal_found};
+ghost use Rattle.turn_core.specs.Solving.{is_near, IsPathTo, IsPathFound, IsRegionAnswer, IsRegionAt, IsAnswerAt, IsAnswerTo};
+
+use crate::finding::goal_of;
+use crate::posts::Request;
+use crate::replies::{Answer, PathAnswer, RegionAnswer, Reply};
+use class_config::ClassName;
+use fixed_point::Fixed;
+use goal_reach::{Target, made_reachable, nearest_passable};
+use goal_shapes::{Goal, GoalSpec, cell_of_point};
+use grid_versions::{Refusal, Version};
+use nav_types::{Areas, Cell, Class, NoMemory};
+use std::alloc::Global;
+use walks::{Found, plain_search};
+
+/// The answer to a request on a version (`IsAnswerTo`). It refuses for want of memory alone.
+///
+/// A path is refused `UnknownClass` exactly where the map has no class of the name, else `StartOutside` exactly where
+/// its point does not lie on the map, else as its goal is (`goal_of`). Else the answer is `Nowhere` exactly where no
+/// cell is passable for the class, and a path where one is. A region query is refused by the first two alone.
+pub fn solve(alloc: Global, version: &Version, request: &Request) -> Result<Answer, NoMemory>
+    ensures { IfOk result (λ answer. IsAnswerTo version.now.map version.now.standing request.now answer) }
+{
+    match request {
+        Request::Path { class, x, z, goal } => path_asked(alloc, version, class, *x, *z, goal),
+        Request::Region { class, x, z } => Ok(region_asked(version, class, *x, *z)),
+    }
+}
+
+/// The answer to a path of a class by its name, from the point (`x`, `z`).
+fn path_asked(
+    alloc: Global,
+    version: &Version,
+    name: &ClassName,
+    x: Fixed,
+    z: Fixed,
+    goal: &GoalSpec,
+) -> Result<Answer, NoMemory>
+    ensures { IfOk result (IsAnswerAt (class_named version.now.map name.now) (is_on_map version.now.map.size x z)
+        (λ class. IsPathFound (passable_at version.now.map version.now.standing class) x z (goal_found version.now.map version.now.standing goal.now))) }
+{
+    let Some(class) = version.map().classes().find(name) else {
+        return Ok(Reply::Refused(Refusal::UnknownClass));
+    };
+    if cell_of_point(x, z, version.map().size()).is_none() {
+        return Ok(Reply::Refused(Refusal::StartOutside));
+    }
+    match goal_of(version, goal) {
+        Ok(goal) => path_to(alloc, version, class, x, z, &goal),
+        Err(refusal) => Ok(Reply::Refused(refusal)),
+    }
+}
+
+/// The answer to a path of a class from a point on the map to a goal. Where no cell is passable for the class it is
+/// told by the number of passable cells, without a search.
+fn path_to(
+    alloc: Global,
+    version: &Version,
+    class: Class,
+    x: Fixed,
+    z: Fixed,
+    goal: &Goal,
+) -> Result<Answer, NoMemory>
+    requires class { class < length version.now.map.classes }
+    requires column { IsOnAxis version.now.map.size.w x }
+    requires row { IsOnAxis version.now.map.size.h z }
+    requires goal { IsSound version.now.map.size goal.now }
+    ensures { IfOk result (IsPathTo (passable_at version.now.map version.now.standing class) x z goal.now) }
+{
+    if version.passable_cells(class) == 0 {
+        return Ok(Reply::Nowhere);
+    }
+    let Some(start) = nearest_passable(version, class, x, z) else {
+        return Ok(Reply::Nowhere);
+    };
+    let target = made_reachable(version, class, start, goal);
+    let Found { end, cost, corners } = plain_search(alloc, version, class, start, &target)?;
+    Ok(Reply::Path(PathAnswer {
+        start,
+        end,
+        near: is_near(&target),
+        cost,
+        corners,
+    }))
+}
+
+/// Whether the target is a near cell.
+fn is_near(target: &Target) -> bool
+    ensures { result ≡ is_near target.now }
+{
+    match target {
+        Target::Goal(_) => false,
+        Target::Near(_) => true,
+    }
+}
+
+/// The answer to a region query of a class by its name, at the point (`x`, `z`).
+fn region_asked(version: &Version, name: &ClassName, x: Fixed, z: Fixed) -> Answer
+    ensures { IsAnswerAt (class_named version.now.map name.now) (is_on_map version.now.map.size x z)
+        (λ class. IsRegionAt (passable_at version.now.map version.now.standing class) x z) result }
+{
+    let Some(class) = version.map().classes().find(name) else {
+        return Reply::Refused(Refusal::UnknownClass);
+    };
+    let Some(cell) = cell_of_point(x, z, version.map().size()) else {
+        return Reply::Refused(Refusal::StartOutside);
+    };
+    Reply::Region(region_at(version, class, cell))
+}
+
+/// The chunk, the region and the area of a cell for a class.
+fn region_at(version: &Version, class: Class, cell: Cell) -> RegionAnswer
+    requires class { class < length version.now.map.classes }
+    requires inside { IsInside version.now.map.size cell }
+    ensures { (x : ℤ) (z : ℤ) → Holds x z cell → IsRegionAnswer (passable_at version.now.map version.now.standing class) x z result }
+{
+    let chunk = cell.chunk();
+    RegionAnswer {
+        ci: chunk.ci,
+        cj: chunk.cj,
+        region: version.region(class, cell).region,
+        area: version.area(class, cell),
+    }
+}

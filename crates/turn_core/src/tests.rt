@@ -1,0 +1,251 @@
+//! Events of small machines, with what they answer.
+ghost use Rattle.std.specs.Prelude.{◌≡◌, pos, ◌≤ℤ◌, IfOk};
+
+use crate::{Copied, Core, Event, PathAnswer, Post, Posts, Reply, StepRefusal, Takes, Why};
+use class_config::{ClassName, ClassTable};
+use fixed_point::Fixed;
+use goal_shapes::{Goal, GoalSpec};
+use grid_versions::{BaseRects, MapSpec};
+use nav_types::{Cell, Cost, NoMemory, Sequence, Size};
+use obstruction_shapes::{Obstruction, Shape};
+use serde_json::Value;
+use std::alloc::Global;
+use std::test::Fail;
+
+/// The fixed-point number of so many halves.
+fn halves(count: i32) -> Fixed
+    requires low { pos 0 ≤ℤ count }
+    requires high { count ≤ℤ pos 1000 }
+{
+    Fixed::from_raw(32768 * count)
+}
+
+/// A map of 3 by 1 navcells with one class of clearance 0.
+fn small_map(alloc: Global, callers: u8) -> Option<MapSpec> {
+    let text = "[{\"name\":\"default\",\"clearance\":\"0\"}]";
+    let value = Value::from_str(alloc, text).ok()?;
+    let classes = ClassTable::read(alloc, &value).ok()?;
+    MapSpec::new(1, Size::new(3, 1)?, callers, classes, BaseRects::new(alloc))
+}
+
+/// The machine of such a map.
+fn small_core(alloc: Global, callers: u8) -> Option<Core> {
+    let map = small_map(alloc, callers)?;
+    Core::new(alloc, &map).ok()
+}
+
+/// A path from the first cell to the last.
+fn path_post(alloc: Global) -> Option<Post> {
+    Some(Post::Path {
+        class: ClassName::new(alloc, b"default").ok()?,
+        x: halves(1),
+        z: halves(1),
+        goal: GoalSpec::Plain(Goal::Point {
+            x: halves(5),
+            z: halves(1),
+        }),
+    })
+}
+
+/// A small unit in the middle of the map.
+fn unit_post() -> Post {
+    let shape = Shape::Unit {
+        x: halves(3),
+        z: halves(1),
+        half: Fixed::from_raw(16384),
+    };
+    Post::Add {
+        id: 1,
+        obstruction: Obstruction { shape, mask: 65535 },
+    }
+}
+
+/// A stage that takes so many posts of two callers.
+fn stage_of_two(alloc: Global, first: u64, second: u64) -> Option<Event> {
+    let mut takes = Takes::new(alloc);
+    takes.push(first).ok()?;
+    takes.push(second).ok()?;
+    Some(Event::Stage { takes })
+}
+
+/// Makes a step that hands out no reply. None where the step is refused.
+fn go(core: &mut Core, event: Event) -> Option<()> {
+    match core.step(&event) {
+        Ok(None) => Some(()),
+        _ => None,
+    }
+}
+
+/// The next reply to a caller.
+fn collected(core: &mut Core, caller: u8) -> Option<Reply> {
+    match core.step(&Event::Collect { caller }) {
+        Ok(reply) => reply,
+        Err(_) => None,
+    }
+}
+
+/// Why the event is not enabled.
+fn cause(core: &mut Core, event: Event) -> Option<Why> {
+    match core.step(&event) {
+        Err(StepRefusal::NotEnabled(why)) => Some(why),
+        _ => None,
+    }
+}
+
+/// The first caller posts a path and the second a unit, and both are staged in one turn.
+fn stage_both(alloc: Global, core: &mut Core) -> Option<()> {
+    let post = path_post(alloc)?;
+    go(core, Event::Post { caller: 0, post })?;
+    let post = unit_post();
+    go(core, Event::Post { caller: 1, post })?;
+    let stage = stage_of_two(alloc, 1, 1)?;
+    go(core, stage)
+}
+
+/// The staged turn runs and is delivered.
+fn run_turn(core: &mut Core) -> Option<()> {
+    go(core, Event::Start)?;
+    go(core, Event::Claim)?;
+    go(core, Event::Finish { job: 0 })?;
+    go(core, Event::Deliver)
+}
+
+/// Whether the path goes nowhere, since the goal is out of reach.
+fn stays(path: &PathAnswer) -> bool {
+    path.start == Cell::new(0, 0)
+        && path.end == Cell::new(0, 0)
+        && path.near
+        && path.cost == Cost(0)
+        && path.corners.is_empty()
+}
+
+/// Whether the reply is such a path.
+fn is_path_that_stays(reply: Option<Reply>) -> bool {
+    match reply {
+        Some(Reply::Path(path)) => stays(&path),
+        _ => false,
+    }
+}
+
+/// Whether the obstruction of the number was added.
+fn is_added(reply: Option<Reply>, number: u32) -> bool {
+    match reply {
+        Some(Reply::Added(id)) => id == number,
+        _ => false,
+    }
+}
+
+#[test]
+fn an_edit_of_the_turn_counts_for_its_requests(rt: HostRuntime) -> Result<(), Fail> {
+    let alloc = rt.alloc();
+    let mut core = small_core(alloc, 2).ok_or("refused")?;
+    assert!(rt; stage_both(alloc, &mut core).is_some());
+    assert!(rt; run_turn(&mut core).is_some());
+    assert!(rt; is_path_that_stays(collected(&mut core, 0)));
+    assert!(rt; is_added(collected(&mut core, 1), 1));
+    assert_eq!(rt; cause(&mut core, Event::Start), Some(Why::NoneStaged(1)));
+    Ok(())
+}
+
+#[test]
+fn posts_and_stages_have_their_causes(rt: HostRuntime) -> Result<(), Fail> {
+    let alloc = rt.alloc();
+    let mut core = small_core(alloc, 2).ok_or("refused")?;
+    let post = unit_post();
+    assert_eq!(rt;
+        cause(&mut core, Event::Post { caller: 2, post }),
+        Some(Why::Callers(2))
+    );
+    let takes = Takes::new(alloc);
+    assert_eq!(rt;
+        cause(&mut core, Event::Stage { takes }),
+        Some(Why::Callers(2))
+    );
+    let few = stage_of_two(alloc, 0, 1).ok_or("no memory")?;
+    assert_eq!(rt; cause(&mut core, few), Some(Why::Posted(1, 0)));
+    Ok(())
+}
+
+#[test]
+fn claims_and_collects_have_their_causes(rt: HostRuntime) -> Result<(), Fail> {
+    let mut core = small_core(rt.alloc(), 2).ok_or("refused")?;
+    assert_eq!(rt; cause(&mut core, Event::Claim), Some(Why::NoneRunning(0)));
+    assert_eq!(rt;
+        cause(&mut core, Event::Collect { caller: 2 }),
+        Some(Why::Callers(2))
+    );
+    assert_eq!(rt;
+        cause(&mut core, Event::Collect { caller: 1 }),
+        Some(Why::Collected(0))
+    );
+    Ok(())
+}
+
+#[test]
+fn staged_turns_have_their_causes(rt: HostRuntime) -> Result<(), Fail> {
+    let alloc = rt.alloc();
+    let mut core = small_core(alloc, 2).ok_or("refused")?;
+    assert!(rt; stage_both(alloc, &mut core).is_some());
+    let empty = stage_of_two(alloc, 0, 0).ok_or("no memory")?;
+    assert_eq!(rt; cause(&mut core, empty), Some(Why::Staged(1)));
+    assert_eq!(rt; cause(&mut core, Event::Deliver), Some(Why::NoneRunning(1)));
+    assert!(rt; go(&mut core, Event::Start).is_some());
+    let empty = stage_of_two(alloc, 0, 0).ok_or("no memory")?;
+    assert!(rt; go(&mut core, empty).is_some());
+    assert_eq!(rt; cause(&mut core, Event::Start), Some(Why::Running(1)));
+    Ok(())
+}
+
+#[test]
+fn running_turns_have_their_causes(rt: HostRuntime) -> Result<(), Fail> {
+    let alloc = rt.alloc();
+    let mut core = small_core(alloc, 2).ok_or("refused")?;
+    assert!(rt; stage_both(alloc, &mut core).is_some());
+    assert!(rt; go(&mut core, Event::Start).is_some());
+    assert_eq!(rt;
+        cause(&mut core, Event::Finish { job: 0 }),
+        Some(Why::Claimed(0))
+    );
+    assert_eq!(rt; cause(&mut core, Event::Deliver), Some(Why::Unclaimed(0)));
+    assert!(rt; go(&mut core, Event::Claim).is_some());
+    assert_eq!(rt; cause(&mut core, Event::Claim), Some(Why::AllClaimed(1)));
+    assert_eq!(rt; cause(&mut core, Event::Deliver), Some(Why::Unanswered(0)));
+    assert!(rt; go(&mut core, Event::Finish { job: 0 }).is_some());
+    assert_eq!(rt;
+        cause(&mut core, Event::Finish { job: 0 }),
+        Some(Why::Answered(0))
+    );
+    Ok(())
+}
+
+/// A turn of one list, which has a path and a unit.
+fn small_turn(alloc: Global) -> Option<Sequence<Posts>> {
+    let mut posts = Posts::new(alloc);
+    posts.push(unit_post()).ok()?;
+    posts.push(path_post(alloc)?).ok()?;
+    let mut turn = Sequence::new(alloc);
+    turn.push(posts).ok()?;
+    Some(turn)
+}
+
+/// Copies a value through its bound.
+fn copy_of<T: Copied>(alloc: Global, value: &T) -> Result<T, NoMemory>
+    ensures { IfOk result (λ made. made ≡ value.now) }
+{
+    value.copy(alloc)
+}
+
+/// How many lists a copy of the turn has, and how many posts the first of them.
+fn copied_lengths(alloc: Global, turn: &Sequence<Posts>) -> Option<(usize, usize)> {
+    let made = copy_of(alloc, turn).ok()?;
+    let first = made.get(0)?;
+    Some((made.len(), first.len()))
+}
+
+#[test]
+fn lists_of_posts_are_copied(rt: HostRuntime) -> Result<(), Fail> {
+    let alloc = rt.alloc();
+    let turn = small_turn(alloc).ok_or("no memory")?;
+    assert_eq!(rt; copied_lengths(alloc, &turn), Some((1, 2)));
+    Ok(())
+}
