@@ -15,7 +15,7 @@ use Rattle.turn_core.specs.declared.replies.TurnReplies.{TurnReplies}
 abbrev pub line_of : List (List ℕ) → List ℕ
 line_of words = join_with_byte 32 words ++ 10 ∷ []
 
--- the centre of a navcell, in navcells: `2.5,0.5` for column 2 of row 0
+-- the centre of a navcell, in navcells: `2.5,0.5` for the third navcell of the southern border
 abbrev pub waypoint_text : Cell → List ℕ
 waypoint_text cell = decimal cell.i ++ (codes ".5," ++ (decimal cell.j ++ codes ".5"))
 
