@@ -1,15 +1,7 @@
-pub mod TopWrites
 pub mod TopLines
+pub mod TopWrites
 pub mod TopWent
 pub mod TopStands
-pub mod TopCounts
 pub mod TopTexts
 pub mod TopStops
-pub mod OpenTallies
-pub mod AnswerPieces
-pub mod ReadBytes
-pub mod ReadForms
-pub mod ReadItems
-pub mod ReadLines
-pub mod ReadTold
-pub mod ReadWalk
+pub mod TopThreads

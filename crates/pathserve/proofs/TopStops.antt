@@ -1,13 +1,14 @@
 -- No full line that was taken stops the input, and a bad line comes after them.
 use Rattle.std.proofs.Common.{◌≡◌, ◌≢◌, ℕ, ◌+◌, ◌<◌, ◌≤◌, List, [], ◌∷◌, ◌++◌, length, Bool, true, false, Option, Some, None, refl, sym, ap, ◌∙◌, subst, arith}
-use Rattle.std.specs.Prelude.{if◌then◌else◌, ⊤, ◌==◌, ◌||◌, ◌&&◌}
+use Rattle.std.specs.Prelude.{if◌then◌else◌, ⊤, ◌==◌, option_and_then}
+use Rattle.std.specs.List.{list_all}
 use Rattle.serde_json.specs.Data.{Data}
-use Rattle.pathserve.specs.declared.script.OpenMap.{OpenMap}
-use Rattle.pathserve.specs.declared.script.PathPost.{PathPost}
-use Rattle.pathserve.specs.declared.script.Item.{Item}
-use Rattle.pathserve.specs.Lines.{full_lines, tail_of}
-use Rattle.pathserve.specs.Forms.{is_map_form, is_base_form, is_post_form, is_path_form, is_end_form, built_map, built_path, end_number, is_number}
-use Rattle.pathserve.specs.Script.{Place, beginning, Stop, whole_input, too_long, bad_line, unbuilt, Ends, at_place, stuck_by, Walk, chain_from, counted, bad, reading_of, map_line, path_line, end_line, no_posts, turn_line, placed_after, placed, is_long, accept, walk, may_end, finish, last_line, reading}
+use Rattle.nav_types.specs.declared.cells.Rect.{Rect}
+use Rattle.grid_versions.specs.Maps.{Map}
+use Rattle.script_text.specs.declared.forms.CallerPost.{CallerPost}
+use Rattle.script_text.specs.Lines.{full_lines, tail_of}
+use Rattle.script_text.specs.Forms.{map_of, base_of, post_of, end_of}
+use Rattle.script_text.specs.Script.{Rules, Part, before_map, in_base, in_turns, Place, beginning, Item, Stop, whole_input, too_long, bad_line, Ends, at_place, stuck_by, Walk, chain_from, counted, reading_of, map_line, end_line, turn_line, placed_in_turn, base_line, placed_in, is_long, accept, walk, is_empty, finish_in, finish, last_line, reading}
 use Rattle.pathserve.specs.Output.{IsTakenText}
 use Rattle.pathserve.proofs.TopLines.{walk-append}
 use Rattle.pathserve.proofs.TopTexts.{taken_reading}
@@ -19,40 +20,37 @@ IsLine n (at_place q) = q.lines ≡ n
 IsLine n (stuck_by whole_input) = ⊤
 IsLine n (stuck_by too_long) = ⊤
 IsLine n (stuck_by (bad_line k)) = k ≡ n
-IsLine n (stuck_by unbuilt) = ⊤
 
 either_line : (b : Bool) (n : ℕ) (x y : Walk) → IsLine n x.ends → IsLine n y.ends → IsLine n (if b then x else y).ends
 either_line true n x y p q = p
 either_line false n x y p q = q
 
-line_of_map : (p : Place) (m : Option OpenMap) → IsLine p.lines (map_line p m).ends
-line_of_map p None = tt
+line_of_map : (p : Place) (m : Option Map) → IsLine p.lines (map_line p m).ends
+line_of_map p None = refl
 line_of_map p (Some m) = refl
 
-line_of_path : (p : Place) (post : Option PathPost) → IsLine p.lines (path_line p post).ends
-line_of_path p None = tt
-line_of_path p (Some post) = refl
+line_of_end : (p : Place) (rules : Rules) (number : Option ℕ) → IsLine p.lines (end_line p rules number).ends
+line_of_end p rules None = refl
+line_of_end p rules (Some number) = either_line (number == p.turns + 1) p.lines _ _ refl refl
 
-line_of_end : (p : Place) (d : Data) → IsLine p.lines (end_line p d).ends
-line_of_end p d = either_line (is_number (p.turns + 1) (end_number d)) p.lines _ _ refl refl
+line_of_turn : (p : Place) (rules : Rules) (said : Option CallerPost) (number : Option ℕ) → IsLine p.lines (turn_line p rules said number).ends
+line_of_turn p rules (Some said) number = refl
+line_of_turn p rules None number = line_of_end p rules number
 
-line_of_turn : (p : Place) (m : OpenMap) (d : Data) → IsLine p.lines (turn_line p m d).ends
-line_of_turn p m d =
-    either_line (is_path_form d) p.lines _ _ (line_of_path p (built_path m d))
-    (either_line (is_end_form d) p.lines _ _ (line_of_end p d)
-    (either_line (is_post_form d || (is_base_form d && no_posts p.posts)) p.lines _ _ tt refl))
+line_in_turn : (p : Place) (rules : Rules) (d : Option Data) → IsLine p.lines (placed_in_turn p rules d).ends
+line_in_turn p rules d = line_of_turn p rules (option_and_then (post_of rules.version rules.callers) d) (option_and_then end_of d)
 
-line_after : (p : Place) (m : Option OpenMap) (d : Data) → IsLine p.lines (placed_after p m d).ends
-line_after p None d = either_line (is_map_form d) p.lines _ _ (line_of_map p (built_map d)) refl
-line_after p (Some m) d = either_line (p.turns == 0) p.lines _ _ (line_of_turn p m d)
-    (either_line (is_post_form d || is_end_form d) p.lines _ _ tt refl)
+line_of_base : (p : Place) (rules : Rules) (d : Option Data) (rects : Option (List (Rect × ℕ))) → IsLine p.lines (base_line p rules d rects).ends
+line_of_base p rules d (Some rects) = refl
+line_of_base p rules d None = line_in_turn p rules d
 
-line_placed : (p : Place) (r : Option Data) → IsLine p.lines (placed p r).ends
-line_placed p None = refl
-line_placed p (Some d) = line_after p p.map d
+line_in : (part : Part) (p : Place) (d : Option Data) → IsLine p.lines (placed_in part p d).ends
+line_in before_map p d = line_of_map p (option_and_then map_of d)
+line_in (in_base rules) p d = line_of_base p rules d (option_and_then (base_of rules.size) d)
+line_in (in_turns rules) p d = line_in_turn p rules d
 
 line_accepted : (size : ℕ) (line : List ℕ) (p : Place) → IsLine (p.lines + 1) (accept size line p).ends
-line_accepted size line p = either_line (is_long p size line) (p.lines + 1) _ _ tt (line_placed (counted p size) (reading_of line))
+line_accepted size line p = either_line (is_long p size line) (p.lines + 1) _ _ tt (line_in p.part (counted p size) (reading_of line))
 
 -- ---- many lines: a walk that arrives has counted them all, and a bad line of it comes after those before it
 
@@ -66,14 +64,12 @@ IsPast n (at_place q) = n ≤ q.lines
 IsPast n (stuck_by whole_input) = ⊤
 IsPast n (stuck_by too_long) = ⊤
 IsPast n (stuck_by (bad_line k)) = n < k
-IsPast n (stuck_by unbuilt) = ⊤
 
 past_line : (n m : ℕ) (ends : Ends) → n < m → IsLine m ends → IsPast n ends
 past_line n m (at_place q) less is = omega arith
 past_line n m (stuck_by whole_input) less is = tt
 past_line n m (stuck_by too_long) less is = tt
 past_line n m (stuck_by (bad_line k)) less is = omega arith
-past_line n m (stuck_by unbuilt) less is = tt
 
 arrives_line : (n m : ℕ) (ends : Ends) → n ≤ m → IsLine m ends → ArrivesPast n ends
 arrives_line n m (at_place q) less is = omega arith
@@ -106,8 +102,13 @@ past_walk n (line ∷ lines) p less =
     past_chain n first.items first.ends (λ q. walk lines q)
     (past_line n (p.lines + 1) first.ends (omega arith) (line_accepted (length line + 1) line p)) (λ q here. past_walk n lines q here)
 
+line_missing : (part : Part) (p : Place) → IsLine (p.lines + 1) (finish_in part p).ends
+line_missing before_map p = refl
+line_missing (in_base rules) p = tt
+line_missing (in_turns rules) p = either_line (list_all is_empty p.posts) (p.lines + 1) _ _ tt refl
+
 past_finish : (n : ℕ) (p : Place) → n ≤ p.lines → IsPast n (finish p).ends
-past_finish n p less = past_line n (p.lines + 1) (finish p).ends (omega arith) (either_line (may_end p.map p.posts) (p.lines + 1) _ _ tt refl)
+past_finish n p less = past_line n (p.lines + 1) (finish p).ends (omega arith) (line_missing p.part p)
 
 past_last : (n : ℕ) (line : List ℕ) (p : Place) → n ≤ p.lines → IsPast n (last_line line p).ends
 past_last n [] p less = past_finish n p less

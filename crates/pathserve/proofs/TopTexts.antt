@@ -1,62 +1,40 @@
 -- There is one text for a turn, for items, and for an input.
 use Rattle.std.proofs.Common.{◌≡◌, ℕ, ◌+◌, inl, inr, List, [], ◌∷◌, ◌++◌, take, drop, Option, Some, refl, sym, ap, ◌∙◌, subst, append_assoc, append-nil, take-append-drop}
 use Rattle.std.proofs.lemmas.List.{append_cancel_right}
-use Rattle.nav_types.specs.declared.cells.Cell.{Cell}
-use Rattle.walks.proofs.OneAnswer.{one_answer}
-use Rattle.pathserve.specs.declared.script.OpenMap.{OpenMap}
-use Rattle.pathserve.specs.declared.script.PathPost.{PathPost}
-use Rattle.pathserve.specs.declared.script.Item.{Item}
-use Rattle.pathserve.specs.declared.script.Item.TheVariants.{Map, Turn}
-use Rattle.pathserve.specs.Lines.{full_lines, tail_of}
-use Rattle.pathserve.specs.Script.{Place, beginning, Ends, Walk, arrived, chain, walk, last_line, reading}
-use Rattle.pathserve.specs.Texts.{is_open, is_cell, tallies_text, path_text, IsPathText, ArePathTexts, IsTurnText}
-use Rattle.pathserve.specs.Output.{Said, unsaid, Says, Gives, ends_text, IsOut, IsPiece, IsBeginning, IsTakenText}
-use Rattle.pathserve.proofs.TopCounts.{one_count}
-use Rattle.pathserve.proofs.TopLines.{full_lines-append, walk-append, chain_assoc}
-
--- ---- a turn
-
-one_path_text : (m : OpenMap) (at : ℕ) (post : PathPost) (a b : List ℕ) → IsPathText m at post a → IsPathText m at post b → a ≡ b
-one_path_text m at post a b p q =
-    let same = one_answer (is_open m) post.start (is_cell post.target) p.end q.end p.cost q.cost p.corners q.corners p.answer q.answer in
-    let end : p.end ≡ q.end = same.0 in let cost : p.cost ≡ q.cost = same.1.0 in let corners : p.corners ≡ q.corners = same.1.1 in
-    p.written ∙ (ap (λ (e : Cell). path_text at post.start e p.cost p.corners) end
-    ∙ (ap (λ (n : ℕ). path_text at post.start q.end n p.corners) cost
-    ∙ (ap (λ (l : List Cell). path_text at post.start q.end q.cost l) corners ∙ sym q.written)))
+use Rattle.grid_versions.specs.Maps.{Map}
+use Rattle.turn_core.specs.declared.posts.Post.{Post}
+use Rattle.turn_core.specs.declared.replies.TurnReplies.{TurnReplies}
+use Rattle.turn_core.specs.Words.{Standing}
+use Rattle.turn_core.proofs.Threads.{one_turn_told}
+use Rattle.script_text.specs.Lines.{full_lines, tail_of}
+use Rattle.script_text.specs.Script.{Item, begins, adds_base, ends_turn, Place, beginning, Ends, Walk, arrived, chain, walk, last_line, reading}
+use Rattle.script_text.proofs.ReadWalk.{chain-assoc}
+use Rattle.pathserve.proofs.TopLines.{full_lines-append, walk-append}
+use Rattle.answer_text.specs.Answers.{turn_text}
+use Rattle.pathserve.specs.Output.{Said, unsaid, IsTurnText, with_turn, Says, Gives, ends_text, IsOut, IsPiece, IsBeginning, IsTakenText}
 
 joined : (a b c d : List ℕ) → a ≡ b → c ≡ d → a ++ c ≡ b ++ d
 joined a b c d p q = ap (λ (l : List ℕ). l ++ c) p ∙ ap (λ (l : List ℕ). b ++ l) q
 
-one_paths : (m : OpenMap) (at : ℕ) (posts : List PathPost) (a b : List ℕ) → ArePathTexts m at posts a → ArePathTexts m at posts b → a ≡ b
-one_paths m at [] a b p q = p ∙ sym q
-one_paths m at (post ∷ posts) a b (first, (rest, (path, (paths, parts)))) (first', (rest', (path', (paths', parts')))) =
-    parts ∙ (joined first first' rest rest' (one_path_text m at post first first' path path') (one_paths m (at + 1) posts rest rest' paths paths') ∙ sym parts')
-
--- the text of a turn is one
-pub one_turn_text : (m : OpenMap) (turn : ℕ) (posts : List PathPost) (a b : List ℕ) → IsTurnText m turn posts a → IsTurnText m turn posts b → a ≡ b
-one_turn_text m turn posts a b p q =
-    let s = p.tallies in let t = q.tallies in
-    let regions : p.regions ≡ q.regions = one_count _ _ _ s.region_count t.region_count in
-    let edges : p.edges ≡ q.edges = one_count _ _ _ s.edge_count t.edge_count in
-    let areas : p.areas ≡ q.areas = one_count _ _ _ s.area_count t.area_count in
-    let relabelled : p.relabelled ≡ q.relabelled = one_count _ _ _ p.changes q.changes in
-    let paths : p.paths ≡ q.paths = one_paths m 0 posts p.paths q.paths p.answers q.answers in
-    let tallies : tallies_text turn p.regions p.edges p.areas p.relabelled ≡ tallies_text turn q.regions q.edges q.areas q.relabelled =
-    ap (λ (n : ℕ). tallies_text turn n p.edges p.areas p.relabelled) regions ∙ (ap (λ (n : ℕ). tallies_text turn q.regions n p.areas p.relabelled) edges
-    ∙ (ap (λ (n : ℕ). tallies_text turn q.regions q.edges n p.relabelled) areas ∙ ap (λ (n : ℕ). tallies_text turn q.regions q.edges q.areas n) relabelled)) in
-    p.written ∙ (joined _ _ p.paths q.paths tallies paths ∙ sym q.written)
-
 -- ---- items
 
-some_same : (m n : OpenMap) (o : Option OpenMap) → o ≡ Some m → o ≡ Some n → m ≡ n
+-- the text of a turn is one
+pub one_turn_text : (m : Map) (s : Standing) (turn : ℕ) (posts : List (List Post)) (a b : List ℕ) → IsTurnText m s turn posts a → IsTurnText m s turn posts b → a ≡ b
+one_turn_text m s turn posts a b (told, (is, text)) (told', (is', text')) =
+    text ∙ (ap (λ (t : TurnReplies). turn_text turn t) (one_turn_told m s posts told told' is is') ∙ sym text')
+
+pub some_same : (m n : Map) (o : Option Map) → o ≡ Some m → o ≡ Some n → m ≡ n
 some_same m n o p q = let both : Some m ≡ Some n = sym p ∙ q in cc
 
 -- the text of an item and what is said after it are one
 pub one_said : (s : Said) (item : Item) (a b : List ℕ) (t u : Said) → Says s item a t → Says s item b u → (a ≡ b) × (t ≡ u)
-one_said s (Map m) a b t u p q = (p.0 ∙ sym q.0, p.1 ∙ sym q.1)
-one_said s (Turn posts) a b t u (m, (map, (text, after))) (n, (map', (text', after'))) =
-    let one : m ≡ n = some_same m n s.map map map' in
-    (one_turn_text m (s.turns + 1) posts a b text (subst (λ (x : OpenMap). IsTurnText x (s.turns + 1) posts b) (sym one) text'), after ∙ sym after')
+one_said s (begins m) a b t u p q = (p.0 ∙ sym q.0, p.1 ∙ sym q.1)
+one_said s (adds_base rects) a b t u p q = (p.0 ∙ sym q.0, p.1 ∙ sym q.1)
+one_said s (ends_turn posts) a b t u (m, (map, (text, after))) (n, (map', (text', after'))) =
+    let one : m ≡ n = some_same m n s.map map map' in (
+      one_turn_text m s.standing (s.turns + 1) posts a b text (subst (λ (x : Map). IsTurnText x s.standing (s.turns + 1) posts b) (sym one) text'),
+      after ∙ (ap (λ (x : Map). with_turn s x posts) one ∙ sym after'),
+    )
 
 -- the text of items and what is said after them are one
 pub one_given : (s : Said) (items : List Item) (a b : List ℕ) (t u : Said) → Gives s items a t → Gives s items b u → (a ≡ b) × (t ≡ u)
@@ -139,7 +117,7 @@ taken_reading taken rest items place walked =
     let lines : walk (full_lines (taken ++ rest)) beginning ≡ chain (arrived items place) (λ q. walk more q) =
     ap (λ (ls : List (List ℕ)). walk ls beginning) (full_lines-append taken rest)
     ∙ (walk-append (full_lines taken) more beginning ∙ ap (λ (w : Walk). chain w (λ q. walk more q)) walked) in
-    ap (λ (w : Walk). chain w last) lines ∙ chain_assoc (arrived items place) (λ q. walk more q) last
+    ap (λ (w : Walk). chain w last) lines ∙ chain-assoc (arrived items place) (λ q. walk more q) last
 
 -- the text of the turns taken is a beginning of the output text
 pub taken_is_beginning : (bytes rest out : List ℕ) → IsTakenText bytes rest out → IsBeginning bytes out

@@ -3,16 +3,12 @@ use Rattle.std.proofs.Common.{◌≡◌, ◌≢◌, ℕ, inl, inr, List, [], ◌
 use Rattle.std.specs.Prelude.{All, IsFalse}
 use Rattle.std.proofs.lemmas.Bool.{true≢false}
 use Rattle.std.proofs.lemmas.List.Elements.{All-append, All-nil}
-use Rattle.pathserve.specs.declared.script.Item.{Item}
-use Rattle.pathserve.specs.Lines.{full_lines, unlines}
-use Rattle.pathserve.specs.Script.{beginning, Stop, stuck_by, Walk, arrived, stuck, chain, walk, reading}
-use Rattle.pathserve.specs.Reader.{Held, UsesLines, GivesItem, StopsAtFault}
-use Rattle.pathserve.specs.Output.{Said, unsaid, Says, Gives, IsText, stop_text, ends_text, IsOut, IsBeginning, IsTakenText}
+use Rattle.turn_core.specs.declared.posts.Post.{Post}
+use Rattle.script_text.specs.Lines.{full_lines, unlines}
+use Rattle.script_text.specs.Script.{Item, begins, adds_base, ends_turn, map_after, turns_of, beginning, Stop, Walk, arrived, chain, walk, reading}
+use Rattle.script_text.specs.Reader.{Held, unread, UsesLines, GoesOn, StopsAtFault, stuck_after}
 use Rattle.pathserve.proofs.TopLines.{full_lines-unlines, unlines-append, walk-append}
-
--- a reader at the beginning of an input
-abbrev pub fresh : Held
-fresh = record { place = beginning; bytes = []; ended = false; over = false }
+use Rattle.pathserve.specs.Output.{Said, unsaid, with_map, Says, Gives, IsText, stop_text, ends_text, IsOut, IsBeginning, IsTakenText}
 
 -- the reading has come, after these items, to what the reader holds and what is left
 pub record Went (bytes left : List ℕ) (held : Held) (items : List Item) : Type 0 where
@@ -20,11 +16,11 @@ pub record Went (bytes left : List ℕ) (held : Held) (items : List Item) : Type
   pub took : bytes ≡ taken ++ left
   pub same : reading bytes beginning ≡ chain (arrived items held.place) (λ q. reading (held.bytes ++ left) q)
   pub at_end : IsTrue held.ended → left ≡ []
-  pub used : IsFalse held.ended → UsesLines fresh held taken items
+  pub used : IsFalse held.ended → UsesLines unread held taken items
 
 -- ---- steps
 
-nothing_used : UsesLines fresh fresh [] []
+nothing_used : UsesLines unread unread [] []
 nothing_used = record { lines = []; plain = All-nil (λ (line : List ℕ). All (λ byte. byte ≢ 10) line); bytes = refl; walked = refl }
 
 -- lines used, and then more lines
@@ -48,45 +44,60 @@ still_false : (before now : Bool) → (IsTrue before → IsTrue now) → IsFalse
 still_false true now stays going = absurd (true≢false (sym (stays refl) ∙ going))
 still_false false now stays going = refl
 
-pub went_nowhere : (bytes : List ℕ) → Went bytes bytes fresh []
+pub went_nowhere : (bytes : List ℕ) → Went bytes bytes unread []
 went_nowhere bytes = record { taken = []; took = refl; same = refl; at_end = λ e. absurd (true≢false (sym e)); used = λ e. nothing_used }
 
--- the reader gave an item
-pub went_on : (bytes left after : List ℕ) (held new : Held) (items : List Item) (item : Item)
-    → Went bytes left held items → GivesItem held new left after item → (IsTrue held.ended → IsTrue new.ended) → Went bytes after new (items ++ item ∷ [])
-went_on bytes left after held new items item w g stays =
+-- the reader gave more items
+pub went_on : (bytes left after : List ℕ) (held new : Held) (items more : List Item)
+    → Went bytes left held items → GoesOn held new left after more → (IsTrue held.ended → IsTrue new.ended) → Went bytes after new (items ++ more)
+went_on bytes left after held new items more w g stays =
     let rest : Walk = reading (new.bytes ++ after) new.place in
     record {
       taken = w.taken ++ g.taken;
       took = w.took ∙ (ap (λ (l : List ℕ). w.taken ++ l) g.took ∙ sym (append_assoc w.taken g.taken after));
       same = w.same ∙ (ap (λ (v : Walk). let joined : Walk = record { items = items ++ v.items; ends = v.ends } in joined) g.same
-          ∙ ap (λ (l : List Item). let joined : Walk = record { items = l; ends = rest.ends } in joined) (sym (append_assoc items (item ∷ []) rest.items)));
+          ∙ ap (λ (l : List Item). let joined : Walk = record { items = l; ends = rest.ends } in joined) (sym (append_assoc items more rest.items)));
       at_end = g.at_end;
-      used = λ going. uses_more fresh held new w.taken g.taken items (item ∷ []) (w.used (still_false held.ended new.ended stays going)) (g.used going);
+      used = λ going. uses_more unread held new w.taken g.taken items more (w.used (still_false held.ended new.ended stays going)) (g.used going);
     }
 
--- what is written for items, and then for one more
-pub gives_more : (s mid t : Said) (items : List Item) (item : Item) (text piece : List ℕ)
-    → Gives s items text mid → Says mid item piece t → Gives s (items ++ item ∷ []) (text ++ piece) t
-gives_more s mid t [] item text piece (none, here) says =
-    let from : Says s item piece t = subst (λ (r : Said). Says r item piece t) (sym here) says in
-    (piece, (t, ([], (from, ((refl, refl), ap (λ (l : List ℕ). l ++ piece) none ∙ sym (append-nil piece))))))
-gives_more s mid t (first ∷ items) item text piece (one, (next, (more, (said, (rest, parts))))) says = (
+-- what is written for items, and then for more
+pub gives_on : (s mid t : Said) (items more : List Item) (text piece : List ℕ)
+    → Gives s items text mid → Gives mid more piece t → Gives s (items ++ more) (text ++ piece) t
+gives_on s mid t [] more text piece (none, here) gives =
+    subst (λ (l : List ℕ). Gives s more (l ++ piece) t) (sym none) (subst (λ (r : Said). Gives r more piece t) (sym here) gives)
+gives_on s mid t (first ∷ items) more text piece (one, (next, (rest, (said, (gives, parts))))) goes = (
   one,
   (
     next,
     (
-      more ++ piece,
+      rest ++ piece,
       (
         said,
         (
-          gives_more next mid t items item more piece rest says,
-          ap (λ (l : List ℕ). l ++ piece) parts ∙ append_assoc one more piece,
+          gives_on next mid t items more rest piece gives goes,
+          ap (λ (l : List ℕ). l ++ piece) parts ∙ append_assoc one rest piece,
         ),
       ),
     ),
   ),
 )
+
+-- what is written for one item
+pub gives_one : (s t : Said) (item : Item) (piece : List ℕ) → Says s item piece t → Gives s (item ∷ []) piece t
+gives_one s t item piece says = (piece, (t, ([], (says, ((refl, refl), sym (append-nil piece))))))
+
+never_empty : (posts : List (List Post)) (turns : List (List (List Post))) → posts ∷ turns ≡ [] → ⊥
+never_empty posts turns is = cc
+
+-- nothing is written for items without a turn
+pub gives_map : (s : Said) (items : List Item) → turns_of items ≡ [] → Gives s items [] (record s { map = map_after s.map items })
+gives_map s [] none = (refl, refl)
+gives_map s (begins m ∷ items) none =
+    ([], (with_map s (begins m), ([], ((refl, refl), (gives_map (with_map s (begins m)) items none, refl)))))
+gives_map s (adds_base rects ∷ items) none =
+    ([], (with_map s (adds_base rects), ([], ((refl, refl), (gives_map (with_map s (adds_base rects)) items none, refl)))))
+gives_map s (ends_turn posts ∷ items) none = absurd (never_empty posts (turns_of items) none)
 
 -- ---- exits, over the bytes
 
@@ -105,7 +116,7 @@ begun_here bytes left held items state text w gives = record {
 
 -- and so is a part of the text of the next item after them
 pub begun_item : (bytes left after : List ℕ) (held new : Held) (items : List Item) (item : Item) (state next : Said) (text piece : List ℕ) (n : ℕ)
-    → Went bytes left held items → GivesItem held new left after item → Gives unsaid items text state → Says state item piece next
+    → Went bytes left held items → GoesOn held new left after (item ∷ []) → Gives unsaid items text state → Says state item piece next
     → IsBeginning bytes (text ++ take n piece)
 begun_item bytes left after held new items item state next text piece n w g gives says = record {
   done = items;
@@ -117,22 +128,21 @@ begun_item bytes left after held new items item state next text piece n w g give
   part = inr (piece, (n, ((next, says), refl)));
 }
 
--- the reading of an input that stops after the items so far
-pub stops_here : (bytes left : List ℕ) (held : Held) (items : List Item) (stop : Stop) → Went bytes left held items
-    → reading (held.bytes ++ left) held.place ≡ stuck stop → reading bytes beginning ≡ record { items = items; ends = stuck_by stop }
-stops_here bytes left held items stop w stopped =
-    w.same ∙ (ap (λ (v : Walk). let joined : Walk = record { items = items ++ v.items; ends = v.ends } in joined) stopped
-    ∙ ap (λ (l : List Item). let joined : Walk = record { items = l; ends = stuck_by stop } in joined) (append-nil items))
+-- the reading of an input that stops after the items so far and these
+pub stops_here : (bytes left : List ℕ) (held : Held) (items more : List Item) (stop : Stop) → Went bytes left held items
+    → reading (held.bytes ++ left) held.place ≡ stuck_after more stop → reading bytes beginning ≡ stuck_after (items ++ more) stop
+stops_here bytes left held items more stop w stopped =
+    w.same ∙ ap (λ (v : Walk). let joined : Walk = record { items = items ++ v.items; ends = v.ends } in joined) stopped
 
 pub out_here : (bytes : List ℕ) (items : List Item) (stop : Stop) (state : Said) (text : List ℕ)
-    → reading bytes beginning ≡ record { items = items; ends = stuck_by stop } → Gives unsaid items text state → IsOut bytes (text ++ stop_text stop)
+    → reading bytes beginning ≡ stuck_after items stop → Gives unsaid items text state → IsOut bytes (text ++ stop_text stop)
 out_here bytes items stop state text stopped gives =
     subst (λ (v : Walk). (body : List ℕ) × (IsText v.items body × (text ++ stop_text stop ≡ body ++ ends_text v.ends))) (sym stopped)
     (text, ((state, gives), refl))
 
 -- a part of the text of the stop is a beginning
 pub begun_stop : (bytes : List ℕ) (items : List Item) (stop : Stop) (state : Said) (text : List ℕ) (n : ℕ)
-    → reading bytes beginning ≡ record { items = items; ends = stuck_by stop } → Gives unsaid items text state
+    → reading bytes beginning ≡ stuck_after items stop → Gives unsaid items text state
     → IsBeginning bytes (text ++ take n (stop_text stop))
 begun_stop bytes items stop state text n stopped gives = record {
   done = items;
@@ -145,19 +155,18 @@ begun_stop bytes items stop state text n stopped gives = record {
 }
 
 -- at a fault of the source all full lines taken were used
-pub taken_here : (bytes left after : List ℕ) (held new : Held) (items : List Item) (state : Said) (text : List ℕ)
-    → Went bytes left held items → IsFalse held.ended → StopsAtFault held new left after → Gives unsaid items text state → IsTakenText bytes after text
-taken_here bytes left after held new items state text w going s gives =
-    let used = uses_more fresh held new w.taken s.taken items [] (w.used going) s.used in
+pub taken_here : (bytes left after : List ℕ) (held new : Held) (items more : List Item) (state : Said) (text : List ℕ)
+    → Went bytes left held items → StopsAtFault held new left after more → Gives unsaid (items ++ more) text state → IsTakenText bytes after text
+taken_here bytes left after held new items more state text w s gives =
+    let used = uses_more unread held new w.taken s.taken items more (w.used s.going) s.used in
     let lines : full_lines (w.taken ++ s.taken) ≡ used.lines =
     ap full_lines used.bytes ∙ (full_lines-unlines used.lines new.bytes used.plain
     ∙ (ap (λ (ls : List (List ℕ)). used.lines ++ ls) s.no_line ∙ append-nil used.lines)) in
     record {
       taken = w.taken ++ s.taken;
       took = w.took ∙ (ap (λ (l : List ℕ). w.taken ++ l) s.took ∙ sym (append_assoc w.taken s.taken after));
-      items = items;
+      items = items ++ more;
       place = new.place;
-      walked = ap (λ (ls : List (List ℕ)). walk ls beginning) lines
-          ∙ (used.walked ∙ ap (λ (l : List Item). arrived l new.place) (append-nil items));
+      walked = ap (λ (ls : List (List ℕ)). walk ls beginning) lines ∙ used.walked;
       text = (state, gives);
     }

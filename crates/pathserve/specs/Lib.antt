@@ -1,10 +1,3 @@
-pub mod Lines
-pub mod Forms
-pub mod Script
-pub mod Reader
 pub mod Commands
-pub mod Texts
 pub mod Output
 pub mod Writing
-pub mod Judging
-pub mod Taking

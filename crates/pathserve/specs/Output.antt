@@ -1,27 +1,43 @@
 -- What is written for an input.
-use Rattle.std.specs.Prelude.{ℕ, ◌≡◌, ◌+◌, ◌⊎◌, List, [], ◌∷◌, ◌++◌, take, Option, Some, None, codes, decimal, ⊤}
+use Rattle.std.specs.Prelude.{ℕ, ◌≡◌, ◌+◌, ◌⊎◌, List, [], ◌∷◌, ◌++◌, take, Option, Some, None, ⊤}
 use Rattle.io_edges.specs.Faults.{Rose}
-use Rattle.pathserve.specs.declared.script.OpenMap.{OpenMap}
-use Rattle.pathserve.specs.declared.script.Item.{Item}
-use Rattle.pathserve.specs.declared.script.Item.TheVariants.{Map, Turn}
+use Rattle.grid_versions.specs.Maps.{Map}
+use Rattle.turn_core.specs.declared.posts.Post.{Post}
+use Rattle.turn_core.specs.declared.replies.TurnReplies.{TurnReplies}
+use Rattle.turn_core.specs.Words.{Standing, bare}
+use Rattle.turn_core.specs.Turns.{after_turn, IsTurnTold}
+use Rattle.script_text.specs.Lines.{full_lines}
+use Rattle.script_text.specs.Script.{Item, begins, adds_base, ends_turn, map_after_item, Place, beginning, Stop, whole_input, too_long, bad_line, Ends, at_place, stuck_by, arrived, walk, reading}
+use Rattle.answer_text.specs.Answers.{turn_text, bad_line_text}
 use Rattle.pathserve.specs.declared.status.Status.{Status}
-use Rattle.pathserve.specs.declared.status.Status.TheVariants.{Done, Usage, BadLine, ReadFault, WriteFault, NoMemory, TooLong, Unbuilt}
-use Rattle.pathserve.specs.Lines.{full_lines}
-use Rattle.pathserve.specs.Script.{Place, beginning, Stop, whole_input, too_long, bad_line, unbuilt, Ends, at_place, stuck_by, arrived, walk, reading}
-use Rattle.pathserve.specs.Texts.{IsTurnText}
+use Rattle.pathserve.specs.declared.status.Status.TheVariants.{Done, Usage, BadLine, ReadFault, WriteFault, NoMemory, TooLong}
 
--- the map that was read, and the number of turns answered
+-- what the next answers rest on: the map so far, what stands on it, and how many turns were answered
 pub record Said : Type 0 where
-  pub map : Option OpenMap
+  pub map : Option Map
+  pub standing : Standing
   pub turns : ℕ
 
 abbrev pub unsaid : Said
-unsaid = record { map = None; turns = 0 }
+unsaid = record { map = None; standing = bare; turns = 0 }
 
--- what is written for one item: nothing for the map, the text of its answers for a turn
+-- a part of the map was read
+abbrev pub with_map : Said → Item → Said
+with_map s item = record s { map = map_after_item s.map item }
+
+-- a turn was answered
+abbrev pub with_turn : Said → Map → List (List Post) → Said
+with_turn s m posts = record s { standing = after_turn m s.standing posts; turns = s.turns + 1 }
+
+-- the text of the turn of a number, before which this stands: that of the replies of one thread, with the turn's numbers
+abbrev pub IsTurnText : Map → Standing → ℕ → List (List Post) → List ℕ → Type 0
+IsTurnText m standing turn posts text = (told : TurnReplies) × (IsTurnTold m standing posts told × (text ≡ turn_text turn told))
+
+-- what is written for one item: nothing for a part of the map, and for a turn the text of its answers
 abbrev pub Says : Said → Item → List ℕ → Said → Type 0
-Says s (Map m) text t = (text ≡ []) × (t ≡ record { map = Some m; turns = s.turns })
-Says s (Turn posts) text t = (m : OpenMap) × ((s.map ≡ Some m) × (IsTurnText m (s.turns + 1) posts text × (t ≡ record { map = s.map; turns = s.turns + 1 })))
+Says s (begins m) text t = (text ≡ []) × (t ≡ with_map s (begins m))
+Says s (adds_base rects) text t = (text ≡ []) × (t ≡ with_map s (adds_base rects))
+Says s (ends_turn posts) text t = (m : Map) × ((s.map ≡ Some m) × (IsTurnText m s.standing (s.turns + 1) posts text × (t ≡ with_turn s m posts)))
 
 -- what is written for items, one after another
 abbrev pub Gives : Said → List Item → List ℕ → Said → Type 0
@@ -31,12 +47,16 @@ Gives s (item ∷ items) text t = (piece : List ℕ) × ((mid : Said) × ((more 
 abbrev pub IsText : List Item → List ℕ → Type 0
 IsText items text = (t : Said) × Gives unsaid items text t
 
+-- the texts of turns, from one of this number on
+abbrev pub turn_texts : ℕ → List TurnReplies → List ℕ
+turn_texts number [] = []
+turn_texts number (told ∷ others) = turn_text number told ++ turn_texts (number + 1) others
+
 -- what is written for a stop: a bad line is named
 abbrev pub stop_text : Stop → List ℕ
 stop_text whole_input = []
 stop_text too_long = []
-stop_text (bad_line n) = codes "bad line " ++ decimal n ++ 10 ∷ []
-stop_text unbuilt = []
+stop_text (bad_line n) = bad_line_text n
 
 abbrev pub ends_text : Ends → List ℕ
 ends_text (at_place p) = []
@@ -79,7 +99,6 @@ Replays bytes rest out ReadFault = IsTakenText bytes rest out × IsBeginning byt
 Replays bytes rest out WriteFault = IsBeginning bytes out
 Replays bytes rest out NoMemory = IsBeginning bytes out
 Replays bytes rest out TooLong = ((reading bytes beginning).ends ≡ stuck_by too_long) × IsOut bytes out
-Replays bytes rest out Unbuilt = ((reading bytes beginning).ends ≡ stuck_by unbuilt) × IsOut bytes out
 
 -- the same, where the source tells its bytes and the sink keeps them
 abbrev pub ReplaysTold : Option (List ℕ) → Option (List ℕ) → Option (List ℕ) → Option (List ℕ) → Status → Type 0
@@ -95,7 +114,6 @@ stop_status (at_place p) = Done
 stop_status (stuck_by whole_input) = Done
 stop_status (stuck_by too_long) = TooLong
 stop_status (stuck_by (bad_line n)) = BadLine
-stop_status (stuck_by unbuilt) = Unbuilt
 
 -- Where neither count rose, the status is that of the stop, or there was no memory.
 -- Where one rose, a fault of the source or the sink may come before.

@@ -4,11 +4,11 @@ use Rattle.std.specs.Io.KnownBytes.{Appends}
 use Rattle.io_edges.specs.declared.edges.WriteRefusal.{WriteRefusal}
 use Rattle.io_edges.specs.declared.edges.WriteRefusal.TheVariants as refusal
 use Rattle.nav_types.specs.declared.sequences.NoMemory as memory
-use Rattle.pathserve.specs.declared.script.ScriptFault.{ScriptFault}
-use Rattle.pathserve.specs.declared.script.ScriptFault.TheVariants as fault
+use Rattle.script_text.specs.declared.faults.ScriptFault.{ScriptFault}
+use Rattle.script_text.specs.declared.faults.ScriptFault.TheVariants as fault
 use Rattle.pathserve.specs.declared.status.Status.{Status}
-use Rattle.pathserve.specs.declared.status.Status.TheVariants.{BadLine, ReadFault, WriteFault, NoMemory, TooLong, Unbuilt}
-use Rattle.pathserve.specs.Script.{bad_line}
+use Rattle.pathserve.specs.declared.status.Status.TheVariants.{BadLine, ReadFault, WriteFault, NoMemory, TooLong}
+use Rattle.script_text.specs.Script.{bad_line}
 use Rattle.pathserve.specs.Output.{stop_text}
 
 -- the piece was written whole, or at a refusal its first n bytes for some n
@@ -37,6 +37,5 @@ abbrev pub StopsWith : ScriptFault → Option (List ℕ) → Option (List ℕ) �
 StopsWith (fault.BadLine n) kept now status =
     (written : Result (Unit {0}) WriteRefusal) × (WritesPiece kept now (stop_text (bad_line n)) written × (status ≡ status_after written BadLine))
 StopsWith fault.TooLong kept now status = (status ≡ TooLong) × Appends kept now []
-StopsWith fault.Unbuilt kept now status = (status ≡ Unbuilt) × Appends kept now []
 StopsWith fault.ReadFault kept now status = (status ≡ ReadFault) × Appends kept now []
 StopsWith fault.NoMemory kept now status = (status ≡ NoMemory) × Appends kept now []

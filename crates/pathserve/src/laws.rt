@@ -1,8 +1,12 @@
-//! Laws of the output text: it is one, and what a run that stops early has written is a prefix of it.
-ghost use Rattle.std.specs.Prelude.{◌≡◌, ◌≢◌, ◌++◌, ◌<◌, ℕ, List, length};
-ghost use Rattle.pathserve.specs.Lines.{full_lines};
-ghost use Rattle.pathserve.specs.Script.{Stop, bad_line, stuck_by, beginning, walk, reading};
-ghost use Rattle.pathserve.specs.Output.{IsOut, IsBeginning, IsTakenText};
+//! Laws of the output text: it is one, what a run that stops early has written is a prefix of it, and the text of its
+//! turns is that of the replies of one thread.
+ghost use Rattle.std.specs.Prelude.{◌≡◌, ◌≢◌, ◌++◌, ◌<◌, ℕ, List, length, None, Some};
+ghost use Rattle.grid_versions.specs.Maps.{Map};
+ghost use Rattle.script_text.specs.Lines.{full_lines};
+ghost use Rattle.script_text.specs.Script.{Stop, bad_line, stuck_by, beginning, walk, reading, map_after, turns_of};
+ghost use Rattle.turn_core.specs.declared.replies.TurnReplies.{TurnReplies};
+ghost use Rattle.turn_core.specs.Turns.{IsOneThread};
+ghost use Rattle.pathserve.specs.Output.{IsOut, IsBeginning, IsTakenText, IsText, turn_texts};
 
 /// An input has at most one output text.
 pub fn one_out()
@@ -20,11 +24,20 @@ pub fn taken_text()
     ensures beginning { (bytes rest out : List ℕ) → IsTakenText bytes rest out → IsBeginning bytes out }
 {}
 
-/// The line that stops an input does not lie among the full lines taken: no beginning of them stops, and a bad line comes
-/// after them.
+/// The line that stops an input does not lie among the full lines taken: no beginning of them stops, and a bad line
+/// comes after them.
 pub fn stop_is_not_taken()
     ensures no_stop { (bytes rest out : List ℕ) (text : IsTakenText bytes rest out) (front back : List (List ℕ)) (stop : Stop)
         → full_lines text.taken ≡ front ++ back → (walk front beginning).ends ≢ stuck_by stop }
     ensures later { (bytes rest out : List ℕ) (text : IsTakenText bytes rest out) (n : ℕ)
         → (reading bytes beginning).ends ≡ stuck_by (bad_line n) → length (full_lines text.taken) < n }
+{}
+
+/// A law: where an input gives a map, the text of its turns is that of the replies of one thread to its journal.
+pub fn text_is_one_thread()
+    ensures told { (bytes text : List ℕ) (m : Map) → map_after None (reading bytes beginning).items ≡ Some m
+        → IsText (reading bytes beginning).items text
+        → (all : List TurnReplies) × (IsOneThread m (turns_of (reading bytes beginning).items) all × (text ≡ turn_texts 1 all)) }
+    ensures text { (bytes : List ℕ) (m : Map) (all : List TurnReplies) → map_after None (reading bytes beginning).items ≡ Some m
+        → IsOneThread m (turns_of (reading bytes beginning).items) all → IsText (reading bytes beginning).items (turn_texts 1 all) }
 {}

@@ -15,6 +15,4 @@ pub enum Status {
     NoMemory = 6,
     /// A line or the input is past its limit.
     TooLong = 7,
-    /// A line is of a form that is not built yet.
-    Unbuilt = 8,
 }

@@ -1,31 +1,24 @@
 //! The top call over memory: scripts with their answers, faults and limits.
 use super::*;
 use io_edges::{MemorySink, MemorySource, OpenGate};
+use itoa::Buffer;
 use nav_types::{Bytes, NoMemory, Words};
 use std::alloc::Global;
 use std::sync::Wait;
 use std::test::Fail;
 use std::thread::Threads;
 
-/// A map of 3 by 3 cells.
-const MAP: &str =
-    "{\"version\":1,\"size\":[3,3],\"callers\":1,\"classes\":[{\"name\":\"default\",\"clearance\":\"0\"}]}\n";
+mod scripts;
 
-/// The same, without its newline.
+use scripts::{ANSWERED, BAD, COVER, COVER_ANSWERS};
+
+/// A map of 3 by 3 cells, without its newline.
 const MAP_LINE: &str =
     "{\"version\":1,\"size\":[3,3],\"callers\":1,\"classes\":[{\"name\":\"default\",\"clearance\":\"0\"}]}";
 
-/// A path from the first cell to the last.
-const PATH: &str =
-    "{\"caller\":0,\"path\":\"default\",\"from\":[\"0.5\",\"0.5\"],\"goal\":{\"point\":[\"2.5\",\"2.5\"]}}\n";
-
-const END: &str = "{\"end\":1}\n";
-
-const ANSWERS: &str =
-    "turn 1 regions 1 edges 0 areas 1 relabelled 0\n0 0 path 0 0 2 2 goal 185364 1 2.5,2.5\n";
-
-const ANSWERS_AND_BAD_LINE: &str =
-    "turn 1 regions 1 edges 0 areas 1 relabelled 0\n0 0 path 0 0 2 2 goal 185364 1 2.5,2.5\nbad line 4\n";
+/// A map of 256 by 256 cells.
+const LARGE_MAP: &str =
+    "{\"version\":1,\"size\":[256,256],\"callers\":1,\"classes\":[{\"name\":\"default\",\"clearance\":\"0\"}]}\n";
 
 /// How a run ended, and what it wrote.
 #[derive(Drop)]
@@ -70,65 +63,190 @@ fn script(alloc: Global, parts: &[&str]) -> Result<Bytes, NoMemory> {
     Ok(bytes)
 }
 
-#[test]
-fn scripts_are_answered(rt: HostRuntime) -> Result<(), Fail> {
-    let rows: [(&[&str], Status, &str); 6] = [
-        (&[], Status::BadLine, "bad line 1\n"),
-        (&[MAP, PATH, END], Status::Done, ANSWERS),
-        (&[MAP], Status::Done, ""),
-        (&[MAP, PATH], Status::BadLine, "bad line 3\n"),
-        (
-            &[MAP, PATH, END, "{\"caller\":0}\n"],
-            Status::BadLine,
-            ANSWERS_AND_BAD_LINE,
-        ),
-        (&[MAP, "{\"caller\":0,\"remove\":1}\n"], Status::Unbuilt, ""),
-    ];
-    for (parts, status, text) in rows {
-        let input = script(rt.alloc(), parts)?;
-        let got = run_over(&rt, rt.alloc(), &["replay"], input.as_slice(), &[], &[])?;
-        assert_eq!(rt; got.status, status);
-        assert_eq!(rt; got.sink.kept(), text.as_bytes());
+/// Whether a run of the words over these bytes ends with the status, and has written the text and nothing more.
+fn runs_to<R: Threads + Wait + Sync>(
+    rt: &R,
+    alloc: Global,
+    words: &[&str],
+    bytes: &[u8],
+    read_fails: &[u64],
+    write_fails: &[u64],
+    status: Status,
+    text: &str,
+) -> bool {
+    match run_over(rt, alloc, words, bytes, read_fails, write_fails) {
+        Ok(ran) => ran.status == status && ran.sink.kept() == text.as_bytes(),
+        Err(NoMemory) => false,
     }
-    Ok(())
+}
+
+/// The same for a replay in which no read and no write fails.
+fn replays_to<R: Threads + Wait + Sync>(
+    rt: &R,
+    alloc: Global,
+    bytes: &[u8],
+    status: Status,
+    text: &str,
+) -> bool {
+    runs_to(rt, alloc, &["replay"], bytes, &[], &[], status, text)
 }
 
 #[test]
-fn other_words_read_nothing(rt: HostRuntime) -> Result<(), Fail> {
-    let lists: [&[&str]; 3] = [&[], &["make", "07"], &["replay", "--workers=4"]];
-    for words in lists {
-        let got = run_over(&rt, rt.alloc(), words, MAP.as_bytes(), &[1], &[1])?;
-        assert_eq!(rt; got.status, Status::Usage);
-        assert!(rt; got.sink.kept().is_empty());
+fn scripts_are_answered(rt: HostRuntime) {
+    for (text, answers) in ANSWERED {
+        assert!(rt;
+            replays_to(&rt, rt.alloc(), text.as_bytes(), Status::Done, answers),
+            "{text}"
+        );
     }
-    Ok(())
 }
 
 #[test]
-fn faults_end_the_run(rt: HostRuntime) -> Result<(), Fail> {
-    let input = script(rt.alloc(), &[MAP, PATH, END])?;
-    let unread = run_over(&rt, rt.alloc(), &["replay"], input.as_slice(), &[1], &[])?;
-    assert_eq!(rt; unread.status, Status::ReadFault);
-    assert!(rt; unread.sink.kept().is_empty());
-    let cut = run_over(&rt, rt.alloc(), &["replay"], input.as_slice(), &[2], &[])?;
-    assert_eq!(rt; cut.status, Status::ReadFault);
-    assert_eq!(rt; cut.sink.kept(), ANSWERS.as_bytes());
-    let unwritten = run_over(&rt, rt.alloc(), &["replay"], input.as_slice(), &[], &[1])?;
-    assert_eq!(rt; unwritten.status, Status::WriteFault);
-    Ok(())
+fn bad_lines_are_named(rt: HostRuntime) {
+    for (text, answers) in BAD {
+        assert!(rt;
+            replays_to(&rt, rt.alloc(), text.as_bytes(), Status::BadLine, answers),
+            "{text}"
+        );
+    }
+}
+
+/// Whether a run of the words, none of whose reads and writes may fail, reads and writes nothing.
+fn is_usage<R: Threads + Wait + Sync>(rt: &R, alloc: Global, words: &[&str]) -> bool {
+    runs_to(
+        rt,
+        alloc,
+        words,
+        COVER.as_bytes(),
+        &[1],
+        &[1],
+        Status::Usage,
+        "",
+    )
 }
 
 #[test]
-fn a_line_has_a_limit(rt: HostRuntime) -> Result<(), Fail> {
-    let mut padded = script(rt.alloc(), &[MAP_LINE])?;
-    for _ in padded.len()..8_388_608 {
-        padded.push(b' ')?;
+fn other_words_read_nothing(rt: HostRuntime) {
+    assert!(rt; is_usage(&rt, rt.alloc(), &[]));
+    assert!(rt; is_usage(&rt, rt.alloc(), &["make", "07"]));
+    assert!(rt; is_usage(&rt, rt.alloc(), &["replay", "--workers=4"]));
+}
+
+/// Whether a replay whose read of this number fails ends with a read fault, and has written the text and nothing more.
+fn read_fails_after<R: Threads + Wait + Sync>(
+    rt: &R,
+    alloc: Global,
+    read: u64,
+    text: &str,
+) -> bool {
+    runs_to(
+        rt,
+        alloc,
+        &["replay"],
+        COVER.as_bytes(),
+        &[read],
+        &[],
+        Status::ReadFault,
+        text,
+    )
+}
+
+#[test]
+fn a_read_fault_ends_the_run(rt: HostRuntime) {
+    assert!(rt; read_fails_after(&rt, rt.alloc(), 1, ""));
+    assert!(rt; read_fails_after(&rt, rt.alloc(), 2, COVER_ANSWERS));
+}
+
+/// Whether a replay of three turns whose third write fails ends with a write fault, and has written the first two.
+fn third_write_fails<R: Threads + Wait + Sync>(rt: &R, alloc: Global) -> bool {
+    let Ok(three) = script(alloc, &[COVER, "{\"end\":3}\n"]) else {
+        return false;
+    };
+    runs_to(
+        rt,
+        alloc,
+        &["replay"],
+        three.as_slice(),
+        &[],
+        &[3],
+        Status::WriteFault,
+        COVER_ANSWERS,
+    )
+}
+
+#[test]
+fn a_write_fault_ends_the_run(rt: HostRuntime) {
+    assert!(rt; third_write_fails(&rt, rt.alloc()));
+}
+
+/// The map line with spaces up to a length, and its newline.
+fn padded(alloc: Global, length: usize) -> Result<Bytes, NoMemory> {
+    let mut text = script(alloc, &[MAP_LINE])?;
+    for _ in text.len()..length {
+        text.push(b' ')?;
     }
-    let fits = run_over(&rt, rt.alloc(), &["replay"], padded.as_slice(), &[], &[])?;
-    assert_eq!(rt; fits.status, Status::Done);
-    padded.push(b' ')?;
-    let long = run_over(&rt, rt.alloc(), &["replay"], padded.as_slice(), &[], &[])?;
-    assert_eq!(rt; long.status, Status::TooLong);
-    assert!(rt; long.sink.kept().is_empty());
+    text.push(b'\n')?;
+    Ok(text)
+}
+
+/// Whether a replay of a map line of this length ends with the status, and writes nothing.
+fn line_ends_with<R: Threads + Wait + Sync>(
+    rt: &R,
+    alloc: Global,
+    length: usize,
+    status: Status,
+) -> bool {
+    match padded(alloc, length) {
+        Ok(text) => replays_to(rt, alloc, text.as_slice(), status, ""),
+        Err(NoMemory) => false,
+    }
+}
+
+#[test]
+fn a_line_has_a_limit(rt: HostRuntime) {
+    assert!(rt; line_ends_with(&rt, rt.alloc(), 8_388_608, Status::Done));
+    assert!(rt; line_ends_with(&rt, rt.alloc(), 8_388_609, Status::TooLong));
+}
+
+/// Appends a line that adds a unit without a side, in the middle of a cell, under a number.
+fn push_unit(text: &mut Bytes, id: u32, i: u32, j: u32) -> Result<(), NoMemory> {
+    let mut buffer = Buffer::new();
+    text.extend(b"{\"caller\":0,\"add\":")?;
+    text.extend(buffer.format(id).as_bytes())?;
+    text.extend(b",\"unit\":[\"")?;
+    text.extend(buffer.format(i).as_bytes())?;
+    text.extend(b".5\",\"")?;
+    text.extend(buffer.format(j).as_bytes())?;
+    text.extend(b".5\",\"0\"]}\n")
+}
+
+/// A script that fills the store, adds one obstruction too many, removes one and adds one.
+fn full_store(alloc: Global) -> Result<Bytes, NoMemory> {
+    let mut text = script(alloc, &[LARGE_MAP])?;
+    for id in 0..65_536u32 {
+        push_unit(&mut text, id, id % 256, id / 256)?;
+    }
+    push_unit(&mut text, 65_536, 0, 0)?;
+    text.extend(b"{\"caller\":0,\"remove\":0}\n")?;
+    push_unit(&mut text, 65_536, 0, 0)?;
+    text.extend(b"{\"end\":1}\n")?;
+    Ok(text)
+}
+
+/// Whether the script is answered to its end, and its answers begin and end so.
+fn full_store_refuses<R: Threads + Wait + Sync>(rt: &R, alloc: Global, text: &[u8]) -> bool {
+    let Ok(got) = run_over(rt, alloc, &["replay"], text, &[], &[]) else {
+        return false;
+    };
+    let kept = got.sink.kept();
+    got.status == Status::Done
+        && kept.starts_with(b"turn 1 regions 0 edges 0 areas 0 relabelled 9\n0 0 added 0\n")
+        && kept.ends_with(b"\n0 65536 refused store-full\n0 65537 removed 0\n0 65538 added 65536\n")
+}
+
+#[test]
+fn a_full_store_takes_one_more_after_a_remove(rt: HostRuntime) -> Result<(), Fail> {
+    let text = full_store(rt.alloc())?;
+    assert!(rt; full_store_refuses(&rt, rt.alloc(), text.as_slice()));
     Ok(())
 }

@@ -3,11 +3,11 @@ ghost use Rattle.std.specs.Prelude.{◌≡◌, ◌≤◌, IsErrOf};
 ghost use Rattle.io_edges.specs.Faults.{Rose};
 ghost use Rattle.pathserve.specs.Writing.{WritesPiece, WritesText, StopsWith, refused_status};
 
-use crate::answers::bad_line_text;
-use crate::script::ScriptFault;
 use crate::status::Status;
+use answer_text::bad_line_text;
 use io_edges::{Sink, WriteRefusal};
 use nav_types::{Bytes, NoMemory};
+use script_text::ScriptFault;
 use std::alloc::Global;
 
 /// Writes the whole piece, in as many writes as the sink needs. After a refusal the sink has kept its first bytes.
@@ -61,7 +61,6 @@ pub fn write_stop<K: Sink>(alloc: Global, sink: &mut K, fault: ScriptFault) -> S
             Err(refusal) => status_of(refusal),
         },
         ScriptFault::TooLong => Status::TooLong,
-        ScriptFault::Unbuilt => Status::Unbuilt,
         ScriptFault::ReadFault => Status::ReadFault,
         ScriptFault::NoMemory => Status::NoMemory,
     }

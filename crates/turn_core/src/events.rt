@@ -1,5 +1,5 @@
 //! Events of the turn machine, and why one is not enabled.
-ghost use Rattle.std.specs.Prelude.{Some};
+ghost use Rattle.std.specs.Prelude.{◌≡◌, Some};
 ghost use Rattle.turn_core.specs.Refusals.{text_of};
 
 use crate::posts::Post;
@@ -69,6 +69,10 @@ pub enum StepRefusal {
 }
 
 impl From<NoMemory> for StepRefusal {
+    ghost use Rattle.turn_core.specs.declared.events.StepRefusal.TheVariants.{NoMemory as no_memory};
+
+    ghost from_gives = { λ _ refusal. refusal ≡ no_memory };
+
     fn from(_refused: NoMemory) -> StepRefusal {
         StepRefusal::NoMemory
     }

@@ -1,26 +1,44 @@
 //! Requests and journals on maps of one row, with their answers.
 ghost use Rattle.std.specs.Prelude.{◌≡◌, ◌↔◌, All, IsTrue, length};
 
+use crate::tests::one_class;
 use crate::*;
-use class_config::{ClassName, ClassTable};
+use class_config::ClassName;
 use fixed_point::Fixed;
 use goal_shapes::{Goal, GoalSpec};
 use grid_versions::{BaseRects, MapSpec, Refusal, Version};
 use nav_types::{Cell, Cost, NoMemory, Rect, Size};
 use obstruction_shapes::{Obstruction, Shape};
-use serde_json::Value;
 use std::alloc::Global;
 use std::test::Fail;
 
-/// A map of one row of so many navcells, with one class of clearance 0 and these impassable rectangles.
-fn row_map(alloc: Global, cells: u16, callers: u8, base: &[(Rect, u16)]) -> Result<MapSpec, Fail> {
-    let text = "[{\"name\":\"default\",\"clearance\":\"0\"}]";
-    let value = Value::from_str(alloc, text).map_err(|_| "no value")?;
-    let classes = ClassTable::read(alloc, &value).map_err(|_| "no classes")?;
-    let size = Size::new(cells, 1).ok_or("no such size")?;
+/// The impassable columns of a row, from the first to the last; none where there are no columns.
+fn rects_of(alloc: Global, blocked: Option<(u16, u16)>) -> Option<BaseRects> {
     let mut rects = BaseRects::new(alloc);
-    rects.extend(base)?;
-    Ok(MapSpec::new(3, size, callers, classes, rects).ok_or("no such map")?)
+    if let Some((i0, i1)) = blocked {
+        let rect = Rect {
+            i0,
+            j0: 0,
+            i1,
+            j1: 0,
+        };
+        rects.push((rect, 1)).ok()?;
+    }
+    Some(rects)
+}
+
+/// A map of one row of so many navcells, with one class of clearance 0 and these impassable columns.
+fn row_map(alloc: Global, cells: u16, callers: u8, blocked: Option<(u16, u16)>) -> Option<MapSpec> {
+    let size = Size::new(cells, 1)?;
+    let classes = one_class(alloc)?;
+    let rects = rects_of(alloc, blocked)?;
+    MapSpec::new(3, size, callers, classes, rects)
+}
+
+/// The version of such a map of one caller, where nothing stands.
+fn row_version(alloc: Global, cells: u16, blocked: Option<(u16, u16)>) -> Option<Version> {
+    let map = row_map(alloc, cells, 1, blocked)?;
+    grounds::bare_version(alloc, &map).ok()
 }
 
 /// A coordinate in halves of a navcell.
@@ -54,20 +72,9 @@ fn about(id: u32, grow: i16) -> GoalSpec {
 }
 
 /// Asks for a path of a class by its name, from a point of the row in halves.
-fn path_asked(alloc: Global, name: &[u8], x: i16, goal: GoalSpec) -> Result<Request, Fail> {
-    let class = ClassName::new(alloc, name).map_err(|_| "no name")?;
-    Ok(Request::Path {
-        class,
-        x: halves(x),
-        z: halves(1),
-        goal,
-    })
-}
-
-/// Posts such a path.
-fn path_posted(alloc: Global, x: i16, goal: GoalSpec) -> Result<Post, Fail> {
-    let class = ClassName::new(alloc, b"default").map_err(|_| "no name")?;
-    Ok(Post::Path {
+fn path_asked(alloc: Global, name: &[u8], x: i16, goal: GoalSpec) -> Option<Request> {
+    let class = ClassName::new(alloc, name).ok()?;
+    Some(Request::Path {
         class,
         x: halves(x),
         z: halves(1),
@@ -76,37 +83,39 @@ fn path_posted(alloc: Global, x: i16, goal: GoalSpec) -> Result<Post, Fail> {
 }
 
 /// Asks for the region at a point of the row in halves.
-fn region_asked(alloc: Global, name: &[u8], x: i16) -> Result<Request, Fail> {
-    let class = ClassName::new(alloc, name).map_err(|_| "no name")?;
-    Ok(Request::Region {
+fn region_asked(alloc: Global, name: &[u8], x: i16) -> Option<Request> {
+    let class = ClassName::new(alloc, name).ok()?;
+    Some(Request::Region {
         class,
         x: halves(x),
         z: halves(1),
     })
 }
 
-/// A unit of half side 1/4 at a point of the row in halves.
-fn unit_at(id: u32, x: i16) -> Post {
+/// Adds a path from the first cell of the row.
+fn push_path(alloc: Global, posts: &mut Posts, goal: GoalSpec) -> Option<()> {
+    let class = ClassName::new(alloc, b"default").ok()?;
+    let post = Post::Path {
+        class,
+        x: halves(1),
+        z: halves(1),
+        goal,
+    };
+    posts.push(post).ok()
+}
+
+/// Adds a unit of half side 1/4 at a point of the row in halves.
+fn push_unit(posts: &mut Posts, id: u32, x: i16) -> Option<()> {
     let shape = Shape::Unit {
         x: halves(x),
         z: halves(1),
         half: Fixed::from_raw(16384),
     };
-    Post::Add {
+    let post = Post::Add {
         id,
         obstruction: Obstruction { shape, mask: 65535 },
-    }
-}
-
-/// The posts of a caller.
-fn posts_of(alloc: Global, posts: [Option<Post>; 3]) -> Result<Posts, NoMemory> {
-    let mut made = Posts::new(alloc);
-    for post in posts {
-        if let Some(post) = post {
-            made.push(post)?;
-        }
-    }
-    Ok(made)
+    };
+    posts.push(post).ok()
 }
 
 /// Whether each turn has a list for each caller.
@@ -118,204 +127,287 @@ fn are_wide(journal: &[TurnPosts], callers: u8) -> bool
         .all(|turn| turn.len() == usize::from(callers))
 }
 
-/// The replies of one thread to a journal; a fault where a turn lacks a caller.
-fn replies_of(alloc: Global, map: &MapSpec, journal: &Journal) -> Result<AllReplies, Fail> {
-    if !are_wide(journal.as_slice(), map.callers()) {
-        return Err(Fail::from("a turn lacks a caller"));
-    }
-    Ok(one_thread(alloc, map, journal)?)
-}
-
 /// The journal of one turn.
-fn journal_of(alloc: Global, turn: TurnPosts) -> Result<Journal, NoMemory> {
+fn journal_of(alloc: Global, turn: TurnPosts) -> Option<Journal> {
     let mut journal = Journal::new(alloc);
-    journal.push(turn)?;
-    Ok(journal)
+    journal.push(turn).ok()?;
+    Some(journal)
 }
 
-/// The path of a reply.
-fn path_in(reply: Option<&Reply>) -> Result<&PathAnswer, Fail> {
+/// The replies of one thread to one turn; none where the turn lacks a caller.
+fn replies_of(alloc: Global, map: &MapSpec, turn: TurnPosts) -> Option<AllReplies> {
+    let journal = journal_of(alloc, turn)?;
+    if are_wide(journal.as_slice(), map.callers()) {
+        one_thread(alloc, map, &journal).ok()
+    } else {
+        None
+    }
+}
+
+/// A reply of the first turn to a caller.
+fn reply_at(all: &AllReplies, caller: usize, place: usize) -> Option<&Reply> {
+    all.get(0)?.replies.get(caller)?.get(place)
+}
+
+/// Whether a path of one row stays in its first cell, near a goal that is out of its reach.
+fn stays(reply: Option<&Reply>) -> bool {
+    let Some(Reply::Path(path)) = reply else {
+        return false;
+    };
+    path.start == Cell::new(0, 0)
+        && path.end == Cell::new(0, 0)
+        && path.near
+        && path.cost == Cost(0)
+        && path.corners.is_empty()
+}
+
+/// Whether a path ends in the second cell of the row, and near its goal alone as is said.
+fn ends_in_the_second_cell(reply: Option<&Reply>, near: bool) -> bool {
     match reply {
-        Some(Reply::Path(path)) => Ok(path),
-        _ => Err(Fail::from("no path")),
+        Some(Reply::Path(path)) => path.end == Cell::new(1, 0) && path.near == near,
+        _ => false,
     }
 }
 
-/// The reply to a request on a map where nothing stands.
-fn reply_to(alloc: Global, map: &MapSpec, request: &Request) -> Result<Reply, NoMemory> {
-    let version = grounds::bare_version(alloc, map)?;
-    solve(alloc, &version, request)
+/// Whether a path takes one straight step, to the second cell of the row.
+fn takes_one_step(reply: Option<&Reply>) -> bool {
+    match reply {
+        Some(Reply::Path(path)) => {
+            path.cost == Cost(65536)
+                && path.corners.len() == 1
+                && path.corners.get(0) == Some(&Cell::new(1, 0))
+        }
+        _ => false,
+    }
 }
 
-/// Why a request is refused on a map where nothing stands.
-fn refusal_of(
-    alloc: Global,
-    map: &MapSpec,
-    request: &Request,
-) -> Result<Option<Refusal>, NoMemory> {
-    match reply_to(alloc, map, request)? {
-        Reply::Refused(refusal) => Ok(Some(refusal)),
-        _ => Ok(None),
-    }
+/// The posts of a caller who asks for a path along a row of three cells.
+fn path_along_the_row(alloc: Global) -> Option<Posts> {
+    let mut posts = Posts::new(alloc);
+    push_path(alloc, &mut posts, point(5))?;
+    Some(posts)
+}
+
+/// The posts of a caller who adds a unit in the middle of a row of three cells.
+fn unit_in_the_middle(alloc: Global) -> Option<Posts> {
+    let mut posts = Posts::new(alloc);
+    push_unit(&mut posts, 1, 3)?;
+    Some(posts)
+}
+
+/// The turn of both callers.
+fn turn_of_two(alloc: Global) -> Option<TurnPosts> {
+    let mut turn = TurnPosts::new(alloc);
+    turn.push(path_along_the_row(alloc)?).ok()?;
+    turn.push(unit_in_the_middle(alloc)?).ok()?;
+    Some(turn)
+}
+
+/// The replies to the turn of both callers on a map of three cells.
+fn replies_to_two(alloc: Global) -> Option<AllReplies> {
+    let map = row_map(alloc, 3, 2, None)?;
+    replies_of(alloc, &map, turn_of_two(alloc)?)
+}
+
+/// The numbers of regions, edges and areas after the first turn, and of what it relabelled.
+fn numbers(all: &AllReplies) -> Option<(u64, u64, u64, u32)> {
+    let told = all.get(0)?;
+    let tallies = told.tallies;
+    Some((
+        tallies.regions,
+        tallies.edges,
+        tallies.areas,
+        told.relabelled,
+    ))
 }
 
 #[test]
 fn a_later_caller_blocks_the_path_of_a_turn(rt: HostRuntime) -> Result<(), Fail> {
-    let alloc = rt.alloc();
-    let map = row_map(alloc, 3, 2, &[])?;
-    let mut turn = TurnPosts::new(alloc);
-    turn.push(posts_of(alloc, [Some(path_posted(alloc, 1, point(5))?), None, None])?)?;
-    turn.push(posts_of(alloc, [Some(unit_at(1, 3)), None, None])?)?;
-    let all = replies_of(alloc, &map, &journal_of(alloc, turn)?)?;
-    let told = all.get(0).ok_or("no turn")?;
-    let first = told.replies.get(0).ok_or("no caller")?;
-    let path = path_in(first.get(0))?;
-    assert_eq!(rt; path.start, Cell::new(0, 0));
-    assert_eq!(rt; path.end, Cell::new(0, 0));
-    assert!(rt; path.near);
-    assert_eq!(rt; path.cost, Cost(0));
-    assert!(rt; path.corners.is_empty());
-    let second = told.replies.get(1).ok_or("no caller")?;
-    assert!(rt; matches!(second.get(0), Some(Reply::Added(1))));
-    assert_eq!(rt; told.tallies.regions, 2);
-    assert_eq!(rt; told.tallies.edges, 0);
-    assert_eq!(rt; told.tallies.areas, 2);
-    assert_eq!(rt; told.relabelled, 1);
+    let all = replies_to_two(rt.alloc()).ok_or("no replies")?;
+    assert!(rt; stays(reply_at(&all, 0, 0)));
+    assert!(rt; matches!(reply_at(&all, 1, 0), Some(Reply::Added(1))));
+    assert_eq!(rt; numbers(&all), Some((2, 0, 2, 1)));
     Ok(())
+}
+
+/// The posts of a caller who adds a unit in a row of five cells and asks for paths to goals about it, by 1 and by 0.
+fn paths_to_a_unit(alloc: Global) -> Option<Posts> {
+    let mut posts = Posts::new(alloc);
+    push_unit(&mut posts, 7, 5)?;
+    push_path(alloc, &mut posts, about(7, 2))?;
+    push_path(alloc, &mut posts, about(7, 0))?;
+    Some(posts)
+}
+
+/// The turn of this caller.
+fn turn_of_one(alloc: Global) -> Option<TurnPosts> {
+    let mut turn = TurnPosts::new(alloc);
+    turn.push(paths_to_a_unit(alloc)?).ok()?;
+    Some(turn)
+}
+
+/// The replies to the turn of this caller on a map of five cells.
+fn replies_to_one(alloc: Global) -> Option<AllReplies> {
+    let map = row_map(alloc, 5, 1, None)?;
+    replies_of(alloc, &map, turn_of_one(alloc)?)
 }
 
 #[test]
 fn goals_grow_on_all_sides_of_an_obstruction(rt: HostRuntime) -> Result<(), Fail> {
-    let alloc = rt.alloc();
-    let map = row_map(alloc, 5, 1, &[])?;
-    let mut turn = TurnPosts::new(alloc);
-    turn.push(posts_of(
-        alloc,
-        [
-            Some(unit_at(7, 5)),
-            Some(path_posted(alloc, 1, about(7, 2))?),
-            Some(path_posted(alloc, 1, about(7, 0))?),
-        ],
-    )?)?;
-    let all = replies_of(alloc, &map, &journal_of(alloc, turn)?)?;
-    let replies = all
-        .get(0)
-        .ok_or("no turn")?
-        .replies
-        .get(0)
-        .ok_or("no caller")?;
-    let grown = path_in(replies.get(1))?;
-    assert_eq!(rt; grown.end, Cell::new(1, 0));
-    assert!(rt; !grown.near);
-    assert_eq!(rt; grown.cost, Cost(65536));
-    assert_eq!(rt; grown.corners.len(), 1);
-    assert_eq!(rt; grown.corners.get(0), Some(&Cell::new(1, 0)));
-    let own = path_in(replies.get(2))?;
-    assert_eq!(rt; own.end, Cell::new(1, 0));
-    assert!(rt; own.near);
+    let all = replies_to_one(rt.alloc()).ok_or("no replies")?;
+    assert!(rt; ends_in_the_second_cell(reply_at(&all, 0, 1), false));
+    assert!(rt; takes_one_step(reply_at(&all, 0, 1)));
+    assert!(rt; ends_in_the_second_cell(reply_at(&all, 0, 2), true));
     Ok(())
+}
+
+/// Whether a request on a version is refused for this cause.
+fn is_refused(alloc: Global, version: &Version, request: Option<Request>, cause: Refusal) -> bool {
+    let Some(request) = request else {
+        return false;
+    };
+    match solve(alloc, version, &request) {
+        Ok(Reply::Refused(refusal)) => refusal == cause,
+        _ => false,
+    }
+}
+
+/// Whether a path to a goal is refused for this cause, for a class by its name and from a point of the row in halves.
+fn refuses(
+    alloc: Global,
+    version: &Version,
+    name: &[u8],
+    x: i16,
+    goal: GoalSpec,
+    cause: Refusal,
+) -> bool {
+    is_refused(alloc, version, path_asked(alloc, name, x, goal), cause)
+}
+
+/// Whether a path to a goal from the first cell of the row is refused for this cause.
+fn refuses_goal(alloc: Global, version: &Version, goal: GoalSpec, cause: Refusal) -> bool {
+    refuses(alloc, version, b"default", 1, goal, cause)
+}
+
+/// The goal that is a circle outside the map with a radius out of its limits.
+fn bad() -> GoalSpec {
+    circle(-1, -1)
 }
 
 #[test]
 fn refusals_come_in_their_order(rt: HostRuntime) -> Result<(), Fail> {
     let alloc = rt.alloc();
-    let map = row_map(alloc, 3, 1, &[])?;
-    // A circle outside the map with a radius out of its limits, and one of them with the radius mended.
-    let bad = circle(-1, -1);
-    let outside = circle(-1, 1);
-    for (name, x, goal, refusal) in [
-        (b"other".as_slice(), -1, bad, Some(Refusal::UnknownClass)),
-        (b"default".as_slice(), -1, bad, Some(Refusal::StartOutside)),
-        (b"default".as_slice(), 6, bad, Some(Refusal::StartOutside)),
-        (b"default".as_slice(), 1, bad, Some(Refusal::BadShape)),
-        (
-            b"default".as_slice(),
-            1,
-            outside,
-            Some(Refusal::GoalOutside),
-        ),
-        (
-            b"default".as_slice(),
-            1,
-            about(7, 7681),
-            Some(Refusal::BadShape),
-        ),
-        (
-            b"default".as_slice(),
-            1,
-            about(7, -1),
-            Some(Refusal::BadShape),
-        ),
-        (
-            b"default".as_slice(),
-            1,
-            about(7, 7680),
-            Some(Refusal::UnknownId),
-        ),
-        (b"default".as_slice(), 5, point(5), None),
-    ] {
-        let request = path_asked(alloc, name, x, goal)?;
-        assert_eq!(rt; refusal_of(alloc, &map, &request)?, refusal);
-    }
-    let unknown = region_asked(alloc, b"other", -1)?;
-    assert_eq!(rt;
-        refusal_of(alloc, &map, &unknown)?,
-        Some(Refusal::UnknownClass)
+    let version = row_version(alloc, 3, None).ok_or("no version")?;
+    assert!(rt; refuses(alloc, &version, b"other", -1, bad(), Refusal::UnknownClass));
+    assert!(rt;
+        refuses(
+            alloc,
+            &version,
+            b"default",
+            -1,
+            bad(),
+            Refusal::StartOutside
+        )
     );
-    let outside = region_asked(alloc, b"default", 6)?;
-    assert_eq!(rt;
-        refusal_of(alloc, &map, &outside)?,
-        Some(Refusal::StartOutside)
-    );
+    assert!(rt; refuses(alloc, &version, b"default", 6, bad(), Refusal::StartOutside));
     Ok(())
+}
+
+#[test]
+fn refusals_of_goals_come_in_their_order(rt: HostRuntime) -> Result<(), Fail> {
+    let alloc = rt.alloc();
+    let version = row_version(alloc, 3, None).ok_or("no version")?;
+    assert!(rt; refuses_goal(alloc, &version, bad(), Refusal::BadShape));
+    assert!(rt; refuses_goal(alloc, &version, circle(-1, 1), Refusal::GoalOutside));
+    assert!(rt; refuses_goal(alloc, &version, about(7, 7681), Refusal::BadShape));
+    assert!(rt; refuses_goal(alloc, &version, about(7, -1), Refusal::BadShape));
+    assert!(rt; refuses_goal(alloc, &version, about(7, 7680), Refusal::UnknownId));
+    Ok(())
+}
+
+/// Whether a path along the row has an answer that is no refusal.
+fn is_answered(alloc: Global, version: &Version, x: i16, goal: GoalSpec) -> bool {
+    let Some(request) = path_asked(alloc, b"default", x, goal) else {
+        return false;
+    };
+    match solve(alloc, version, &request) {
+        Ok(Reply::Path(_)) => true,
+        _ => false,
+    }
+}
+
+#[test]
+fn the_last_cell_is_on_the_map(rt: HostRuntime) -> Result<(), Fail> {
+    let alloc = rt.alloc();
+    let version = row_version(alloc, 3, None).ok_or("no version")?;
+    assert!(rt; is_answered(alloc, &version, 5, point(5)));
+    Ok(())
+}
+
+/// Whether a region query is refused for this cause.
+fn refuses_region(alloc: Global, version: &Version, name: &[u8], x: i16, cause: Refusal) -> bool {
+    is_refused(alloc, version, region_asked(alloc, name, x), cause)
+}
+
+#[test]
+fn refusals_of_regions_come_in_their_order(rt: HostRuntime) -> Result<(), Fail> {
+    let alloc = rt.alloc();
+    let version = row_version(alloc, 3, None).ok_or("no version")?;
+    assert!(rt; refuses_region(alloc, &version, b"other", -1, Refusal::UnknownClass));
+    assert!(rt; refuses_region(alloc, &version, b"default", 6, Refusal::StartOutside));
+    Ok(())
+}
+
+/// Whether a path along the row has the answer that no cell is passable.
+fn is_nowhere(alloc: Global, version: &Version) -> bool {
+    let Some(request) = path_asked(alloc, b"default", 1, point(5)) else {
+        return false;
+    };
+    match solve(alloc, version, &request) {
+        Ok(Reply::Nowhere) => true,
+        _ => false,
+    }
 }
 
 #[test]
 fn no_passable_cell_is_nowhere(rt: HostRuntime) -> Result<(), Fail> {
     let alloc = rt.alloc();
-    let whole = Rect {
-        i0: 0,
-        j0: 0,
-        i1: 2,
-        j1: 0,
-    };
-    let map = row_map(alloc, 3, 1, &[(whole, 1)])?;
-    let path = path_asked(alloc, b"default", 1, point(5))?;
-    assert!(rt; matches!(reply_to(alloc, &map, &path)?, Reply::Nowhere));
+    let version = row_version(alloc, 3, Some((0, 2))).ok_or("no version")?;
+    assert!(rt; is_nowhere(alloc, &version));
     // Refusals come before it.
-    let refused = path_asked(alloc, b"default", 1, about(1, 0))?;
-    assert_eq!(rt;
-        refusal_of(alloc, &map, &refused)?,
-        Some(Refusal::UnknownId)
-    );
+    assert!(rt; refuses_goal(alloc, &version, about(1, 0), Refusal::UnknownId));
     Ok(())
+}
+
+/// The region and the area of a cell in a chunk of the first row of chunks.
+fn region_of(ci: u16, region: u16, area: u32) -> RegionAnswer {
+    RegionAnswer {
+        ci,
+        cj: 0,
+        region,
+        area,
+    }
+}
+
+/// Whether this is the answer to a region query at a point of the row in halves.
+fn is_in_region(alloc: Global, version: &Version, x: i16, expected: RegionAnswer) -> bool {
+    let Some(request) = region_asked(alloc, b"default", x) else {
+        return false;
+    };
+    match solve(alloc, version, &request) {
+        Ok(Reply::Region(answer)) => answer == expected,
+        _ => false,
+    }
 }
 
 #[test]
 fn regions_are_those_of_the_cell_itself(rt: HostRuntime) -> Result<(), Fail> {
     let alloc = rt.alloc();
-    let middle = Rect {
-        i0: 1,
-        j0: 0,
-        i1: 1,
-        j1: 0,
-    };
-    let map = row_map(alloc, 100, 1, &[(middle, 1)])?;
-    for (x, ci, region, area) in [(1, 0, 1, 1), (3, 0, 0, 0), (5, 0, 2, 2), (199, 1, 1, 2)] {
-        let Reply::Region(answer) = reply_to(alloc, &map, &region_asked(alloc, b"default", x)?)?
-        else {
-            return Err(Fail::from("no region"));
-        };
-        assert_eq!(rt;
-            answer,
-            RegionAnswer {
-                ci,
-                cj: 0,
-                region,
-                area
-            }
-        );
-    }
+    let version = row_version(alloc, 100, Some((1, 1))).ok_or("no version")?;
+    assert!(rt; is_in_region(alloc, &version, 1, region_of(0, 1, 1)));
+    assert!(rt; is_in_region(alloc, &version, 3, region_of(0, 0, 0)));
+    assert!(rt; is_in_region(alloc, &version, 5, region_of(0, 2, 2)));
+    assert!(rt; is_in_region(alloc, &version, 199, region_of(1, 1, 2)));
     Ok(())
 }
 
@@ -335,39 +427,73 @@ impl Runner for Alone {
     fn staged(&self, _posts: u64) {}
 }
 
-/// The answers to two regions, through the bound alone.
-fn run_two<R: Runner>(runner: &R, alloc: Global, version: &Version) -> Result<Answers, Fail> {
+/// Jobs that ask for two regions, the first of them for a class that is unknown.
+fn two_jobs(alloc: Global) -> Option<Jobs> {
     let mut jobs = Jobs::new(alloc);
-    jobs.push(region_asked(alloc, b"other", 1)?)?;
-    jobs.push(region_asked(alloc, b"default", 1)?)?;
+    jobs.push(region_asked(alloc, b"other", 1)?).ok()?;
+    jobs.push(region_asked(alloc, b"default", 1)?).ok()?;
+    Some(jobs)
+}
+
+/// The answers to at most two jobs, through the bound alone.
+fn run_jobs<R: Runner>(
+    runner: &R,
+    alloc: Global,
+    version: &Version,
+    jobs: &Jobs,
+) -> Option<Answers> {
     runner.staged(2);
     if jobs.len() > 2 {
-        return Err(Fail::from("too many jobs"));
+        return None;
     }
-    Ok(runner.run(alloc, version, &jobs)?)
+    runner.run(alloc, version, jobs).ok()
+}
+
+/// The answers to two jobs on a row of three cells.
+fn two_answers(alloc: Global) -> Option<Answers> {
+    let version = row_version(alloc, 3, None)?;
+    let jobs = two_jobs(alloc)?;
+    run_jobs(&Alone, alloc, &version, &jobs)
 }
 
 #[test]
 fn answers_stand_in_the_places_of_their_jobs(rt: HostRuntime) -> Result<(), Fail> {
-    let alloc = rt.alloc();
-    let version = grounds::bare_version(alloc, &row_map(alloc, 3, 1, &[])?)?;
-    let answers = run_two(&Alone, alloc, &version)?;
+    let answers = two_answers(rt.alloc()).ok_or("no answers")?;
     assert_eq!(rt; answers.len(), 2);
     assert!(rt; matches!(answers.get(0), Some(Reply::Refused(Refusal::UnknownClass))));
     assert!(rt; matches!(answers.get(1), Some(Reply::Region(_))));
     Ok(())
 }
 
-#[test]
-fn goals_are_found_on_a_version(rt: HostRuntime) -> Result<(), Fail> {
-    let alloc = rt.alloc();
-    let version = grounds::bare_version(alloc, &row_map(alloc, 3, 1, &[])?)?;
-    let whole = Goal::Circle {
+/// The circle about the first cell that holds the whole row.
+fn whole() -> Goal {
+    Goal::Circle {
         x: halves(1),
         z: halves(1),
         r: halves(8192),
-    };
-    assert_eq!(rt; goal_of(&version, &GoalSpec::Plain(whole)), Ok(whole));
-    assert_eq!(rt; goal_of(&version, &about(0, 0)), Err(Refusal::UnknownId));
+    }
+}
+
+/// Whether this is the goal that a request names on a version.
+fn is_found(version: &Version, spec: GoalSpec, goal: Goal) -> bool {
+    match goal_of(version, &spec) {
+        Ok(found) => found == goal,
+        Err(_) => false,
+    }
+}
+
+/// Whether the goal that a request names on a version is refused for this cause.
+fn is_not_found(version: &Version, spec: GoalSpec, cause: Refusal) -> bool {
+    match goal_of(version, &spec) {
+        Ok(_) => false,
+        Err(refusal) => refusal == cause,
+    }
+}
+
+#[test]
+fn goals_are_found_on_a_version(rt: HostRuntime) -> Result<(), Fail> {
+    let version = row_version(rt.alloc(), 3, None).ok_or("no version")?;
+    assert!(rt; is_found(&version, circle(1, 8192), whole()));
+    assert!(rt; is_not_found(&version, about(0, 0), Refusal::UnknownId));
     Ok(())
 }

@@ -20,12 +20,18 @@ fn halves(count: i32) -> Fixed
     Fixed::from_raw(32768 * count)
 }
 
-/// A map of 3 by 1 navcells with one class of clearance 0.
-fn small_map(alloc: Global, callers: u8) -> Option<MapSpec> {
+/// The table of one class of clearance 0.
+pub(crate) fn one_class(alloc: Global) -> Option<ClassTable> {
     let text = "[{\"name\":\"default\",\"clearance\":\"0\"}]";
     let value = Value::from_str(alloc, text).ok()?;
-    let classes = ClassTable::read(alloc, &value).ok()?;
-    MapSpec::new(1, Size::new(3, 1)?, callers, classes, BaseRects::new(alloc))
+    ClassTable::read(alloc, &value).ok()
+}
+
+/// A map of 3 by 1 navcells with one class of clearance 0.
+fn small_map(alloc: Global, callers: u8) -> Option<MapSpec> {
+    let size = Size::new(3, 1)?;
+    let classes = one_class(alloc)?;
+    MapSpec::new(1, size, callers, classes, BaseRects::new(alloc))
 }
 
 /// The machine of such a map.
@@ -84,11 +90,11 @@ fn collected(core: &mut Core, caller: u8) -> Option<Reply> {
     }
 }
 
-/// Why the event is not enabled.
-fn cause(core: &mut Core, event: Event) -> Option<Why> {
+/// Whether the event is not enabled for this cause.
+fn is_refused(core: &mut Core, event: Event, cause: Why) -> bool {
     match core.step(&event) {
-        Err(StepRefusal::NotEnabled(why)) => Some(why),
-        _ => None,
+        Err(StepRefusal::NotEnabled(why)) => why == cause,
+        _ => false,
     }
 }
 
@@ -135,15 +141,55 @@ fn is_added(reply: Option<Reply>, number: u32) -> bool {
     }
 }
 
+/// The machine of two callers where a turn of both is staged.
+fn staged_core(alloc: Global) -> Option<Core> {
+    let mut core = small_core(alloc, 2)?;
+    stage_both(alloc, &mut core)?;
+    Some(core)
+}
+
+/// The machine of two callers where a turn of both runs.
+fn running_core(alloc: Global) -> Option<Core> {
+    let mut core = staged_core(alloc)?;
+    go(&mut core, Event::Start)?;
+    Some(core)
+}
+
+/// Whether a stage that takes so many posts of two callers is not enabled for this cause.
+fn is_stage_refused(alloc: Global, core: &mut Core, first: u64, second: u64, cause: Why) -> bool {
+    match stage_of_two(alloc, first, second) {
+        Some(stage) => is_refused(core, stage, cause),
+        None => false,
+    }
+}
+
+/// Whether a stage that takes no posts is made.
+fn is_empty_stage_made(alloc: Global, core: &mut Core) -> bool {
+    match stage_of_two(alloc, 0, 0) {
+        Some(stage) => go(core, stage).is_some(),
+        None => false,
+    }
+}
+
+/// Whether a post of the caller is not enabled for this cause.
+fn is_post_refused(core: &mut Core, caller: u8, cause: Why) -> bool {
+    let post = unit_post();
+    is_refused(core, Event::Post { caller, post }, cause)
+}
+
+/// Whether a stage that names no caller is not enabled for this cause.
+fn is_bare_stage_refused(alloc: Global, core: &mut Core, cause: Why) -> bool {
+    let takes = Takes::new(alloc);
+    is_refused(core, Event::Stage { takes }, cause)
+}
+
 #[test]
 fn an_edit_of_the_turn_counts_for_its_requests(rt: HostRuntime) -> Result<(), Fail> {
-    let alloc = rt.alloc();
-    let mut core = small_core(alloc, 2).ok_or("refused")?;
-    assert!(rt; stage_both(alloc, &mut core).is_some());
+    let mut core = staged_core(rt.alloc()).ok_or("refused")?;
     assert!(rt; run_turn(&mut core).is_some());
     assert!(rt; is_path_that_stays(collected(&mut core, 0)));
     assert!(rt; is_added(collected(&mut core, 1), 1));
-    assert_eq!(rt; cause(&mut core, Event::Start), Some(Why::NoneStaged(1)));
+    assert!(rt; is_refused(&mut core, Event::Start, Why::NoneStaged(1)));
     Ok(())
 }
 
@@ -151,70 +197,50 @@ fn an_edit_of_the_turn_counts_for_its_requests(rt: HostRuntime) -> Result<(), Fa
 fn posts_and_stages_have_their_causes(rt: HostRuntime) -> Result<(), Fail> {
     let alloc = rt.alloc();
     let mut core = small_core(alloc, 2).ok_or("refused")?;
-    let post = unit_post();
-    assert_eq!(rt;
-        cause(&mut core, Event::Post { caller: 2, post }),
-        Some(Why::Callers(2))
-    );
-    let takes = Takes::new(alloc);
-    assert_eq!(rt;
-        cause(&mut core, Event::Stage { takes }),
-        Some(Why::Callers(2))
-    );
-    let few = stage_of_two(alloc, 0, 1).ok_or("no memory")?;
-    assert_eq!(rt; cause(&mut core, few), Some(Why::Posted(1, 0)));
+    assert!(rt; is_post_refused(&mut core, 2, Why::Callers(2)));
+    assert!(rt; is_bare_stage_refused(alloc, &mut core, Why::Callers(2)));
+    assert!(rt; is_stage_refused(alloc, &mut core, 0, 1, Why::Posted(1, 0)));
     Ok(())
 }
 
 #[test]
 fn claims_and_collects_have_their_causes(rt: HostRuntime) -> Result<(), Fail> {
     let mut core = small_core(rt.alloc(), 2).ok_or("refused")?;
-    assert_eq!(rt; cause(&mut core, Event::Claim), Some(Why::NoneRunning(0)));
-    assert_eq!(rt;
-        cause(&mut core, Event::Collect { caller: 2 }),
-        Some(Why::Callers(2))
-    );
-    assert_eq!(rt;
-        cause(&mut core, Event::Collect { caller: 1 }),
-        Some(Why::Collected(0))
-    );
+    assert!(rt; is_refused(&mut core, Event::Claim, Why::NoneRunning(0)));
+    assert!(rt; is_refused(&mut core, Event::Collect { caller: 2 }, Why::Callers(2)));
+    assert!(rt; is_refused(&mut core, Event::Collect { caller: 1 }, Why::Collected(0)));
     Ok(())
 }
 
 #[test]
 fn staged_turns_have_their_causes(rt: HostRuntime) -> Result<(), Fail> {
     let alloc = rt.alloc();
-    let mut core = small_core(alloc, 2).ok_or("refused")?;
-    assert!(rt; stage_both(alloc, &mut core).is_some());
-    let empty = stage_of_two(alloc, 0, 0).ok_or("no memory")?;
-    assert_eq!(rt; cause(&mut core, empty), Some(Why::Staged(1)));
-    assert_eq!(rt; cause(&mut core, Event::Deliver), Some(Why::NoneRunning(1)));
+    let mut core = staged_core(alloc).ok_or("refused")?;
+    assert!(rt; is_stage_refused(alloc, &mut core, 0, 0, Why::Staged(1)));
+    assert!(rt; is_refused(&mut core, Event::Deliver, Why::NoneRunning(1)));
     assert!(rt; go(&mut core, Event::Start).is_some());
-    let empty = stage_of_two(alloc, 0, 0).ok_or("no memory")?;
-    assert!(rt; go(&mut core, empty).is_some());
-    assert_eq!(rt; cause(&mut core, Event::Start), Some(Why::Running(1)));
+    assert!(rt; is_empty_stage_made(alloc, &mut core));
+    assert!(rt; is_refused(&mut core, Event::Start, Why::Running(1)));
     Ok(())
 }
 
 #[test]
 fn running_turns_have_their_causes(rt: HostRuntime) -> Result<(), Fail> {
-    let alloc = rt.alloc();
-    let mut core = small_core(alloc, 2).ok_or("refused")?;
-    assert!(rt; stage_both(alloc, &mut core).is_some());
-    assert!(rt; go(&mut core, Event::Start).is_some());
-    assert_eq!(rt;
-        cause(&mut core, Event::Finish { job: 0 }),
-        Some(Why::Claimed(0))
-    );
-    assert_eq!(rt; cause(&mut core, Event::Deliver), Some(Why::Unclaimed(0)));
+    let mut core = running_core(rt.alloc()).ok_or("refused")?;
+    assert!(rt; is_refused(&mut core, Event::Finish { job: 0 }, Why::Claimed(0)));
+    assert!(rt; is_refused(&mut core, Event::Deliver, Why::Unclaimed(0)));
     assert!(rt; go(&mut core, Event::Claim).is_some());
-    assert_eq!(rt; cause(&mut core, Event::Claim), Some(Why::AllClaimed(1)));
-    assert_eq!(rt; cause(&mut core, Event::Deliver), Some(Why::Unanswered(0)));
+    assert!(rt; is_refused(&mut core, Event::Claim, Why::AllClaimed(1)));
+    Ok(())
+}
+
+#[test]
+fn claimed_jobs_have_their_causes(rt: HostRuntime) -> Result<(), Fail> {
+    let mut core = running_core(rt.alloc()).ok_or("refused")?;
+    assert!(rt; go(&mut core, Event::Claim).is_some());
+    assert!(rt; is_refused(&mut core, Event::Deliver, Why::Unanswered(0)));
     assert!(rt; go(&mut core, Event::Finish { job: 0 }).is_some());
-    assert_eq!(rt;
-        cause(&mut core, Event::Finish { job: 0 }),
-        Some(Why::Answered(0))
-    );
+    assert!(rt; is_refused(&mut core, Event::Finish { job: 0 }, Why::Answered(0)));
     Ok(())
 }
 

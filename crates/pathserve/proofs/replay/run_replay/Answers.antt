@@ -1,88 +1,110 @@
-use Rattle.std.proofs.Common.{◌≡◌, Option, Some, Result, Err, ap, sym, ◌∙◌, arith}
+use Rattle.std.proofs.Common.{◌≡◌, ◌+◌, ℕ, List, Option, Some, Result, Ok, Err, ap, sym, refl, subst, arith}
+use Rattle.std.specs.Prelude.{⊤}
 use Rattle.io_edges.specs.declared.edges.WriteRefusal.{WriteRefusal}
-use Rattle.pathserve.specs.declared.script.Item.{Item}
-use Rattle.pathserve.specs.declared.script.ScriptFault.{ScriptFault}
-use Rattle.pathserve.specs.declared.script.Item.TheVariants.{Map, Turn}
-use Rattle.pathserve.proofs.TopStands.{stands_fresh, stands_map, stands_turn, told_turn, told_done, stop_done, told_fault, stop_fault, stop_refused, rose_since}
+use Rattle.grid_versions.specs.Maps.{Map}
+use Rattle.turn_core.specs.declared.posts.Post.{Post}
+use Rattle.script_text.specs.declared.faults.ScriptFault.{ScriptFault}
+use Rattle.script_text.specs.Reader.{unread, TurnAnswers}
+use Rattle.pathserve.specs.Output.{Said, unsaid, with_turn}
+use Rattle.pathserve.proofs.TopStands.{Stands, stands_unread, stands_map, stands_turn, told_turn, told_done, told_no_memory, tells_nothing, told_fault, map_refusal, turn_refusal, stop_done, stop_fault, stop_refused, rose_since}
 use Rattle.pathserve.proofs.replay.run_replay.Goals as goal
 
-pub parts-init : goal.parts-init
-parts-init g c =
-    let is = c.new-reader.ensures in record {
-      stands = stands_fresh _ _ _ is;
-      going = ap (λ h. h.over) is;
-      map = ap (λ h. h.place.map) is;
-      chunk = tt;
+pub returns-in-Err-clause-told : goal.returns-in-Err-clause-told
+returns-in-Err-clause-told g c =
+    let s = stands_unread (g.S.Source.left c.args.source.now) (g.K.Sink.kept c.args.sink.now) unread refl in
+    told_no_memory _ _ _ _ _ _ _ (λ left after. ⊤) s (tells_nothing _ _ _ _ _ _ s)
+
+pub returns-in-Err-read_map-clause-told : goal.returns-in-Err-read_map-clause-told
+returns-in-Err-read_map-clause-told g c =
+    told_fault _ _ _ _ _ _ _ _ _ _ _ (stands_unread _ _ c.in-Ok.reader c.in-Ok.ensures)
+    (map_refusal c.in-Ok.reader c.read_map.new.self _ _ c.in-Err-read_map.fault c.in-Err-read_map.ensures.told) c.write_stop.ensures.stops
+
+pub returns-in-Err-read_map-clause-stop : goal.returns-in-Err-read_map-clause-stop
+returns-in-Err-read_map-clause-stop g c =
+    stop_fault _ _ _ _ _ _ _ _ _ _ _ _ _ _ _ (stands_unread _ _ c.in-Ok.reader c.in-Ok.ensures)
+    (map_refusal c.in-Ok.reader c.read_map.new.self _ _ c.in-Err-read_map.fault c.in-Err-read_map.ensures.told) c.write_stop.ensures.stops
+    (λ is. c.in-Err-read_map.ensures.fault (ap (λ (f : ScriptFault). let r : Result Map ScriptFault = Err f in r) is))
+    c.write_stop.ensures.write
+
+pub returns-in-Err-bare_version-clause-told : goal.returns-in-Err-bare_version-clause-told
+returns-in-Err-bare_version-clause-told g c =
+    let s = stands_map _ _ _ _ _ _ _ _ c.in-Ok-read_map.map (stands_unread _ _ c.in-Ok.reader c.in-Ok.ensures) refl c.in-Ok-read_map.ensures.told c.in-Ok-read_map.ensures.stays in
+    told_no_memory _ _ _ _ _ _ _ (λ left after. ⊤) s (tells_nothing _ _ _ _ _ _ s)
+
+pub turns-init : goal.turns-init
+turns-init g c =
+    let s = stands_map _ _ _ _ _ _ _ _ c.in-Ok-read_map.map (stands_unread _ _ c.in-Ok.reader c.in-Ok.ensures) refl c.in-Ok-read_map.ensures.told c.in-Ok-read_map.ensures.stays in
+    let map = sym c.in-Ok-bare_version.ensures.map in
+    let standing = sym c.in-Ok-bare_version.ensures.standing in
+    let same : (record unsaid { map = Some c.in-Ok-read_map.map }) ≡ (record { map = Some c.in-Ok-bare_version.version.map; standing = c.in-Ok-bare_version.version.standing; turns = 0 }) =
+    λ i. record { map = Some (map i); standing = standing i; turns = 0 } in record {
+      stands = subst (λ (state : Said). Stands (g.S.Source.left c.args.source.now) (g.S.Source.left c.read_map.new.source) (g.K.Sink.kept c.args.sink.now) (g.K.Sink.kept c.args.sink.now) c.read_map.new.self state) same s;
+      going = c.in-Ok-read_map.ensures.over;
+      rules = rw c.in-Ok-read_map.ensures.rules refl;
       few = omega arith;
-      reads = omega arith;
+      reads = c.in-Ok-read_map.ensures.later;
       writes = omega arith;
     }
 
-pub parts-preserved-in-Ok-Some-Map : goal.parts-preserved-in-Ok-Some-Map
-parts-preserved-in-Ok-Some-Map g c =
-    let part = c.in-Ok-Some-Map in let before = c.parts.invariant in
-    let item : part.field-0 ≡ Some (Map part.read) = part.field-0-is ∙ ap Some part.field-0-0-is in
-    let told = rw item at part.ensures.told in
-    let fits = rw item at part.ensures.fits in
-    let going = rw item at part.ensures.going_on in
-    let used = rw item at part.ensures.used in record {
-      stands = stands_map _ _ _ _ _ _ _ _ part.read before.stands told part.ensures.stays;
-      going = going;
-      map = fits.1.1;
-      chunk = fits.1.0;
-      few = omega (arith, before.few, used);
-      reads = omega (arith, before.reads, part.ensures.later);
-      writes = before.writes;
-    }
+pub returns-in-Err-answered-clause-told : goal.returns-in-Err-answered-clause-told
+returns-in-Err-answered-clause-told g c =
+    told_no_memory _ _ _ _ _ _ _ (λ left after. TurnAnswers c.turns.reader c.next_turn.new.self (Ok c.in-Ok-Some.field-0) left after)
+    c.turns.invariant.stands c.in-Ok-Some.ensures.told
 
-pub returns-in-Err-write_text-clause-told : goal.returns-in-Err-write_text-clause-told
-returns-in-Err-write_text-clause-told g c =
-    let part = c.in-Ok-Some-Turn in
-    let item : part.field-0 ≡ Some (Turn part.posts) = part.field-0-is ∙ ap Some part.field-0-0-is in
-    let told = rw item at part.ensures.told in
+pub returns-in-Err-write_all-clause-told : goal.returns-in-Err-write_all-clause-told
+returns-in-Err-write_all-clause-told g c =
+    let told = rw c.in-Ok-Some.field-0-is at c.in-Ok-Some.ensures.told in
     rw c.status_of.ensures
-    (told_turn _ _ _ _ _ _ _ _ _ c.in-Some.open part.posts _ c.in-Err-write_text.refusal c.parts.invariant.stands told c.in-Some.is c.turn_text.ensures c.in-Err-write_text.ensures.written)
+    (told_turn _ _ _ _ _ _ _ _ _ c.turns.version.map c.in-Ok-Some.posts c.in-Ok-answered.told.text c.in-Err-write_all.refusal c.turns.invariant.stands told refl
+    c.in-Ok-answered.ensures.text (rw c.as_slice.ensures at c.in-Err-write_all.ensures.written))
 
-pub returns-in-Err-write_text-clause-stop : goal.returns-in-Err-write_text-clause-stop
-returns-in-Err-write_text-clause-stop g c = λ bytes left.
+pub returns-in-Err-write_all-clause-stop : goal.returns-in-Err-write_all-clause-stop
+returns-in-Err-write_all-clause-stop g c = λ bytes left.
     let Refused : WriteRefusal → Result (Unit {0}) WriteRefusal = λ refused. Err refused in
     rw c.status_of.ensures
-    (stop_refused _ _ _ _ _ c.in-Err-write_text.refusal
-    (λ is. rose_since _ _ _ c.parts.invariant.writes (c.in-Err-write_text.ensures.fault (ap Refused is))))
+    (stop_refused _ _ _ _ _ c.in-Err-write_all.refusal
+    (λ is. rose_since _ _ _ c.turns.invariant.writes (c.in-Err-write_all.ensures.fault (ap Refused is))))
 
-pub parts-preserved : goal.parts-preserved
-parts-preserved g c =
-    let part = c.in-Ok-Some-Turn in let before = c.parts.invariant in
-    let item : part.field-0 ≡ Some (Turn part.posts) = part.field-0-is ∙ ap Some part.field-0-0-is in
-    let told = rw item at part.ensures.told in
-    let fits = rw (item, before.map, c.in-Some.is) at part.ensures.fits in
-    let going = rw item at part.ensures.going_on in
-    let used = rw item at part.ensures.used in record {
-      stands = stands_turn _ _ _ _ _ _ _ _ _ c.in-Some.open part.posts _ c.in-Ok.field-0 before.stands told part.ensures.stays c.in-Some.is c.turn_text.ensures c.in-Ok.ensures.written;
-      going = going;
-      map = fits.0 ∙ sym c.in-Some.is;
-      chunk = before.chunk;
+pub turns-preserved : goal.turns-preserved
+turns-preserved g c =
+    let before = c.turns.invariant in
+    let told = rw c.in-Ok-Some.field-0-is at c.in-Ok-Some.ensures.told in
+    let over = rw c.in-Ok-Some.field-0-is at c.in-Ok-Some.ensures.over in
+    let used = rw c.in-Ok-Some.field-0-is at c.in-Ok-Some.ensures.used in
+    let wrote = rw c.as_slice.ensures at c.in-Ok-write_all.ensures.written in
+    let s = stands_turn _ _ _ _ _ _ _ _ _ c.turns.version.map c.in-Ok-Some.posts c.in-Ok-answered.told.text before.stands told c.in-Ok-Some.ensures.stays refl c.in-Ok-answered.ensures.text wrote in
+    let map = sym c.in-Ok-answered.ensures.map in
+    let standing = sym c.in-Ok-answered.ensures.standing in
+    let state : ℕ → Said = λ turns. record { map = Some c.turns.version.map; standing = c.turns.version.standing; turns = turns } in
+    let same : with_turn (state c.turns.turns) c.turns.version.map c.in-Ok-Some.posts
+    ≡ (record { map = Some c.in-Ok-answered.told.after.map; standing = c.in-Ok-answered.told.after.standing; turns = c.turns.turns + 1 }) =
+    λ i. record { map = Some (map i); standing = standing i; turns = c.turns.turns + 1 } in record {
+      stands = subst (λ (said : Said). Stands (g.S.Source.left c.args.source.now) (g.S.Source.left c.next_turn.new.source) (g.K.Sink.kept c.args.sink.now) (g.K.Sink.kept c.write_all.new.sink) c.next_turn.new.self said) same s;
+      going = over;
+      rules = rw c.in-Ok-Some.ensures.rules before.rules;
       few = omega (arith, before.few, used);
-      reads = omega (arith, before.reads, part.ensures.later);
-      writes = omega (arith, before.writes, c.in-Ok.ensures.later);
+      reads = omega (arith, before.reads, c.in-Ok-Some.ensures.later);
+      writes = omega (arith, before.writes, c.in-Ok-write_all.ensures.later);
     }
 
 pub returns-in-Ok-None-clause-told : goal.returns-in-Ok-None-clause-told
 returns-in-Ok-None-clause-told g c =
     let told = rw c.in-Ok-None.field-0-is at c.in-Ok-None.ensures.told in
-    told_done _ _ _ _ _ _ _ _ c.parts.invariant.stands told
+    told_done _ _ _ _ _ _ c.next_turn.new.self _ c.turns.invariant.stands told
 
 pub returns-in-Ok-None-clause-stop : goal.returns-in-Ok-None-clause-stop
 returns-in-Ok-None-clause-stop g c =
     let told = rw c.in-Ok-None.field-0-is at c.in-Ok-None.ensures.told in
-    stop_done _ _ _ _ _ _ _ _ _ _ _ _ c.parts.invariant.stands told
+    stop_done _ _ _ _ _ _ c.next_turn.new.self _ _ _ _ _ c.turns.invariant.stands told
 
-pub returns-in-Err-clause-told : goal.returns-in-Err-clause-told
-returns-in-Err-clause-told g c =
-    told_fault _ _ _ _ _ _ _ _ _ _ _ c.parts.invariant.stands c.in-Err.ensures.told c.write_stop.ensures.stops
+pub returns-in-Err-next_turn-clause-told : goal.returns-in-Err-next_turn-clause-told
+returns-in-Err-next_turn-clause-told g c =
+    told_fault _ _ _ _ _ _ _ _ _ _ _ c.turns.invariant.stands
+    (turn_refusal c.turns.reader c.next_turn.new.self _ _ c.in-Err-next_turn.fault c.in-Err-next_turn.ensures.told) c.write_stop-in-Err-next_turn.ensures.stops
 
-pub returns-in-Err-clause-stop : goal.returns-in-Err-clause-stop
-returns-in-Err-clause-stop g c =
-    stop_fault _ _ _ _ _ _ _ _ _ _ _ _ _ _ _ c.parts.invariant.stands c.in-Err.ensures.told c.write_stop.ensures.stops
-    (λ is. rose_since _ _ _ c.parts.invariant.reads (c.in-Err.ensures.fault (ap (λ (f : ScriptFault). let r : Result (Option Item) ScriptFault = Err f in r) is)))
-    (λ is. rose_since _ _ _ c.parts.invariant.writes (c.write_stop.ensures.write is))
+pub returns-in-Err-next_turn-clause-stop : goal.returns-in-Err-next_turn-clause-stop
+returns-in-Err-next_turn-clause-stop g c =
+    stop_fault _ _ _ _ _ _ _ _ _ _ _ _ _ _ _ c.turns.invariant.stands
+    (turn_refusal c.turns.reader c.next_turn.new.self _ _ c.in-Err-next_turn.fault c.in-Err-next_turn.ensures.told) c.write_stop-in-Err-next_turn.ensures.stops
+    (λ is. rose_since _ _ _ c.turns.invariant.reads (c.in-Err-next_turn.ensures.fault (ap (λ (f : ScriptFault). let r : Result (Option (List (List Post))) ScriptFault = Err f in r) is)))
+    (λ is. rose_since _ _ _ c.turns.invariant.writes (c.write_stop-in-Err-next_turn.ensures.write is))

@@ -1,0 +1,35 @@
+-- Each canonical line reads back as what it was written from.
+use Rattle.std.proofs.Common.{refl}
+use Rattle.std.specs.Prelude.{◌≡◌, ℕ, ◌<◌, ◌≤◌, ◌^◌, List, [], All, Some, IsTrue, codes}
+use Rattle.nav_types.specs.declared.cells.Rect.{Rect}
+use Rattle.nav_types.specs.declared.cells.Size.{Size}
+use Rattle.nav_types.specs.Cells.{IsRectInside}
+use Rattle.grid_versions.specs.Maps.{Map}
+use Rattle.turn_core.specs.declared.posts.Post.{Post}
+use Rattle.script_text.specs.Forms.{map_of, base_of, post_of, end_of}
+use Rattle.script_text.specs.Canon.{whole_json, map_json, base_json, post_json, end_json, is_post_of}
+use Rattle.script_text.specs.ReadsBack.{IsMapValue, IsPostValue}
+use Rattle.script_text.proofs.BackForms.{ReadsTo}
+use Rattle.script_text.proofs.BackTexts.{sorted, reads_sorted}
+use Rattle.script_text.proofs.BackPosts.{one_key, post_back}
+use Rattle.script_text.proofs.BackMaps.{map_back, base_back}
+use Rattle.script_text.proofs.GrammarLines.{end-from}
+
+-- the map line reads back, with no base rectangle yet
+pub map_reads : (m : Map) → IsMapValue m → ReadsTo (map_json m) (λ d. map_of d ≡ Some (record m { base = [] }))
+map_reads m is = map_back m is
+
+pub base_reads : (size : Size) (rects : List (Rect × ℕ)) → All (λ (entry : Rect × ℕ). IsRectInside size entry.0) rects
+    → All (λ (entry : Rect × ℕ). entry.1 ≤ 65535) rects → ReadsTo (base_json rects) (λ d. base_of size d ≡ Some rects)
+base_reads size rects inside masks = base_back size rects inside masks
+
+pub post_reads : (version callers caller : ℕ) (post : Post) → callers ≤ 64 → caller < callers → IsPostValue post
+    → IsTrue (is_post_of version post)
+    → ReadsTo (post_json version caller post) (λ d. post_of version callers d ≡ Some (record { caller = caller; post = post }))
+post_reads version callers caller post few below value has = post_back version callers caller post few below value has
+
+pub end_reads : (turn : ℕ) → turn < 2 ^ 64 → ReadsTo (end_json turn) (λ d. end_of d ≡ Some turn)
+unfolding end_json
+end_reads turn small =
+    reads_sorted (end_json turn) (λ d. end_of d ≡ Some turn) ((refl, refl), small, tt)
+    (end-from (sorted (end_json turn)) turn (whole_json turn, one_key (codes "end") (whole_json turn), refl))

@@ -1,0 +1,286 @@
+-- The canonical lines of posts read back.
+use Rattle.std.proofs.Common.{◌≡◌, ℕ, ◌<◌, ◌≤◌, ◌^◌, ◌||◌, ◌==◌, List, [], ◌∷◌, map, Bool, true, false, cond, Some, nat_le, ℤ, refl, ap, inl, inr, arith, FitsSigned}
+use Rattle.std.specs.Prelude.{All, codes}
+use Rattle.std.specs.Int.{w32}
+use Rattle.std.proofs.lemmas.Bool.{leb-true, eqb-true}
+use Rattle.std.proofs.lemmas.Bool.Decides.{leb_tells}
+use Rattle.std.proofs.lemmas.List.Elements.{All-head, All-tail}
+use Rattle.serde_json.specs.Data.{Data, string, array, object, no_members, member, no_items, item}
+use Rattle.serde_json.specs.View.{items_of}
+use Rattle.fixed_point.specs.Text.{fixed_text}
+use Rattle.fixed_point.proofs.ReadsBack.{reads_back}
+use Rattle.obstruction_shapes.specs.declared.shapes.Shape.{Shape}
+use Rattle.obstruction_shapes.specs.declared.shapes.Shape.TheVariants.{Unit as UnitShape, Square as SquareShape}
+use Rattle.goal_shapes.specs.declared.goals.Goal.TheVariants.{Point, Circle, NotCircle, Square, NotSquare}
+use Rattle.goal_shapes.specs.declared.goals.GoalSpec.{GoalSpec}
+use Rattle.goal_shapes.specs.declared.goals.GoalSpec.TheVariants.{Plain, Obstruction as ByObstruction}
+use Rattle.turn_core.specs.declared.posts.Post.{Post}
+use Rattle.turn_core.specs.declared.posts.Post.TheVariants.{Add, Remove, Move, Path, Region}
+use Rattle.script_text.specs.Canon.{whole_json, decimal_json, list_json, decimals_json, object_json, shape_json, goal_json, post_json, is_goal_of, is_post_of}
+use Rattle.script_text.specs.Forms.{post_of}
+use Rattle.script_text.specs.Grammar.{IsObject, IsDecimal, SayEach, IsArray, HasDecimals, IsGoal, IsPostLine, shape_key, shape_decimals}
+use Rattle.script_text.specs.ReadsBack.{AreFixed, IsGoalValue, IsPostValue}
+use Rattle.script_text.proofs.BackForms.{ReadsTo}
+use Rattle.script_text.proofs.BackTexts.{IsSimple, AreSimple, sorted, sorted_items, text-fixed_text, text-name, reads_sorted}
+use Rattle.script_text.proofs.GrammarPosts.{post-from}
+
+-- ---- objects, with their keys in one order and their members in another
+
+pub one_key : (k : List ℕ) (d : Data) → IsObject (k ∷ []) (d ∷ []) (object (member k d no_members))
+one_key k d = record { members = member k d no_members; is = refl; are = (no_members, no_members, refl, refl) }
+
+two_keys : (k l : List ℕ) (d e : Data) → IsObject (k ∷ l ∷ []) (d ∷ e ∷ []) (object (member k d (member l e no_members)))
+two_keys k l d e = record {
+  members = member k d (member l e no_members);
+  is = refl;
+  are = (no_members, member l e no_members, refl, (no_members, no_members, refl, refl));
+}
+
+three_keys : (k l m : List ℕ) (d e f : Data)
+    → IsObject (k ∷ l ∷ m ∷ []) (d ∷ e ∷ f ∷ []) (object (member k d (member l e (member m f no_members))))
+three_keys k l m d e f = record {
+  members = member k d (member l e (member m f no_members));
+  is = refl;
+  are = (no_members, member l e (member m f no_members), refl, (no_members, member m f no_members, refl, (no_members, no_members, refl, refl)));
+}
+
+-- the first of three keys stands second, and the third first
+last_first : (k l m : List ℕ) (d e f : Data)
+    → IsObject (k ∷ l ∷ m ∷ []) (d ∷ e ∷ f ∷ []) (object (member m f (member k d (member l e no_members))))
+last_first k l m d e f = record {
+  members = member m f (member k d (member l e no_members));
+  is = refl;
+  are = (member m f no_members, member l e no_members, refl, (member m f no_members, no_members, refl, (no_members, no_members, refl, refl)));
+}
+
+-- the second key stands first
+second_first : (k l m : List ℕ) (d e f : Data)
+    → IsObject (k ∷ l ∷ m ∷ []) (d ∷ e ∷ f ∷ []) (object (member l e (member k d (member m f no_members))))
+second_first k l m d e f = record {
+  members = member l e (member k d (member m f no_members));
+  is = refl;
+  are = (member l e no_members, member m f no_members, refl, (no_members, member m f no_members, refl, (no_members, no_members, refl, refl)));
+}
+
+-- and the last key before the third
+with_mask : (k l m n : List ℕ) (d e f g : Data)
+    → IsObject (k ∷ l ∷ m ∷ n ∷ []) (d ∷ e ∷ f ∷ g ∷ []) (object (member l e (member k d (member n g (member m f no_members)))))
+with_mask k l m n d e f g = record {
+  members = member l e (member k d (member n g (member m f no_members)));
+  is = refl;
+  are = (member l e no_members, member n g (member m f no_members), refl, (no_members, member n g (member m f no_members), refl, (member n g no_members, no_members, refl, (no_members, no_members, refl, refl))));
+}
+
+-- the second key stands last
+second_last : (k l m n : List ℕ) (d e f g : Data)
+    → IsObject (k ∷ l ∷ m ∷ n ∷ []) (d ∷ e ∷ f ∷ g ∷ []) (object (member k d (member m f (member n g (member l e no_members)))))
+second_last k l m n d e f g = record {
+  members = member k d (member m f (member n g (member l e no_members)));
+  is = refl;
+  are = (no_members, member m f (member n g (member l e no_members)), refl, (member m f (member n g no_members), no_members, refl, (no_members, member n g no_members, refl, (no_members, no_members, refl, refl))));
+}
+
+-- ---- lists
+
+pub simple_list : {X : Type 0} (write : X → Data) (P : X → Type 0) (levels : ℕ) → ((x : X) → P x → IsSimple (write x) levels)
+    → (xs : List X) → All P xs → AreSimple (items_of (map write xs)) levels
+simple_list write P levels each [] all = tt
+simple_list write P levels each (x ∷ xs) all = (each x (All-head P x xs all), simple_list write P levels each xs (All-tail P x xs all))
+
+pub sorted_list : {X : Type 0} (write : X → Data) (xs : List X) → sorted_items (items_of (map write xs)) ≡ items_of (map (λ x. sorted (write x)) xs)
+sorted_list write [] = refl
+sorted_list write (x ∷ xs) = ap (item (sorted (write x))) (sorted_list write xs)
+
+say_list : {X : Type 0} (write : X → Data) (P : X → Type 0) (Says : X → Data → Type 0) → ((x : X) → P x → Says x (sorted (write x)))
+    → (xs : List X) → All P xs → SayEach Says xs (map (λ x. sorted (write x)) xs)
+say_list write P Says each [] all = tt
+say_list write P Says each (x ∷ xs) all = (each x (All-head P x xs all), say_list write P Says each xs (All-tail P x xs all))
+
+pub array_list : {X : Type 0} (write : X → Data) (P : X → Type 0) (Says : X → Data → Type 0) → ((x : X) → P x → Says x (sorted (write x)))
+    → (xs : List X) → All P xs → IsArray Says xs (sorted (list_json (map write xs)))
+array_list write P Says each xs all =
+    (map (λ x. sorted (write x)) xs, ap array (sorted_list write xs), say_list write P Says each xs all)
+
+-- ---- decimals
+
+abbrev IsFixed : ℤ → Type 0
+IsFixed raw = FitsSigned w32 raw
+
+says_decimal : (raw : ℤ) → IsFixed raw → IsDecimal raw (sorted (decimal_json raw))
+says_decimal raw fits = (fixed_text raw, refl, reads_back raw fits)
+
+simple_decimals : (raws : List ℤ) (levels : ℕ) → AreFixed raws → AreSimple (items_of (map decimal_json raws)) levels
+simple_decimals raws levels fixed = simple_list decimal_json IsFixed levels text-fixed_text raws fixed
+
+says_decimals : (raws : List ℤ) → AreFixed raws → IsArray IsDecimal raws (sorted (decimals_json raws))
+says_decimals raws fixed = array_list decimal_json IsFixed IsDecimal says_decimal raws fixed
+
+-- ---- goals
+
+says_shape : (key : List ℕ) (raws : List ℤ) → AreFixed raws → HasDecimals key raws (sorted (shape_json key raws))
+says_shape key raws fixed = (sorted (decimals_json raws), one_key key (sorted (decimals_json raws)), says_decimals raws fixed)
+
+small : (n most : ℕ) → most ≤ 4294967295 → n ≤ most → n < 2 ^ 64
+small n most limit few = omega (arith, limit, few)
+
+simple_goal : (goal : GoalSpec) → IsGoalValue goal → IsSimple (goal_json goal) 126
+unfolding goal_json
+simple_goal (Plain (Point x z)) is = ((refl, refl), simple_decimals (x ∷ z ∷ []) 124 is, tt)
+simple_goal (Plain (Circle x z r)) is = ((refl, refl), simple_decimals (x ∷ z ∷ r ∷ []) 124 is, tt)
+simple_goal (Plain (NotCircle x z r)) is = ((refl, refl), simple_decimals (x ∷ z ∷ r ∷ []) 124 is, tt)
+simple_goal (Plain (Square x z ux uz hw hh)) is = ((refl, refl), simple_decimals (x ∷ z ∷ ux ∷ uz ∷ hw ∷ hh ∷ []) 124 is, tt)
+simple_goal (Plain (NotSquare x z ux uz hw hh)) is = ((refl, refl), simple_decimals (x ∷ z ∷ ux ∷ uz ∷ hw ∷ hh ∷ []) 124 is, tt)
+simple_goal (ByObstruction id grow) is = ((refl, refl), (small id 4294967295 (omega arith) is.0, (text-fixed_text grow is.1, tt)), tt)
+
+says_goal : (version : ℕ) (goal : GoalSpec) → IsGoalValue goal → is_goal_of version goal ≡ true → IsGoal version goal (sorted (goal_json goal))
+unfolding goal_json
+says_goal version (Plain (Point x z)) is has = says_shape (codes "point") (x ∷ z ∷ []) is
+says_goal version (Plain (Circle x z r)) is has = says_shape (codes "circle") (x ∷ z ∷ r ∷ []) is
+says_goal version (Plain (NotCircle x z r)) is has = says_shape (codes "not-circle") (x ∷ z ∷ r ∷ []) is
+says_goal version (Plain (Square x z ux uz hw hh)) is has = says_shape (codes "square") (x ∷ z ∷ ux ∷ uz ∷ hw ∷ hh ∷ []) is
+says_goal version (Plain (NotSquare x z ux uz hw hh)) is has = says_shape (codes "not-square") (x ∷ z ∷ ux ∷ uz ∷ hw ∷ hh ∷ []) is
+says_goal version (ByObstruction id grow) is has =
+    let parts : Data = array (item (whole_json id) (item (decimal_json grow) no_items)) in record {
+      newest = leb-true 3 version has;
+      obstruction = parts;
+      number = whole_json id;
+      distance = decimal_json grow;
+      keys = one_key (codes "obstruction") parts;
+      items = refl;
+      says_number = (refl, is.0);
+      says_distance = says_decimal grow is.1;
+    }
+
+-- ---- add lines
+
+-- the value of an add line, with a mask or without one
+abbrev add_json : Bool → ℕ → ℕ → ℕ → Shape → Data
+add_json masked caller id mask shape = object_json (
+    (codes "caller", whole_json caller) ∷ (codes "add", whole_json id) ∷ (shape_key shape, decimals_json (shape_decimals shape))
+    ∷ cond masked ((codes "mask", whole_json mask) ∷ []) [])
+
+simple_add : (masked : Bool) (caller id mask : ℕ) (shape : Shape) → caller < 2 ^ 64 → id < 2 ^ 64 → mask < 2 ^ 64 → AreFixed (shape_decimals shape)
+    → IsSimple (add_json masked caller id mask shape) 127
+simple_add true caller id mask (UnitShape x z half) c i m fixed =
+    ((refl, refl), c, ((refl, refl), i, ((refl, refl), simple_decimals (x ∷ z ∷ half ∷ []) 125 fixed, ((refl, refl), m, tt))))
+simple_add true caller id mask (SquareShape x z ux uz hw hh) c i m fixed =
+    ((refl, refl), c, ((refl, refl), i, ((refl, refl), simple_decimals (x ∷ z ∷ ux ∷ uz ∷ hw ∷ hh ∷ []) 125 fixed, ((refl, refl), m, tt))))
+simple_add false caller id mask (UnitShape x z half) c i m fixed =
+    ((refl, refl), c, ((refl, refl), i, ((refl, refl), simple_decimals (x ∷ z ∷ half ∷ []) 125 fixed, tt)))
+simple_add false caller id mask (SquareShape x z ux uz hw hh) c i m fixed =
+    ((refl, refl), c, ((refl, refl), i, ((refl, refl), simple_decimals (x ∷ z ∷ ux ∷ uz ∷ hw ∷ hh ∷ []) 125 fixed, tt)))
+
+below_two : (version : ℕ) → nat_le 2 version ≡ false → version < 2
+below_two version e = elim (leb_tells 2 version) [ inl h ↦ (let t = h.0 in absurd (cc)) | inr h ↦ h.1 ]
+
+says_add : (masked : Bool) (version callers caller id mask : ℕ) (shape : Shape) → nat_le 2 version ≡ masked → (masked || mask == 65535) ≡ true → caller < callers
+    → id ≤ 4294967295 → mask ≤ 65535 → AreFixed (shape_decimals shape)
+    → IsPostLine version callers caller (Add id (record { shape = shape; mask = mask })) (sorted (add_json masked caller id mask shape))
+says_add true version callers caller id mask (UnitShape x z half) e has below few bits fixed =
+    let shape = sorted (decimals_json (x ∷ z ∷ half ∷ [])) in (
+      whole_json caller,
+      whole_json id,
+      shape,
+      inr (
+        leb-true 2 version e,
+        (whole_json mask, with_mask (codes "caller") (codes "add") (codes "unit") (codes "mask") (whole_json caller) (whole_json id) shape (whole_json mask), refl, bits),
+      ),
+      (refl, below),
+      (refl, few),
+      says_decimals (x ∷ z ∷ half ∷ []) fixed,
+    )
+says_add true version callers caller id mask (SquareShape x z ux uz hw hh) e has below few bits fixed =
+    let shape = sorted (decimals_json (x ∷ z ∷ ux ∷ uz ∷ hw ∷ hh ∷ [])) in (
+      whole_json caller,
+      whole_json id,
+      shape,
+      inr (
+        leb-true 2 version e,
+        (whole_json mask, with_mask (codes "caller") (codes "add") (codes "square") (codes "mask") (whole_json caller) (whole_json id) shape (whole_json mask), refl, bits),
+      ),
+      (refl, below),
+      (refl, few),
+      says_decimals (x ∷ z ∷ ux ∷ uz ∷ hw ∷ hh ∷ []) fixed,
+    )
+says_add false version callers caller id mask (UnitShape x z half) e has below few bits fixed =
+    let shape = sorted (decimals_json (x ∷ z ∷ half ∷ [])) in (
+      whole_json caller,
+      whole_json id,
+      shape,
+      inl (below_two version e, eqb-true mask 65535 has, second_first (codes "caller") (codes "add") (codes "unit") (whole_json caller) (whole_json id) shape),
+      (refl, below),
+      (refl, few),
+      says_decimals (x ∷ z ∷ half ∷ []) fixed,
+    )
+says_add false version callers caller id mask (SquareShape x z ux uz hw hh) e has below few bits fixed =
+    let shape = sorted (decimals_json (x ∷ z ∷ ux ∷ uz ∷ hw ∷ hh ∷ [])) in (
+      whole_json caller,
+      whole_json id,
+      shape,
+      inl (below_two version e, eqb-true mask 65535 has, second_first (codes "caller") (codes "add") (codes "square") (whole_json caller) (whole_json id) shape),
+      (refl, below),
+      (refl, few),
+      says_decimals (x ∷ z ∷ ux ∷ uz ∷ hw ∷ hh ∷ []) fixed,
+    )
+
+-- ---- post lines
+
+simple_post : (version caller : ℕ) (post : Post) → caller < 2 ^ 64 → IsPostValue post → IsSimple (post_json version caller post) 127
+unfolding post_json
+simple_post version caller (Add id o) c is =
+    simple_add (nat_le 2 version) caller id o.mask o.shape c (small id 4294967295 (omega arith) is.0) (small o.mask 65535 (omega arith) is.2) is.1
+simple_post version caller (Remove id) c is = ((refl, refl), c, ((refl, refl), small id 4294967295 (omega arith) is, tt))
+simple_post version caller (Move id x z) c is =
+    ((refl, refl), c, ((refl, refl), small id 4294967295 (omega arith) is.0, ((refl, refl), simple_decimals (x ∷ z ∷ []) 125 is.1, tt)))
+simple_post version caller (Path class x z goal) c is =
+    ((refl, refl), c, ((refl, refl), text-name class is.0, ((refl, refl), simple_decimals (x ∷ z ∷ []) 125 is.1, ((refl, refl), simple_goal goal is.2, tt))))
+simple_post version caller (Region class x z) c is =
+    ((refl, refl), c, ((refl, refl), text-name class is.0, ((refl, refl), simple_decimals (x ∷ z ∷ []) 125 is.1, tt)))
+
+says_post : (version callers caller : ℕ) (post : Post) → caller < callers → IsPostValue post → is_post_of version post ≡ true
+    → IsPostLine version callers caller post (sorted (post_json version caller post))
+unfolding post_json
+says_post version callers caller (Add id o) below is has =
+    says_add (nat_le 2 version) version callers caller id o.mask o.shape refl has below is.0 is.2 is.1
+says_post version callers caller (Remove id) below is has =
+    (whole_json caller, whole_json id, two_keys (codes "caller") (codes "remove") (whole_json caller) (whole_json id), (refl, below), (refl, is))
+says_post version callers caller (Move id x z) below is has =
+    let to = sorted (decimals_json (x ∷ z ∷ [])) in (
+      whole_json caller,
+      whole_json id,
+      to,
+      three_keys (codes "caller") (codes "move") (codes "to") (whole_json caller) (whole_json id) to,
+      (refl, below),
+      (refl, is.0),
+      says_decimals (x ∷ z ∷ []) is.1,
+      leb-true 3 version has,
+    )
+says_post version callers caller (Path class x z goal) below is has =
+    let from = sorted (decimals_json (x ∷ z ∷ [])) in let to = sorted (goal_json goal) in (
+      whole_json caller,
+      string class,
+      from,
+      to,
+      second_last (codes "caller") (codes "path") (codes "from") (codes "goal") (whole_json caller) (string class) from to,
+      (refl, below),
+      (refl, is.0),
+      says_decimals (x ∷ z ∷ []) is.1,
+      says_goal version goal is.2 has,
+    )
+says_post version callers caller (Region class x z) below is has =
+    let place = sorted (decimals_json (x ∷ z ∷ [])) in (
+      whole_json caller,
+      string class,
+      place,
+      last_first (codes "caller") (codes "region") (codes "at") (whole_json caller) (string class) place,
+      (refl, below),
+      (refl, is.0),
+      says_decimals (x ∷ z ∷ []) is.1,
+    )
+
+pub post_back : (version callers caller : ℕ) (post : Post) → callers ≤ 64 → caller < callers → IsPostValue post → is_post_of version post ≡ true
+    → ReadsTo (post_json version caller post) (λ d. post_of version callers d ≡ Some (record { caller = caller; post = post }))
+post_back version callers caller post few below is has =
+    reads_sorted (post_json version caller post) (λ d. post_of version callers d ≡ Some (record { caller = caller; post = post }))
+    (simple_post version caller post (omega (arith, few, below)) is)
+    (post-from version callers (sorted (post_json version caller post)) (record { caller = caller; post = post }) (says_post version callers caller post below is has))

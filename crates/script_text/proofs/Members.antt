@@ -1,0 +1,363 @@
+-- Objects with exactly the keys of a list: how the test by count and keys, and the members in any order, go together.
+use Rattle.std.proofs.Common.{◌≡◌, ℕ, ◌+◌, ◌==◌, ◌&&◌, List, [], ◌∷◌, length, Bool, true, false, not, Some, None, is_some, refl, ap, sym, subst, ◌∙◌, arith, eq-eqb}
+use Rattle.std.specs.Prelude.{⊤, bytes_eq}
+use Rattle.std.specs.List.{list_all}
+use Rattle.std.specs.declared.cmp.Ordering.{Ordering}
+use Rattle.std.specs.declared.cmp.Ordering.TheVariants.{Less, Equal, Greater}
+use Rattle.std.specs.Ordering.{nat_cmp, match_ordering}
+use Rattle.std.specs.Cmp.{Equal-is}
+use Rattle.std.specs.Cmp.Lexicographic.{slice_cmp}
+use Rattle.std.proofs.lemmas.Bool.{and_parts}
+use Rattle.std.proofs.lemmas.Bool.Decides.{Decides-eqb}
+use Rattle.std.proofs.lemmas.Map.Lookups.{exact_bytes}
+use Rattle.std.proofs.lemmas.Map.Text.{is_eq-slice_cmp}
+use Rattle.std.proofs.lemmas.Slice.Eq.{bytes_eq-Decides}
+use Rattle.serde_json.specs.Data.{Data, null, boolean, number, string, array, object, Members, no_members, member}
+use Rattle.serde_json.specs.Find.{get, get_member}
+use Rattle.class_config.specs.Forms.{has_keys, member_count}
+use Rattle.script_text.specs.Grammar.{joined, AreMembers, IsObject}
+
+-- ---- what stands under a key
+
+same_order : (key : List ℕ) → slice_cmp nat_cmp key key ≡ Equal
+same_order key = (Equal-is (slice_cmp nat_cmp key key)).0 (is_eq-slice_cmp key key ∙ (bytes_eq-Decides key key).1 refl)
+
+get-here : (key : List ℕ) (d : Data) (ms : Members) → get_member key (member key d ms) ≡ Some d
+get-here key d ms = ap (λ o. match_ordering o (get_member key ms) (Some d) (get_member key ms)) (same_order key)
+
+get-there : (key other : List ℕ) (d : Data) (ms : Members) → (key ≡ other → ⊥) → get_member key (member other d ms) ≡ get_member key ms
+get-there key other d ms differ = by_order (slice_cmp nat_cmp key other) (exact_bytes key other)
+  where
+    by_order : (o : Ordering) → (o ≡ Equal → key ≡ other) → match_ordering o (get_member key ms) (Some d) (get_member key ms) ≡ get_member key ms
+    by_order Less tells = refl
+    by_order Equal tells = absurd (differ (tells refl))
+    by_order Greater tells = refl
+
+-- a key is this one or another
+by_key : {A : Type 0} (key other : List ℕ) → (key ≡ other → A) → ((key ≡ other → ⊥) → A) → A
+by_key {A} key other same differ = by_test (bytes_eq key other) (bytes_eq-Decides key other).0 (bytes_eq-Decides key other).1
+  where
+    by_test : (b : Bool) → (b ≡ true → key ≡ other) → (key ≡ other → b ≡ true) → A
+    by_test true tells told = same (tells refl)
+    by_test false tells told = differ (λ e. let t : false ≡ true = told e in absurd (cc))
+
+count-joined : (before after : Members) (key : List ℕ) (d : Data) → member_count (joined before (member key d after)) ≡ member_count (joined before after) + 1
+count-joined no_members after key d = refl
+count-joined (member k e ms) after key d = ap (λ n. n + 1) (count-joined ms after key d)
+
+get-joined-other : (before after : Members) (key other : List ℕ) (d : Data) → (key ≡ other → ⊥)
+    → get_member key (joined before (member other d after)) ≡ get_member key (joined before after)
+get-joined-other no_members after key other d differ = get-there key other d after differ
+get-joined-other (member k e ms) after key other d differ =
+    ap (λ rest. match_ordering (slice_cmp nat_cmp key k) rest (Some e) rest) (get-joined-other ms after key other d differ)
+
+get-joined-here : (before after : Members) (key : List ℕ) (d : Data) → get_member key (joined before after) ≡ None
+    → get_member key (joined before (member key d after)) ≡ Some d
+get-joined-here no_members after key d none = get-here key d after
+get-joined-here (member k e ms) after key d none =
+    by_key key k
+    (λ same. let found : get_member key (member k e (joined ms after)) ≡ Some e =
+    ap (λ q. get_member q (member k e (joined ms after))) same ∙ get-here k e (joined ms after) in absurd (cc))
+    (λ differ. get-there key k e (joined ms (member key d after)) differ
+    ∙ get-joined-here ms after key d (sym (get-there key k e (joined ms after) differ) ∙ none))
+
+-- ---- distinct keys
+
+-- the key is none of these
+abbrev pub is_other : List ℕ → List (List ℕ) → Bool
+is_other key [] = true
+is_other key (other ∷ others) = not (bytes_eq key other) && is_other key others
+
+abbrev pub are_distinct : List (List ℕ) → Bool
+are_distinct [] = true
+are_distinct (key ∷ keys) = is_other key keys && are_distinct keys
+
+other_head : (key other : List ℕ) (others : List (List ℕ)) → is_other key (other ∷ others) ≡ true → (key ≡ other → ⊥) × (is_other key others ≡ true)
+other_head key other others h =
+    let parts = and_parts (not (bytes_eq key other)) (is_other key others) h in (
+      λ same. let t : bytes_eq key other ≡ true = (bytes_eq-Decides key other).1 same in
+          let f : not (bytes_eq key other) ≡ false = ap not t in absurd (cc),
+      parts.1,
+    )
+
+-- ---- the values under keys
+
+-- under each key stands the value in its place
+abbrev pub AreUnder : List (List ℕ) → List Data → Members → Type 0
+AreUnder [] [] ms = ⊤
+AreUnder (key ∷ keys) (d ∷ ds) ms = (get_member key ms ≡ Some d) × AreUnder keys ds ms
+AreUnder [] (d ∷ ds) ms = ⊥
+AreUnder (key ∷ keys) [] ms = ⊥
+
+-- a member more under another key changes nothing
+under-more : (keys : List (List ℕ)) (ds : List Data) (before after : Members) (other : List ℕ) (d : Data) → is_other other keys ≡ true
+    → AreUnder keys ds (joined before after) → AreUnder keys ds (joined before (member other d after))
+under-more [] [] before after other d apart under = tt
+under-more [] (e ∷ ds) before after other d apart under = under
+under-more (key ∷ keys) [] before after other d apart under = under
+under-more (key ∷ keys) (e ∷ ds) before after other d apart under =
+    let parts = other_head other key keys apart in
+    (get-joined-other before after key other d (λ same. parts.0 (sym same)) ∙ under.0, under-more keys ds before after other d parts.1 under.1)
+
+all_some-less : (keys : List (List ℕ)) (before after : Members) (other : List ℕ) (d : Data) → is_other other keys ≡ true
+    → list_all (λ key. is_some (get_member key (joined before (member other d after)))) keys ≡ list_all (λ key. is_some (get_member key (joined before after))) keys
+all_some-less [] before after other d apart = refl
+all_some-less (key ∷ keys) before after other d apart =
+    let parts = other_head other key keys apart in
+    ap (λ found. is_some found && list_all (λ k. is_some (get_member k (joined before (member other d after)))) keys)
+    (get-joined-other before after key other d (λ same. parts.0 (sym same)))
+    ∙ ap (λ rest. is_some (get_member key (joined before after)) && rest) (all_some-less keys before after other d parts.1)
+
+all_some : (keys : List (List ℕ)) (ds : List Data) (ms : Members) → AreUnder keys ds ms → list_all (λ key. is_some (get_member key ms)) keys ≡ true
+all_some [] ds ms under = refl
+all_some (key ∷ keys) [] ms under = absurd under
+all_some (key ∷ keys) (d ∷ ds) ms under =
+    ap (λ found. is_some found && list_all (λ k. is_some (get_member k ms)) keys) under.0 ∙ all_some keys ds ms under.1
+
+-- ---- from the members to what is found
+
+pub members-count : (keys : List (List ℕ)) (ds : List Data) (ms : Members) → AreMembers keys ds ms → member_count ms ≡ length keys
+members-count [] [] ms are = ap member_count are
+members-count [] (d ∷ ds) ms are = absurd are
+members-count (key ∷ keys) [] ms are = absurd are
+members-count (key ∷ keys) (d ∷ ds) ms are =
+    let rest = members-count keys ds (joined are.0 are.1) are.3 in
+    ap member_count are.2 ∙ count-joined are.0 are.1 key d ∙ omega (arith, rest)
+
+pub members-none : (keys : List (List ℕ)) (ds : List Data) (ms : Members) (other : List ℕ) → AreMembers keys ds ms → is_other other keys ≡ true
+    → get_member other ms ≡ None
+members-none [] [] ms other are apart = ap (get_member other) are
+members-none [] (d ∷ ds) ms other are apart = absurd are
+members-none (key ∷ keys) [] ms other are apart = absurd are
+members-none (key ∷ keys) (d ∷ ds) ms other are apart =
+    let parts = other_head other key keys apart in
+    ap (get_member other) are.2 ∙ get-joined-other are.0 are.1 other key d parts.0
+    ∙ members-none keys ds (joined are.0 are.1) other are.3 parts.1
+
+pub members-under : (keys : List (List ℕ)) (ds : List Data) (ms : Members) → are_distinct keys ≡ true → AreMembers keys ds ms → AreUnder keys ds ms
+members-under [] [] ms distinct are = tt
+members-under [] (d ∷ ds) ms distinct are = are
+members-under (key ∷ keys) [] ms distinct are = are
+members-under (key ∷ keys) (d ∷ ds) ms distinct are =
+    let parts = and_parts (is_other key keys) (are_distinct keys) distinct in
+    let rest = members-under keys ds (joined are.0 are.1) parts.1 are.3 in
+    let none = members-none keys ds (joined are.0 are.1) key are.3 parts.0 in
+    let Under : Members → Type 0 = λ m. AreUnder (key ∷ keys) (d ∷ ds) m in
+    let there : Under (joined are.0 (member key d are.1)) = (get-joined-here are.0 are.1 key d none, under-more keys ds are.0 are.1 key d parts.0 rest) in
+    rw are.2 there
+
+-- ---- from what is found to the members
+
+-- a key that is found, with its value and what stands before and after it
+record Found (key : List ℕ) (ms : Members) : Type 0 where
+  before : Members
+  after : Members
+  value : Data
+  is : ms ≡ joined before (member key value after)
+  found : get_member key ms ≡ Some value
+
+find_key : (key : List ℕ) (ms : Members) → is_some (get_member key ms) ≡ true → Found key ms
+find_key key no_members some = absurd (cc)
+find_key key (member k d ms) some =
+    by_key key k
+    (λ same. record {
+      before = no_members;
+      after = ms;
+      value = d;
+      is = ap (λ q. member q d ms) (sym same);
+      found = ap (λ q. get_member q (member k d ms)) same ∙ get-here k d ms;
+    })
+    (λ differ. let there = get-there key k d ms differ in
+    let rest = find_key key ms (ap is_some (sym there) ∙ some) in record {
+      before = member k d rest.before;
+      after = rest.after;
+      value = rest.value;
+      is = ap (member k d) rest.is;
+      found = there ∙ rest.found;
+    })
+
+no_member : (ms : Members) → (member_count ms == 0) ≡ true → ms ≡ no_members
+no_member no_members none = refl
+no_member (member key d ms) none = let e = (Decides-eqb (member_count ms + 1) 0).0 none in absurd (omega (arith, e))
+
+-- the members of an object with so many, among them each of these distinct keys
+pub record Held (keys : List (List ℕ)) (ms : Members) : Type 0 where
+  pub values : List Data
+  pub are : AreMembers keys values ms
+  pub under : AreUnder keys values ms
+
+pub held : (keys : List (List ℕ)) (ms : Members) → are_distinct keys ≡ true → (member_count ms == length keys) ≡ true
+    → list_all (λ key. is_some (get_member key ms)) keys ≡ true → Held keys ms
+held [] ms distinct count all = record { values = []; are = no_member ms count; under = tt }
+held (key ∷ keys) ms distinct count all =
+    let apart = and_parts (is_other key keys) (are_distinct keys) distinct in
+    let first = and_parts (is_some (get_member key ms)) (list_all (λ k. is_some (get_member k ms)) keys) all in
+    let found = find_key key ms first.0 in
+    let rest = joined found.before found.after in
+    let counted : member_count ms ≡ length keys + 1 = (Decides-eqb (member_count ms) (length (key ∷ keys))).0 count ∙ omega arith in
+    let fewer : member_count rest ≡ length keys = omega (arith, counted, ap member_count found.is, count-joined found.before found.after key found.value) in
+    let others : list_all (λ k. is_some (get_member k rest)) keys ≡ true =
+    sym (all_some-less keys found.before found.after key found.value apart.0)
+    ∙ ap (λ m. list_all (λ k. is_some (get_member k m)) keys) (sym found.is) ∙ first.1 in
+    let more = held keys rest apart.1 (eq-eqb (member_count rest) (length keys) fewer) others in
+    let more_under = under-more keys more.values found.before found.after key found.value apart.0 more.under in
+    let Under : Members → Type 0 = λ m. AreUnder keys more.values m in
+    record {
+      values = found.value ∷ more.values;
+      are = (found.before, found.after, found.is, more.are);
+      under = (found.found, subst Under (sym found.is) more_under);
+    }
+
+-- ---- objects
+
+-- under each key of the value stands the value in its place
+abbrev pub Stand : List (List ℕ) → List Data → Data → Type 0
+Stand [] [] d = ⊤
+Stand (key ∷ keys) (v ∷ vs) d = (get key d ≡ Some v) × Stand keys vs d
+Stand [] (v ∷ vs) d = ⊥
+Stand (key ∷ keys) [] d = ⊥
+
+stand : (keys : List (List ℕ)) (ds : List Data) (ms : Members) → AreUnder keys ds ms → Stand keys ds (object ms)
+stand [] [] ms under = tt
+stand [] (d ∷ ds) ms under = under
+stand (key ∷ keys) [] ms under = under
+stand (key ∷ keys) (d ∷ ds) ms under = (under.0, stand keys ds ms under.1)
+
+-- a value with exactly these keys is an object of them
+pub record Opened (keys : List (List ℕ)) (d : Data) : Type 0 where
+  pub values : List Data
+  pub is : IsObject keys values d
+  pub stand : Stand keys values d
+
+pub open_keys : (keys : List (List ℕ)) (d : Data) → are_distinct keys ≡ true → has_keys keys d ≡ true → Opened keys d
+open_keys keys null distinct has = absurd (cc)
+open_keys keys (boolean b) distinct has = absurd (cc)
+open_keys keys (number n) distinct has = absurd (cc)
+open_keys keys (string s) distinct has = absurd (cc)
+open_keys keys (array ds) distinct has = absurd (cc)
+open_keys keys (object ms) distinct has =
+    let parts = and_parts (member_count ms == length keys) (list_all (λ key. is_some (get_member key ms)) keys) has in
+    let all = held keys ms distinct parts.0 parts.1 in
+    record { values = all.values; is = record { members = ms; is = refl; are = all.are }; stand = stand keys all.values ms all.under }
+
+-- an object of these keys has them, and the values stand under them
+pub has_keys-object : (keys : List (List ℕ)) (vs : List Data) (d : Data) → are_distinct keys ≡ true → IsObject keys vs d → has_keys keys d ≡ true
+has_keys-object keys vs d distinct o =
+    let under = members-under keys vs o.members distinct o.are in
+    let count : (member_count o.members == length keys) ≡ true = eq-eqb (member_count o.members) (length keys) (members-count keys vs o.members o.are) in
+    ap (has_keys keys) o.is ∙ ap (λ b. b && list_all (λ key. is_some (get_member key o.members)) keys) count ∙ all_some keys vs o.members under
+
+pub stand-object : (keys : List (List ℕ)) (vs : List Data) (d : Data) → are_distinct keys ≡ true → IsObject keys vs d → Stand keys vs d
+stand-object keys vs d distinct o =
+    let Stands : Data → Type 0 = λ e. Stand keys vs e in
+    let there : Stands (object o.members) = stand keys vs o.members (members-under keys vs o.members distinct o.are) in
+    rw o.is there
+
+-- it has no other key
+pub get-object-none : (keys : List (List ℕ)) (vs : List Data) (d : Data) (other : List ℕ) → IsObject keys vs d → is_other other keys ≡ true → get other d ≡ None
+get-object-none keys vs d other o apart = ap (get other) o.is ∙ members-none keys vs o.members other o.are apart
+
+pub lacks : (keys : List (List ℕ)) (key : List ℕ) (d : Data) → get key d ≡ None → is_other key keys ≡ false → has_keys keys d ≡ false
+lacks keys key null none there = refl
+lacks keys key (boolean b) none there = refl
+lacks keys key (number n) none there = refl
+lacks keys key (string s) none there = refl
+lacks keys key (array ds) none there = refl
+lacks keys key (object ms) none there = no_all (member_count ms == length keys) (list_all (λ k. is_some (get_member k ms)) keys) (missing keys there)
+  where
+    no_all : (count all : Bool) → all ≡ false → (count && all) ≡ false
+    no_all true all e = e
+    no_all false all e = refl
+
+    missing : (ks : List (List ℕ)) → is_other key ks ≡ false → list_all (λ k. is_some (get_member k ms)) ks ≡ false
+    missing [] e = absurd (cc)
+    missing (k ∷ ks) e =
+        by_key key k
+        (λ same. ap (λ q. is_some (get_member q ms) && list_all (λ l. is_some (get_member l ms)) ks) (sym same)
+        ∙ ap (λ found. is_some found && list_all (λ l. is_some (get_member l ms)) ks) none)
+        (λ differ. let t : bytes_eq key k ≡ false = by_test (bytes_eq key k) (λ b. differ ((bytes_eq-Decides key k).0 b)) in
+        no_all (is_some (get_member k ms)) (list_all (λ l. is_some (get_member l ms)) ks) (missing ks (ap (λ b. not b && is_other key ks) (sym t) ∙ e)))
+      where
+        by_test : (b : Bool) → (b ≡ true → ⊥) → b ≡ false
+        by_test true not = absurd (not refl)
+        by_test false not = refl
+
+-- an object of these keys has not exactly those keys, where one of those is none of these
+pub has_keys-other : (keys others : List (List ℕ)) (vs : List Data) (d : Data) (key : List ℕ) → IsObject keys vs d → is_other key keys ≡ true
+    → is_other key others ≡ false → has_keys others d ≡ false
+has_keys-other keys others vs d key o apart there = lacks others key d (get-object-none keys vs d key o apart) there
+
+-- ---- objects of one to four keys
+
+pub record One (k : List ℕ) (d : Data) : Type 0 where
+  pub v : Data
+  pub is : IsObject (k ∷ []) (v ∷ []) d
+  pub at : get k d ≡ Some v
+
+pub open_one : (k : List ℕ) (d : Data) → has_keys (k ∷ []) d ≡ true → One k d
+open_one k d has = by_values (opened.values) opened.is opened.stand
+  where
+    opened : Opened (k ∷ []) d
+    opened = open_keys (k ∷ []) d refl has
+
+    by_values : (vs : List Data) → IsObject (k ∷ []) vs d → Stand (k ∷ []) vs d → One k d
+    by_values (v ∷ []) is at = record { v = v; is = is; at = at.0 }
+    by_values [] is at = absurd at
+    by_values (v ∷ w ∷ vs) is at = absurd at.1
+
+pub record Two (k l : List ℕ) (d : Data) : Type 0 where
+  pub v : Data
+  pub w : Data
+  pub is : IsObject (k ∷ l ∷ []) (v ∷ w ∷ []) d
+  pub first : get k d ≡ Some v
+  pub second : get l d ≡ Some w
+
+pub open_two : (k l : List ℕ) (d : Data) → are_distinct (k ∷ l ∷ []) ≡ true → has_keys (k ∷ l ∷ []) d ≡ true → Two k l d
+open_two k l d distinct has = let opened = open_keys (k ∷ l ∷ []) d distinct has in by_values opened.values opened.is opened.stand
+  where
+    by_values : (vs : List Data) → IsObject (k ∷ l ∷ []) vs d → Stand (k ∷ l ∷ []) vs d → Two k l d
+    by_values (v ∷ w ∷ []) is at = record { v = v; w = w; is = is; first = at.0; second = at.1.0 }
+    by_values [] is at = absurd at
+    by_values (v ∷ []) is at = absurd at.1
+    by_values (v ∷ w ∷ x ∷ vs) is at = absurd at.1.1
+
+pub record Three (k l m : List ℕ) (d : Data) : Type 0 where
+  pub v : Data
+  pub w : Data
+  pub x : Data
+  pub is : IsObject (k ∷ l ∷ m ∷ []) (v ∷ w ∷ x ∷ []) d
+  pub first : get k d ≡ Some v
+  pub second : get l d ≡ Some w
+  pub third : get m d ≡ Some x
+
+pub open_three : (k l m : List ℕ) (d : Data) → are_distinct (k ∷ l ∷ m ∷ []) ≡ true → has_keys (k ∷ l ∷ m ∷ []) d ≡ true → Three k l m d
+open_three k l m d distinct has = let opened = open_keys (k ∷ l ∷ m ∷ []) d distinct has in by_values opened.values opened.is opened.stand
+  where
+    by_values : (vs : List Data) → IsObject (k ∷ l ∷ m ∷ []) vs d → Stand (k ∷ l ∷ m ∷ []) vs d → Three k l m d
+    by_values (v ∷ w ∷ x ∷ []) is at = record { v = v; w = w; x = x; is = is; first = at.0; second = at.1.0; third = at.1.1.0 }
+    by_values [] is at = absurd at
+    by_values (v ∷ []) is at = absurd at.1
+    by_values (v ∷ w ∷ []) is at = absurd at.1.1
+    by_values (v ∷ w ∷ x ∷ y ∷ vs) is at = absurd at.1.1.1
+
+pub record Four (k l m n : List ℕ) (d : Data) : Type 0 where
+  pub v : Data
+  pub w : Data
+  pub x : Data
+  pub y : Data
+  pub is : IsObject (k ∷ l ∷ m ∷ n ∷ []) (v ∷ w ∷ x ∷ y ∷ []) d
+  pub first : get k d ≡ Some v
+  pub second : get l d ≡ Some w
+  pub third : get m d ≡ Some x
+  pub fourth : get n d ≡ Some y
+
+pub open_four : (k l m n : List ℕ) (d : Data) → are_distinct (k ∷ l ∷ m ∷ n ∷ []) ≡ true → has_keys (k ∷ l ∷ m ∷ n ∷ []) d ≡ true → Four k l m n d
+open_four k l m n d distinct has = let opened = open_keys (k ∷ l ∷ m ∷ n ∷ []) d distinct has in by_values opened.values opened.is opened.stand
+  where
+    by_values : (vs : List Data) → IsObject (k ∷ l ∷ m ∷ n ∷ []) vs d → Stand (k ∷ l ∷ m ∷ n ∷ []) vs d → Four k l m n d
+    by_values (v ∷ w ∷ x ∷ y ∷ []) is at = record { v = v; w = w; x = x; y = y; is = is; first = at.0; second = at.1.0; third = at.1.1.0; fourth = at.1.1.1.0 }
+    by_values [] is at = absurd at
+    by_values (v ∷ []) is at = absurd at.1
+    by_values (v ∷ w ∷ []) is at = absurd at.1.1
+    by_values (v ∷ w ∷ x ∷ []) is at = absurd at.1.1.1
+    by_values (v ∷ w ∷ x ∷ y ∷ z ∷ vs) is at = absurd at.1.1.1.1

@@ -1,0 +1,173 @@
+-- Lines of an input that tells its bytes, one after another.
+use Rattle.std.proofs.Common.{◌≡◌, ℕ, ◌+◌, ◌<◌, ◌≤◌, ◌⊎◌, List, [], ◌∷◌, ◌++◌, length, Bool, true, false, Option, Some, None, Err, IsTrue, IsFalse, refl, ap, sym, inl, inr, ◌∙◌, arith, append_assoc, length-append}
+use Rattle.std.proofs.lemmas.List.{append-nil}
+use Rattle.std.proofs.lemmas.List.Elements.{All-nil, All-push}
+use Rattle.std.proofs.lemmas.Bool.{false≢true}
+use Rattle.script_text.specs.declared.faults.ScriptFault.{ScriptFault}
+use Rattle.script_text.specs.declared.faults.ScriptFault.TheVariants.{BadLine, TooLong, ReadFault, NoMemory}
+use Rattle.script_text.specs.declared.intake.LineEnd.{LineEnd}
+use Rattle.script_text.specs.declared.intake.LineEnd.TheVariants.{Newline, Input}
+use Rattle.script_text.specs.Lines.{full_lines, unlines}
+use Rattle.script_text.specs.Script.{Place, Item, Walk, Stop, too_long, arrived, stuck, chain, accept, finish, reading}
+use Rattle.script_text.specs.Reader.{Held, UsesLines, GoesOn, StopsAtFault, Refuses, stuck_after}
+use Rattle.script_text.specs.Taking.{Taken, IsPlain, HeldLine, newline_of, bytes_of, HasEnd, IsWhole, IsUsedUp, TakesMore, TakesNext, IsPastLimit, BreaksOff, NextAnswer}
+use Rattle.script_text.specs.Judging.{IsStuckBy, after_line, held_at}
+use Rattle.script_text.proofs.ReadLines.{full_lines-plain, unlines-push}
+use Rattle.script_text.proofs.ReadWalk.{line_at, walk-push, reading-line, reading-tail, reading-long, last_line-some}
+
+-- ---- the next line of an input
+
+whole_by : (line : List ℕ) (line_end : Option LineEnd) (rest : Taken) (size : ℕ) (left : List ℕ) (p : Place) → HasEnd line_end rest → size ≡ length (line ++ newline_of line_end) → 1 ≤ size
+    → IsPlain line → (IsTrue rest.ended → left ≡ [])
+    → reading ((line ++ (newline_of line_end ++ rest.bytes)) ++ left) p ≡ chain (accept size line p) (reading (rest.bytes ++ left))
+whole_by line None rest size left p ends counted low plain at_end = absurd ends
+whole_by line (Some Newline) rest size left p ends counted low plain at_end =
+    let same : length line + 1 ≡ size = omega (arith, counted, length-append line (10 ∷ [])) in
+    ap (λ bytes. reading bytes p) (append_assoc line (10 ∷ rest.bytes) left)
+    ∙ reading-line line (rest.bytes ++ left) p plain
+    ∙ ap (λ n. chain (accept n line p) (reading (rest.bytes ++ left))) same
+whole_by line (Some Input) rest size left p ends counted low plain at_end =
+    let nothing : rest.bytes ++ left ≡ [] = ap (λ l. l ++ left) ends.0 ∙ at_end ends.1 in
+    let same : length line ≡ size = ap length (sym (append-nil line)) ∙ sym counted in
+    ap (λ bytes. reading bytes p) (append_assoc line rest.bytes left ∙ ap (λ l. line ++ l) nothing ∙ append-nil line)
+    ∙ reading-tail line p plain ∙ last_line-some line p (omega arith)
+    ∙ ap (λ n. chain (accept n line p) finish) same
+    ∙ ap (λ l. chain (accept size line p) (reading l)) (sym nothing)
+
+pub reading-whole : (h : HeldLine) (size : ℕ) (left : List ℕ) (p : Place) → IsWhole h size → IsPlain h.line → (IsTrue h.rest.ended → left ≡ [])
+    → reading (bytes_of h ++ left) p ≡ chain (accept size h.line p) (reading (h.rest.bytes ++ left))
+reading-whole h size left p w plain at_end = whole_by h.line h.line_end h.rest size left p w.ends w.counted w.some_byte plain at_end
+
+-- ---- walks that go on
+
+chain-arrived_arrived : (xs ys : List Item) (p q : Place) (f : Place → Walk) → chain (arrived xs p) (λ r. chain (arrived ys q) f) ≡ chain (arrived (xs ++ ys) q) f
+chain-arrived_arrived xs ys p q f = ap (λ items. record { items = items; ends = (f q).ends }) (sym (append_assoc xs ys (f q).items))
+
+chain-arrived_stuck : (xs : List Item) (p : Place) (s : Stop) → chain (arrived xs p) (λ r. stuck s) ≡ stuck_after xs s
+chain-arrived_stuck xs p s = ap (λ items. stuck_after items s) (append-nil xs)
+
+-- ---- one line more
+
+pub goes_nowhere : (old : Held) (left : List ℕ) → (IsTrue old.ended → left ≡ []) → GoesOn old old left left []
+goes_nowhere old left at_end = record {
+  taken = [];
+  took = refl;
+  same = refl;
+  at_end = at_end;
+  used = λ going. record { lines = []; plain = All-nil IsPlain; bytes = append-nil old.bytes; walked = refl };
+}
+
+pub not_ended : (before now : Bool) → (before ≡ true → now ≡ true) → now ≡ false → before ≡ false
+not_ended true now h e = absurd (false≢true (sym e ∙ h refl))
+not_ended false now h e = refl
+
+uses_more : (old : Held) (p : Place) (h now : HeldLine) (taken more : List ℕ) (items : List Item) → bytes_of h ++ more ≡ bytes_of now → UsesLines old (held_at p h) taken items
+    → UsesLines old (held_at p now) (taken ++ more) items
+uses_more old p h now taken more items bytes u = record {
+  lines = u.lines;
+  plain = u.plain;
+  bytes = sym (append_assoc old.bytes taken more) ∙ ap (λ l. l ++ more) u.bytes ∙ append_assoc (unlines u.lines) (bytes_of h) more ∙ ap (λ l. unlines u.lines ++ l) bytes;
+  walked = u.walked;
+}
+
+same_more : (old : Held) (p : Place) (h now : HeldLine) (x y z : List ℕ) (items : List Item) → GoesOn old (held_at p h) x y items → TakesMore h now y z
+    → reading (old.bytes ++ x) old.place ≡ chain (arrived items p) (reading (bytes_of now ++ z))
+same_more old p h now x y z items g t =
+    let bytes : bytes_of h ++ y ≡ bytes_of now ++ z = ap (λ l. bytes_of h ++ l) t.took ∙ sym (append_assoc (bytes_of h) t.taken z) ∙ ap (λ l. l ++ z) t.bytes in
+    g.same ∙ ap (λ l. chain (arrived items p) (reading l)) bytes
+
+took_more : (x y z taken more : List ℕ) → x ≡ taken ++ y → y ≡ more ++ z → x ≡ (taken ++ more) ++ z
+took_more x y z taken more first next = first ∙ ap (λ l. taken ++ l) next ∙ sym (append_assoc taken more z)
+
+-- the next line was found
+pub goes_next : (old : Held) (p : Place) (h now : HeldLine) (x y z : List ℕ) (items : List Item) → (IsTrue h.rest.ended → IsTrue now.rest.ended) → GoesOn old (held_at p h) x y items → TakesNext h now y z
+    → GoesOn old (held_at p now) x z items
+goes_next old p h now x y z items stays g t = record {
+  taken = g.taken ++ t.more.taken;
+  took = took_more x y z g.taken t.more.taken g.took t.more.took;
+  same = same_more old p h now x y z items g t.more;
+  at_end = t.at_end;
+  used = λ going. uses_more old p h now g.taken t.more.taken items t.more.bytes (g.used (not_ended h.rest.ended now.rest.ended stays going));
+}
+
+uses_line : (old : Held) (p q : Place) (h : HeldLine) (line_end : Option LineEnd) (size : ℕ) (taken : List ℕ) (xs ys : List Item) → h.line_end ≡ line_end → HasEnd line_end h.rest
+    → size ≡ length (h.line ++ newline_of line_end) → IsPlain h.line → accept size h.line p ≡ arrived ys q → IsFalse h.rest.ended → UsesLines old (held_at p h) taken xs
+    → UsesLines old (held_at q (after_line h)) taken (xs ++ ys)
+uses_line old p q h None size taken xs ys is ends counted plain e going u = absurd ends
+uses_line old p q h (Some Input) size taken xs ys is ends counted plain e going u = absurd (false≢true (sym going ∙ ends.1))
+uses_line old p q h (Some Newline) size taken xs ys is ends counted plain e going u =
+    let same : size ≡ length h.line + 1 = omega (arith, counted, length-append h.line (10 ∷ [])) in
+    let at : line_at h.line p ≡ arrived ys q = ap (λ n. accept n h.line p) (sym same) ∙ e in
+    record {
+      lines = u.lines ++ h.line ∷ [];
+      plain = All-push IsPlain u.lines h.line u.plain plain;
+      bytes = u.bytes ∙ ap (λ l. unlines u.lines ++ (h.line ++ (newline_of l ++ h.rest.bytes))) is ∙ sym (unlines-push u.lines h.line h.rest.bytes);
+      walked = walk-push u.lines h.line old.place ∙ ap (λ w. chain w (line_at h.line)) u.walked ∙ ap (λ w. chain (arrived xs p) (λ r. w)) at;
+    }
+
+-- the line that is held was used
+pub goes_line : (old : Held) (p q : Place) (h : HeldLine) (size : ℕ) (x z : List ℕ) (xs ys : List Item) → IsWhole h size → IsPlain h.line → accept size h.line p ≡ arrived ys q
+    → GoesOn old (held_at p h) x z xs → GoesOn old (held_at q (after_line h)) x z (xs ++ ys)
+goes_line old p q h size x z xs ys w plain e g = record {
+  taken = g.taken;
+  took = g.took;
+  same = g.same ∙ ap (λ v. chain (arrived xs p) (λ r. v)) (reading-whole h size z p w plain g.at_end ∙ ap (λ v. chain v (reading (h.rest.bytes ++ z))) e)
+      ∙ chain-arrived_arrived xs ys p q (reading (h.rest.bytes ++ z));
+  at_end = g.at_end;
+  used = λ going. uses_line old p q h h.line_end size g.taken xs ys refl w.ends w.counted plain e going (g.used going);
+}
+
+-- ---- refusals
+
+-- the line that is held is stuck
+pub stuck_line : (old : Held) (p : Place) (h : HeldLine) (size : ℕ) (x z : List ℕ) (items : List Item) (s : Stop) → IsWhole h size → IsPlain h.line → accept size h.line p ≡ stuck s
+    → GoesOn old (held_at p h) x z items → reading (old.bytes ++ x) old.place ≡ stuck_after items s
+stuck_line old p h size x z items s w plain e g =
+    g.same ∙ ap (λ v. chain (arrived items p) (λ r. v)) (reading-whole h size z p w plain g.at_end ∙ ap (λ v. chain v (reading (h.rest.bytes ++ z))) e)
+    ∙ chain-arrived_stuck items p s
+
+pub refuses_line : (old new : Held) (p : Place) (h : HeldLine) (size : ℕ) (x z : List ℕ) (items : List Item) (fault : ScriptFault) → IsWhole h size → IsPlain h.line
+    → IsStuckBy (accept size h.line p) fault → GoesOn old (held_at p h) x z items → Refuses old new x z items fault
+refuses_line old new p h size x z items (BadLine n) w plain e g = stuck_line old p h size x z items _ w plain e g
+refuses_line old new p h size x z items TooLong w plain e g = stuck_line old p h size x z items _ w plain e g
+refuses_line old new p h size x z items ReadFault w plain e g = absurd e
+refuses_line old new p h size x z items NoMemory w plain e g = tt
+
+-- the beginning of a line passes a limit
+past_limit : (p : Place) (h : HeldLine) (room : ℕ) → room + p.bytes ≡ 4294967296 → IsPastLimit h room → (8388608 < length h.line) ⊎ (4294967296 < p.bytes + length h.line)
+past_limit p h room e (inl long) = inl long
+past_limit p h room e (inr long) = inr (omega arith)
+
+refuses_long : (old : Held) (p : Place) (h now : HeldLine) (room : ℕ) (x y z : List ℕ) (items : List Item) → room + p.bytes ≡ 4294967296 → IsPlain now.line → GoesOn old (held_at p h) x y items
+    → TakesMore h now y z → IsPastLimit now room → reading (old.bytes ++ x) old.place ≡ stuck_after items too_long
+refuses_long old p h now room x y z items e plain g t long =
+    let behind = (newline_of now.line_end ++ now.rest.bytes) ++ z in
+    let bytes : bytes_of now ++ z ≡ now.line ++ behind = append_assoc now.line (newline_of now.line_end ++ now.rest.bytes) z in
+    let stops : reading (bytes_of now ++ z) p ≡ stuck too_long = ap (λ l. reading l p) bytes ∙ reading-long now.line behind p (omega arith) plain (past_limit p now room e long) in
+    same_more old p h now x y z items g t ∙ ap (λ v. chain (arrived items p) (λ r. v)) stops ∙ chain-arrived_stuck items p too_long
+
+breaks_off : (old : Held) (p : Place) (h now : HeldLine) (x y z : List ℕ) (items : List Item) → (IsTrue old.ended → IsTrue h.rest.ended) → IsPlain now.line → GoesOn old (held_at p h) x y items
+    → TakesMore h now y z → BreaksOff h now → StopsAtFault old (held_at p now) x z items
+breaks_off old p h now x y z items stays plain g t b = record {
+  going = not_ended old.ended h.rest.ended stays b.going;
+  taken = g.taken ++ t.taken;
+  took = took_more x y z g.taken t.taken g.took t.took;
+  used = uses_more old p h now g.taken t.taken items t.bytes (g.used b.going);
+  no_line = ap full_lines b.no_line ∙ full_lines-plain now.line plain;
+}
+
+-- no next line came
+pub refuses_next : (old : Held) (p : Place) (h now : HeldLine) (room : ℕ) (x y z : List ℕ) (items : List Item) (fault : ScriptFault) → room + p.bytes ≡ 4294967296 → (IsTrue old.ended → IsTrue h.rest.ended)
+    → IsPlain now.line → GoesOn old (held_at p h) x y items → NextAnswer h now room (Err fault) y z → Refuses old (held_at p now) x z items fault
+refuses_next old p h now room x y z items (BadLine n) e stays plain g a = absurd a
+refuses_next old p h now room x y z items TooLong e stays plain g a = refuses_long old p h now room x y z items e plain g a.0 a.1
+refuses_next old p h now room x y z items ReadFault e stays plain g a = breaks_off old p h now x y z items stays plain g a.0 a.1
+refuses_next old p h now room x y z items NoMemory e stays plain g a = tt
+
+-- ---- the end of the input
+
+pub reading-used_up : (old : Held) (p : Place) (h : HeldLine) (x z : List ℕ) (items : List Item) → IsUsedUp h → GoesOn old (held_at p h) x z items
+    → reading (old.bytes ++ x) old.place ≡ chain (arrived items p) (λ r. finish p)
+reading-used_up old p h x z items u g =
+    let nothing : bytes_of h ++ z ≡ [] = ap (λ l. l ++ z) u.nothing ∙ g.at_end u.ended in
+    g.same ∙ ap (λ l. chain (arrived items p) (reading l)) nothing

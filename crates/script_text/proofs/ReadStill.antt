@@ -1,0 +1,135 @@
+-- Where a whole line is held, nothing is read for it.
+use Rattle.std.proofs.Common.{◌≡◌, ◌≢◌, ℕ, ◌+◌, List, [], ◌∷◌, ◌++◌, length, Bool, false, Option, Some, None, Result, Ok, Err, All, IsTrue, refl, ap, sym, subst, ◌∙◌, length-append}
+use Rattle.std.proofs.lemmas.List.{append-nil}
+use Rattle.std.proofs.lemmas.List.Elements.{All-nil, All-cons, All-head, All-tail}
+use Rattle.script_text.specs.declared.faults.ScriptFault.{ScriptFault}
+use Rattle.script_text.specs.declared.faults.ScriptFault.TheVariants.{BadLine, TooLong, ReadFault, NoMemory}
+use Rattle.turn_core.specs.declared.posts.Post.{Post}
+use Rattle.script_text.specs.declared.intake.LineEnd.{LineEnd}
+use Rattle.script_text.specs.declared.intake.LineEnd.TheVariants.{Newline, Input}
+use Rattle.script_text.specs.Lines.{full_lines, unlines}
+use Rattle.script_text.specs.Script.{Place, Item, ends_turn, arrived, chain, accept, walk}
+use Rattle.script_text.specs.Reader.{Held, HoldsTurn, UsesLines, GoesOn, TurnAnswers, TurnTold}
+use Rattle.script_text.specs.Taking.{Taken, HasLine, IsPlain, MovesPart, MovesAll, LineAnswer, LineTold, HeldLine, newline_of, bytes_of, HasEnd, IsWhole, TakesNext, NextTold}
+use Rattle.script_text.specs.Judging.{after_line, held_at}
+use Rattle.script_text.proofs.ReadLines.{full_lines-plain, full_lines-line, unlines-line}
+use Rattle.script_text.proofs.ReadTold.{nothing_left, told-weaker}
+use Rattle.script_text.proofs.ReadHeld.{bytes_between}
+use Rattle.script_text.proofs.ReadCalls.{uses_then}
+
+-- bytes with a whole line among them are some
+pub some_bytes : (bytes : List ℕ) → HasLine bytes → bytes ≢ []
+some_bytes bytes has none = has (ap full_lines none)
+
+-- the first line that is held moves to an empty line
+pub moves_first : (old new : Taken) (line longer : List ℕ) → line ≡ [] → MovesPart old new line longer → longer ++ 10 ∷ new.bytes ≡ old.bytes
+moves_first old new line longer none m = ap (λ l. l ++ 10 ∷ new.bytes) (m.grown ∙ ap (λ l. l ++ m.part) none) ∙ sym m.bytes
+
+-- where all moves, there was no whole line
+pub moves_no_line : {A : Type 0} (old new : Taken) (line longer : List ℕ) → MovesAll old new line longer → HasLine old.bytes → A
+moves_no_line old new line longer m has = absurd (has (full_lines-plain old.bytes m.plain))
+
+-- ---- lines that are held
+
+-- lines in front of bytes
+full_lines-behind : (lines : List (List ℕ)) (rest : List ℕ) → All IsPlain lines → full_lines (unlines lines ++ rest) ≡ lines ++ full_lines rest
+full_lines-behind [] rest plain = refl
+full_lines-behind (line ∷ lines) rest plain =
+    ap full_lines (unlines-line line lines rest) ∙ full_lines-line line (unlines lines ++ rest) (All-head IsPlain line lines plain)
+    ∙ ap (λ more. line ∷ more) (full_lines-behind lines rest (All-tail IsPlain line lines plain))
+
+-- a reader that held a turn, and has used lines without its end, still holds a line
+pub holds_line : (old new : Held) → HoldsTurn old → UsesLines old new [] [] → HasLine new.bytes
+holds_line old new holds u none =
+    let bytes : old.bytes ≡ unlines u.lines ++ new.bytes = sym (append-nil old.bytes) ∙ u.bytes in
+    let lines : full_lines old.bytes ≡ u.lines =
+    ap full_lines bytes ∙ full_lines-behind u.lines new.bytes u.plain ∙ ap (λ more. u.lines ++ more) none ∙ append-nil u.lines in
+    holds new.place (ap (λ some. walk some old.place) lines ∙ u.walked)
+
+-- the line that is held is whole, and more than a tail
+newline_by : (line_end : Option LineEnd) (line : List ℕ) (rest : Taken) → IsPlain line → HasEnd line_end rest → HasLine (line ++ (newline_of line_end ++ rest.bytes)) → line_end ≡ Some Newline
+newline_by None line rest plain ends has = absurd ends
+newline_by (Some Newline) line rest plain ends has = refl
+newline_by (Some Input) line rest plain ends has =
+    absurd (has (ap full_lines (ap (λ l. line ++ l) ends.0 ∙ append-nil line) ∙ full_lines-plain line plain))
+
+-- the line that is held was used
+uses_line : (p q : Place) (now : HeldLine) (size : ℕ) → now.line_end ≡ Some Newline → IsWhole now size → IsPlain now.line → accept size now.line p ≡ arrived [] q
+    → UsesLines (held_at p now) (held_at q (after_line now)) [] []
+uses_line p q now size ends w plain e =
+    let whole : bytes_of now ≡ now.line ++ 10 ∷ now.rest.bytes = ap (λ l. now.line ++ (newline_of l ++ now.rest.bytes)) ends in
+    let counted : size ≡ length now.line + 1 = w.counted ∙ ap (λ l. length (now.line ++ newline_of l)) ends ∙ length-append now.line (10 ∷ []) in
+    record {
+      lines = now.line ∷ [];
+      plain = All-cons IsPlain now.line [] plain (All-nil IsPlain);
+      bytes = append-nil (bytes_of now) ∙ whole ∙ sym (unlines-line now.line [] now.rest.bytes);
+      walked = ap (λ w. chain w (λ r. arrived [] r)) (ap (λ n. accept n now.line p) (sym counted) ∙ e);
+    }
+
+-- the next line was found among what was held, and used
+pub uses_held : (first : Held) (p q : Place) (h now : HeldLine) (size : ℕ) → UsesLines first (held_at p h) [] [] → HasLine (bytes_of h) → bytes_of now ≡ bytes_of h → IsWhole now size → IsPlain now.line
+    → accept size now.line p ≡ arrived [] q → UsesLines first (held_at q (after_line now)) [] []
+uses_held first p q h now size u has same w plain e =
+    let ends = newline_by now.line_end now.line now.rest plain w.ends (subst HasLine (sym same) has) in
+    let Bytes : List ℕ → Type 0 = λ bytes. UsesLines (record { place = p; bytes = bytes; ended = h.rest.ended; over = false; failed = false }) (held_at q (after_line now)) [] [] in
+    uses_then first (held_at p h) (held_at q (after_line now)) [] [] [] [] u (subst Bytes same (uses_any p q now size h.rest.ended ends w plain e))
+  where
+    uses_any : (p q : Place) (now : HeldLine) (size : ℕ) (ended : Bool) → now.line_end ≡ Some Newline → IsWhole now size → IsPlain now.line → accept size now.line p ≡ arrived [] q
+        → UsesLines (record { place = p; bytes = bytes_of now; ended = ended; over = false; failed = false }) (held_at q (after_line now)) [] []
+    uses_any p q now size ended ends w plain e = let u = uses_line p q now size ends w plain e in record { lines = u.lines; plain = u.plain; bytes = u.bytes; walked = u.walked }
+
+-- before the first line
+pub uses_none : (h : Held) → UsesLines h h [] []
+uses_none h = record { lines = []; plain = All-nil IsPlain; bytes = append-nil h.bytes; walked = refl }
+
+-- nothing was read before, and a line is held
+pub still_unread : {S : Type 0} (first now : Held) (start old new : S) → (HoldsTurn first → (old ≡ start) × UsesLines first now [] []) → (HasLine now.bytes → new ≡ old) → HoldsTurn first → new ≡ start
+still_unread first now start old new before next holds = let s = before holds in next (holds_line first now holds s.1) ∙ s.0
+
+-- ---- the answer to the next line
+
+found_by : (old : HeldLine) (t : Taken) (line : List ℕ) (end : LineEnd) (room : ℕ) (before after : List ℕ) → old.line ≡ [] → old.line_end ≡ None → (IsTrue old.rest.ended → before ≡ [])
+    → LineAnswer old.rest t line room (Ok end) before after → TakesNext old (record { line = line; line_end = Some end; rest = t }) before after
+found_by old t line Newline room before after none first at_end a = record {
+  more = record { taken = a.taken; took = a.took; bytes = ap (λ l. l ++ a.taken) (bytes_between old none first) ∙ a.bytes };
+  at_end = λ ended. nothing_left a.taken after (sym a.took ∙ at_end (sym a.ended ∙ ended));
+}
+found_by old t line Input room before after none first at_end a = record {
+  more = record {
+    taken = before;
+    took = sym (append-nil before) ∙ ap (λ l. before ++ l) (sym a.at_end);
+    bytes = ap (λ l. l ++ before) (bytes_between old none first) ∙ a.all ∙ sym (append-nil line) ∙ ap (λ l. line ++ l) (sym a.nothing);
+  };
+  at_end = λ ended. a.at_end;
+}
+
+-- the next line came
+pub found_told : (old : HeldLine) (t : Taken) (line : List ℕ) (end : LineEnd) (size : Option ℕ) (room : ℕ) (a b : Option (List ℕ)) → old.line ≡ [] → old.line_end ≡ None
+    → LineTold old.rest t a b line room (Ok end) → NextTold old (record { line = line; line_end = Some end; rest = t }) a b room (Ok size)
+found_told old t line end size room a b none first said = told-weaker a b _ _ (λ x y answer at_end. found_by old t line end room x y none first at_end (answer at_end)) said
+
+-- ---- whether calls may follow plays no part in what is told
+
+abbrev pub with_flags : Held → Bool → Bool → Held
+with_flags h over failed = record h { over = over; failed = failed }
+
+uses_flags : (old new : Held) (a b c d : Bool) (taken : List ℕ) (items : List Item) → UsesLines old new taken items → UsesLines (with_flags old a b) (with_flags new c d) taken items
+uses_flags old new a b c d taken items u = record { lines = u.lines; plain = u.plain; bytes = u.bytes; walked = u.walked }
+
+goes_flags : (old new : Held) (a b c d : Bool) (x y : List ℕ) (items : List Item) → GoesOn old new x y items → GoesOn (with_flags old a b) (with_flags new c d) x y items
+goes_flags old new a b c d x y items g =
+    record { taken = g.taken; took = g.took; same = g.same; at_end = g.at_end; used = λ going. uses_flags old new a b c d g.taken items (g.used going) }
+
+answers_flags : (old new : Held) (a b c d : Bool) (x y : List ℕ) (result : Result (Option (List (List Post))) ScriptFault) → TurnAnswers old new result x y
+    → TurnAnswers (with_flags old a b) (with_flags new c d) result x y
+answers_flags old new a b c d x y (Ok (Some posts)) t = goes_flags old new a b c d x y (ends_turn posts ∷ []) t
+answers_flags old new a b c d x y (Ok None) t = record { whole = t.whole; nothing = t.nothing }
+answers_flags old new a b c d x y (Err (BadLine n)) t = t
+answers_flags old new a b c d x y (Err TooLong) t = t
+answers_flags old new a b c d x y (Err ReadFault) t =
+    record { going = t.going; taken = t.taken; took = t.took; used = uses_flags old new a b c d t.taken [] t.used; no_line = t.no_line }
+answers_flags old new a b c d x y (Err NoMemory) t = t
+
+pub turn_flags : (old new : Held) (a b c d : Bool) (left later : Option (List ℕ)) (result : Result (Option (List (List Post))) ScriptFault) → TurnTold old new left later result
+    → TurnTold (with_flags old a b) (with_flags new c d) left later result
+turn_flags old new a b c d left later result = told-weaker left later _ _ (λ x y t end. answers_flags old new a b c d x y result (t end))

@@ -1,0 +1,12 @@
+-- The text so far, and that of what is left of the array, are the text of the whole array after what stood before.
+use Rattle.std.proofs.Common.{◌≡◌, ◌++◌, drop, map}
+use Rattle.serde_json.specs.View.{items_of}
+use Rattle.serde_json.specs.Written.{compact_text, items_text}
+use Rattle.script_text.specs.Canon.{decimals_json, decimal_json}
+use Rattle.std.specs.Prelude.{FitsSigned}
+use Rattle.std.specs.Int.{w32}
+use Rattle.std.specs.List.{AllWithin}
+use Rattle.script_text.proofs.canon.pieces.push_decimals.Given as goal
+
+abbrev pub invariant-loop-number : goal.invariant-loop-number
+invariant-loop-number l = (l.text ++ items_text l.later (items_of (map decimal_json (drop l.number-index l.numbers))) ≡ l.fn.text ++ compact_text (decimals_json l.fn.numbers)) × AllWithin (λ raw. FitsSigned w32 raw) l.numbers 0 l.number-index

@@ -1,0 +1,141 @@
+-- The canonical script: each line is a JSON value written with no white space, its keys in the order that stands here,
+-- and a newline (10). Numbers are decimal, and fixed-point numbers their canonical texts as strings.
+use Rattle.std.specs.Prelude.{ℕ, zero, suc, ◌+◌, ◌==◌, ◌||◌, List, [], ◌∷◌, ◌++◌, length, take, drop, map, flat_map, Bool, true, IsTrue, nat_le, ℤ, codes, if◌then◌else◌}
+use Rattle.std.specs.List.{list_all}
+use Rattle.serde_json.specs.Data.{Data, number, unsigned, string, array, object, Members, no_members, member}
+use Rattle.serde_json.specs.View.{items_of}
+use Rattle.serde_json.specs.Written.{compact_text}
+use Rattle.nav_types.specs.declared.cells.Rect.{Rect}
+use Rattle.fixed_point.specs.Text.{fixed_text}
+use Rattle.class_config.specs.declared.table.PassabilityClass.{PassabilityClass}
+use Rattle.goal_shapes.specs.declared.goals.Goal.TheVariants.{Point, Circle, NotCircle, Square, NotSquare}
+use Rattle.goal_shapes.specs.declared.goals.GoalSpec.{GoalSpec}
+use Rattle.goal_shapes.specs.declared.goals.GoalSpec.TheVariants.{Plain, Obstruction as ByObstruction}
+use Rattle.grid_versions.specs.Maps.{Map}
+use Rattle.turn_core.specs.declared.posts.Post.{Post}
+use Rattle.turn_core.specs.declared.posts.Post.TheVariants.{Add, Remove, Move, Path, Region}
+use Rattle.script_text.specs.Grammar.{shape_key, shape_decimals}
+
+-- ---- values
+
+abbrev pub whole_json : ℕ → Data
+whole_json n = number (unsigned n)
+
+abbrev pub decimal_json : ℤ → Data
+decimal_json raw = string (fixed_text raw)
+
+abbrev pub list_json : List Data → Data
+list_json items = array (items_of items)
+
+abbrev pub wholes_json : List ℕ → Data
+wholes_json numbers = list_json (map whole_json numbers)
+
+abbrev pub decimals_json : List ℤ → Data
+decimals_json raws = list_json (map decimal_json raws)
+
+abbrev pub in_order : List (List ℕ × Data) → Members
+in_order [] = no_members
+in_order (first ∷ others) = member first.0 first.1 (in_order others)
+
+-- an object with its members in this order
+abbrev pub object_json : List (List ℕ × Data) → Data
+object_json members = object (in_order members)
+
+-- a value as a line
+unfoldable pub line : Data → List ℕ
+line d = compact_text d ++ 10 ∷ []
+
+-- ---- the map
+
+abbrev pub class_json : PassabilityClass → Data
+class_json class = object_json ((codes "name", string class.name) ∷ (codes "clearance", decimal_json class.clearance) ∷ [])
+
+unfoldable pub map_json : Map → Data
+map_json m = object_json (
+    (codes "version", whole_json m.version) ∷ (codes "size", wholes_json (m.size.w ∷ m.size.h ∷ []))
+    ∷ (codes "callers", whole_json m.callers) ∷ (codes "classes", list_json (map class_json m.classes)) ∷ [])
+
+abbrev pub entry_json : Rect × ℕ → Data
+entry_json entry = wholes_json (entry.0.i0 ∷ entry.0.j0 ∷ entry.0.i1 ∷ entry.0.j1 ∷ entry.1 ∷ [])
+
+unfoldable pub base_json : List (Rect × ℕ) → Data
+base_json rects = object_json ((codes "base", list_json (map entry_json rects)) ∷ [])
+
+-- a list in pieces of so many items, the last with the rest; the first number is not below the number of pieces
+abbrev pub pieces : {X : Type 0} → ℕ → ℕ → List X → List (List X)
+pieces zero size xs = []
+pieces (suc turns) size [] = []
+pieces (suc turns) size (x ∷ xs) = take size (x ∷ xs) ∷ pieces turns size (drop size (x ∷ xs))
+
+-- the base lines, with 65,536 rectangles to a line
+unfoldable pub canon_base : List (Rect × ℕ) → List ℕ
+canon_base rects = flat_map (λ piece. line (base_json piece)) (pieces (length rects) 65536 rects)
+
+unfoldable pub canon_map : Map → List ℕ
+canon_map m = line (map_json m) ++ canon_base m.base
+
+-- ---- posts
+
+-- a goal that is a shape, under the key of its kind
+abbrev pub shape_json : List ℕ → List ℤ → Data
+shape_json key raws = object_json ((key, decimals_json raws) ∷ [])
+
+unfoldable pub goal_json : GoalSpec → Data
+goal_json (Plain (Point x z)) = shape_json (codes "point") (x ∷ z ∷ [])
+goal_json (Plain (Circle x z r)) = shape_json (codes "circle") (x ∷ z ∷ r ∷ [])
+goal_json (Plain (NotCircle x z r)) = shape_json (codes "not-circle") (x ∷ z ∷ r ∷ [])
+goal_json (Plain (Square x z ux uz hw hh)) = shape_json (codes "square") (x ∷ z ∷ ux ∷ uz ∷ hw ∷ hh ∷ [])
+goal_json (Plain (NotSquare x z ux uz hw hh)) = shape_json (codes "not-square") (x ∷ z ∷ ux ∷ uz ∷ hw ∷ hh ∷ [])
+goal_json (ByObstruction id grow) = object_json ((codes "obstruction", list_json (whole_json id ∷ decimal_json grow ∷ [])) ∷ [])
+
+-- the mask stands last, from version 2 on
+abbrev pub mask_members : ℕ → ℕ → List (List ℕ × Data)
+mask_members version mask = if nat_le 2 version then (codes "mask", whole_json mask) ∷ [] else []
+
+unfoldable pub post_json : ℕ → ℕ → Post → Data
+post_json version caller (Add id o) = object_json (
+    (codes "caller", whole_json caller) ∷ (codes "add", whole_json id) ∷ (shape_key o.shape, decimals_json (shape_decimals o.shape))
+    ∷ mask_members version o.mask)
+post_json version caller (Remove id) = object_json ((codes "caller", whole_json caller) ∷ (codes "remove", whole_json id) ∷ [])
+post_json version caller (Move id x z) =
+    object_json ((codes "caller", whole_json caller) ∷ (codes "move", whole_json id) ∷ (codes "to", decimals_json (x ∷ z ∷ [])) ∷ [])
+post_json version caller (Path class x z goal) = object_json (
+    (codes "caller", whole_json caller) ∷ (codes "path", string class) ∷ (codes "from", decimals_json (x ∷ z ∷ []))
+    ∷ (codes "goal", goal_json goal) ∷ [])
+post_json version caller (Region class x z) =
+    object_json ((codes "caller", whole_json caller) ∷ (codes "region", string class) ∷ (codes "at", decimals_json (x ∷ z ∷ [])) ∷ [])
+
+-- the lines of a caller's posts, in their order
+unfoldable pub canon_posts : ℕ → ℕ → List Post → List ℕ
+canon_posts version caller posts = flat_map (λ post. line (post_json version caller post)) posts
+
+-- the lines of the posts of callers, from this caller on
+abbrev pub canon_callers : ℕ → ℕ → List (List Post) → List ℕ
+canon_callers version caller [] = []
+canon_callers version caller (posts ∷ others) = canon_posts version caller posts ++ canon_callers version (caller + 1) others
+
+unfoldable pub end_json : ℕ → Data
+end_json turn = object_json ((codes "end", whole_json turn) ∷ [])
+
+-- a turn: the posts of caller 0, of caller 1 and so on, and the end line
+unfoldable pub canon_journal : Map → ℕ → List (List Post) → List ℕ
+canon_journal m turn posts = canon_callers m.version 0 posts ++ line (end_json turn)
+
+-- ---- what a version has lines for
+
+-- a goal by obstruction stands from version 3 on
+abbrev pub is_goal_of : ℕ → GoalSpec → Bool
+is_goal_of version (Plain goal) = true
+is_goal_of version (ByObstruction id grow) = nat_le 3 version
+
+-- an add with a mask that is not of every class stands from version 2 on, a move from version 3 on
+abbrev pub is_post_of : ℕ → Post → Bool
+is_post_of version (Add id o) = nat_le 2 version || o.mask == 65535
+is_post_of version (Remove id) = true
+is_post_of version (Move id x z) = nat_le 3 version
+is_post_of version (Path class x z goal) = is_goal_of version goal
+is_post_of version (Region class x z) = true
+
+-- each post has a line in a script of this version
+abbrev pub HaveLines : ℕ → List (List Post) → Type 0
+HaveLines version turn = IsTrue (list_all (λ posts. list_all (is_post_of version) posts) turn)

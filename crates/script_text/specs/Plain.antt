@@ -1,0 +1,6 @@
+-- Bytes that stand for themselves in a JSON string.
+use Rattle.std.specs.Prelude.{ℕ, ◌&&◌, ◌==◌, Bool, not, nat_le}
+
+-- no control character, quote (34) or backslash (92)
+abbrev pub is_plain : ℕ → Bool
+is_plain byte = nat_le 32 byte && not (byte == 34) && not (byte == 92)

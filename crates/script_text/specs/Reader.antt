@@ -1,0 +1,124 @@
+-- What a reader holds, and how its calls go through an input.
+use Rattle.std.specs.Prelude.{ℕ, ◌≡◌, ◌≢◌, List, [], ◌∷◌, ◌++◌, length, sum_by, Bool, true, false, All, IsFalse, IsTrue, Option, Some, None, Result, Ok, Err, ⊤}
+use Rattle.script_text.specs.declared.faults.ScriptFault.{ScriptFault}
+use Rattle.script_text.specs.declared.faults.ScriptFault.TheVariants.{BadLine, TooLong, ReadFault, NoMemory}
+use Rattle.grid_versions.specs.Maps.{Map}
+use Rattle.turn_core.specs.declared.posts.Post.{Post}
+use Rattle.script_text.specs.Lines.{full_lines, unlines}
+use Rattle.script_text.specs.Script.{Rules, Part, before_map, in_base, in_turns, Place, beginning, Item, ends_turn, Stop, whole_input, too_long, bad_line, stuck_by, Walk, arrived, stuck, chain, map_after, turns_of, walk, reading}
+use Rattle.script_text.specs.Taking.{Told, IsPlain}
+
+-- The place that the reading has come to, the bytes taken that no line has used yet, whether the end of the input was
+-- met, whether no call may follow, and whether the reader has failed.
+pub record Held : Type 0 where
+  pub place : Place
+  pub bytes : List ℕ
+  pub ended : Bool
+  pub over : Bool
+  pub failed : Bool
+
+-- a reader at the beginning of an input
+abbrev pub unread : Held
+unread = record { place = beginning; bytes = []; ended = false; over = false; failed = false }
+
+-- what the lines after the map line keep to, once the map line was read
+abbrev pub rules_at : Part → Option Rules
+rules_at before_map = None
+rules_at (in_base rules) = Some rules
+rules_at (in_turns rules) = Some rules
+
+-- how many callers the map has
+abbrev pub callers_of : Part → ℕ
+callers_of before_map = 0
+callers_of (in_base rules) = rules.callers
+callers_of (in_turns rules) = rules.callers
+
+-- how many posts a turn has, over all callers
+abbrev pub post_count : List (List Post) → ℕ
+post_count posts = sum_by length posts
+
+-- the whole lines that are held end a turn, or stop the input
+abbrev pub HoldsTurn : Held → Type 0
+HoldsTurn h = (place : Place) → walk (full_lines h.bytes) h.place ≢ arrived [] place
+
+-- The reader has used whole lines of what it held and took, which give these items. What it holds after that is the
+-- rest.
+pub record UsesLines (old new : Held) (taken : List ℕ) (items : List Item) : Type 0 where
+  pub lines : List (List ℕ)
+  pub plain : All IsPlain lines
+  pub bytes : old.bytes ++ taken ≡ unlines lines ++ new.bytes
+  pub walked : walk lines old.place ≡ arrived items new.place
+
+-- The input goes on as before after these items, and while its end was not met, only whole lines were used.
+pub record GoesOn (old new : Held) (before after : List ℕ) (items : List Item) : Type 0 where
+  pub taken : List ℕ
+  pub took : before ≡ taken ++ after
+  pub same : reading (old.bytes ++ before) old.place ≡ chain (arrived items new.place) (λ q. reading (new.bytes ++ after) q)
+  pub at_end : IsTrue new.ended → after ≡ []
+  pub used : IsFalse new.ended → UsesLines old new taken items
+
+-- A read failed before the end of the input was met: whole lines were used, which give these items, and what is held is
+-- the beginning of a line.
+pub record StopsAtFault (old new : Held) (before after : List ℕ) (items : List Item) : Type 0 where
+  pub going : IsFalse old.ended
+  pub taken : List ℕ
+  pub took : before ≡ taken ++ after
+  pub used : UsesLines old new taken items
+  pub no_line : full_lines new.bytes ≡ []
+
+-- the input is whole, and read to its end
+pub record IsRead (old : Held) (before after : List ℕ) : Type 0 where
+  pub whole : reading (old.bytes ++ before) old.place ≡ stuck whole_input
+  pub nothing : after ≡ []
+
+-- a walk that gives these items and is stuck then
+abbrev pub stuck_after : List Item → Stop → Walk
+stuck_after items stop = record { items = items; ends = stuck_by stop }
+
+-- What a refusal after these items says of an input that tells its bytes: `before` and `after` are those left in the
+-- source.
+abbrev pub Refuses : Held → Held → List ℕ → List ℕ → List Item → ScriptFault → Type 0
+Refuses old new before after items (BadLine n) = reading (old.bytes ++ before) old.place ≡ stuck_after items (bad_line n)
+Refuses old new before after items TooLong = reading (old.bytes ++ before) old.place ≡ stuck_after items too_long
+Refuses old new before after items ReadFault = StopsAtFault old new before after items
+Refuses old new before after items NoMemory = ⊤
+
+-- the lines used give the map, and no turn
+pub record GivesMap (old new : Held) (before after : List ℕ) (m : Map) : Type 0 where
+  pub items : List Item
+  pub on : GoesOn old new before after items
+  pub map : map_after None items ≡ Some m
+  pub no_turn : turns_of items ≡ []
+
+-- a refusal came before the map was whole
+pub record RefusesMap (old new : Held) (before after : List ℕ) (fault : ScriptFault) : Type 0 where
+  pub items : List Item
+  pub refused : Refuses old new before after items fault
+  pub no_turn : turns_of items ≡ []
+
+-- what an answer with a map, or without, says of an input that tells its bytes; of bad lines only the first is named
+abbrev pub MapAnswers : Held → Held → Result Map ScriptFault → List ℕ → List ℕ → Type 0
+MapAnswers old new (Ok m) before after = GivesMap old new before after m
+MapAnswers old new (Err (BadLine n)) before after = (n ≡ 1) × (reading (old.bytes ++ before) old.place ≡ stuck (bad_line n))
+MapAnswers old new (Err TooLong) before after = RefusesMap old new before after TooLong
+MapAnswers old new (Err ReadFault) before after = RefusesMap old new before after ReadFault
+MapAnswers old new (Err NoMemory) before after = ⊤
+
+-- what an answer with a turn, or without, says of an input that tells its bytes
+abbrev pub TurnAnswers : Held → Held → Result (Option (List (List Post))) ScriptFault → List ℕ → List ℕ → Type 0
+TurnAnswers old new (Ok (Some posts)) before after = GoesOn old new before after (ends_turn posts ∷ [])
+TurnAnswers old new (Ok None) before after = IsRead old before after
+TurnAnswers old new (Err fault) before after = Refuses old new before after [] fault
+
+-- the same for any source, where it tells its bytes; a reader that has met the end finds nothing left
+abbrev pub MapTold : Held → Held → Option (List ℕ) → Option (List ℕ) → Result Map ScriptFault → Type 0
+MapTold old new left later result = Told left later (λ before after. (IsTrue old.ended → before ≡ []) → MapAnswers old new result before after)
+
+abbrev pub TurnTold : Held → Held → Option (List ℕ) → Option (List ℕ) → Result (Option (List (List Post))) ScriptFault → Type 0
+TurnTold old new left later result = Told left later (λ before after. (IsTrue old.ended → before ≡ []) → TurnAnswers old new result before after)
+
+-- no call follows an answer without a turn
+abbrev pub is_last : Result (Option (List (List Post))) ScriptFault → Bool
+is_last (Ok (Some posts)) = false
+is_last (Ok None) = true
+is_last (Err fault) = true

@@ -1,0 +1,268 @@
+//! The canonical lines of posts. Each call appends a text; where there is no memory, what stands is a beginning of it.
+ghost use Rattle.std.specs.Prelude.{◌≡◌, ◌≤◌, ◌++◌, ◌∷◌, [], true, OnOk, IsTrue, FitsSigned};
+ghost use Rattle.std.specs.Int.{w32};
+ghost use Rattle.serde_json.specs.Data.{string};
+ghost use Rattle.serde_json.specs.Written.{compact_text, members_text};
+ghost use Rattle.class_config.specs.Forms.{is_class_name};
+ghost use Rattle.goal_shapes.specs.declared.goals.GoalSpec.TheVariants as goal_spec;
+ghost use Rattle.turn_core.specs.declared.posts.Post.TheVariants as post;
+ghost use Rattle.script_text.specs.Canon as canon;
+ghost use Rattle.script_text.specs.Grammar.{shape_key, shape_decimals};
+ghost use Rattle.script_text.specs.ReadsBack.{AreFixed, IsGoalValue, IsPostValue};
+
+use crate::canon::pieces::{push_decimal, push_decimals, push_number, push_quoted};
+use crate::versions::FIRST_WITH_MASKS;
+use class_config::ClassName;
+use fixed_point::Fixed;
+use goal_shapes::{Goal, GoalSpec};
+use nav_types::{Bytes, NoMemory};
+use obstruction_shapes::{Obstruction, Shape};
+use turn_core::Post;
+
+/// Appends the line of a post, without its newline.
+pub(crate) fn push_post(
+    text: &mut Bytes,
+    version: u8,
+    caller: u64,
+    post: &Post,
+) -> Result<(), NoMemory>
+    ensures text { OnOk result (text.new ≡ text.old ++ compact_text (canon.post_json version caller post.now)) }
+    ensures values { OnOk result (IsPostValue post.now) }
+{
+    match post {
+        Post::Add { id, obstruction } => push_add(text, version, caller, *id, *obstruction),
+        Post::Remove { id } => push_remove(text, version, caller, *id),
+        Post::Move { id, x, z } => push_move(text, version, caller, *id, (*x, *z)),
+        Post::Path { class, x, z, goal } => {
+            push_path(text, version, caller, class, (*x, *z), *goal)
+        }
+        Post::Region { class, x, z } => push_region(text, version, caller, class, (*x, *z)),
+    }
+}
+
+/// Appends the text of an add line.
+fn push_add(
+    text: &mut Bytes,
+    version: u8,
+    caller: u64,
+    id: u32,
+    obstruction: Obstruction,
+) -> Result<(), NoMemory>
+    ensures text { OnOk result (text.new ≡ text.old ++ compact_text (canon.post_json version caller (post.Add id obstruction))) }
+    ensures values { OnOk result (IsPostValue (post.Add id obstruction)) }
+{
+    text.extend(b"{\"caller\":")?;
+    push_number(text, caller)?;
+    text.extend(b",\"add\":")?;
+    push_number(text, u64::from(id))?;
+    push_shape(text, obstruction.shape)?;
+    push_mask(text, version, obstruction.mask)?;
+    Ok(())
+}
+
+/// Appends the member of a shape.
+fn push_shape(text: &mut Bytes, shape: Shape) -> Result<(), NoMemory>
+    ensures text { OnOk result (text.new ≡ text.old
+        ++ 44 ∷ (compact_text (string (shape_key shape)) ++ 58 ∷ compact_text (canon.decimals_json (shape_decimals shape)))) }
+    ensures values { OnOk result (AreFixed (shape_decimals shape)) }
+{
+    match shape {
+        Shape::Unit { x, z, half } => {
+            text.extend(b",\"unit\":")?;
+            push_decimals(text, &[x, z, half])?;
+            Ok(())
+        }
+        Shape::Square {
+            x,
+            z,
+            ux,
+            uz,
+            hw,
+            hh,
+        } => {
+            text.extend(b",\"square\":")?;
+            push_decimals(text, &[x, z, ux, uz, hw, hh])?;
+            Ok(())
+        }
+    }
+}
+
+/// Appends the member of a mask, where the version has one, and ends the object.
+fn push_mask(text: &mut Bytes, version: u8, mask: u16) -> Result<(), NoMemory>
+    ensures { OnOk result (text.new ≡ text.old ++ members_text true (canon.in_order (canon.mask_members version mask))) }
+{
+    if version < FIRST_WITH_MASKS {
+        text.push(b'}')?;
+        return Ok(());
+    }
+    text.extend(b",\"mask\":")?;
+    push_number(text, u64::from(mask))?;
+    text.push(b'}')?;
+    Ok(())
+}
+
+/// Appends the text of a remove line.
+fn push_remove(text: &mut Bytes, version: u8, caller: u64, id: u32) -> Result<(), NoMemory>
+    ensures text { OnOk result (text.new ≡ text.old ++ compact_text (canon.post_json version caller (post.Remove id))) }
+    ensures values { OnOk result (IsPostValue (post.Remove id)) }
+{
+    text.extend(b"{\"caller\":")?;
+    push_number(text, caller)?;
+    text.extend(b",\"remove\":")?;
+    push_number(text, u64::from(id))?;
+    text.push(b'}')?;
+    Ok(())
+}
+
+/// Appends the text of a move line.
+fn push_move(
+    text: &mut Bytes,
+    version: u8,
+    caller: u64,
+    id: u32,
+    to: (Fixed, Fixed),
+) -> Result<(), NoMemory>
+    ensures text { OnOk result (text.new ≡ text.old ++ compact_text (canon.post_json version caller (post.Move id to.0 to.1))) }
+    ensures values { OnOk result (IsPostValue (post.Move id to.0 to.1)) }
+{
+    text.extend(b"{\"caller\":")?;
+    push_number(text, caller)?;
+    text.extend(b",\"move\":")?;
+    push_number(text, u64::from(id))?;
+    text.extend(b",\"to\":")?;
+    push_decimals(text, &[to.0, to.1])?;
+    text.push(b'}')?;
+    Ok(())
+}
+
+/// Appends the text of a path line.
+fn push_path(
+    text: &mut Bytes,
+    version: u8,
+    caller: u64,
+    class: &ClassName,
+    from: (Fixed, Fixed),
+    goal: GoalSpec,
+) -> Result<(), NoMemory>
+    ensures text { OnOk result (text.new ≡ text.old ++ compact_text (canon.post_json version caller (post.Path class.now from.0 from.1 goal))) }
+    ensures values { OnOk result (IsPostValue (post.Path class.now from.0 from.1 goal)) }
+{
+    text.extend(b"{\"caller\":")?;
+    push_number(text, caller)?;
+    text.extend(b",\"path\":")?;
+    push_name(text, class)?;
+    text.extend(b",\"from\":")?;
+    push_decimals(text, &[from.0, from.1])?;
+    text.extend(b",\"goal\":")?;
+    push_goal(text, goal)?;
+    text.push(b'}')?;
+    Ok(())
+}
+
+/// Appends the text of a region line.
+fn push_region(
+    text: &mut Bytes,
+    version: u8,
+    caller: u64,
+    class: &ClassName,
+    place: (Fixed, Fixed),
+) -> Result<(), NoMemory>
+    ensures text { OnOk result (text.new ≡ text.old ++ compact_text (canon.post_json version caller (post.Region class.now place.0 place.1))) }
+    ensures values { OnOk result (IsPostValue (post.Region class.now place.0 place.1)) }
+{
+    text.extend(b"{\"caller\":")?;
+    push_number(text, caller)?;
+    text.extend(b",\"region\":")?;
+    push_name(text, class)?;
+    text.extend(b",\"at\":")?;
+    push_decimals(text, &[place.0, place.1])?;
+    text.push(b'}')?;
+    Ok(())
+}
+
+/// Appends a class name as a string.
+pub(crate) fn push_name(text: &mut Bytes, name: &ClassName) -> Result<(), NoMemory>
+    ensures text { OnOk result (text.new ≡ text.old ++ compact_text (string name.now)) }
+    ensures values { OnOk result (IsTrue (is_class_name name.now)) }
+{
+    push_quoted(text, name.as_bytes())
+}
+
+/// Appends a goal.
+fn push_goal(text: &mut Bytes, goal: GoalSpec) -> Result<(), NoMemory>
+    ensures text { OnOk result (text.new ≡ text.old ++ compact_text (canon.goal_json goal)) }
+    ensures values { OnOk result (IsGoalValue goal) }
+{
+    match goal {
+        GoalSpec::Plain(goal) => push_plain_goal(text, goal),
+        GoalSpec::Obstruction { id, grow } => {
+            text.extend(b"{\"obstruction\":")?;
+            push_grown(text, id, grow)?;
+            text.push(b'}')?;
+            Ok(())
+        }
+    }
+}
+
+/// Appends the array of an obstruction number and the distance by which the obstruction grows.
+fn push_grown(text: &mut Bytes, id: u32, grow: Fixed) -> Result<(), NoMemory>
+    ensures text { OnOk result (text.new ≡ text.old ++ compact_text (canon.list_json (canon.whole_json id ∷ canon.decimal_json grow ∷ []))) }
+    ensures values { OnOk result (IsGoalValue (goal_spec.Obstruction id grow)) }
+{
+    text.push(b'[')?;
+    push_number(text, u64::from(id))?;
+    text.push(b',')?;
+    push_decimal(text, grow)?;
+    text.push(b']')?;
+    Ok(())
+}
+
+/// Appends a goal that is a shape.
+fn push_plain_goal(text: &mut Bytes, goal: Goal) -> Result<(), NoMemory>
+    ensures text { OnOk result (text.new ≡ text.old ++ compact_text (canon.goal_json (goal_spec.Plain goal))) }
+    ensures values { OnOk result (IsGoalValue (goal_spec.Plain goal)) }
+{
+    match goal {
+        Goal::Point { x, z } => push_object(text, b"{\"point\":", &[x, z]),
+        Goal::Circle { x, z, r } => push_object(text, b"{\"circle\":", &[x, z, r]),
+        Goal::NotCircle { x, z, r } => { push_object(text, b"{\"not-circle\":", &[x, z, r]) }
+        Goal::Square {
+            x,
+            z,
+            ux,
+            uz,
+            hw,
+            hh,
+        } => push_object(text, b"{\"square\":", &[x, z, ux, uz, hw, hh]),
+        Goal::NotSquare {
+            x,
+            z,
+            ux,
+            uz,
+            hw,
+            hh,
+        } => push_object(text, b"{\"not-square\":", &[x, z, ux, uz, hw, hh]),
+    }
+}
+
+/// Appends an object of one key, which is opened already, and of fixed-point numbers.
+fn push_object(text: &mut Bytes, opening: &[u8], numbers: &[Fixed]) -> Result<(), NoMemory>
+    ensures text { OnOk result (text.new ≡ text.old
+        ++ (opening.now ++ (compact_text (canon.decimals_json numbers.now) ++ 125 ∷ []))) }
+    ensures values { OnOk result (AreFixed numbers.now) }
+{
+    text.extend(opening)?;
+    push_decimals(text, numbers)?;
+    text.push(b'}')?;
+    Ok(())
+}
+
+/// Appends the end line of a turn, without its newline.
+pub(crate) fn push_end(text: &mut Bytes, turn: u64) -> Result<(), NoMemory>
+    ensures { OnOk result (text.new ≡ text.old ++ compact_text (canon.end_json turn)) }
+{
+    text.extend(b"{\"end\":")?;
+    push_number(text, turn)?;
+    text.push(b'}')?;
+    Ok(())
+}

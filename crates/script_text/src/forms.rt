@@ -1,0 +1,122 @@
+//! The forms of lines, over the reading of a line.
+ghost use Rattle.std.specs.Prelude.{◌≡◌, ◌<◌, All, IfOk, IfSome};
+ghost use Rattle.nav_types.specs.Cells.{IsRectInside};
+ghost use Rattle.serde_json.specs.View.{view};
+ghost use Rattle.class_config.specs.Classes.{classes_of};
+ghost use Rattle.script_text.specs.Values as value_form;
+ghost use Rattle.script_text.specs.Forms as form;
+
+mod bases;
+mod goals;
+mod posts;
+#[cfg(test)]
+mod tests;
+mod values;
+
+use class_config::{ClassRefusal, ClassTable, has_keys};
+use grid_versions::{BaseRects, MapSpec};
+use nav_types::limits::MAX_CALLERS;
+use nav_types::{NoMemory, Size};
+use serde_json::Value;
+use std::alloc::Global;
+use turn_core::Post;
+
+/// A post, and the number of the caller that posts it.
+#[derive(Debug, Drop)]
+pub struct CallerPost {
+    pub caller: u8,
+    pub post: Post,
+}
+
+/// The newest version of a script.
+const NEWEST_VERSION: u64 = 3;
+
+/// The map of a map line, which has no base rectangle yet. None where the value is no map line.
+#[tactic(auto, unfolding(crate::specs::Forms::map_of))]
+pub(crate) fn map_of(alloc: Global, value: &Value) -> Result<Option<MapSpec>, NoMemory>
+    ensures { IfOk result (λ made. made ≡ form.map_of (view value.now)) }
+{
+    if !has_keys(value, &["version", "size", "callers", "classes"]) {
+        return Ok(None);
+    }
+    let (Some(version), Some(size), Some(callers)) = (
+        values::whole_under(1, NEWEST_VERSION, value, "version"),
+        values::size_under(value, "size"),
+        values::whole_under(1, u64::from(MAX_CALLERS), value, "callers"),
+    ) else {
+        return Ok(None);
+    };
+    let Some(classes) = classes_under(alloc, value, "classes")? else {
+        return Ok(None);
+    };
+    let base = BaseRects::new(alloc);
+    Ok(MapSpec::new(version as u8, size, callers as u8, classes, base))
+}
+
+/// The table of classes under a key.
+fn classes_under(alloc: Global, value: &Value, key: &str) -> Result<Option<ClassTable>, NoMemory>
+    ensures { IfOk result (λ made. made ≡ value_form.under classes_of key.now (view value.now)) }
+{
+    let Some(found) = value.get(key) else {
+        return Ok(None);
+    };
+    match ClassTable::read(alloc, found) {
+        Ok(classes) => Ok(Some(classes)),
+        Err(ClassRefusal::NotClasses) => Ok(None),
+        Err(ClassRefusal::NoMemory) => Err(NoMemory),
+    }
+}
+
+/// The rectangles of a base line on a map of this size. None where the value is no such line.
+#[tactic(auto, unfolding(crate::specs::Forms::base_of))]
+pub(crate) fn base_of(
+    alloc: Global,
+    size: Size,
+    value: &Value,
+) -> Result<Option<BaseRects>, NoMemory>
+    ensures rects { IfOk result (λ made. made ≡ form.base_of size (view value.now)) }
+    ensures inside { IfOk result (λ made. IfSome made (All (λ entry. IsRectInside size entry.0))) }
+{
+    if !has_keys(value, &["base"]) {
+        return Ok(None);
+    }
+    match values::items_under(value, "base") {
+        Some(items) => bases::entries_of(alloc, size, items),
+        None => Ok(None),
+    }
+}
+
+/// The post of a post line of a script of this version with so many callers. None where the value is no such line.
+#[tactic(auto, unfolding(crate::specs::Forms::post_of))]
+pub(crate) fn post_of(
+    alloc: Global,
+    version: u8,
+    callers: u8,
+    value: &Value,
+) -> Result<Option<CallerPost>, NoMemory>
+    ensures post { IfOk result (λ made. made ≡ form.post_of version callers (view value.now)) }
+    ensures caller { IfOk result (λ made. IfSome made (λ said. said.caller < callers)) }
+{
+    let Some(caller) = values::caller_under(callers, value, "caller") else {
+        return Ok(None);
+    };
+    if let Some(post) = posts::edit_of(version, value) {
+        return Ok(Some(CallerPost { caller, post }));
+    }
+    match posts::request_of(alloc, version, value)? {
+        Some(post) => Ok(Some(CallerPost { caller, post })),
+        None => Ok(None),
+    }
+}
+
+/// The number of an end line. None where the value is no such line.
+#[tactic(auto, unfolding(crate::specs::Forms::end_of))]
+pub(crate) fn end_of(value: &Value) -> Option<u64>
+    ensures { result ≡ form.end_of (view value.now) }
+{
+    if has_keys(value, &["end"]) {
+        value.get("end").and_then(Value::as_u64)
+    } else {
+        None
+    }
+}

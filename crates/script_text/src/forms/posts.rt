@@ -1,0 +1,189 @@
+//! The posts of post lines.
+ghost use Rattle.std.specs.Prelude.{◌≡◌, IfOk, map, option_map};
+ghost use Rattle.serde_json.specs.View.{view};
+ghost use Rattle.class_config.specs.Forms as config;
+ghost use Rattle.script_text.specs.Forms as form;
+
+use crate::forms::goals::goal_under;
+use crate::forms::values::{
+    Rectangle, name_under, number_under, point_under, rectangle_under, round_under, whole_under,
+};
+use crate::versions::{FIRST_WITH_MASKS, FIRST_WITH_MOVES};
+use class_config::has_keys;
+use nav_types::NoMemory;
+use obstruction_shapes::{Obstruction, Shape};
+use serde_json::Value;
+use std::alloc::Global;
+use turn_core::Post;
+
+/// The edit of a line that edits.
+#[tactic(auto, unfolding(crate::specs::Forms::edit_of))]
+pub(crate) fn edit_of(version: u8, value: &Value) -> Option<Post>
+    ensures { result ≡ form.edit_of version (view value.now) }
+{
+    if let Some(add) = add_of(version, value) {
+        return Some(add);
+    }
+    if let Some(remove) = remove_of(value) {
+        return Some(remove);
+    }
+    move_of(version, value)
+}
+
+/// The request of a line that asks.
+#[tactic(auto, unfolding(crate::specs::Forms::request_of))]
+pub(crate) fn request_of(
+    alloc: Global,
+    version: u8,
+    value: &Value,
+) -> Result<Option<Post>, NoMemory>
+    ensures { IfOk result (λ made. made ≡ form.request_of version (view value.now)) }
+{
+    if let Some(path) = path_of(alloc, version, value)? {
+        return Ok(Some(path));
+    }
+    region_of(alloc, value)
+}
+
+/// The post of an add line.
+#[tactic(auto, unfolding(crate::specs::Forms::add_of))]
+fn add_of(version: u8, value: &Value) -> Option<Post>
+    ensures { result ≡ form.add_of version (view value.now) }
+{
+    let Some(id) = number_under(value, "add") else {
+        return None;
+    };
+    match (shape_of(version, value), mask_of(version, value)) {
+        (Some(shape), Some(mask)) => Some(Post::Add {
+            id,
+            obstruction: Obstruction { shape, mask },
+        }),
+        _ => None,
+    }
+}
+
+/// The shape of an add line.
+#[tactic(auto, unfolding(crate::specs::Forms::shape_of))]
+fn shape_of(version: u8, value: &Value) -> Option<Shape>
+    ensures { result ≡ form.shape_of version (view value.now) }
+{
+    if has_add_keys(version, value, "unit") {
+        round_under(value, "unit").map(|(x, z, half)| Shape::Unit { x, z, half })
+    } else if has_add_keys(version, value, "square") {
+        rectangle_under(value, "square").map(square)
+    } else {
+        None
+    }
+}
+
+/// The rectangle as a shape.
+fn square(rectangle: Rectangle) -> Shape
+    ensures { result ≡ form.shape_with rectangle }
+{
+    let Rectangle {
+        x,
+        z,
+        ux,
+        uz,
+        hw,
+        hh,
+    } = rectangle;
+    Shape::Square {
+        x,
+        z,
+        ux,
+        uz,
+        hw,
+        hh,
+    }
+}
+
+/// Whether the keys are those of an add line with its shape under this key.
+fn has_add_keys(version: u8, value: &Value, shape: &str) -> bool
+    ensures { result ≡ config.has_keys (form.add_keys version shape.now) (view value.now) }
+{
+    if version >= FIRST_WITH_MASKS {
+        has_keys(value, &["caller", "add", shape, "mask"])
+    } else {
+        has_keys(value, &["caller", "add", shape])
+    }
+}
+
+/// The mask of an add line; without one it is of every class.
+#[tactic(auto, unfolding(crate::specs::Forms::mask_of))]
+fn mask_of(version: u8, value: &Value) -> Option<u16>
+    ensures { result ≡ form.mask_of version (view value.now) }
+{
+    if version < FIRST_WITH_MASKS {
+        return Some(u16::MAX);
+    }
+    match whole_under(0, u64::from(u16::MAX), value, "mask") {
+        Some(mask) => Some(mask as u16),
+        None => None,
+    }
+}
+
+/// The post of a remove line.
+#[tactic(auto, unfolding(crate::specs::Forms::remove_of))]
+fn remove_of(value: &Value) -> Option<Post>
+    ensures { result ≡ form.remove_of (view value.now) }
+{
+    if !has_keys(value, &["caller", "remove"]) {
+        return None;
+    }
+    match number_under(value, "remove") {
+        Some(id) => Some(Post::Remove { id }),
+        None => None,
+    }
+}
+
+/// The post of a move line, which stands under version 3 only.
+#[tactic(auto, unfolding(crate::specs::Forms::move_of))]
+fn move_of(version: u8, value: &Value) -> Option<Post>
+    ensures { result ≡ form.move_of version (view value.now) }
+{
+    if version < FIRST_WITH_MOVES || !has_keys(value, &["caller", "move", "to"]) {
+        return None;
+    }
+    match (number_under(value, "move"), point_under(value, "to")) {
+        (Some(id), Some((x, z))) => Some(Post::Move { id, x, z }),
+        _ => None,
+    }
+}
+
+/// The post of a path line.
+#[tactic(auto, unfolding(crate::specs::Forms::path_of))]
+fn path_of(alloc: Global, version: u8, value: &Value) -> Result<Option<Post>, NoMemory>
+    ensures { IfOk result (λ made. made ≡ form.path_of version (view value.now)) }
+{
+    if !has_keys(value, &["caller", "path", "from", "goal"]) {
+        return Ok(None);
+    }
+    let (Some((x, z)), Some(goal)) = (
+        point_under(value, "from"),
+        goal_under(version, value, "goal"),
+    ) else {
+        return Ok(None);
+    };
+    match name_under(alloc, value, "path")? {
+        Some(class) => Ok(Some(Post::Path { class, x, z, goal })),
+        None => Ok(None),
+    }
+}
+
+/// The post of a region line.
+#[tactic(auto, unfolding(crate::specs::Forms::region_of))]
+fn region_of(alloc: Global, value: &Value) -> Result<Option<Post>, NoMemory>
+    ensures { IfOk result (λ made. made ≡ form.region_of (view value.now)) }
+{
+    if !has_keys(value, &["caller", "region", "at"]) {
+        return Ok(None);
+    }
+    let Some((x, z)) = point_under(value, "at") else {
+        return Ok(None);
+    };
+    match name_under(alloc, value, "region")? {
+        Some(class) => Ok(Some(Post::Region { class, x, z })),
+        None => Ok(None),
+    }
+}

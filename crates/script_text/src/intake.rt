@@ -1,0 +1,206 @@
+//! What is taken from a source: its bytes, cut into lines.
+ghost use Rattle.std.specs.Prelude.{◌≡◌, ◌≢◌, ◌+◌, ◌++◌, ◌∷◌, ◌≤◌, ◌<◌, ◌↔◌, ◌==◌, [], length, false, position, ℕ, IsTrue, IfErr, IfOk, IfSome, OnOk, OnErr, IsErrOf, vec_len, Ok};
+ghost use Rattle.std.specs.Io.{ReadsAtMost};
+ghost use Rattle.std.specs.Io.KnownBytes.{ReadConsumes};
+ghost use Rattle.io_edges.specs.Faults.{Rose, ReadHasCause};
+
+use crate::faults::ScriptFault;
+use io_edges::{Failed, Source};
+use nav_types::NoMemory;
+use nav_types::limits::MAX_LINE_BYTES;
+use std::alloc::Global;
+use std::marker::Model;
+
+/// The most bytes of one read.
+const READ_SIZE: usize = 65_536;
+
+/// Where a line ended.
+#[derive(Clone, Copy, Debug, PartialEq, Eq)]
+pub enum LineEnd {
+    /// At its newline.
+    Newline,
+    /// At the end of the input. What stands there may be empty.
+    Input,
+}
+
+/// The bytes taken from a source that no line has used yet, and whether the end of the input was met.
+#[derive(Drop)]
+pub struct Intake {
+    buffer: Vec<u8>,
+    from: usize,
+    to: usize,
+    ended: bool,
+}
+
+impl Model for Intake {
+    ghost use Rattle.std.specs.Prelude.{◌≡◌, ◌≤◌, drop, take, vec_len};
+    ghost use Rattle.script_text.specs.Taking.{Taken};
+
+    ghost Value = { Taken };
+
+    ghost view = { λ i. record { bytes = drop i.from (take i.to i.buffer.items); ended = i.ended } };
+
+    ghost invariant = { λ i. (i.from ≤ i.to) × (i.to ≤ 65536) × (vec_len i.buffer ≡ 65536) };
+}
+
+impl Intake {
+    ghost use Rattle.script_text.specs.declared.intake.LineEnd.TheVariants.{Newline, Input};
+    ghost use Rattle.script_text.specs.Taking.{Taken, Told, RefillAnswer, MovesLine, LineTold, IsPlain, HasLine};
+
+    /// Nothing is taken yet. The buffer of one read is taken here, once.
+    pub fn new(alloc: Global) -> Result<Intake, NoMemory>
+        ensures { IfOk result (λ made. made ≡ record { bytes = []; ended = false }) }
+    {
+        let buffer = read_buffer(alloc)?;
+        Ok(Intake {
+            buffer,
+            from: 0,
+            to: 0,
+            ended: false,
+        })
+    }
+
+    /// How many bytes are held.
+    pub fn len(&self) -> usize
+        ensures { result ≡ length self.now.bytes }
+    {
+        self.to - self.from
+    }
+
+    /// Whether each byte that was taken was used.
+    fn is_used_up(&self) -> bool
+        ensures { IsTrue result ↔ (self.now.bytes ≡ []) }
+    {
+        self.from == self.to
+    }
+
+    /// The bytes that no line has used yet.
+    fn held(&self) -> &[u8]
+        ensures { result.now ≡ self.now.bytes }
+    {
+        &self.buffer[self.from..self.to]
+    }
+
+    /// Takes the next line from the source: its bytes without the newline. It reads only while no newline is held, and
+    /// no more once the line is longer than a line may be, or than the room that the input has left.
+    pub fn next_line<S: Source>(
+        &mut self,
+        source: &mut S,
+        line: &mut Vec<u8>,
+        room: u64,
+    ) -> Result<LineEnd, ScriptFault>
+        requires empty { line.old.items ≡ [] }
+        ensures stays { IsTrue self.old.ended → IsTrue self.new.ended }
+        ensures told { LineTold self.old self.new (S.left source.old) (S.left source.new) line.new.items room result }
+        ensures still { HasLine self.old.bytes → source.new ≡ source.old }
+        ensures held { HasLine self.old.bytes → OnOk result (line.new.items ++ 10 ∷ self.new.bytes ≡ self.old.bytes) }
+        ensures held_end { HasLine self.old.bytes → OnOk result (result ≡ Ok Newline) }
+        ensures later { S.faults source.old ≤ S.faults source.new }
+        ensures fault { IsErrOf result ScriptFault.ReadFault → Rose (S.faults source.old) (S.faults source.new) }
+        ensures good { IfErr result (λ fault. (n : ℕ) → fault ≡ ScriptFault.BadLine n → ⊥) }
+        ensures plain { IsPlain line.new.items }
+        ensures at_end { result ≡ Ok Input → (self.new.bytes ≡ []) × IsTrue self.new.ended }
+        ensures size { length line.new.items + length self.new.bytes ≤ 8454144 }
+        ensures newline { result ≡ Ok Newline → length line.new.items + 1 + length self.new.bytes ≤ 8454144 }
+    {
+        'parts: loop {
+            match self.refill(source) {
+                Ok(()) => {}
+                Err(fault) => return Err(fault),
+            }
+            if self.is_used_up() {
+                return Ok(LineEnd::Input);
+            }
+            match self.move_line(line) {
+                Ok(true) => return Ok(LineEnd::Newline),
+                Ok(false) => {}
+                Err(NoMemory) => return Err(ScriptFault::NoMemory),
+            }
+            let size = line.len() as u64;
+            if size > MAX_LINE_BYTES || size > room {
+                return Err(ScriptFault::TooLong);
+            }
+        }
+    }
+
+    /// Takes the next bytes from the source where none are held, and none once the end of the input was met.
+    fn refill<S: Source>(&mut self, source: &mut S) -> Result<(), ScriptFault>
+        ensures told { Told (S.left source.old) (S.left source.new) (RefillAnswer self.old self.new result) }
+        ensures still { self.old.bytes ≢ [] → source.new ≡ source.old }
+        ensures kept { self.old.bytes ≢ [] → self.new ≡ self.old }
+        ensures ended { OnOk result (self.new.bytes ≡ [] → IsTrue self.new.ended) }
+        ensures stays { IsTrue self.old.ended → IsTrue self.new.ended }
+        ensures going { OnOk result (0 < length self.new.bytes → self.new.ended ≡ self.old.ended) }
+        ensures few { length self.new.bytes ≤ 65536 }
+        ensures failed { IfErr result (λ fault. fault ≡ ScriptFault.ReadFault) }
+        ensures later { S.faults source.old ≤ S.faults source.new }
+        ensures fault { IsErrOf result ScriptFault.ReadFault → Rose (S.faults source.old) (S.faults source.new) }
+    {
+        if self.ended {
+            return Ok(());
+        }
+        if self.from < self.to {
+            return Ok(());
+        }
+        self.from = 0;
+        self.to = 0;
+        match read_into(source, &mut self.buffer) {
+            Ok(count) => {
+                self.to = count;
+                self.ended = count == 0;
+                Ok(())
+            }
+            Err(Failed) => Err(ScriptFault::ReadFault),
+        }
+    }
+
+    /// Moves the bytes up to the first newline to the end of the line, and lets go of the newline. Where there is none,
+    /// all bytes move. It answers whether there is one.
+    fn move_line(&mut self, line: &mut Vec<u8>) -> Result<bool, NoMemory>
+        ensures moves { IfOk result (MovesLine self.old self.new line.old.items line.new.items) }
+        ensures ended { self.new.ended ≡ self.old.ended }
+        ensures err { OnErr result ((line.new.items ≡ line.old.items) × (self.new ≡ self.old)) }
+    {
+        let held = self.held();
+        match first_newline(held) {
+            Some(at) => {
+                let (part, _) = held.split_at(at);
+                line.extend_from_slice(part)?;
+                self.from += at + 1;
+                Ok(true)
+            }
+            None => {
+                line.extend_from_slice(held)?;
+                self.from = self.to;
+                Ok(false)
+            }
+        }
+    }
+}
+
+/// The place of the first newline.
+fn first_newline(bytes: &[u8]) -> Option<usize>
+    ensures place { result ≡ position (λ byte. byte == 10) bytes.now }
+    ensures within { IfSome result (λ at. at < length bytes.now) }
+{
+    bytes.iter().position(|byte| *byte == b'\n')
+}
+
+/// A buffer of the size of one read.
+fn read_buffer(alloc: Global) -> Result<Vec<u8>, NoMemory>
+    ensures { IfOk result (λ made. vec_len made ≡ READ_SIZE) }
+{
+    let mut buffer = Vec::new(alloc);
+    buffer.resize(READ_SIZE, 0)?;
+    Ok(buffer)
+}
+
+/// One read into the buffer.
+fn read_into<S: Source>(source: &mut S, buffer: &mut Vec<u8>) -> Result<usize, Failed>
+    ensures size { vec_len buffer.new ≡ vec_len buffer.old }
+    ensures count { ReadsAtMost result buffer.new.items }
+    ensures bytes { ReadConsumes (S.left source.old) (S.left source.new) result buffer.new.items }
+    ensures cause { ReadHasCause (S.faults source.old) (S.faults source.new) result }
+{
+    source.read(buffer.as_mut_slice())
+}

@@ -1,0 +1,45 @@
+//! Laws: the forms of lines are the grammar, no value is a line of two forms, and canonical scripts read back.
+ghost use Rattle.std.specs.Prelude.{◌≡◌, ◌↔◌, ℕ, List, Some};
+ghost use Rattle.nav_types.specs.declared.cells.Rect.{Rect};
+ghost use Rattle.nav_types.specs.declared.cells.Size.{Size};
+ghost use Rattle.serde_json.specs.Data.{Data};
+ghost use Rattle.grid_versions.specs.Maps.{Map};
+ghost use Rattle.turn_core.specs.declared.posts.Post.{Post};
+ghost use Rattle.script_text.specs.declared.forms.CallerPost.{CallerPost};
+ghost use Rattle.script_text.specs.Forms as form;
+ghost use Rattle.script_text.specs.Grammar.{Line, IsLine, IsMapLine, IsBaseLine, IsPostLine, IsEndLine};
+ghost use Rattle.script_text.specs.ReadsBack as back;
+
+/// A law: the form of a map line gives a map exactly where the value is a map line of the grammar that says it.
+pub fn map_lines()
+    ensures { (d : Data) (map : Map) → (form.map_of d ≡ Some map) ↔ IsMapLine map d }
+{}
+
+/// A law: the form of a base line gives rectangles exactly where the value is a base line that says them.
+pub fn base_lines()
+    ensures { (size : Size) (d : Data) (rects : List (Rect × ℕ)) → (form.base_of size d ≡ Some rects) ↔ IsBaseLine size rects d }
+{}
+
+/// A law: the form of a post line gives a caller and a post exactly where the value is a post line that says them.
+pub fn post_lines()
+    ensures { (version callers : ℕ) (d : Data) (said : CallerPost)
+        → (form.post_of version callers d ≡ Some said) ↔ IsPostLine version callers said.caller said.post d }
+{}
+
+/// A law: the form of an end line gives a number exactly where the value is an end line that says it.
+pub fn end_lines()
+    ensures { (d : Data) (turn : ℕ) → (form.end_of d ≡ Some turn) ↔ IsEndLine turn d }
+{}
+
+/// A law: a value is a line of at most one form, and says at most one thing in it.
+pub fn one_line()
+    ensures { (version callers : ℕ) (size : Size) (d : Data) (a b : Line)
+        → IsLine version callers size a d → IsLine version callers size b d → a ≡ b }
+{}
+
+/// A law: a canonical script whose lines and whole are within the limits of an input reads back as the map and the
+/// turns that it was written from. `write_map` and `write_journal` say of what they write that it has such values.
+pub fn canonical_reads_back()
+    ensures { (m : Map) (turns : List (List (List Post))) → back.IsMapValue m → back.AreTurns m turns
+        → back.IsWithinLimits (back.canon_script m turns) → back.ReadsAs m turns (back.canon_script m turns) }
+{}

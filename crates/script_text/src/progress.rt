@@ -1,0 +1,398 @@
+//! How far a script was read, and what its next line gives.
+ghost use Rattle.std.specs.Prelude.{◌≡◌, ◌+◌, ◌≤◌, ◌<◌, ◌++◌, ◌∷◌, [], length, slice_set, ℕ, All, IfErr, IfOk, IfSome, IsFalse, IsSome, OnOk, OnErr, option_and_then, option_map, Some};
+ghost use Rattle.std.specs.List.{list_all};
+ghost use Rattle.serde_json.specs.View.{view};
+ghost use Rattle.turn_core.specs.States.{list_of};
+ghost use Rattle.nav_types.specs.Cells.{IsRectInside};
+ghost use Rattle.script_text.specs.Forms.{map_of, base_of};
+ghost use Rattle.script_text.specs.Script.{is_empty, no_posts, reading_of};
+
+use crate::faults::ScriptFault;
+use crate::forms::{self, CallerPost};
+use grid_versions::{BaseRects, MapSpec};
+use nav_types::limits::{MAX_INPUT_BYTES, MAX_LINE_BYTES};
+use nav_types::{NoMemory, Sequence, Size};
+use serde_json::Value;
+use std::alloc::Global;
+use std::marker::Model;
+use std::mem;
+use turn_core::{Post, Posts, TurnPosts};
+
+/// What the lines after the map line keep to: the size of the map, the version of the script and the number of callers.
+#[derive(Clone, Copy, Debug, PartialEq, Eq)]
+pub struct ScriptRules {
+    size: Size,
+    version: u8,
+    callers: u8,
+}
+
+/// The part of a script.
+#[derive(Clone, Copy, Debug, PartialEq, Eq)]
+pub enum ScriptPart {
+    /// Nothing was read.
+    BeforeMap,
+    /// Base lines may stand here.
+    InBase(ScriptRules),
+    /// Among the lines of turns.
+    InTurns(ScriptRules),
+}
+
+/// The place that the reading of a script has come to.
+#[derive(Drop)]
+pub struct Progress {
+    posts: Vec<Posts>,
+    bytes: u64,
+    lines: u64,
+    turns: u64,
+    part: ScriptPart,
+}
+
+impl Model for Progress {
+    ghost use Rattle.script_text.specs.Script.{Place};
+    ghost use Rattle.script_text.specs.Judging.{IsReached, part_by};
+
+    ghost Value = { Place };
+
+    ghost view = { λ p. record { bytes = p.bytes; lines = p.lines; part = part_by p.part; turns = p.turns; posts = p.posts.items } };
+
+    ghost invariant = { λ p. IsReached (record { bytes = p.bytes; lines = p.lines; part = part_by p.part; turns = p.turns; posts = p.posts.items }) };
+}
+
+impl Progress {
+    ghost use Rattle.script_text.specs.Script.{beginning, before_map, in_base, in_turns, rules_of, accept, counted, end_line, finish, is_long, map_line, placed_in_turn, with_post};
+    ghost use Rattle.script_text.specs.Reader.{callers_of, post_count, rules_at};
+    ghost use Rattle.script_text.specs.Judging.{AddsBase, BeginsMap, CountsPosts, GivesTurn, IsBase, IsInTurns, IsInsideAt, IsNoBaseAt, IsObject, Stops, rules_by};
+
+    /// Nothing is read yet.
+    pub fn new(alloc: Global) -> Progress
+        ensures { result ≡ beginning }
+    {
+        Progress {
+            posts: Vec::new(alloc),
+            bytes: 0,
+            lines: 0,
+            turns: 0,
+            part: ScriptPart::BeforeMap,
+        }
+    }
+
+    /// How many bytes the input may still have.
+    pub fn room(&self) -> u64
+        ensures room { result + self.now.bytes ≡ 4294967296 }
+        ensures limit { self.now.bytes ≤ 4294967296 }
+    {
+        MAX_INPUT_BYTES - self.bytes
+    }
+
+    /// Takes line 1, of so many bytes with its newline where it has one.
+    pub fn map_line(
+        &mut self,
+        alloc: Global,
+        line: &[u8],
+        size: u64,
+    ) -> Result<MapSpec, ScriptFault>
+        requires first { self.old.part ≡ before_map }
+        requires some_byte { 1 ≤ size }
+        ensures begins { BeginsMap (accept size line.now self.old) self.new result }
+        ensures part { IfOk result (λ map. self.new.part ≡ in_base (rules_of map)) }
+        ensures posts { OnOk result (post_count self.new.posts ≡ 0) }
+        ensures number { IfErr result (λ fault. (n : ℕ) → fault ≡ ScriptFault.BadLine n → n ≡ self.old.lines + 1) }
+        ensures limit { self.new.bytes ≤ 4294967296 }
+    {
+        if self.is_long(line, size) {
+            return Err(ScriptFault::TooLong);
+        }
+        self.count(size);
+        match read_map(alloc, line) {
+            Ok(Some(map)) => self.begin(alloc, map),
+            Ok(None) => Err(ScriptFault::BadLine(self.lines)),
+            Err(NoMemory) => Err(ScriptFault::NoMemory),
+        }
+    }
+
+    /// Goes on behind the map line, with an empty list of posts for each caller.
+    fn begin(&mut self, alloc: Global, map: MapSpec) -> Result<MapSpec, ScriptFault>
+        requires first { self.old.part ≡ before_map }
+        ensures begins { BeginsMap (map_line self.old (Some map)) self.new result }
+        ensures same { IfOk result (λ same. same ≡ map) }
+        ensures bytes { self.new.bytes ≡ self.old.bytes }
+        ensures posts { OnOk result (post_count self.new.posts ≡ 0) }
+        ensures number { IfErr result (λ fault. (n : ℕ) → fault ≡ ScriptFault.BadLine n → ⊥) }
+    {
+        let rules = ScriptRules {
+            size: map.size(),
+            version: map.version(),
+            callers: map.callers(),
+        };
+        match empty_lists(alloc, rules.callers) {
+            Ok(empty) => {
+                self.posts = empty;
+                self.part = ScriptPart::InBase(rules);
+                Ok(map)
+            }
+            Err(NoMemory) => Err(ScriptFault::NoMemory),
+        }
+    }
+
+    /// Takes the next line where it is a base line, and answers its rectangles. Where it is none, nothing changes.
+    pub fn base_line(
+        &mut self,
+        alloc: Global,
+        line: &[u8],
+        size: u64,
+    ) -> Result<Option<BaseRects>, ScriptFault>
+        requires base { IsBase self.old.part }
+        requires some_byte { 1 ≤ size }
+        ensures adds { AddsBase self.old self.new size line.now result }
+        ensures used { IfOk result (λ next. IfSome next (λ rects. self.new.bytes ≡ self.old.bytes + size)) }
+        ensures inside { IfOk result (λ next. IfSome next (λ rects. IsInsideAt self.old.part rects)) }
+        ensures part { self.new.part ≡ self.old.part }
+        ensures posts { self.new.posts ≡ self.old.posts }
+        ensures limit { self.new.bytes ≤ 4294967296 }
+    {
+        let ScriptPart::InBase(rules) = self.part else {
+            unreachable!();
+        };
+        if self.is_long(line, size) {
+            return Err(ScriptFault::TooLong);
+        }
+        match read_base(alloc, rules.size, line) {
+            Ok(Some(rects)) => {
+                self.count(size);
+                Ok(Some(rects))
+            }
+            Ok(None) => Ok(None),
+            Err(NoMemory) => Err(ScriptFault::NoMemory),
+        }
+    }
+
+    /// Takes the next line of a turn, of so many bytes with its newline where it has one. It answers the posts of the
+    /// turn where the line ends it.
+    pub fn accept(
+        &mut self,
+        alloc: Global,
+        line: &[u8],
+        size: u64,
+    ) -> Result<Option<TurnPosts>, ScriptFault>
+        requires begun { IsSome (rules_at self.old.part) }
+        requires no_base { IsNoBaseAt self.old.part line.now }
+        requires some_byte { 1 ≤ size }
+        ensures gives { GivesTurn (accept size line.now self.old) self.new result }
+        ensures used { OnOk result (self.new.bytes ≡ self.old.bytes + size) }
+        ensures rules { rules_at self.new.part ≡ rules_at self.old.part }
+        ensures part { OnOk result (IsInTurns self.new.part) }
+        ensures limit { self.new.bytes ≤ 4294967296 }
+        ensures two_bytes { OnOk result (2 ≤ length line.now) }
+        ensures counts { IfOk result (CountsPosts self.old.posts self.new.posts) }
+        ensures lists { IfOk result (λ next. IfSome next (λ turn. length turn ≡ callers_of self.old.part)) }
+    {
+        if self.is_long(line, size) {
+            return Err(ScriptFault::TooLong);
+        }
+        self.count(size);
+        match read_line(alloc, line) {
+            Ok(Some(value)) => self.take_turn_line(alloc, &value),
+            Ok(None) => Err(ScriptFault::BadLine(self.lines)),
+            Err(NoMemory) => Err(ScriptFault::NoMemory),
+        }
+    }
+
+    /// Whether an input that ends here is whole.
+    pub fn finish(&self) -> Result<(), ScriptFault>
+        requires begun { IsSome (rules_at self.now.part) }
+        ensures stops { Stops (finish self.now) result }
+    {
+        match self.part {
+            ScriptPart::BeforeMap => unreachable!(),
+            ScriptPart::InBase(_) => Ok(()),
+            ScriptPart::InTurns(_) => self.end_between_turns(),
+        }
+    }
+
+    /// Whether an input that ends here, among the lines of turns, is whole.
+    fn end_between_turns(&self) -> Result<(), ScriptFault>
+        requires begun { IsInTurns self.now.part }
+        ensures stops { Stops (finish self.now) result }
+    {
+        if are_empty(self.posts.as_slice()) {
+            Ok(())
+        } else {
+            Err(ScriptFault::BadLine(self.lines + 1))
+        }
+    }
+
+    /// Whether the line is longer than a line may be, or the input with it than an input may be.
+    fn is_long(&self, line: &[u8], size: u64) -> bool
+        ensures long { result ≡ is_long self.now size line.now }
+        ensures fits { IsFalse result → self.now.bytes + size ≤ 4294967296 }
+        ensures limit { self.now.bytes ≤ 4294967296 }
+    {
+        let room = self.room();
+        line.len() as u64 > MAX_LINE_BYTES || size > room
+    }
+
+    /// Counts a line of so many bytes.
+    fn count(&mut self, size: u64)
+        requires some_byte { 1 ≤ size }
+        requires fits { self.old.bytes + size ≤ 4294967296 }
+        ensures counted { self.new ≡ counted self.old size }
+        ensures turns { self.new.turns < self.new.lines }
+    {
+        self.bytes += size;
+        self.lines += 1;
+    }
+
+    /// Goes on after a line of a turn that was counted, by its reading.
+    fn take_turn_line(
+        &mut self,
+        alloc: Global,
+        value: &Value,
+    ) -> Result<Option<TurnPosts>, ScriptFault>
+        requires begun { IsSome (rules_at self.old.part) }
+        requires counted { self.old.turns < self.old.lines }
+        ensures gives { IfSome (rules_at self.old.part) (λ rules. GivesTurn (placed_in_turn self.old rules (Some (view value.now))) self.new result) }
+        ensures bytes { self.new.bytes ≡ self.old.bytes }
+        ensures rules { rules_at self.new.part ≡ rules_at self.old.part }
+        ensures part { OnOk result (IsInTurns self.new.part) }
+        ensures object { OnOk result (IsObject (view value.now)) }
+        ensures counts { IfOk result (CountsPosts self.old.posts self.new.posts) }
+        ensures lists { IfOk result (λ next. IfSome next (λ turn. length turn ≡ callers_of self.old.part)) }
+    {
+        let rules = self.rules();
+        match forms::post_of(alloc, rules.version, rules.callers, value) {
+            Ok(Some(said)) => match self.keep_post(rules, said) {
+                Ok(()) => Ok(None),
+                Err(NoMemory) => Err(ScriptFault::NoMemory),
+            },
+            Ok(None) => self.end_turn(alloc, rules, forms::end_of(value)),
+            Err(NoMemory) => Err(ScriptFault::NoMemory),
+        }
+    }
+
+    /// What the lines after the map line keep to.
+    fn rules(&self) -> ScriptRules
+        requires begun { IsSome (rules_at self.now.part) }
+        ensures { rules_at self.now.part ≡ Some (rules_by result) }
+    {
+        match self.part {
+            ScriptPart::BeforeMap => unreachable!(),
+            ScriptPart::InBase(rules) => rules,
+            ScriptPart::InTurns(rules) => rules,
+        }
+    }
+
+    /// Keeps the post behind those of its caller.
+    fn keep_post(&mut self, rules: ScriptRules, said: CallerPost) -> Result<(), NoMemory>
+        requires rules { rules_at self.old.part ≡ Some (rules_by rules) }
+        requires caller { said.caller < rules.callers }
+        ensures ok { OnOk result (self.new ≡ record self.old { part = in_turns (rules_by rules); posts = with_post self.old.posts said }) }
+        ensures err { OnErr result (self.new ≡ self.old) }
+        ensures counts { OnOk result (post_count self.new.posts ≡ post_count self.old.posts + 1) }
+    {
+        push_post(&mut self.posts, usize::from(said.caller), said.post)?;
+        self.part = ScriptPart::InTurns(rules);
+        Ok(())
+    }
+
+    /// Hands out the posts of the turn, where the number of its end line is that of the turn.
+    fn end_turn(
+        &mut self,
+        alloc: Global,
+        rules: ScriptRules,
+        number: Option<u64>,
+    ) -> Result<Option<TurnPosts>, ScriptFault>
+        requires rules { rules_at self.old.part ≡ Some (rules_by rules) }
+        requires counted { self.old.turns < self.old.lines }
+        ensures gives { GivesTurn (end_line self.old (rules_by rules) number) self.new result }
+        ensures bytes { self.new.bytes ≡ self.old.bytes }
+        ensures rules { rules_at self.new.part ≡ rules_at self.old.part }
+        ensures part { OnOk result (IsInTurns self.new.part) }
+        ensures number { OnOk result (IsSome number) }
+        ensures counts { IfOk result (CountsPosts self.old.posts self.new.posts) }
+        ensures lists { IfOk result (λ next. IfSome next (λ turn. length turn ≡ rules.callers)) }
+    {
+        let Some(number) = number else {
+            return Err(ScriptFault::BadLine(self.lines));
+        };
+        if number != self.turns + 1 {
+            return Err(ScriptFault::BadLine(self.lines));
+        }
+        match empty_lists(alloc, rules.callers) {
+            Ok(empty) => {
+                self.turns += 1;
+                self.part = ScriptPart::InTurns(rules);
+                let posts = mem::replace(&mut self.posts, empty);
+                Ok(Some(TurnPosts::from(posts)))
+            }
+            Err(NoMemory) => Err(ScriptFault::NoMemory),
+        }
+    }
+}
+
+/// An empty list of posts for each caller.
+fn empty_lists(alloc: Global, callers: u8) -> Result<Vec<Posts>, NoMemory>
+    ensures { IfOk result (λ made. made.items ≡ no_posts callers) }
+{
+    let mut made = Vec::new(alloc);
+    for _caller in 0..callers {
+        made.push(Sequence::new(alloc))?;
+    }
+    Ok(made)
+}
+
+/// Appends a post to those of a caller.
+fn push_post(posts: &mut Vec<Posts>, caller: usize, post: Post) -> Result<(), NoMemory>
+    requires { caller < length posts.old.items }
+    ensures ok { OnOk result (posts.new.items ≡ slice_set posts.old.items caller (list_of posts.old.items caller ++ post ∷ [])) }
+    ensures err { OnErr result (posts.new.items ≡ posts.old.items) }
+{
+    let list = &mut posts[caller];
+    list.push(post)?;
+    Ok(())
+}
+
+/// Whether no caller has a post.
+fn are_empty(posts: &[Posts]) -> bool
+    ensures { result ≡ list_all is_empty posts.now }
+{
+    posts.iter().all(|list| list.is_empty())
+}
+
+/// The map of a map line, which this line may be.
+fn read_map(alloc: Global, line: &[u8]) -> Result<Option<MapSpec>, NoMemory>
+    ensures { IfOk result (λ made. made ≡ option_and_then map_of (reading_of line.now)) }
+{
+    match read_line(alloc, line) {
+        Ok(Some(value)) => forms::map_of(alloc, &value),
+        Ok(None) => Ok(None),
+        Err(NoMemory) => Err(NoMemory),
+    }
+}
+
+/// The rectangles of a base line, which this line may be.
+fn read_base(alloc: Global, size: Size, line: &[u8]) -> Result<Option<BaseRects>, NoMemory>
+    ensures rects { IfOk result (λ made. made ≡ option_and_then (base_of size) (reading_of line.now)) }
+    ensures inside { IfOk result (λ made. IfSome made (All (λ entry. IsRectInside size entry.0))) }
+{
+    match read_line(alloc, line) {
+        Ok(Some(value)) => forms::base_of(alloc, size, &value),
+        Ok(None) => Ok(None),
+        Err(NoMemory) => Err(NoMemory),
+    }
+}
+
+/// The reading of a line, where it has one.
+fn read_line(alloc: Global, line: &[u8]) -> Result<Option<Value>, NoMemory>
+    ensures { IfOk result (λ read. option_map view read ≡ reading_of line.now) }
+{
+    match Value::from_slice(alloc, line) {
+        Ok(value) => Ok(Some(value)),
+        Err(error) => {
+            if error.is_memory() {
+                Err(NoMemory)
+            } else {
+                Ok(None)
+            }
+        }
+    }
+}

@@ -1,0 +1,369 @@
+//! Scripts, read turn by turn.
+ghost use Rattle.std.specs.Prelude.{◌≡◌, ◌+◌, ◌*◌, ◌≤◌, ℕ, IfErr, IfOk, IfSome, IsErrOf, IsFalse, IsSome, IsTrue, None, OnOk, Some, is_err, length, [], ◌∷◌};
+ghost use Rattle.io_edges.specs.Faults.{Rose};
+ghost use Rattle.script_text.specs.Script.{accept, beginning, in_base, rules_of};
+ghost use Rattle.script_text.specs.Reader.{HoldsTurn, MapTold, TurnTold, callers_of, is_last, post_count, rules_at};
+ghost use Rattle.script_text.specs.Judging.{BaseTold, BeginsMap, CountsPosts, GivesTurn, IsBase, IsBetweenTurns, IsInTurns, IsNoBaseAt, IsNoBaseNext, TakesBase, held_at};
+ghost use Rattle.script_text.specs.Taking.{HeldLine, IsPlain, IsWhole};
+
+use crate::faults::ScriptFault;
+use crate::growing_map::GrowingMap;
+use crate::held_lines::HeldLines;
+use crate::progress::Progress;
+use grid_versions::MapSpec;
+use io_edges::Source;
+use nav_types::NoMemory;
+use std::alloc::Global;
+use std::marker::Model;
+use turn_core::TurnPosts;
+
+/// Reads a script: first its map, then turn after turn. It keeps only the bytes that no line has used yet.
+///
+/// Contracts see the place that it has come to, these bytes, whether the end of the input was met, whether no call may
+/// follow, and whether it has failed.
+#[derive(Drop)]
+pub struct ScriptReader {
+    lines: HeldLines,
+    progress: Progress,
+    over: bool,
+    failed: bool,
+}
+
+impl Model for ScriptReader {
+    ghost use Rattle.std.specs.Prelude.{IsFalse};
+    ghost use Rattle.script_text.specs.Taking.{bytes_of};
+    ghost use Rattle.script_text.specs.Reader.{Held};
+    ghost use Rattle.script_text.specs.Judging.{IsBetweenTurns};
+
+    ghost Value = { Held };
+
+    ghost view = { λ r. record { place = r.progress; bytes = bytes_of r.lines; ended = r.lines.rest.ended; over = r.over; failed = r.failed } };
+
+    ghost invariant = { λ r. IsFalse r.over → IsBetweenTurns r.progress r.lines };
+}
+
+impl ScriptReader {
+    ghost use Rattle.script_text.specs.Reader.{unread};
+
+    /// A reader at the beginning of an input. The buffer of one read, 65,536 bytes, is taken here, once.
+    pub fn new(alloc: Global) -> Result<ScriptReader, NoMemory>
+        ensures { IfOk result (λ made. made ≡ unread) }
+    {
+        let lines = HeldLines::new(alloc)?;
+        Ok(ScriptReader {
+            lines,
+            progress: Progress::new(alloc),
+            over: false,
+            failed: false,
+        })
+    }
+
+    /// Reads the map: line 1, and then each line that is a base line. The first line that is none stays unused, and
+    /// `next_turn` judges it. It comes first, and once.
+    ///
+    /// The only bad line that it names is line 1. It refuses a line or an input past its limit, and a fault of the
+    /// source that comes before the first line that is no base line is whole. No call follows a refusal.
+    pub fn read_map<S: Source>(
+        &mut self,
+        alloc: Global,
+        source: &mut S,
+    ) -> Result<MapSpec, ScriptFault>
+        requires first { self.old.place ≡ beginning }
+        requires going { IsFalse self.old.over }
+        ensures told { MapTold self.old self.new (S.left source.old) (S.left source.new) result }
+        ensures later { S.faults source.old ≤ S.faults source.new }
+        ensures fault { IsErrOf result ScriptFault.ReadFault → Rose (S.faults source.old) (S.faults source.new) }
+        ensures bad_line { IfErr result (λ fault. (n : ℕ) → fault ≡ ScriptFault.BadLine n → n ≡ 1) }
+        ensures rules { IfOk result (λ map. self.new.place.part ≡ in_base (rules_of map)) }
+        ensures limit { self.new.place.bytes ≤ 4294967296 }
+        ensures stays { IsTrue self.old.ended → IsTrue self.new.ended }
+        ensures over { self.new.over ≡ is_err result }
+        ensures failed { self.new.failed ≡ is_err result }
+    {
+        let answer = read_lines_of_map(alloc, source, &mut self.lines, &mut self.progress);
+        self.failed = answer.is_err();
+        self.over = self.failed;
+        answer
+    }
+
+    /// Reads the next turn: one list of posts for each caller. None exactly where the input ended after the map line, a
+    /// base line or an end line. No call follows None or a refusal.
+    ///
+    /// Where the lines held end a turn or stop the script (`HoldsTurn`), nothing is read.
+    ///
+    /// It refuses a line that is not in the grammar in its place, by its number, a line or an input past its limit, and
+    /// a fault of the source that comes before the end line is whole.
+    pub fn next_turn<S: Source>(
+        &mut self,
+        alloc: Global,
+        source: &mut S,
+    ) -> Result<Option<TurnPosts>, ScriptFault>
+        requires map { IsSome (rules_at self.old.place.part) }
+        requires going { IsFalse self.old.over }
+        ensures told { TurnTold self.old self.new (S.left source.old) (S.left source.new) result }
+        ensures still { HoldsTurn self.old → source.new ≡ source.old }
+        ensures later { S.faults source.old ≤ S.faults source.new }
+        ensures fault { IsErrOf result ScriptFault.ReadFault → Rose (S.faults source.old) (S.faults source.new) }
+        ensures rules { rules_at self.new.place.part ≡ rules_at self.old.place.part }
+        ensures lists { IfOk result (λ next. IfSome next (λ turn. length turn ≡ callers_of self.old.place.part)) }
+        ensures used { IfOk result (λ next. IfSome next (λ turn. self.old.place.bytes + 2 * post_count turn + 2 ≤ self.new.place.bytes)) }
+        ensures limit { self.new.place.bytes ≤ 4294967296 }
+        ensures stays { IsTrue self.old.ended → IsTrue self.new.ended }
+        ensures over { self.new.over ≡ is_last result }
+        ensures failed { self.new.failed ≡ is_err result }
+    {
+        let answer = read_turn(alloc, source, &mut self.lines, &mut self.progress);
+        self.failed = answer.is_err();
+        self.over = is_last(&answer);
+        answer
+    }
+
+    /// How many bytes are held: those that were taken and that no line has used yet.
+    pub fn held(&self) -> usize
+        ensures bytes { result ≡ length self.now.bytes }
+        ensures few { result ≤ 8454144 }
+    {
+        self.lines.held()
+    }
+
+    /// Whether a call was refused.
+    pub fn failed(&self) -> bool
+        ensures { result ≡ self.now.failed }
+    {
+        self.failed
+    }
+}
+
+/// Whether no call follows an answer.
+fn is_last(answer: &Result<Option<TurnPosts>, ScriptFault>) -> bool
+    ensures { result ≡ is_last answer.now }
+{
+    match answer {
+        Ok(Some(_)) => false,
+        Ok(None) => true,
+        Err(_) => true,
+    }
+}
+
+/// Reads line 1 and the base lines.
+fn read_lines_of_map<S: Source>(
+    alloc: Global,
+    source: &mut S,
+    lines: &mut HeldLines,
+    progress: &mut Progress,
+) -> Result<MapSpec, ScriptFault>
+    requires first { progress.old ≡ beginning }
+    requires between { lines.old.line_end ≡ None → lines.old.line ≡ [] }
+    ensures told { MapTold (held_at progress.old lines.old) (held_at progress.new lines.new) (S.left source.old) (S.left source.new) result }
+    ensures later { S.faults source.old ≤ S.faults source.new }
+    ensures fault { IsErrOf result ScriptFault.ReadFault → Rose (S.faults source.old) (S.faults source.new) }
+    ensures bad_line { IfErr result (λ fault. (n : ℕ) → fault ≡ ScriptFault.BadLine n → n ≡ 1) }
+    ensures rules { IfOk result (λ map. progress.new.part ≡ in_base (rules_of map)) }
+    ensures ready { OnOk result (IsBetweenTurns progress.new lines.new) }
+    ensures limit { progress.new.bytes ≤ 4294967296 }
+    ensures stays { IsTrue lines.old.rest.ended → IsTrue lines.new.rest.ended }
+{
+    let map = match read_first_line(alloc, source, lines, progress) {
+        Ok(map) => map,
+        Err(fault) => return Err(fault),
+    };
+    let mut growing = match GrowingMap::new(alloc, map) {
+        Ok(growing) => growing,
+        Err(NoMemory) => return Err(ScriptFault::NoMemory),
+    };
+    match read_base_lines(alloc, source, lines, progress, &mut growing) {
+        Ok(()) => {}
+        Err(fault) => return Err(fault),
+    }
+    match growing.into_map(alloc) {
+        Ok(map) => Ok(map),
+        Err(NoMemory) => Err(ScriptFault::NoMemory),
+    }
+}
+
+/// Reads line 1, which is the map line.
+fn read_first_line<S: Source>(
+    alloc: Global,
+    source: &mut S,
+    lines: &mut HeldLines,
+    progress: &mut Progress,
+) -> Result<MapSpec, ScriptFault>
+    requires first { progress.old ≡ beginning }
+    requires between { lines.old.line_end ≡ None → lines.old.line ≡ [] }
+    ensures told { MapTold (held_at progress.old lines.old) (held_at progress.new lines.new) (S.left source.old) (S.left source.new) result }
+    ensures later { S.faults source.old ≤ S.faults source.new }
+    ensures fault { IsErrOf result ScriptFault.ReadFault → Rose (S.faults source.old) (S.faults source.new) }
+    ensures bad_line { IfErr result (λ fault. (n : ℕ) → fault ≡ ScriptFault.BadLine n → n ≡ 1) }
+    ensures rules { IfOk result (λ map. progress.new.part ≡ in_base (rules_of map)) }
+    ensures posts { OnOk result (post_count progress.new.posts ≡ 0) }
+    ensures empty { OnOk result (lines.new.line ≡ []) }
+    ensures limit { progress.new.bytes ≤ 4294967296 }
+    ensures stays { IsTrue lines.old.rest.ended → IsTrue lines.new.rest.ended }
+{
+    let room = progress.room();
+    match lines.next_line(source, room) {
+        Ok(Some(size)) => take_map_line(alloc, lines, progress, size),
+        Ok(None) => Err(ScriptFault::BadLine(1)),
+        Err(fault) => Err(fault),
+    }
+}
+
+/// Takes the line that is held as the map line.
+fn take_map_line(
+    alloc: Global,
+    lines: &mut HeldLines,
+    progress: &mut Progress,
+    size: u64,
+) -> Result<MapSpec, ScriptFault>
+    requires first { progress.old ≡ beginning }
+    requires whole { IsWhole lines.old size }
+    ensures begins { BeginsMap (accept size lines.old.line progress.old) progress.new result }
+    ensures line { OnOk result (lines.new ≡ record { line = []; line_end = None; rest = lines.old.rest }) }
+    ensures rest { lines.new.rest ≡ lines.old.rest }
+    ensures bad_line { IfErr result (λ fault. (n : ℕ) → fault ≡ ScriptFault.BadLine n → n ≡ 1) }
+    ensures read { IfErr result (λ fault. fault ≡ ScriptFault.ReadFault → ⊥) }
+    ensures rules { IfOk result (λ map. progress.new.part ≡ in_base (rules_of map)) }
+    ensures posts { OnOk result (post_count progress.new.posts ≡ 0) }
+    ensures limit { progress.new.bytes ≤ 4294967296 }
+{
+    match progress.map_line(alloc, lines.line(), size) {
+        Ok(map) => {
+            lines.use_line();
+            Ok(map)
+        }
+        Err(fault) => Err(fault),
+    }
+}
+
+/// Reads base lines, up to the first line that is none, and adds their rectangles to the map.
+fn read_base_lines<S: Source>(
+    alloc: Global,
+    source: &mut S,
+    lines: &mut HeldLines,
+    progress: &mut Progress,
+    map: &mut GrowingMap,
+) -> Result<(), ScriptFault>
+    requires part { progress.old.part ≡ in_base (rules_of map.old) }
+    requires posts { post_count progress.old.posts ≡ 0 }
+    requires between { lines.old.line_end ≡ None → lines.old.line ≡ [] }
+    ensures told { BaseTold (held_at progress.old lines.old) (held_at progress.new lines.new) map.old map.new (S.left source.old) (S.left source.new) result }
+    ensures later { S.faults source.old ≤ S.faults source.new }
+    ensures fault { IsErrOf result ScriptFault.ReadFault → Rose (S.faults source.old) (S.faults source.new) }
+    ensures good { IfErr result (λ fault. (n : ℕ) → fault ≡ ScriptFault.BadLine n → ⊥) }
+    ensures rules { progress.new.part ≡ in_base (rules_of map.new) }
+    ensures ready { OnOk result (IsBetweenTurns progress.new lines.new) }
+    ensures limit { progress.new.bytes ≤ 4294967296 }
+    ensures stays { IsTrue lines.old.rest.ended → IsTrue lines.new.rest.ended }
+{
+    'lines: loop {
+        let room = progress.room();
+        match lines.next_line(source, room) {
+            Ok(Some(size)) => match take_base_line(alloc, lines, progress, map, size) {
+                Ok(true) => {}
+                Ok(false) => return Ok(()),
+                Err(fault) => return Err(fault),
+            },
+            Ok(None) => return Ok(()),
+            Err(fault) => return Err(fault),
+        }
+    }
+}
+
+/// Takes the line that is held, where it is a base line, and adds its rectangles to the map.
+fn take_base_line(
+    alloc: Global,
+    lines: &mut HeldLines,
+    progress: &mut Progress,
+    map: &mut GrowingMap,
+    size: u64,
+) -> Result<bool, ScriptFault>
+    requires part { progress.old.part ≡ in_base (rules_of map.old) }
+    requires whole { IsWhole lines.old size }
+    ensures takes { TakesBase progress.old progress.new map.old map.new lines.old lines.new size result }
+    ensures rest { lines.new.rest ≡ lines.old.rest }
+    ensures used { IfOk result (λ taken. IsTrue taken → progress.new.bytes ≡ progress.old.bytes + size) }
+    ensures rules { progress.new.part ≡ in_base (rules_of map.new) }
+    ensures posts { progress.new.posts ≡ progress.old.posts }
+    ensures limit { progress.new.bytes ≤ 4294967296 }
+{
+    match progress.base_line(alloc, lines.line(), size) {
+        Ok(Some(rects)) => match map.add(&rects) {
+            Ok(()) => {
+                lines.use_line();
+                Ok(true)
+            }
+            Err(NoMemory) => Err(ScriptFault::NoMemory),
+        },
+        Ok(None) => Ok(false),
+        Err(fault) => Err(fault),
+    }
+}
+
+/// Takes line after line until one ends a turn, or the script stops.
+fn read_turn<S: Source>(
+    alloc: Global,
+    source: &mut S,
+    lines: &mut HeldLines,
+    progress: &mut Progress,
+) -> Result<Option<TurnPosts>, ScriptFault>
+    requires map { IsSome (rules_at progress.old.part) }
+    requires ready { IsBetweenTurns progress.old lines.old }
+    ensures told { TurnTold (held_at progress.old lines.old) (held_at progress.new lines.new) (S.left source.old) (S.left source.new) result }
+    ensures still { HoldsTurn (held_at progress.old lines.old) → source.new ≡ source.old }
+    ensures later { S.faults source.old ≤ S.faults source.new }
+    ensures fault { IsErrOf result ScriptFault.ReadFault → Rose (S.faults source.old) (S.faults source.new) }
+    ensures rules { rules_at progress.new.part ≡ rules_at progress.old.part }
+    ensures lists { IfOk result (λ next. IfSome next (λ turn. length turn ≡ callers_of progress.old.part)) }
+    ensures used { IfOk result (λ next. IfSome next (λ turn. progress.old.bytes + 2 * post_count turn + 2 ≤ progress.new.bytes)) }
+    ensures ready { IfOk result (λ next. IfSome next (λ turn. IsBetweenTurns progress.new lines.new)) }
+    ensures limit { progress.new.bytes ≤ 4294967296 }
+    ensures stays { IsTrue lines.old.rest.ended → IsTrue lines.new.rest.ended }
+{
+    'lines: loop {
+        let room = progress.room();
+        match lines.next_line(source, room) {
+            Ok(Some(size)) => match take_turn_line(alloc, lines, progress, size) {
+                Ok(None) => {}
+                Ok(Some(turn)) => return Ok(Some(turn)),
+                Err(fault) => return Err(fault),
+            },
+            Ok(None) => {
+                return match progress.finish() {
+                    Ok(()) => Ok(None),
+                    Err(fault) => Err(fault),
+                };
+            }
+            Err(fault) => return Err(fault),
+        }
+    }
+}
+
+/// Takes the line that is held as a line of a turn. It answers the posts of the turn where the line ends it.
+fn take_turn_line(
+    alloc: Global,
+    lines: &mut HeldLines,
+    progress: &mut Progress,
+    size: u64,
+) -> Result<Option<TurnPosts>, ScriptFault>
+    requires map { IsSome (rules_at progress.old.part) }
+    requires no_base { IsNoBaseAt progress.old.part lines.old.line }
+    requires whole { IsWhole lines.old size }
+    ensures gives { GivesTurn (accept size lines.old.line progress.old) progress.new result }
+    ensures line { OnOk result (lines.new ≡ record { line = []; line_end = None; rest = lines.old.rest }) }
+    ensures rest { lines.new.rest ≡ lines.old.rest }
+    ensures used { OnOk result (progress.new.bytes ≡ progress.old.bytes + size) }
+    ensures two_bytes { OnOk result (2 ≤ size) }
+    ensures rules { rules_at progress.new.part ≡ rules_at progress.old.part }
+    ensures part { OnOk result (IsInTurns progress.new.part) }
+    ensures counts { IfOk result (CountsPosts progress.old.posts progress.new.posts) }
+    ensures lists { IfOk result (λ next. IfSome next (λ turn. length turn ≡ callers_of progress.old.part)) }
+    ensures limit { progress.new.bytes ≤ 4294967296 }
+{
+    match progress.accept(alloc, lines.line(), size) {
+        Ok(next) => {
+            lines.use_line();
+            Ok(next)
+        }
+        Err(fault) => Err(fault),
+    }
+}
