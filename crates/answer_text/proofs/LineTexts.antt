@@ -3,7 +3,7 @@ use Rattle.std.proofs.Common.{◌≡◌, ℕ, ◌++◌, ◌∷◌, [], List, ap,
 use Rattle.std.specs.Prelude.{codes}
 use Rattle.std.specs.List.{join_with_byte}
 use Rattle.answer_text.specs.Answers.{line_of}
-use Rattle.answer_text.specs.Writing.{spaced}
+use Rattle.answer_text.specs.inner.Spacing.{spaced}
 
 -- joined words are the first, and each other after a space
 joined : (word : List ℕ) (words : List (List ℕ)) → join_with_byte 32 (word ∷ words) ≡ word ++ spaced words

@@ -2,13 +2,17 @@
 use Rattle.std.specs.Prelude.{ℕ, ◌+◌, Bool, List, [], ◌∷◌, ◌++◌, length, map, codes, decimal, if◌then◌else◌}
 use Rattle.std.specs.List.{join_with_byte}
 use Rattle.nav_types.specs.declared.cells.Cell.{Cell}
+use Rattle.grid_versions.specs.declared.edits.EditReply.{EditReply}
+use Rattle.grid_versions.specs.declared.edits.EditReply.TheVariants as edit
 use Rattle.grid_versions.specs.declared.edits.Refusal.{Refusal}
 use Rattle.grid_versions.specs.declared.edits.Refusal.TheVariants.{BadShape, DuplicateId, StoreFull, UnknownId, UnknownClass, StartOutside, GoalOutside}
 use Rattle.grid_versions.specs.declared.versions.Tallies.{Tallies}
+use Rattle.turn_core.specs.declared.replies.Answer.{Answer}
+use Rattle.turn_core.specs.declared.replies.Answer.TheVariants.{Refused, Nowhere, Path, Region}
 use Rattle.turn_core.specs.declared.replies.PathAnswer.{PathAnswer}
 use Rattle.turn_core.specs.declared.replies.RegionAnswer.{RegionAnswer}
 use Rattle.turn_core.specs.declared.replies.Reply.{Reply}
-use Rattle.turn_core.specs.declared.replies.Reply.TheVariants.{Added, Removed, Moved, Refused, Nowhere, Path, Region}
+use Rattle.turn_core.specs.declared.replies.Reply.TheVariants.{Edit as Edited, Answer as Answered}
 use Rattle.turn_core.specs.declared.replies.TurnReplies.{TurnReplies}
 
 -- the words with one space (32) between them, and a newline (10)
@@ -36,21 +40,34 @@ end_word near = if near then codes "near" else codes "goal"
 -- a path: its first and its last cell by column and row, where it ends, its cost, how many waypoints it has, and these
 abbrev pub path_words : PathAnswer → List (List ℕ)
 path_words path = codes "path" ∷ decimal path.start.i ∷ decimal path.start.j ∷ decimal path.end.i ∷ decimal path.end.j
-    ∷ end_word path.near ∷ decimal path.cost.0 ∷ decimal (length path.corners) ∷ map waypoint_text path.corners
+    ∷ end_word path.near ∷ decimal path.cost.0 ∷ decimal (length path.waypoints) ∷ map waypoint_text path.waypoints
 
 -- a region: the column and the row of its chunk, its number in the chunk, and its area's number
 abbrev pub region_words : RegionAnswer → List (List ℕ)
 region_words found = codes "region" ∷ decimal found.ci ∷ decimal found.cj ∷ decimal found.region ∷ decimal found.area ∷ []
 
+-- a post that is refused
+abbrev pub refused_words : Refusal → List (List ℕ)
+refused_words refusal = codes "refused" ∷ refusal_word refusal ∷ []
+
+-- what the reply to an edit says
+abbrev pub edit_words : EditReply → List (List ℕ)
+edit_words (edit.Added id) = codes "added" ∷ decimal id ∷ []
+edit_words (edit.Removed id) = codes "removed" ∷ decimal id ∷ []
+edit_words (edit.Moved id) = codes "moved" ∷ decimal id ∷ []
+edit_words (edit.Refused refusal) = refused_words refusal
+
+-- what the answer to a request says
+abbrev pub answer_words : Answer → List (List ℕ)
+answer_words (Refused refusal) = refused_words refusal
+answer_words Nowhere = codes "nowhere" ∷ []
+answer_words (Path path) = path_words path
+answer_words (Region found) = region_words found
+
 -- what a reply says
 abbrev pub reply_words : Reply → List (List ℕ)
-reply_words (Added id) = codes "added" ∷ decimal id ∷ []
-reply_words (Removed id) = codes "removed" ∷ decimal id ∷ []
-reply_words (Moved id) = codes "moved" ∷ decimal id ∷ []
-reply_words (Refused refusal) = codes "refused" ∷ refusal_word refusal ∷ []
-reply_words Nowhere = codes "nowhere" ∷ []
-reply_words (Path path) = path_words path
-reply_words (Region found) = region_words found
+reply_words (Edited reply) = edit_words reply
+reply_words (Answered answer) = answer_words answer
 
 -- the line of a reply: the caller's number, that of the post among the caller's posts of the turn, and what it says
 unfoldable pub reply_line : ℕ → ℕ → Reply → List ℕ

@@ -1,4 +1,4 @@
 pub mod Answers
-pub mod Writing
 pub mod Summaries
-pub mod Counting
+pub mod Writing
+pub mod inner

@@ -2,49 +2,52 @@
 use Rattle.std.specs.Prelude.{ℕ, ◌<◌, ◌-◌, ◌^◌, Bool, true, false, not, List, [], ◌∷◌, ◌++◌, length, flat_map, count_by, sum_by, slice_get, codes, decimal}
 use Rattle.std.specs.Option.{option_map_or}
 use Rattle.grid_versions.specs.declared.versions.Tallies.{Tallies}
+use Rattle.grid_versions.specs.declared.edits.EditReply.TheVariants as edit
+use Rattle.turn_core.specs.declared.replies.Answer.TheVariants as answer
 use Rattle.turn_core.specs.declared.replies.Reply.{Reply}
-use Rattle.turn_core.specs.declared.replies.Reply.TheVariants.{Added, Removed, Moved, Refused, Nowhere, Path, Region}
+use Rattle.turn_core.specs.declared.replies.Reply.TheVariants.{Edit as Edited, Answer as Answered}
 use Rattle.turn_core.specs.declared.replies.TurnReplies.{TurnReplies}
 use Rattle.answer_text.specs.Answers.{line_of}
 
 -- an obstruction was added
 abbrev pub is_added : Reply → Bool
-is_added (Added id) = true
+is_added (Edited (edit.Added id)) = true
 is_added other = false
 
 -- an obstruction was removed
 abbrev pub is_removed : Reply → Bool
-is_removed (Removed id) = true
+is_removed (Edited (edit.Removed id)) = true
 is_removed other = false
 
 -- the post was refused
 abbrev pub is_refused : Reply → Bool
-is_refused (Refused refusal) = true
+is_refused (Edited (edit.Refused refusal)) = true
+is_refused (Answered (answer.Refused refusal)) = true
 is_refused other = false
 
 -- no cell is passable for the class of the path
 abbrev pub is_nowhere : Reply → Bool
-is_nowhere Nowhere = true
+is_nowhere (Answered answer.Nowhere) = true
 is_nowhere other = false
 
 -- a path that ends at a goal cell
 abbrev pub is_at_goal : Reply → Bool
-is_at_goal (Path path) = not path.near
+is_at_goal (Answered (answer.Path path)) = not path.near
 is_at_goal other = false
 
 -- a path that ends near its goal
 abbrev pub is_near_goal : Reply → Bool
-is_near_goal (Path path) = path.near
+is_near_goal (Answered (answer.Path path)) = path.near
 is_near_goal other = false
 
 -- the cost of a path, 65536 for each straight step; another reply costs nothing
 abbrev pub path_cost : Reply → ℕ
-path_cost (Path path) = path.cost.0
+path_cost (Answered (answer.Path path)) = path.cost.0
 path_cost other = 0
 
 -- how many waypoints a reply has
 abbrev pub waypoint_count : Reply → ℕ
-waypoint_count (Path path) = length path.corners
+waypoint_count (Answered (answer.Path path)) = length path.waypoints
 waypoint_count other = 0
 
 -- the replies to callers, one caller after another

@@ -1,10 +1,5 @@
 -- What stands at the end of a text while a line is written there.
-use Rattle.std.specs.Prelude.{◌≡◌, ℕ, List, [], ◌∷◌, ◌++◌}
-
--- the words that follow the first of a line, each after a space (32)
-abbrev pub spaced : List (List ℕ) → List ℕ
-spaced [] = []
-spaced (word ∷ words) = 32 ∷ (word ++ spaced words)
+use Rattle.std.specs.Prelude.{◌≡◌, ℕ, List, ◌++◌}
 
 -- a text that grew from another: it is that text, and perhaps more bytes after it
 pub record GrewFrom (old new : List ℕ) : Type 0 where

@@ -1,9 +1,10 @@
 //! Counts of replies.
 ghost use Rattle.std.specs.Prelude.{◌≡◌, ◌∷◌, []};
-ghost use Rattle.answer_text.specs.Counting.{counts_of, together, IsCountable};
+ghost use Rattle.answer_text.specs.inner.Counting.{counts_of, together, IsCountable};
 ghost use Rattle.answer_text.specs.Summaries.{turn_replies, all_replies};
 
-use turn_core::{Replies, Reply, TurnReplies};
+use grid_versions::EditReply;
+use turn_core::{Answer, Replies, Reply, TurnReplies};
 
 /// How many replies there are, how many of them are of each kind, what their paths cost together, and how
 /// many waypoints these have together.
@@ -17,7 +18,7 @@ pub(crate) struct ReplyCounts {
     pub near: u64,
     pub nowhere: u64,
     pub cost: u64,
-    pub corners: u64,
+    pub waypoints: u64,
 }
 
 impl ReplyCounts {
@@ -34,7 +35,7 @@ impl ReplyCounts {
             near: 0,
             nowhere: 0,
             cost: 0,
-            corners: 0,
+            waypoints: 0,
         }
     }
 
@@ -47,27 +48,27 @@ impl ReplyCounts {
             ..ReplyCounts::zero()
         };
         match reply {
-            Reply::Added(_) => ReplyCounts { added: 1, ..other },
-            Reply::Removed(_) => ReplyCounts {
+            Reply::Edit(EditReply::Added(_)) => ReplyCounts { added: 1, ..other },
+            Reply::Edit(EditReply::Removed(_)) => ReplyCounts {
                 removed: 1,
                 ..other
             },
-            Reply::Refused(_) => ReplyCounts {
+            Reply::Edit(EditReply::Refused(_)) | Reply::Answer(Answer::Refused(_)) => ReplyCounts {
                 refused: 1,
                 ..other
             },
-            Reply::Nowhere => ReplyCounts {
+            Reply::Answer(Answer::Nowhere) => ReplyCounts {
                 nowhere: 1,
                 ..other
             },
-            Reply::Path(path) => ReplyCounts {
+            Reply::Answer(Answer::Path(path)) => ReplyCounts {
                 goal: u64::from(!path.near),
                 near: u64::from(path.near),
                 cost: path.cost.0,
-                corners: path.corners.len() as u64,
+                waypoints: path.waypoints.len() as u64,
                 ..other
             },
-            Reply::Moved(_) | Reply::Region(_) => other,
+            Reply::Edit(EditReply::Moved(_)) | Reply::Answer(Answer::Region(_)) => other,
         }
     }
 
@@ -116,6 +117,6 @@ impl ReplyCounts {
         self.near += more.near;
         self.nowhere += more.nowhere;
         self.cost += more.cost;
-        self.corners += more.corners;
+        self.waypoints += more.waypoints;
     }
 }

@@ -2,14 +2,15 @@
 #![tactic(auto, using(crate::proofs::Growing::growing))]
 
 ghost use Rattle.std.specs.Prelude.{◌≡◌, ◌++◌, ◌∷◌, OnOk, OnErr, IfOk, map};
-ghost use Rattle.answer_text.specs.Answers.{reply_line, turn_line, bad_line_text, reply_words, path_words, region_words, refusal_word, end_word, waypoint_text};
-ghost use Rattle.answer_text.specs.Writing.{spaced, GrewFrom};
+ghost use Rattle.answer_text.specs.Answers.{reply_line, turn_line, bad_line_text, reply_words, edit_words, answer_words, refused_words, path_words, region_words, refusal_word, end_word, waypoint_text};
+ghost use Rattle.answer_text.specs.Writing.{GrewFrom};
+ghost use Rattle.answer_text.specs.inner.Spacing.{spaced};
 
-use crate::pieces::{write_after, write_cell, write_number, write_waypoint};
-use grid_versions::{Refusal, Tallies};
+use crate::pieces::{write_after, write_cell, write_waypoint};
+use grid_versions::{EditReply, Refusal, Tallies};
 use nav_types::{Bytes, Cell, NoMemory};
 use std::alloc::Global;
-use turn_core::{PathAnswer, RegionAnswer, Reply};
+use turn_core::{Answer, PathAnswer, RegionAnswer, Reply};
 
 /// Appends the line of a reply: the caller's number, the number of the post among the caller's posts of
 /// the turn, and what the reply says (`reply_line`). Where there is no memory, the text still begins as it
@@ -18,7 +19,7 @@ pub fn write_reply(text: &mut Bytes, caller: u64, post: u64, reply: &Reply) -> R
     ensures ok { OnOk result (text.new ≡ text.old ++ reply_line caller post reply.now) }
     ensures err { OnErr result (GrewFrom text.old text.new) }
 {
-    write_number(text, caller)?;
+    text.push_decimal(caller)?;
     write_after(text, b" ", post)?;
     write_words(text, reply)?;
     text.extend(b"\n")
@@ -58,19 +59,40 @@ fn write_words(text: &mut Bytes, reply: &Reply) -> Result<(), NoMemory>
     ensures err { OnErr result (GrewFrom text.old text.new) }
 {
     match reply {
-        Reply::Added(id) => write_after(text, b" added ", u64::from(*id)),
-        Reply::Removed(id) => write_after(text, b" removed ", u64::from(*id)),
-        Reply::Moved(id) => write_after(text, b" moved ", u64::from(*id)),
-        Reply::Refused(refusal) => write_refusal(text, *refusal),
-        Reply::Nowhere => text.extend(b" nowhere"),
-        Reply::Path(path) => write_path(text, path),
-        Reply::Region(found) => write_region(text, found),
+        Reply::Edit(reply) => write_edit_reply(text, *reply),
+        Reply::Answer(answer) => write_answer(text, answer),
+    }
+}
+
+/// What the reply to an edit says.
+fn write_edit_reply(text: &mut Bytes, reply: EditReply) -> Result<(), NoMemory>
+    ensures ok { OnOk result (text.new ≡ text.old ++ spaced (edit_words reply)) }
+    ensures err { OnErr result (GrewFrom text.old text.new) }
+{
+    match reply {
+        EditReply::Added(id) => write_after(text, b" added ", u64::from(id)),
+        EditReply::Removed(id) => write_after(text, b" removed ", u64::from(id)),
+        EditReply::Moved(id) => write_after(text, b" moved ", u64::from(id)),
+        EditReply::Refused(refusal) => write_refusal(text, refusal),
+    }
+}
+
+/// What the answer to a request says.
+fn write_answer(text: &mut Bytes, answer: &Answer) -> Result<(), NoMemory>
+    ensures ok { OnOk result (text.new ≡ text.old ++ spaced (answer_words answer.now)) }
+    ensures err { OnErr result (GrewFrom text.old text.new) }
+{
+    match answer {
+        Answer::Refused(refusal) => write_refusal(text, *refusal),
+        Answer::Nowhere => text.extend(b" nowhere"),
+        Answer::Path(path) => write_path(text, path),
+        Answer::Region(found) => write_region(text, found),
     }
 }
 
 /// Why a post is refused.
 fn write_refusal(text: &mut Bytes, refusal: Refusal) -> Result<(), NoMemory>
-    ensures ok { OnOk result (text.new ≡ text.old ++ spaced (reply_words (Reply.Refused refusal))) }
+    ensures ok { OnOk result (text.new ≡ text.old ++ spaced (refused_words refusal)) }
     ensures err { OnErr result (GrewFrom text.old text.new) }
 {
     text.extend(b" refused ")?;
@@ -102,8 +124,8 @@ fn write_path(text: &mut Bytes, path: &PathAnswer) -> Result<(), NoMemory>
     write_cell(text, path.end)?;
     text.extend(end_word(path.near))?;
     write_after(text, b" ", path.cost.0)?;
-    write_after(text, b" ", path.corners.len() as u64)?;
-    write_waypoints(text, path.corners.as_slice())
+    write_after(text, b" ", path.waypoints.len() as u64)?;
+    write_waypoints(text, path.waypoints.as_slice())
 }
 
 /// The word for where a path ends, after a space.
@@ -114,12 +136,12 @@ fn end_word(near: bool) -> &'static [u8]
 }
 
 /// The waypoints, each after a space.
-fn write_waypoints(text: &mut Bytes, corners: &[Cell]) -> Result<(), NoMemory>
-    ensures ok { OnOk result (text.new ≡ text.old ++ spaced (map waypoint_text corners.now)) }
+fn write_waypoints(text: &mut Bytes, waypoints: &[Cell]) -> Result<(), NoMemory>
+    ensures ok { OnOk result (text.new ≡ text.old ++ spaced (map waypoint_text waypoints.now)) }
     ensures err { OnErr result (GrewFrom text.old text.new) }
 {
-    for corner in corners {
-        write_waypoint(text, *corner)?;
+    for waypoint in waypoints {
+        write_waypoint(text, *waypoint)?;
     }
     Ok(())
 }

@@ -5,25 +5,15 @@ ghost use Rattle.std.specs.Prelude.{◌≡◌, ◌++◌, ◌∷◌, decimal, OnO
 ghost use Rattle.answer_text.specs.Writing.{GrewFrom};
 ghost use Rattle.answer_text.specs.Answers.{waypoint_text};
 
-use itoa::Buffer;
 use nav_types::{Bytes, Cell, NoMemory};
 
-/// A number in decimal.
-pub(crate) fn write_number(text: &mut Bytes, number: u64) -> Result<(), NoMemory>
-    ensures ok { OnOk result (text.new ≡ text.old ++ decimal number) }
-    ensures err { OnErr result (GrewFrom text.old text.new) }
-{
-    let mut buffer = Buffer::new();
-    text.extend(buffer.format(number).as_bytes())
-}
-
-/// A number after other bytes.
+/// A number in decimal, after other bytes.
 pub(crate) fn write_after(text: &mut Bytes, before: &[u8], number: u64) -> Result<(), NoMemory>
     ensures ok { OnOk result (text.new ≡ text.old ++ (before.now ++ decimal number)) }
     ensures err { OnErr result (GrewFrom text.old text.new) }
 {
     text.extend(before)?;
-    write_number(text, number)
+    text.push_decimal(number)
 }
 
 /// The column and the row of a cell, each after a space.

@@ -1,7 +1,7 @@
 //! The summary of a run.
 ghost use Rattle.std.specs.Prelude.{◌≡◌, ◌++◌, List, IfOk, OnOk};
 ghost use Rattle.turn_core.specs.declared.replies.Reply.{Reply};
-ghost use Rattle.answer_text.specs.Counting.{counts_of};
+ghost use Rattle.answer_text.specs.inner.Counting.{counts_of};
 ghost use Rattle.answer_text.specs.Summaries.{summary_text, totals_line, last_line, last_tallies, all_replies, HasFewReplies, HasCountableCosts, HasCountableWaypoints};
 
 use crate::counting::ReplyCounts;
@@ -44,7 +44,7 @@ fn write_totals(text: &mut Bytes, turns: u64, counts: &ReplyCounts) -> Result<()
     write_after(text, b" near ", counts.near)?;
     write_after(text, b" nowhere ", counts.nowhere)?;
     write_after(text, b" cost ", counts.cost)?;
-    write_after(text, b" corners ", counts.corners)?;
+    write_after(text, b" corners ", counts.waypoints)?;
     text.extend(b"\n")
 }
 

@@ -3,12 +3,14 @@ ghost use Rattle.std.specs.Prelude.{◌≡◌, ◌≤◌, IfOk, length, sum_by};
 ghost use Rattle.answer_text.specs.Summaries.{turn_replies, path_cost, waypoint_count};
 
 use super::*;
-use grid_versions::{Refusal, Tallies};
+use grid_versions::{EditReply, Refusal, Tallies};
 use nav_types::{Bytes, Cell, Cost, NoMemory};
 use std::alloc::Global;
 use std::test::Fail;
-use turn_core::{AllReplies, CallerReplies, PathAnswer, RegionAnswer, Replies, Reply, TurnReplies};
-use walks::Corners;
+use turn_core::{
+    AllReplies, Answer, CallerReplies, PathAnswer, RegionAnswer, Replies, Reply, TurnReplies,
+};
+use walks::Waypoints;
 
 /// The text of the first turn.
 const FIRST: &str = "turn 1 regions 2 edges 0 areas 2 relabelled 1\n\
@@ -37,21 +39,21 @@ const BOTH: &str =
     last regions 1 edges 0 areas 1\n";
 
 /// A path from the first cell along the first row, with these columns of its waypoints.
-fn path(alloc: Global, end: u16, near: bool, cost: u64, corners: &[u16]) -> Result<Reply, NoMemory>
+fn path(alloc: Global, end: u16, near: bool, cost: u64, columns: &[u16]) -> Result<Reply, NoMemory>
     ensures cost { IfOk result (λ made. path_cost made ≡ cost) }
-    ensures waypoints { IfOk result (λ made. waypoint_count made ≡ length corners.now) }
+    ensures waypoints { IfOk result (λ made. waypoint_count made ≡ length columns.now) }
 {
-    let mut list = Corners::new(alloc);
-    for i in corners {
+    let mut list = Waypoints::new(alloc);
+    for i in columns {
         list.push(Cell::new(*i, 0))?;
     }
-    Ok(Reply::Path(PathAnswer {
+    Ok(Reply::Answer(Answer::Path(PathAnswer {
         start: Cell::new(0, 0),
         end: Cell::new(end, 0),
         near,
         cost: Cost(cost),
-        corners: list,
-    }))
+        waypoints: list,
+    })))
 }
 
 /// The region of a cell of the first chunk row.
@@ -59,12 +61,12 @@ fn region(ci: u16, region: u16, area: u32) -> Reply
     ensures cost { path_cost result ≡ 0 }
     ensures waypoints { waypoint_count result ≡ 0 }
 {
-    Reply::Region(RegionAnswer {
+    Reply::Answer(Answer::Region(RegionAnswer {
         ci,
         cj: 0,
         region,
         area,
-    })
+    }))
 }
 
 /// A turn with these numbers of regions, region edges and areas, that changed one pair of chunk and class.
@@ -89,11 +91,11 @@ fn first_turn(alloc: Global) -> Result<TurnReplies, NoMemory>
     ensures waypoints { IfOk result (λ told. sum_by waypoint_count (turn_replies told.replies) ≤ 2) }
 {
     let mut replies = Replies::new(alloc);
-    replies.push(Reply::Added(1))?;
+    replies.push(Reply::Edit(EditReply::Added(1)))?;
     replies.push(path(alloc, 1, false, 65536, &[1])?)?;
     replies.push(path(alloc, 1, true, 65536, &[1])?)?;
-    replies.push(Reply::Refused(Refusal::UnknownId))?;
-    replies.push(Reply::Refused(Refusal::BadShape))?;
+    replies.push(Reply::Answer(Answer::Refused(Refusal::UnknownId)))?;
+    replies.push(Reply::Edit(EditReply::Refused(Refusal::BadShape)))?;
     let mut callers = CallerReplies::new(alloc);
     callers.push(replies)?;
     Ok(turn(2, 0, 2, callers))
@@ -106,11 +108,11 @@ fn second_turn(alloc: Global) -> Result<TurnReplies, NoMemory>
     ensures waypoints { IfOk result (λ told. sum_by waypoint_count (turn_replies told.replies) ≤ 2) }
 {
     let mut first = Replies::new(alloc);
-    first.push(Reply::Moved(1))?;
-    first.push(Reply::Removed(1))?;
+    first.push(Reply::Edit(EditReply::Moved(1)))?;
+    first.push(Reply::Edit(EditReply::Removed(1)))?;
     let mut third = Replies::new(alloc);
     third.push(region(0, 0, 0))?;
-    third.push(Reply::Nowhere)?;
+    third.push(Reply::Answer(Answer::Nowhere))?;
     third.push(path(alloc, 2, false, 250_000, &[1, 2])?)?;
     let mut callers = CallerReplies::new(alloc);
     callers.push(first)?;
@@ -130,38 +132,41 @@ fn line(alloc: Global, reply: &Reply) -> Result<Bytes, NoMemory> {
 fn each_reply_has_its_line(rt: HostRuntime) -> Result<(), Fail> {
     let alloc = rt.alloc();
     let rows = [
-        (Reply::Added(4_294_967_295), "13 4 added 4294967295\n"),
-        (Reply::Removed(0), "13 4 removed 0\n"),
-        (Reply::Moved(1), "13 4 moved 1\n"),
         (
-            Reply::Refused(Refusal::BadShape),
+            Reply::Edit(EditReply::Added(4_294_967_295)),
+            "13 4 added 4294967295\n",
+        ),
+        (Reply::Edit(EditReply::Removed(0)), "13 4 removed 0\n"),
+        (Reply::Edit(EditReply::Moved(1)), "13 4 moved 1\n"),
+        (
+            Reply::Edit(EditReply::Refused(Refusal::BadShape)),
             "13 4 refused bad-shape\n",
         ),
         (
-            Reply::Refused(Refusal::DuplicateId),
+            Reply::Edit(EditReply::Refused(Refusal::DuplicateId)),
             "13 4 refused duplicate-id\n",
         ),
         (
-            Reply::Refused(Refusal::StoreFull),
+            Reply::Edit(EditReply::Refused(Refusal::StoreFull)),
             "13 4 refused store-full\n",
         ),
         (
-            Reply::Refused(Refusal::UnknownId),
+            Reply::Answer(Answer::Refused(Refusal::UnknownId)),
             "13 4 refused unknown-id\n",
         ),
         (
-            Reply::Refused(Refusal::UnknownClass),
+            Reply::Answer(Answer::Refused(Refusal::UnknownClass)),
             "13 4 refused unknown-class\n",
         ),
         (
-            Reply::Refused(Refusal::StartOutside),
+            Reply::Answer(Answer::Refused(Refusal::StartOutside)),
             "13 4 refused start-outside\n",
         ),
         (
-            Reply::Refused(Refusal::GoalOutside),
+            Reply::Answer(Answer::Refused(Refusal::GoalOutside)),
             "13 4 refused goal-outside\n",
         ),
-        (Reply::Nowhere, "13 4 nowhere\n"),
+        (Reply::Answer(Answer::Nowhere), "13 4 nowhere\n"),
         (
             path(alloc, 92, true, 6_029_312, &[92])?,
             "13 4 path 0 0 92 0 near 6029312 1 92.5,0.5\n",

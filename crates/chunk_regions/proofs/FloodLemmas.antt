@@ -1,11 +1,10 @@
 -- What each step of a flood keeps, and what its end gives.
-use Rattle.std.proofs.Common.{ℕ, ◌≡◌, ◌≢◌, ◌<◌, ◌+◌, ◌⊎◌, Bool, true, List, [], ◌∷◌, ◌++◌, IsTrue, IsFalse, length, refl, ap, inl, inr, sym, subst, ◌∙◌, arith, Some, length-append}
+use Rattle.std.proofs.Common.{ℕ, ◌≡◌, ◌≢◌, ◌<◌, ◌+◌, ◌⊎◌, Bool, true, List, [], ◌∷◌, ◌++◌, IsTrue, IsFalse, length, ap, inl, inr, sym, subst, ◌∙◌, arith, Some, length-append}
 use Rattle.std.specs.List.{All, Contains, slice_get}
 use Rattle.std.proofs.lemmas.Bool.{cases_lt, cases_Bool, both_ways, false≢true}
-use Rattle.std.proofs.lemmas.List.{get_or_append_left, get_or_push}
 use Rattle.std.proofs.lemmas.List.Elements.{All-contains, All-push, All-nil, Contains-push, Contains-push_cases, Contains-append_left}
 use Rattle.std.proofs.lemmas.List.Quantifiers.{all_pairs_push}
-use Rattle.std.proofs.lemmas.Option.{get_or_from_slice_get, slice_get_within, slice_get-get_or, same_Some}
+use Rattle.std.proofs.lemmas.Option.{slice_get_within, slice_get-get_or, same_Some}
 use Rattle.nav_types.specs.declared.cells.Cell.{Cell}
 use Rattle.nav_types.specs.Cells.{cell_at, IsBefore, IsInRect}
 use Rattle.nav_types.specs.Counting.{AreFirsts}
@@ -16,11 +15,11 @@ use Rattle.nav_types.specs.declared.directions.Dir.TheVariants.{N, E, S, W, NE, 
 use Rattle.nav_types.specs.declared.cells.Rect.{Rect}
 use Rattle.nav_types.specs.Directions.{is_straight, Leads}
 use Rattle.std.proofs.lemmas.List.Elements.{All-head, All-tail}
-use Rattle.chunk_regions.specs.Numbering.{Numbering, number_of}
-use Rattle.chunk_regions.specs.Flooding.{IsPlaced, Floods, IsUnnumbered, IsNumbered}
-use Rattle.chunk_regions.proofs.CellLemmas.{IsBefore-irrefl, IsBefore-asym, IsBefore-cases, before_next}
-use Rattle.chunk_regions.proofs.StepLemmas.{IsBeside-back, JoinedStraight-refl, JoinedStraight-beside}
-use Rattle.chunk_regions.proofs.NumberLemmas.{Contains-from_slice_get}
+use Rattle.nav_types.specs.Numbering.{Numbering, number_of}
+use Rattle.chunk_regions.specs.inner.Flooding.{IsPlaced, Floods, IsUnnumbered, IsNumbered}
+use Rattle.nav_types.proofs.CellOrder.{IsBefore-irrefl, IsBefore-asym, IsBefore-cases, before_next}
+use Rattle.nav_types.proofs.Walking.{IsBeside-back, JoinedStraight-refl, JoinedStraight-beside}
+use Rattle.nav_types.proofs.Items.{Contains-from_slice_get, slice_get-append_left, slice_get-push_last, slice_get-push_cases}
 
 -- one cell has been given its number, and no other has changed
 pub record Gives (old new : Numbering) (cell : Cell) (number : ℕ) : Type 0 where
@@ -182,29 +181,6 @@ Floods-leave passes cells firsts frontier from here done f =
       rising = f.rising;
     }
 
-slice_get-older : (xs ys : List Cell) (k : ℕ) (x : Cell) → slice_get xs k ≡ Some x → slice_get (xs ++ ys) k ≡ Some x
-slice_get-older xs ys k x found =
-    let bound = slice_get_within xs k x found in
-    let wide : k < length (xs ++ ys) = omega (arith, length-append xs ys) in
-    slice_get-get_or (xs ++ ys) k x wide ∙ ap (λ z. Some z) (get_or_append_left xs ys x k bound ∙ get_or_from_slice_get xs k x x found)
-
-slice_get-newest : (xs : List Cell) (x : Cell) → slice_get (xs ++ x ∷ []) (length xs) ≡ Some x
-slice_get-newest xs x =
-    let wide : length xs < length (xs ++ x ∷ []) = omega (arith, length-append xs (x ∷ [])) in
-    slice_get-get_or (xs ++ x ∷ []) (length xs) x wide ∙ ap (λ z. Some z) (get_or_push xs x x (length xs) refl)
-
-slice_get-push_cases : (xs : List Cell) (y : Cell) (k : ℕ) (x : Cell) → slice_get (xs ++ y ∷ []) k ≡ Some x
-    → (slice_get xs k ≡ Some x) ⊎ ((k ≡ length xs) × (y ≡ x))
-slice_get-push_cases xs y k x found =
-    let bound = slice_get_within (xs ++ y ∷ []) k x found in
-    let value = get_or_from_slice_get (xs ++ y ∷ []) k x x found in
-    elim (cases_lt k (length xs)) [
-      | inl less ↦ inl (slice_get-get_or xs k x less ∙ ap (λ z. Some z) (sym (get_or_append_left xs (y ∷ []) x k less) ∙ value))
-      | inr more ↦
-          let last : k ≡ length xs = omega (arith, length-append xs (y ∷ [])) in
-          inr (last, sym (get_or_push xs y x k (sym last)) ∙ value)
-    ]
-
 -- a cell that has its number is met
 pub Floods-next : (passes : Cell → Bool) (cells : Numbering) (firsts : List Cell) (cell : Cell) → number_of cells cell ≢ 65535
     → Floods passes cells firsts [] cell → Floods passes cells firsts [] (cell_at (cell.i + 1) cell.j)
@@ -236,7 +212,7 @@ Floods-begin passes old new firsts cell gives real within waits f =
     let own : IsPlaced passes (firsts ++ cell ∷ []) cell (number_of new cell) = record {
       place = length firsts;
       first = cell;
-      found = slice_get-newest firsts cell;
+      found = slice_get-push_last firsts cell;
       joined = JoinedStraight-refl passes cell;
       early = IsBefore-irrefl cell;
       value = gives.given;
@@ -251,7 +227,7 @@ Floods-begin passes old new firsts cell gives real within waits f =
             record {
               place = p.place;
               first = p.first;
-              found = slice_get-older firsts (cell ∷ []) p.place p.first p.found;
+              found = slice_get-append_left firsts (cell ∷ []) p.place p.first p.found;
               joined = p.joined;
               early = p.early;
               value = other.1 ∙ p.value;

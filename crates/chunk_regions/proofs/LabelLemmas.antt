@@ -9,11 +9,12 @@ use Rattle.std.specs.List.{slice_get}
 use Rattle.std.proofs.lemmas.Option.{slice_get_within}
 use Rattle.nav_types.specs.Cells.{IsInside, IsInRect, IsBefore}
 use Rattle.nav_types.specs.Regions.{passes_in, InOneRegion}
-use Rattle.chunk_regions.specs.Numbering.{Numbering, number_of, mark}
+use Rattle.nav_types.specs.Numbering.{Numbering, number_of}
+use Rattle.chunk_regions.specs.inner.Marks.{mark}
 use Rattle.chunk_regions.specs.Labelling.{Labelling, AreLabels, chunk_rect}
-use Rattle.chunk_regions.specs.Flooding.{IsUnnumbered}
-use Rattle.chunk_regions.proofs.CellLemmas.{IsBefore-asym}
-use Rattle.chunk_regions.proofs.NumberLemmas.{AreFirsts-unique}
+use Rattle.chunk_regions.specs.inner.Flooding.{IsUnnumbered}
+use Rattle.nav_types.proofs.CellOrder.{IsBefore-asym}
+use Rattle.nav_types.proofs.FirstCells.{AreFirsts-unique}
 
 -- an inside cell of the chunk lies in the chunk's rectangle
 pub in_rect : (size : Size) (chunk : Chunk) (cell : Cell) → IsInside size cell → cell.i / 96 ≡ chunk.ci → cell.j / 96 ≡ chunk.cj

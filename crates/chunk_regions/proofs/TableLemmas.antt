@@ -7,8 +7,9 @@ use Rattle.std.proofs.lemmas.List.Sums.{sum_by-set}
 use Rattle.nav_types.specs.declared.cells.Cell.{Cell}
 use Rattle.nav_types.specs.declared.cells.Rect.{Rect}
 use Rattle.nav_types.specs.Cells.{cell_at, IsBefore, IsInRect}
-use Rattle.chunk_regions.specs.Numbering.{Numbering, columns, rows, place_in, number_of, waiting}
-use Rattle.chunk_regions.proofs.CellLemmas.{same_cell, before_next}
+use Rattle.nav_types.specs.Numbering.{Numbering, columns, rows, place_in, number_of}
+use Rattle.chunk_regions.specs.inner.Marks.{waiting}
+use Rattle.nav_types.proofs.CellOrder.{same_cell, before_next}
 
 -- what a read at a cell's place gives
 pub number_of-read : (t : Numbering) (cell : Cell) (items : List ℕ) (place found : ℕ) → items ≡ t.numbers → place ≡ place_in t.rect cell

@@ -7,7 +7,7 @@ use Rattle.nav_types.specs.declared.cells.Size.{Size}
 use Rattle.nav_types.specs.Cells.{IsBefore, IsInRect}
 use Rattle.nav_types.specs.Counting.{AreFirsts}
 use Rattle.nav_types.specs.Regions.{passes_in, InOneRegion, HasRegion}
-use Rattle.chunk_regions.specs.Numbering.{Numbering, number_of}
+use Rattle.nav_types.specs.Numbering.{Numbering, number_of}
 
 -- a chunk, the region numbers of its cells in the map, and the first cells of its regions in order
 pub record Labelling : Type 0 where

@@ -1,3 +1,2 @@
-pub mod Numbering
 pub mod Labelling
-pub mod Flooding
+pub mod inner

@@ -2,10 +2,11 @@ ghost use Rattle.std.specs.Prelude.{ℕ, Bool, ◌≡◌, ◌≢◌, ◌+◌, �
 ghost use Rattle.nav_types.specs.Cells.{IsInRect, cell_at};
 ghost use Rattle.nav_types.specs.declared.cells.Cell.{Cell};
 ghost use Rattle.nav_types.specs.Directions.{Leads, is_straight};
-ghost use Rattle.chunk_regions.specs.Numbering.{number_of, waiting};
-ghost use Rattle.chunk_regions.specs.Flooding.{Floods, IsUnnumbered, IsNumbered};
+ghost use Rattle.nav_types.specs.Numbering.{number_of};
+ghost use Rattle.chunk_regions.specs.inner.Marks.{waiting};
+ghost use Rattle.chunk_regions.specs.inner.Flooding.{Floods, IsUnnumbered, IsNumbered};
 
-use crate::extent::neighbour;
+use crate::extent::neighbour_in;
 use crate::table::{Table, WAITING};
 use nav_types::{Cell, Dir, NoMemory};
 use std::alloc::Global;
@@ -31,7 +32,7 @@ fn visit(
         → Floods passes table.old firsts (frontier.old.items ++ from ∷ []) here
         → Floods passes table.new firsts (frontier.new.items ++ from ∷ []) here) }
 {
-    let Some(cell) = neighbour(table.rect(), from, dir) else {
+    let Some(cell) = neighbour_in(table.rect(), from, dir) else {
         return Ok(());
     };
     if table.at(cell) != WAITING {
@@ -76,6 +77,7 @@ fn flood(table: &mut Table, frontier: &mut Vec<Cell>, number: u16) -> Result<(),
         → Floods passes table.old firsts frontier.old.items here
         → Floods passes table.new firsts [] here) }
 {
+    // in which order the frontier's cells are taken makes no difference: all of them get one number
     while let Some(cell) = frontier.pop() {
         spread(table, frontier, cell, number)?;
     }
@@ -141,6 +143,7 @@ pub fn number_all(alloc: Global, table: &mut Table) -> Result<Vec<Cell>, NoMemor
     let rect = table.rect();
     let mut firsts = Vec::new(alloc);
     let mut frontier = Vec::new(alloc);
+    // in the order of cells, so that the first waiting cell is the first of its group
     for j in rect.j0..rect.j1 + 1 {
         number_row(table, &mut firsts, &mut frontier, j)?;
     }

@@ -5,7 +5,7 @@ ghost use Rattle.chunk_regions.specs.Labelling.{AreLabels};
 use crate::extent::cells_of;
 use crate::flood::number_all;
 use crate::table::Table;
-use nav_types::{Cell, Chunk, Class, NoMemory, Rect, Steps, View};
+use nav_types::{Cell, Chunk, Class, NoMemory, Rect, Ticks, View};
 use std::alloc::Global;
 use std::marker::Model;
 use std::sync::ledger::Ledger;
@@ -31,7 +31,7 @@ impl Model for Labels {
 }
 
 impl Labels {
-    ghost use Rattle.chunk_regions.specs.Numbering.{number_of};
+    ghost use Rattle.nav_types.specs.Numbering.{number_of};
 
     /// The chunk that the labels are of.
     pub fn chunk(&self) -> Chunk
@@ -74,7 +74,7 @@ impl Labels {
 }
 
 /// The regions of one chunk and class: passable cells are of one region where straight steps join them inside the
-/// chunk, and regions are numbered from 1 in the order of their first cells (`HasRegion`). It is one step of work.
+/// chunk, and regions are numbered from 1 in the order of their first cells (`HasRegion`). It is one tick of work.
 /// The work grows with the chunk's cells: each is read once and stands in the flood's frontier at most once. It
 /// refuses for want of memory alone.
 pub fn label<V: View, L: Ledger>(
@@ -82,15 +82,15 @@ pub fn label<V: View, L: Ledger>(
     view: &V,
     class: Class,
     chunk: Chunk,
-    steps: &mut Steps<L>,
+    ticks: &mut Ticks<L>,
 ) -> Result<Labels, NoMemory>
     requires class { class < V.class_count view.now }
     requires columns { 96 * chunk.ci < (V.extent view.now).w }
     requires rows { 96 * chunk.cj < (V.extent view.now).h }
     ensures labels { IfOk result (AreLabels (V.passes view.now class) (V.extent view.now) chunk) }
-    ensures ticks { steps.new ≡ steps.old + 1 }
+    ensures ticks { ticks.new ≡ ticks.old + 1 }
 {
-    steps.tick();
+    ticks.tick();
     let mut table = Table::read(alloc, view, class, cells_of(view.size(), chunk))?;
     let firsts = number_all(alloc, &mut table)?;
     Ok(Labels {

@@ -3,13 +3,12 @@
 
 mod extent;
 mod flood;
-pub mod labels;
-pub mod laws;
+mod labels;
+mod laws;
 mod table;
 
 pub use labels::{Labels, label};
 pub use laws::{one_area, one_region, same_area, same_region, straight_steps_join};
-pub use nav_types::Chunk;
 
 #[cfg(test)]
 mod tests;

@@ -1,13 +1,13 @@
 ghost use Rattle.std.specs.Prelude.{ℕ, ◌≡◌, ◌≢◌, ◌+◌, ◌<◌, ◌≤◌, IfOk, length};
 ghost use Rattle.nav_types.specs.Cells.{IsInRect, IsRectInside};
 ghost use Rattle.nav_types.specs.declared.cells.Cell.{Cell};
-ghost use Rattle.chunk_regions.specs.Numbering.{mark};
+ghost use Rattle.chunk_regions.specs.inner.Marks.{mark};
 
 use nav_types::{Cell, Class, NoMemory, Rect, View};
 use std::alloc::Global;
 use std::marker::Model;
 
-/// The mark of a passable cell that waits for its number.
+/// The mark of a passable cell that waits for its number. It is no region's number, since a chunk has 9216 cells.
 pub const WAITING: u16 = 65535;
 
 /// A number for each cell of a rectangle. Contracts see the rectangle and the numbers in the order of cells.
@@ -19,7 +19,7 @@ pub struct Table {
 
 impl Model for Table {
     ghost use Rattle.std.specs.Prelude.{◌≡◌, ◌*◌, length};
-    ghost use Rattle.chunk_regions.specs.Numbering.{Numbering, IsPatch, columns, rows};
+    ghost use Rattle.nav_types.specs.Numbering.{Numbering, IsPatch, columns, rows};
 
     ghost Value = { Numbering };
 
@@ -36,7 +36,8 @@ fn mark_of(passable: bool) -> u16
 }
 
 impl Table {
-    ghost use Rattle.chunk_regions.specs.Numbering.{number_of, place_in, IsPatch, waiting};
+    ghost use Rattle.nav_types.specs.Numbering.{number_of, place_in, IsPatch};
+    ghost use Rattle.chunk_regions.specs.inner.Marks.{waiting};
 
     /// The marks of the rectangle's cells for a class.
     pub fn read<V: View>(

@@ -8,7 +8,7 @@ use lib.ListN.{get_elem?}
 use Rattle.atomic_table.specs.Table.{State, Me, keeps, stepped, opening, Allows, Splits, Joins}
 use Rattle.atomic_table.proofs.Lists.{at_set}
 use Rattle.claim_board.specs.declared.rule.View.{View}
-use Rattle.claim_board.specs.ClaimWord.{times, once_below, misses, open_credit, total, first_view, first_half, second_half, after_draw, Draws, joined, spent_view, Fits, Holds}
+use Rattle.claim_board.specs.inner.ClaimWord.{times, once_below, misses, open_credit, total, first_view, first_half, second_half, after_draw, Draws, joined, spent_view, FitsSeat, KeepsBoard}
 use Rattle.claim_board.proofs.Totals.{total-set, total-cut, total-merge, part-le-total, each-set, each-push}
 use Rattle.claim_board.proofs.Numbers.{once_below-next, once_below-none, all-below}
 
@@ -16,7 +16,7 @@ abbrev Table : Type 0
 Table = State (Unit {0}) View
 
 -- the start
-pub starts : (jobs : ℕ) → jobs < 2 ^ 32 → Holds jobs (opening (0 ∷ []) [] (first_view jobs))
+pub starts : (jobs : ℕ) → jobs < 2 ^ 32 → KeepsBoard jobs (opening (0 ∷ []) [] (first_view jobs))
 starts jobs few = record {
   one = refl;
   few = few;
@@ -27,8 +27,8 @@ starts jobs few = record {
   fits = each;
 }
   where
-    each : (place : ℕ) (v : View) → get_elem? (first_view jobs ∷ []) place ≡ some v → Fits jobs 0 v
-    each zero v at = subst (Fits jobs 0) (some-injective _ _ at) record { told = λ _. refl; spent = λ _. refl; ended = λ e. absurd (true≢false (sym e)) }
+    each : (place : ℕ) (v : View) → get_elem? (first_view jobs ∷ []) place ≡ some v → FitsSeat jobs 0 v
+    each zero v at = subst (FitsSeat jobs 0) (some-injective _ _ at) record { told = λ _. refl; spent = λ _. refl; ended = λ e. absurd (true≢false (sym e)) }
     each (suc place) v at = absurd (some-ne-none v (sym at))
 
 halves : (ended : Bool) (credit : ℕ) → cond ended 0 (credit - credit / 2) + cond ended 0 (credit / 2) ≡ cond ended 0 credit
@@ -36,7 +36,7 @@ halves true credit = refl
 halves false credit = omega arith
 
 -- the split
-pub splits : (jobs id : ℕ) (v : View) → 2 ≤ v.credit → Splits (Holds jobs) id v (first_half v) (second_half v)
+pub splits : (jobs id : ℕ) (v : View) → 2 ≤ v.credit → Splits (KeepsBoard jobs) id v (first_half v) (second_half v)
 splits jobs id v enough s h at =
     let cut = λ (f : View → ℕ). total-cut f s.views id v (first_half v) (second_half v) at in
     let f = h.fits id v at in record {
@@ -46,14 +46,14 @@ splits jobs id v enough s h at =
       once = λ n. cut (λ v. times n v.drawn) (omega arith) ∙ h.once n;
       room = subst (λ (n : ℕ). n ≤ 64) (sym (cut (λ v. misses jobs v.drawn + open_credit v) (omega (arith, halves v.ended v.credit)))) h.room;
       reach = subst (λ (n : ℕ). get_or s.words 0 0 ≤ jobs + n) (sym (cut (λ v. misses jobs v.drawn) (omega arith))) h.reach;
-      fits = each-push (Fits jobs (get_or s.words 0 0)) (set s.views id (first_half v)) (second_half v)
-          (each-set (Fits jobs (get_or s.words 0 0)) s.views id (first_half v) h.fits
+      fits = each-push (FitsSeat jobs (get_or s.words 0 0)) (set s.views id (first_half v)) (second_half v)
+          (each-set (FitsSeat jobs (get_or s.words 0 0)) s.views id (first_half v) h.fits
           record { told = λ _. f.told (omega arith); spent = λ none. absurd (omega arith); ended = f.ended })
           record { told = λ _. f.told (omega arith); spent = λ _. refl; ended = f.ended };
     }
 
 -- the misses are at most the credit, so the word is far below its end
-word-bound : (jobs : ℕ) (s : Table) → Holds jobs s → get_or s.words 0 0 ≤ 2 ^ 32 + 64
+word-bound : (jobs : ℕ) (s : Table) → KeepsBoard jobs s → get_or s.words 0 0 ≤ 2 ^ 32 + 64
 word-bound jobs s h =
     let most = sum_by-le-sum_by (λ (v : View). misses jobs v.drawn) (λ (v : View). misses jobs v.drawn + open_credit v) s.views (λ v. omega arith) in
     let room = h.room in
@@ -91,8 +91,8 @@ draw-reach jobs n drawn others reach =
     (cases_Bool (leb jobs n))
 
 -- the fetch-add, which leaves the word at one more
-draws-at : (jobs id next : ℕ) (me : Me (Unit {0}) View) (s : Table) → Holds jobs s → get_elem? s.views id ≡ some me.0 → 0 < me.0.credit → me.0.ended ≡ false → next ≡ get_or s.words 0 0 + 1
-    → Holds jobs (stepped s 0 next id me.1 (after_draw me.0 (get_or s.words 0 0)) keeps)
+draws-at : (jobs id next : ℕ) (me : Me (Unit {0}) View) (s : Table) → KeepsBoard jobs s → get_elem? s.views id ≡ some me.0 → 0 < me.0.credit → me.0.ended ≡ false → next ≡ get_or s.words 0 0 + 1
+    → KeepsBoard jobs (stepped s 0 next id me.1 (after_draw me.0 (get_or s.words 0 0)) keeps)
 draws-at jobs id next me s h at live going is =
     let v : View = me.0 in
     let n : ℕ = get_or s.words 0 0 in
@@ -120,8 +120,8 @@ draws-at jobs id next me s h at live going is =
           let others : ℕ = all - mine in
           let after = draw-reach jobs n v.drawn others (omega arith) in
           subst (λ (z : ℕ). z ≤ jobs + total (λ u. misses jobs u.drawn) (set s.views id w)) (sym now) (omega arith);
-      fits = subst (λ (z : ℕ). (place : ℕ) (u : View) → get_elem? (set s.views id w) place ≡ some u → Fits jobs z u) (sym now)
-          (each-set (Fits jobs (n + 1)) s.views id w
+      fits = subst (λ (z : ℕ). (place : ℕ) (u : View) → get_elem? (set s.views id w) place ≡ some u → FitsSeat jobs z u) (sym now)
+          (each-set (FitsSeat jobs (n + 1)) s.views id w
           (λ place u there. let g = h.fits place u there in record { told = g.told; spent = g.spent; ended = λ e. omega (arith, g.ended e) })
           record {
             told = λ _. told;
@@ -131,7 +131,7 @@ draws-at jobs id next me s h at live going is =
     }
 
 -- A seat that has not ended may draw. The number is above each job that it had drawn.
-pub draws : (jobs slots id : ℕ) (me : Me (Unit {0}) View) → 0 < me.0.credit → me.0.ended ≡ false → Allows (Holds jobs) slots id me 0 (λ n. (n + 1) % 2 ^ 64) (Draws me)
+pub draws : (jobs slots id : ℕ) (me : Me (Unit {0}) View) → 0 < me.0.credit → me.0.ended ≡ false → Allows (KeepsBoard jobs) slots id me 0 (λ n. (n + 1) % 2 ^ 64) (Draws me)
 draws jobs slots id me live going s h long at small =
     let v : View = me.0 in
     let n : ℕ = get_or s.words 0 0 in
@@ -154,7 +154,7 @@ either-open false true m n = omega arith
 either-open false false m n = omega arith
 
 -- the join
-pub joins : (jobs id : ℕ) (v : View) (other : ℕ) (w : View) → 0 < v.credit → Joins (Holds jobs) id v other w (joined v w) spent_view
+pub joins : (jobs id : ℕ) (v : View) (other : ℕ) (w : View) → 0 < v.credit → Joins (KeepsBoard jobs) id v other w (joined v w) spent_view
 joins jobs id v other w live s h at apart there =
     let both : View = joined v w in
     let n : ℕ = get_or s.words 0 0 in
@@ -171,8 +171,8 @@ joins jobs id v other w live s h at apart there =
       once = λ k. omega (arith, merge (λ u. times k u.drawn) refl, times_both k, h.once k);
       room = omega (arith, merge (λ u. misses jobs u.drawn + open_credit u) refl, misses_both, either-open v.ended w.ended v.credit w.credit, h.room);
       reach = omega (arith, merge (λ u. misses jobs u.drawn) refl, misses_both, h.reach);
-      fits = each-set (Fits jobs n) (set s.views id both) other spent_view
-          (each-set (Fits jobs n) s.views id both h.fits
+      fits = each-set (FitsSeat jobs n) (set s.views id both) other spent_view
+          (each-set (FitsSeat jobs n) s.views id both h.fits
           record {
             told = λ _. f.told live;
             spent = λ none. absurd (omega arith);

@@ -4,7 +4,7 @@ use Rattle.std.specs.Prelude.{All, AllPairs, Contains, filter}
 use Rattle.std.proofs.lemmas.Bool.{cases_Bool, cond-true, cond-false}
 use Rattle.std.proofs.lemmas.Bool.Decides.{nat_tests}
 use Rattle.std.proofs.lemmas.List.Sums.{sum_by-cons, get_or-le-sum_by}
-use Rattle.claim_board.specs.ClaimWord.{times, once_below}
+use Rattle.claim_board.specs.inner.ClaimWord.{times, once_below}
 
 -- the next number
 pub once_below-next : (n word : ℕ) → once_below n word + times n (word ∷ []) ≡ once_below n (word + 1)

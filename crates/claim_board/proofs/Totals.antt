@@ -5,7 +5,7 @@ use mathlib.Core.Option.{some, some-injective, some-ne-none}
 use lib.ListN.{get_elem?}
 use Rattle.atomic_table.proofs.Lists.{at_set, at_snoc}
 use Rattle.claim_board.specs.declared.rule.View.{View}
-use Rattle.claim_board.specs.ClaimWord.{total}
+use Rattle.claim_board.specs.inner.ClaimWord.{total}
 
 -- a view at a place is replaced
 pub total-set : (f : View → ℕ) (views : List View) (place : ℕ) (v w : View) → get_elem? views place ≡ some v → total f (set views place w) + f v ≡ total f views + f w

@@ -8,11 +8,11 @@ use lib.ListN.{get_elem?}
 use Rattle.atomic_table.specs.Table.{State, Final, Seen}
 use Rattle.nav_types.specs.Counting.{Lists}
 use Rattle.claim_board.specs.declared.rule.View.{View}
-use Rattle.claim_board.specs.ClaimWord.{times, once_below, jobs_among, Holds}
+use Rattle.claim_board.specs.inner.ClaimWord.{times, once_below, jobs_among, KeepsBoard}
 use Rattle.claim_board.proofs.Totals.{total-alone}
 use Rattle.claim_board.proofs.Numbers.{once_below-le, contains-filter, apart}
 
-whole-list : (jobs id : ℕ) (v : View) (s : State (Unit {0}) View) → Holds jobs s → get_elem? s.views id ≡ some v → v.credit ≡ 64 → v.ended ≡ true → Lists (λ job. job < jobs) (jobs_among jobs v.drawn)
+whole-list : (jobs id : ℕ) (v : View) (s : State (Unit {0}) View) → KeepsBoard jobs s → get_elem? s.views id ≡ some v → v.credit ≡ 64 → v.ended ≡ true → Lists (λ job. job < jobs) (jobs_among jobs v.drawn)
 whole-list jobs id v s h at all over =
     let word : ℕ = get_or s.words 0 0 in
     let f = h.fits id v at in
@@ -27,7 +27,7 @@ whole-list jobs id v s h at all over =
     }
 
 -- the same of the state that the table is left in
-pub closes : (jobs id : ℕ) (v : View) (words : List ℕ) (slots : List (Unit {0})) → Final (Seen (Holds jobs) id v) words slots → v.credit ≡ 64 → v.ended ≡ true → Lists (λ job. job < v.jobs) (jobs_among v.jobs v.drawn)
+pub closes : (jobs id : ℕ) (v : View) (words : List ℕ) (slots : List (Unit {0})) → Final (Seen (KeepsBoard jobs) id v) words slots → v.credit ≡ 64 → v.ended ≡ true → Lists (λ job. job < v.jobs) (jobs_among v.jobs v.drawn)
 closes jobs id v words slots last all over =
     let s = last.0 in
     let seen = last.1 in

@@ -1,3 +1,3 @@
 pub mod Boards
-pub mod ClaimWord
 pub mod Answers
+pub mod inner

@@ -13,7 +13,7 @@ pub const WHOLE_CREDIT: u64 = 64;
 
 /// A board that hands out the jobs 0, 1, 2 and so on below their number, each once. Many threads may share it.
 /// Contracts see a `Board` of `specs/Boards.antt`: which board it is, and its number of jobs. The rule that its word keeps is
-/// `Holds` of `specs/ClaimWord.antt`.
+/// `KeepsBoard` of `specs/inner/ClaimWord.antt`.
 #[derive(Drop)]
 pub struct Claims {
     table: Table<(), View, u64, EachOnce, Global>,
@@ -42,7 +42,7 @@ pub struct Seat {
 impl Model for Seat {
     ghost use Rattle.std.specs.Prelude.{◌≡◌, ◌<◌, []};
     ghost use Rattle.claim_board.specs.Boards.{SeatState};
-    ghost use Rattle.claim_board.specs.ClaimWord.{seat_state};
+    ghost use Rattle.claim_board.specs.inner.ClaimWord.{seat_state};
 
     ghost Value = { SeatState };
 

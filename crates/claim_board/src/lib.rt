@@ -1,7 +1,7 @@
 //! The jobs of a turn, handed out to many workers by one shared word: each job goes to one worker, and none is left out.
 #![tactic(auto)]
 
-pub mod claims;
+mod claims;
 mod rule;
 #[cfg(test)]
 mod tests;

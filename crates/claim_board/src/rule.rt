@@ -15,9 +15,9 @@ pub(crate) struct View {
 pub(crate) struct EachOnce;
 
 impl TableRule<(), View, u64> for EachOnce {
-    ghost use Rattle.claim_board.specs.ClaimWord.{Holds, first_view};
+    ghost use Rattle.claim_board.specs.inner.ClaimWord.{KeepsBoard, first_view};
 
-    ghost holds = { Holds };
+    ghost holds = { KeepsBoard };
 
     ghost first = { first_view };
 }
@@ -26,7 +26,7 @@ impl TableRule<(), View, u64> for EachOnce {
 pub(crate) struct Draw;
 
 impl Play<(), View> for Draw {
-    ghost use Rattle.claim_board.specs.ClaimWord.{Draws};
+    ghost use Rattle.claim_board.specs.inner.ClaimWord.{Draws};
 
     ghost then = { λ step before found after. Draws before found after };
 }
@@ -35,7 +35,7 @@ impl Play<(), View> for Draw {
 pub(crate) struct Halves;
 
 impl Split<View> for Halves {
-    ghost use Rattle.claim_board.specs.ClaimWord.{first_half, second_half};
+    ghost use Rattle.claim_board.specs.inner.ClaimWord.{first_half, second_half};
 
     ghost left = { first_half };
 
@@ -43,7 +43,7 @@ impl Split<View> for Halves {
 }
 
 impl Join<View> for Halves {
-    ghost use Rattle.claim_board.specs.ClaimWord.{joined, spent_view};
+    ghost use Rattle.claim_board.specs.inner.ClaimWord.{joined, spent_view};
 
     ghost both = { joined };
 

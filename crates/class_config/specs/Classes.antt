@@ -1,4 +1,4 @@
--- The passability classes of a map. A clearance is a raw number: 65536 units are one navcell.
+-- The passability classes of a map. A clearance is a raw number: 65536 are one navcell.
 use Rattle.std.specs.Prelude.{ℕ, ◌*◌, ◌&&◌, List, [], ◌∷◌, length, Bool, true, not, nat_le, ℤ, pos, int_le, if◌then◌else◌, Option, Some, None, is_some, option_map, option_and_then, slice_get, codes, bytes_eq}
 use Rattle.std.specs.List.{list_all, list_any, filter_map}
 use Rattle.serde_json.specs.Data.{Data, Items, no_items, item}

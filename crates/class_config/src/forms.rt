@@ -1,17 +1,17 @@
 //! The forms of a class and of its name, over the reading of a JSON text.
-ghost use Rattle.std.specs.Prelude.{◌≡◌, ◌==◌, ◌||◌, IsTrue, IfSome, is_some, map, option_map};
-ghost use Rattle.std.specs.List.{list_all};
+ghost use Rattle.std.specs.Prelude.{◌≡◌, ◌==◌, ◌||◌, IsTrue, IfSome, bytes_eq, is_some, map, option_map, string_bytes, string_cmp};
+ghost use Rattle.std.specs.BTreeMap.{IsOrdered};
+ghost use Rattle.std.specs.List.{list_all, list_any};
+ghost use Rattle.std.specs.Map.{keys_of};
 ghost use Rattle.std.specs.Char.{is_ascii_alphanumeric};
-ghost use Rattle.serde_json.specs.Find.{as_object, get};
+ghost use Rattle.serde_json.specs.Find.{get};
 ghost use Rattle.serde_json.specs.View.{view};
 ghost use Rattle.class_config.specs.Forms as form;
 ghost use Rattle.class_config.specs.Classes.{class_of, is_clearance};
 
 use fixed_point::Fixed;
-use serde_json::Value;
-
-/// The most that a clearance may be, in navcells.
-const MAX_CLEARANCE: i32 = 64;
+use nav_types::limits::MAX_CLEARANCE;
+use serde_json::{Map, Value};
 
 /// A class as it stands in a value, with its name lent.
 #[derive(Clone, Copy)]
@@ -42,12 +42,12 @@ pub fn reading_of(value: &Value) -> Option<Reading<'_>>
     }
 }
 
-/// Whether the number is from 0 to 64.
+/// Whether the number is from 0 to 64 navcells.
 fn is_clearance(clearance: Fixed) -> bool
     ensures { result ≡ is_clearance clearance }
 {
     let raw = clearance.raw();
-    0 <= raw && raw <= MAX_CLEARANCE * 65536
+    0 <= raw && raw <= i32::from(MAX_CLEARANCE) * 65536
 }
 
 /// Whether the bytes are of the form of a class name.
@@ -72,24 +72,14 @@ pub fn text_under<'v>(value: &'v Value, key: &str) -> Option<&'v str>
     value.get(key).and_then(Value::as_str)
 }
 
-/// Whether the value is an object with exactly these keys (`has_keys`). They are distinct, and stand in any
-/// order.
+/// Whether the value is an object whose keys are exactly these, in any order (`has_keys`). A key that stands
+/// twice among these is one key.
 pub fn has_keys(value: &Value, keys: &[&str]) -> bool
     ensures { result ≡ form.has_keys (map (λ key. key.now) keys.now) (view value.now) }
 {
-    match member_count(value) {
-        Some(count) => count == keys.len() && has_each(value, keys),
-        None => false,
-    }
-}
-
-/// The number of members of an object.
-fn member_count(value: &Value) -> Option<usize>
-    ensures { result ≡ option_map form.member_count (as_object (view value.now)) }
-{
     match value.as_object() {
-        Some(members) => Some(members.len()),
-        None => None,
+        Some(members) => has_no_other(members, keys) && has_each(value, keys),
+        None => false,
     }
 }
 
@@ -98,4 +88,19 @@ fn has_each(value: &Value, keys: &[&str]) -> bool
     ensures { result ≡ list_all (λ key. is_some (get key.now (view value.now))) keys.now }
 {
     keys.iter().all(|key| value.get(*key).is_some())
+}
+
+/// Whether each key of an object is one of these. A map has each key once, in order.
+fn has_no_other(members: &Map<String, Value>, keys: &[&str]) -> bool
+    ensures others { result ≡ list_all (λ member. list_any (λ key. bytes_eq (string_bytes member) key.now) keys.now) (keys_of members.now.entries) }
+    ensures ordered { IsOrdered string_cmp members.now }
+{
+    members.keys().all(|member| is_among(member, keys))
+}
+
+/// Whether a key is one of these.
+fn is_among(key: &str, keys: &[&str]) -> bool
+    ensures { result ≡ list_any (λ one. bytes_eq key.now one.now) keys.now }
+{
+    keys.iter().any(|one| key == *one)
 }

@@ -25,7 +25,7 @@ pub struct PassabilityClass {
 }
 
 /// The passability classes of a map, in the order of their numbers. Contracts see the list of them,
-/// each with its name's bytes and the raw number of its clearance, in units of 1/65536.
+/// each with its name's bytes and the raw number of its clearance, in 1/65536 of a navcell.
 ///
 /// There are 1 to 16, each clearance is from 0 to 64, and names are distinct (`is_table`).
 #[derive(Debug, Drop)]
@@ -58,7 +58,7 @@ pub enum ClassRefusal {
 impl ClassTable {
     /// Reads the classes of a map line: an array of 1 to 16 objects, each with exactly the keys `name`
     /// (a class name) and `clearance` (a string that is a fixed-point text, from 0 to 64 after its cut
-    /// to units), with distinct names.
+    /// to a raw number), with distinct names.
     ///
     /// `NotClasses` exactly where the value is not of that form (`classes_of`).
     pub fn read(alloc: Global, value: &Value) -> Result<ClassTable, ClassRefusal>

@@ -3,7 +3,7 @@ ghost use Rattle.std.specs.Int.{bit_at};
 ghost use Rattle.nav_types.specs.declared.cells.Cell.{Cell};
 ghost use Rattle.nav_types.specs.Cells.{IsInside, IsInRect, IsRectInside};
 ghost use Rattle.navcell_grid.specs.Grids.{number_at};
-ghost use Rattle.obstruction_shapes.specs.Shapes.{Fits, HasUnitVector};
+ghost use Rattle.obstruction_shapes.specs.Shapes.{FitsMap, HasUnitVector};
 ghost use Rattle.obstruction_shapes.specs.Blocking.{blocked};
 ghost use Rattle.clearance_raster.specs.Rasters.{blocks_class, bit_of, IsRaster};
 
@@ -21,7 +21,7 @@ use obstruction_shapes::{Obstruction, Shape, reach_rect};
 ///
 /// The shape fits the size of the grid.
 pub fn raster(grid: &mut Grid, obstruction: &Obstruction, classes: &ClassTable)
-    requires { Fits grid.old.size obstruction.now.shape }
+    requires { FitsMap grid.old.size obstruction.now.shape }
     ensures size { grid.new.size ≡ grid.old.size }
     ensures bits { (cell : Cell) (k : ℕ) → IsInside grid.old.size cell
         → bit_at (number_at grid.new cell) k ≡ max (bit_at (number_at grid.old cell) k) (bit_of (blocks_class obstruction.now classes.now k cell)) }
@@ -36,7 +36,7 @@ pub fn raster(grid: &mut Grid, obstruction: &Obstruction, classes: &ClassTable)
 
 /// Sets the bit of one class in each cell that the shape blocks with this clearance.
 fn raster_class(grid: &mut Grid, shape: &Shape, clearance: Fixed, class: Class)
-    requires { Fits grid.old.size shape.now }
+    requires { FitsMap grid.old.size shape.now }
     ensures { IsRaster (λ k cell. k == class && blocked shape.now clearance cell) grid.old grid.new }
 {
     if let Some(rect) = reach_rect(shape, clearance, grid.size()) {

@@ -1,10 +1,10 @@
 //! Small obstructions on a small grid.
 ghost use Rattle.std.specs.Prelude.{IfOk};
-ghost use Rattle.obstruction_shapes.specs.Shapes.{Fits};
+ghost use Rattle.obstruction_shapes.specs.Shapes.{FitsMap};
 
 use crate::raster;
 use class_config::ClassTable;
-use fixed_point::Fixed;
+use fixed_point::{Fixed, Rectangle};
 use nav_types::Size;
 use navcell_grid::Grid;
 use obstruction_shapes::{BadShape, Obstruction, Shape, check};
@@ -13,16 +13,16 @@ use std::test::Fail;
 
 /// A rectangle of 1 by 2 with its middle at (2.5, 2.5).
 fn brick(size: Size, mask: u16) -> Result<Obstruction, BadShape>
-    ensures { IfOk result (λ brick. Fits size brick.shape) }
+    ensures { IfOk result (λ brick. FitsMap size brick.shape) }
 {
-    let square = Shape::Square {
+    let square = Shape::Square(Rectangle {
         x: Fixed::from_raw(163_840),
         z: Fixed::from_raw(163_840),
         ux: Fixed::from_raw(0),
         uz: Fixed::from_raw(65_536),
         hw: Fixed::from_raw(65_536),
         hh: Fixed::from_raw(32_768),
-    };
+    });
     match check(square, size) {
         Ok(shape) => Ok(Obstruction { shape, mask }),
         Err(refusal) => Err(refusal),

@@ -2,4 +2,6 @@ pub mod Canonical
 pub mod Digits
 pub mod Magnitudes
 pub mod ReadsBack
-pub mod Units
+pub mod Decimals
+pub mod PlaneTests
+pub mod Squares

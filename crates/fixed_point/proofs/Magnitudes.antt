@@ -4,8 +4,9 @@ use Rattle.std.proofs.lemmas.List.Sums.{prefix_len-le-length}
 use Rattle.std.specs.Char.{is_ascii_digit}
 use Rattle.std.specs.List.{prefix_len}
 use Rattle.std.specs.Str.Parse.{digits_value}
-use Rattle.fixed_point.specs.Text.{some_if, whole_digits, from_point, is_whole_part, is_fraction_part, is_magnitude, magnitude_of, units_of, cut}
-use Rattle.fixed_point.proofs.Units.{cut_is, tens}
+use Rattle.fixed_point.specs.Text.{some_if, whole_digits, from_point, is_whole_part, is_fraction_part, is_magnitude, magnitude_of, cut}
+use Rattle.fixed_point.specs.inner.Decimals.{raw_decimals}
+use Rattle.fixed_point.proofs.Decimals.{cut_is, tens}
 
 -- the two parts make a magnitude where both are there
 pub both_parts : (first second : Bool) (v u w f m : ℕ) → Some w ≡ some_if first v → Some f ≡ some_if second u → m ≡ v * 65536 + u
@@ -26,14 +27,14 @@ from_point_is text =
     ap (λ n. drop n text) len
 
 pub magnitude_is : (text whole rest : List ℕ) (n w f : ℕ) → n ≡ prefix_len is_ascii_digit text → whole ≡ take n text → rest ≡ drop n text
-    → Some w ≡ some_if (is_whole_part whole) (digits_value 10 whole) → Some f ≡ some_if (is_fraction_part rest) (units_of (drop 1 rest))
+    → Some w ≡ some_if (is_whole_part whole) (digits_value 10 whole) → Some f ≡ some_if (is_fraction_part rest) (raw_decimals (drop 1 rest))
     → Some (w * 65536 + f) ≡ some_if (is_magnitude text) (magnitude_of text)
 magnitude_is text whole rest n w f count front back whole_value rest_value =
     let front_is : whole ≡ whole_digits text = front ∙ ap (λ k. take k text) count in
     let back_is : rest ≡ from_point text = back ∙ ap (λ k. drop k text) count ∙ sym (from_point_is text) in
     let digits = drop 1 rest in
     let joined = cut_is (digits_value 10 whole) (digits_value 10 digits) (10 ^ length digits) (tens (length digits)) in
-    both_parts (is_whole_part whole) (is_fraction_part rest) (digits_value 10 whole) (units_of digits) w f (cut whole digits)
+    both_parts (is_whole_part whole) (is_fraction_part rest) (digits_value 10 whole) (raw_decimals digits) w f (cut whole digits)
     whole_value rest_value joined
     ∙ ap (λ p. some_if (is_whole_part p && is_fraction_part rest) (cut p (drop 1 rest))) front_is
     ∙ ap (λ p. some_if (is_whole_part (whole_digits text) && is_fraction_part p) (cut (whole_digits text) (drop 1 p))) back_is

@@ -12,9 +12,9 @@ use Rattle.std.specs.List.{prefix_len}
 use Rattle.std.specs.Str.{all_ascii_digits}
 use Rattle.std.specs.Str.Parse.{digits_value, digits_value_after, starts_with_minus}
 use Rattle.fixed_point.specs.Raw.{is_in_range}
-use Rattle.fixed_point.specs.Text.{fraction_digits, fraction_text, fixed_text, fixed_value, is_fixed_text, is_whole_part, is_fraction_part, is_magnitude, magnitude_of, unsigned_text, whole_digits, from_point, decimals, signed, some_if, IsExact, EndsInNoZero}
+use Rattle.fixed_point.specs.Text.{fraction_digits, fraction_text, fixed_text, fixed_value, is_fixed_text, is_whole_part, is_fraction_part, is_magnitude, magnitude_of, unsigned_text, whole_digits, from_point, decimals, signed, some_if, WritesExactly, EndsInNoZero}
 use Rattle.fixed_point.proofs.Canonical.{length_whole, length_fraction_digits}
-use Rattle.fixed_point.proofs.Units.{tens}
+use Rattle.fixed_point.proofs.Decimals.{tens}
 
 -- ---- the digits of the fraction
 
@@ -169,7 +169,7 @@ magnitude_is_written m small =
     ∙ ap (λ p. is_whole_part (decimal (m / 65536)) && is_fraction_part p) (fraction_of m small)
     ∙ and_from _ _ (whole_part_is m small) (fraction_part_is (m % 65536) (omega arith))
 
--- digits before the point and after it write m units exactly
+-- digits before the point and after it write the raw number m exactly
 abbrev pub Writes : List ℕ → List ℕ → ℕ → Type 0
 Writes whole fraction m = (digits_value 10 whole * 10 ^ length fraction + digits_value 10 fraction) * 65536 ≡ m * 10 ^ length fraction
 
@@ -237,7 +237,7 @@ pub is_in_grammar : (raw : ℤ) → FitsSigned w32 raw → IsTrue (is_fixed_text
 unfolding is_fixed_text
 is_in_grammar raw fits = ap is_magnitude (unsigned_is raw fits) ∙ magnitude_is_written (unsigned_abs raw) (magnitude_small raw fits)
 
-pub is_exact : (raw : ℤ) → FitsSigned w32 raw → IsExact raw (fixed_text raw)
+pub is_exact : (raw : ℤ) → FitsSigned w32 raw → WritesExactly raw (fixed_text raw)
 is_exact raw fits =
     subst (λ u. Writes (whole_digits u) (decimals u) (unsigned_abs raw)) (sym (unsigned_is raw fits)) (written_exactly (unsigned_abs raw) (magnitude_small raw fits))
 

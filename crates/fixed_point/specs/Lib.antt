@@ -1,3 +1,4 @@
+pub mod inner
 pub mod Plane
 pub mod Raw
 pub mod Text

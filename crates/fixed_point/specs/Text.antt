@@ -46,11 +46,7 @@ is_magnitude unsigned = is_whole_part (whole_digits unsigned) && is_fraction_par
 unfoldable pub is_fixed_text : List ℕ → Bool
 is_fixed_text text = is_magnitude (unsigned_text text)
 
--- what digits after the point write, in units, cut to a whole number
-abbrev pub units_of : List ℕ → ℕ
-units_of digits = digits_value 10 digits * 65536 / 10 ^ length digits
-
--- the magnitude that digits before and after the point write, in units, cut to a whole number towards zero
+-- the magnitude that digits before and after the point write, as a raw number that is cut towards zero
 abbrev pub cut : List ℕ → List ℕ → ℕ
 cut whole fraction = let places = length fraction in
     (digits_value 10 whole * 10 ^ places + digits_value 10 fraction) * 65536 / 10 ^ places
@@ -92,9 +88,9 @@ unfoldable pub fixed_text : ℤ → List ℕ
 fixed_text raw = let magnitude = unsigned_abs raw in
     (if is_negative raw then 45 ∷ [] else []) ++ decimal (magnitude / 65536) ++ fraction_text (magnitude % 65536)
 
--- the text writes a raw number's magnitude exactly: its digits over ten to the places are the units over 65536
-abbrev pub IsExact : ℤ → List ℕ → Type 0
-IsExact raw text = let unsigned = unsigned_text text in let fraction = decimals unsigned in
+-- the text writes a raw number's magnitude exactly: its digits over ten to the places are the magnitude over 65536
+abbrev pub WritesExactly : ℤ → List ℕ → Type 0
+WritesExactly raw text = let unsigned = unsigned_text text in let fraction = decimals unsigned in
     (digits_value 10 (whole_digits unsigned) * 10 ^ length fraction + digits_value 10 fraction) * 65536
     ≡ unsigned_abs raw * 10 ^ length fraction
 

@@ -1,6 +1,6 @@
 ghost use Rattle.std.specs.Prelude.{◌≡◌, ℤ, Some, FitsSigned, IsTrue};
 ghost use Rattle.std.specs.Int.{w32};
-ghost use Rattle.fixed_point.specs.Text.{fixed_value, fixed_text, is_fixed_text, unsigned_text, decimals, IsExact, EndsInNoZero};
+ghost use Rattle.fixed_point.specs.Text.{fixed_value, fixed_text, is_fixed_text, unsigned_text, decimals, WritesExactly, EndsInNoZero};
 
 /// A law: each canonical text has the value that it was written for.
 pub fn text_reads_back()
@@ -14,7 +14,7 @@ pub fn text_is_in_grammar()
 
 /// A law: each canonical text writes its number exactly, with nothing cut.
 pub fn text_is_exact()
-    ensures { (raw : ℤ) → FitsSigned w32 raw → IsExact raw (fixed_text raw) }
+    ensures { (raw : ℤ) → FitsSigned w32 raw → WritesExactly raw (fixed_text raw) }
 {}
 
 /// A law: no canonical text has a zero at the end of its decimals.

@@ -1,7 +1,7 @@
 //! Fixed-point numbers with sixteen binary places, and their decimal texts.
 //!
-//! A [`Fixed`] is a whole number of units of 1/65536. Contracts see it as that whole number, its raw
-//! number, which lies from -2147483648 to 2147483647. Nothing here takes memory.
+//! A [`Fixed`] is a whole number over 65536. Contracts see it as that whole number, its raw number, which
+//! lies from -2147483648 to 2147483647. Nothing here takes memory.
 #![tactic(auto)]
 
 ghost use Rattle.std.specs.Prelude.{◌≡◌, ℕ, ◌≤◌, ℤ, ◌+ℤ◌, ◌-ℤ◌, ◌*ℤ◌, ◌≤ℤ◌, ◌<ℤ◌, pos, FitsSigned, SomeIff};
@@ -11,17 +11,21 @@ ghost use Rattle.fixed_point.specs.Raw.{floor_of, centre_of};
 use std::marker::Model;
 
 mod laws;
-pub mod plane;
+mod plane;
 mod reading;
 #[cfg(test)]
 mod tests;
 mod writing;
 
 pub use laws::{text_is_exact, text_is_in_grammar, text_is_shortest, text_reads_back};
+pub use plane::{
+    Rectangle, columns_near, is_on_axis, is_unit_vector, is_up_to, magnitude, offset, past, scaled,
+    squared,
+};
 pub use reading::NotFixed;
 pub use writing::FixedText;
 
-/// A number of navcells or world units, kept as its raw number of units of 1/65536.
+/// A number of navcells, kept as its raw number: 65536 times the value.
 #[derive(Clone, Copy, Debug, PartialEq, Eq, PartialOrd, Ord, Hash)]
 pub struct Fixed(i32);
 
@@ -34,14 +38,14 @@ impl Model for Fixed {
 }
 
 impl Fixed {
-    /// The number of `raw` units, raw/65536.
+    /// The number raw/65536.
     pub fn from_raw(raw: i32) -> Fixed
         ensures value { result ≡ raw }
     {
         Fixed(raw)
     }
 
-    /// The raw number, in units of 1/65536.
+    /// The raw number: 65536 times the value.
     pub fn raw(self) -> i32
         ensures value { result ≡ self }
     {
@@ -62,7 +66,7 @@ impl Fixed {
         self.0.checked_sub(other.0).map(Fixed::from_raw)
     }
 
-    /// The product, rounded down to a unit: the floor of the raw numbers' product divided by 65536
+    /// The product, rounded down to a raw number: the floor of the raw numbers' product divided by 65536
     /// (`floor_of`). `None` exactly where that is out of range.
     pub fn mul(self, other: Fixed) -> Option<Fixed>
         ensures rounded_down { SomeIff result (FitsSigned w32 (floor_of (self *ℤ other))) (floor_of (self *ℤ other)) }

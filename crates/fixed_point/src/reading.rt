@@ -4,7 +4,8 @@ ghost use Rattle.std.specs.List.{prefix_len};
 ghost use Rattle.std.specs.Result.{result_ok};
 ghost use Rattle.std.specs.Str.Parse.{digits_value};
 ghost use Rattle.fixed_point.specs.Raw.{is_in_range};
-ghost use Rattle.fixed_point.specs.Text.{fixed_value, is_digits, is_whole_part, is_fraction_part, is_magnitude, magnitude_of, units_of, signed as with_sign, some_if};
+ghost use Rattle.fixed_point.specs.Text.{fixed_value, is_digits, is_whole_part, is_fraction_part, is_magnitude, magnitude_of, signed as with_sign, some_if};
+ghost use Rattle.fixed_point.specs.inner.Decimals.{raw_decimals};
 
 use crate::Fixed;
 use std::error::Error;
@@ -15,8 +16,8 @@ const WHOLE_DIGITS: usize = 5;
 
 const PLACES: usize = 16;
 
-// A unit is 1/65536, which is this many times 10^-16.
-const UNIT: u64 = 152_587_890_625;
+// 1/65536, as a number of 10^-16.
+const RAW_ONE: u64 = 152_587_890_625;
 
 /// The text has no value as a fixed-point number.
 #[derive(Clone, Copy, Debug, PartialEq, Eq)]
@@ -33,7 +34,7 @@ impl fmt::Display for NotFixed {
 impl Error for NotFixed {}
 
 impl Fixed {
-    /// The value of a decimal text, cut towards zero to a unit.
+    /// The value of a decimal text, cut towards zero to a raw number.
     ///
     /// The text is an optional `-`, one to five digits without a leading zero (or the single digit
     /// 0), and perhaps a point with one to sixteen digits after it. The answer is `NotFixed` exactly
@@ -62,7 +63,7 @@ fn read(negative: bool, unsigned: &[u8]) -> Result<Fixed, NotFixed>
     signed(negative, magnitude).ok_or(NotFixed)
 }
 
-// The magnitude in units with its sign, where that is in range.
+// A raw magnitude with its sign, where that is in range.
 fn signed(negative: bool, magnitude: u64) -> Option<Fixed>
     requires { magnitude < 2 ^ 40 }
     ensures { let raw = with_sign negative magnitude in result ≡ some_if (is_in_range raw) raw }
@@ -72,10 +73,10 @@ fn signed(negative: bool, magnitude: u64) -> Option<Fixed>
     i32::try_from(raw).ok().map(Fixed::from_raw)
 }
 
-// The magnitude in units that an unsigned text writes.
+// The raw magnitude that an unsigned text writes.
 fn magnitude(text: &[u8]) -> Option<u64>
     ensures value { result ≡ some_if (is_magnitude text.now) (magnitude_of text.now) }
-    ensures small { IfSome result (λ units. units < 2 ^ 40) }
+    ensures small { IfSome result (λ magnitude. magnitude < 2 ^ 40) }
 {
     let (whole, rest) = text.split_at(leading_digits(text));
     let Some(whole) = whole_part(whole) else {
@@ -106,10 +107,10 @@ fn whole_part(text: &[u8]) -> Option<u64>
     number(text, WHOLE_DIGITS)
 }
 
-// What stands from the point on, in units.
+// What stands from the point on, as a raw number.
 fn fraction_part(text: &[u8]) -> Option<u64>
-    ensures value { result ≡ some_if (is_fraction_part text.now) (units_of (drop 1 text.now)) }
-    ensures small { IfSome result (λ units. units < 65536) }
+    ensures value { result ≡ some_if (is_fraction_part text.now) (raw_decimals (drop 1 text.now)) }
+    ensures small { IfSome result (λ raw. raw < 65536) }
 {
     let Some((first, digits)) = text.split_first() else {
         return Some(0);
@@ -120,17 +121,17 @@ fn fraction_part(text: &[u8]) -> Option<u64>
     let Some(number) = number(digits, PLACES) else {
         return None;
     };
-    Some(units(number, digits.len()))
+    Some(raw_of_decimals(number, digits.len()))
 }
 
-// A number of 10^-places, cut to units.
-#[tactic(auto, using(crate::proofs::Units::units_is, crate::proofs::Units::filled_fits))]
-fn units(number: u64, places: usize) -> u64
+// A number of 10^-places, cut to a raw number.
+#[tactic(auto, using(crate::proofs::Decimals::raw_decimals_is, crate::proofs::Decimals::filled_fits))]
+fn raw_of_decimals(number: u64, places: usize) -> u64
     requires few { places ≤ 16 }
     requires below_one { number < 10 ^ places }
     ensures { result ≡ number * 65536 / 10 ^ places }
 {
-    number * 10u64.pow((PLACES - places) as u32) / UNIT
+    number * 10u64.pow((PLACES - places) as u32) / RAW_ONE
 }
 
 // The number that the digits write, refused at the first byte that is no digit.

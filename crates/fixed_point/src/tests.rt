@@ -207,15 +207,21 @@ fn other_texts_have_no_value(rt: HostRuntime) {
 
 #[test]
 fn arithmetic_is_exact_or_refused(rt: HostRuntime) {
-    let [one, half, unit] = [65536, 32768, 1].map(Fixed::from_raw);
+    let [one, half, least_step] = [65536, 32768, 1].map(Fixed::from_raw);
     let [least, greatest] = [i32::MIN, i32::MAX].map(Fixed::from_raw);
     assert_eq!(rt; one.add(half), Some(Fixed::from_raw(98304)));
-    assert_eq!(rt; Fixed::from_raw(i32::MAX - 1).add(unit), Some(greatest));
-    assert_eq!(rt; greatest.add(unit), None);
-    assert_eq!(rt; least.sub(unit), None);
+    assert_eq!(rt;
+        Fixed::from_raw(i32::MAX - 1).add(least_step),
+        Some(greatest)
+    );
+    assert_eq!(rt; greatest.add(least_step), None);
+    assert_eq!(rt; least.sub(least_step), None);
     assert_eq!(rt; half.sub(one), Some(Fixed::from_raw(-32768)));
     assert_eq!(rt; half.mul(half), Some(Fixed::from_raw(16384)));
-    assert_eq!(rt; Fixed::from_raw(-1).mul(unit), Some(Fixed::from_raw(-1)));
+    assert_eq!(rt;
+        Fixed::from_raw(-1).mul(least_step),
+        Some(Fixed::from_raw(-1))
+    );
     assert_eq!(rt; least.mul(least), None);
     assert_eq!(rt; Fixed::from_raw(-1).floor(), -1);
     assert_eq!(rt; Fixed::from_raw(98304).floor(), 1);

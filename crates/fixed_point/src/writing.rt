@@ -64,28 +64,28 @@ impl FixedText {
         self.push(b'0' + (whole % 10) as u8);
     }
 
-    // Appends the decimals of `units`/65536, at most `most` of them.
-    fn push_decimals(&mut self, most: usize, units: u32)
-        requires below_one { units < 65536 }
+    // Appends the decimals of `raw`/65536, at most `most` of them.
+    fn push_decimals(&mut self, most: usize, raw: u32)
+        requires below_one { raw < 65536 }
         requires room { length self.old + most ≤ 23 }
-        ensures { self.new ≡ self.old ++ fraction_digits most units }
+        ensures { self.new ≡ self.old ++ fraction_digits most raw }
     {
-        if most == 0 || units == 0 {
+        if most == 0 || raw == 0 {
             return;
         }
-        self.push(b'0' + (units * 10 / 65536) as u8);
-        self.push_decimals(most - 1, units * 10 % 65536);
+        self.push(b'0' + (raw * 10 / 65536) as u8);
+        self.push_decimals(most - 1, raw * 10 % 65536);
     }
 
-    // Appends a point and the decimals of `units`/65536, or nothing for no unit.
-    fn push_fraction(&mut self, units: u32)
-        requires below_one { units < 65536 }
+    // Appends a point and the decimals of `raw`/65536, or nothing for 0.
+    fn push_fraction(&mut self, raw: u32)
+        requires below_one { raw < 65536 }
         requires room { length self.old ≤ 6 }
-        ensures { self.new ≡ self.old ++ fraction_text units }
+        ensures { self.new ≡ self.old ++ fraction_text raw }
     {
-        if units > 0 {
+        if raw > 0 {
             self.push(b'.');
-            self.push_decimals(16, units);
+            self.push_decimals(16, raw);
         }
     }
 }

@@ -4,37 +4,23 @@ use Rattle.std.proofs.lemmas.Bool.{cases_order}
 use Rattle.nav_types.specs.declared.cells.Cell.{Cell}
 use Rattle.nav_types.specs.declared.cells.Size.{Size}
 use Rattle.nav_types.specs.Cells.{cell_at, IsInside, IsBefore, IsNotAfter}
+use Rattle.nav_types.proofs.CellOrder.{IsNotAfter-antisym, IsNotAfter-trans, before_next}
 use Rattle.goal_reach.specs.declared.choices.Ranked.{Ranked}
-use Rattle.goal_reach.specs.Choices.{IsLeastBy, IsPreferred, IsBest}
-
-pub same_cell : (a b : Cell) → a.j ≡ b.j → a.i ≡ b.i → a ≡ b
-same_cell a b rows columns = ap (λ (j : ℕ). cell_at a.i j) rows ∙ ap (λ (i : ℕ). cell_at i b.j) columns
-
--- two cells of which neither is after the other are one
-one_of_both : (a b : Cell) → IsNotAfter a b → IsNotAfter b a → a ≡ b
-one_of_both a b (inl less) (inl more) = absurd (omega arith)
-one_of_both a b (inl less) (inr (row, column)) = absurd (omega arith)
-one_of_both a b (inr (row, column)) (inl more) = absurd (omega arith)
-one_of_both a b (inr (row, column)) (inr (_, other)) = same_cell a b row (omega arith)
+use Rattle.goal_reach.specs.Choices.{IsLeastBy}
+use Rattle.goal_reach.specs.inner.Ranking.{IsPreferred, IsBest}
 
 -- a set has one cell of least rank
 pub one_least : (rank : Cell → ℕ) (Within : Cell → Type 0) (a b : Cell) → IsLeastBy rank Within a → IsLeastBy rank Within b → a ≡ b
 one_least rank Within a b p q =
     let below = p.least b q.within in let above = q.least a p.within in
     let same : rank a ≡ rank b = omega arith in
-    one_of_both a b (p.first b q.within (sym same)) (q.first a p.within same)
-
-not_after_trans : (a b c : Cell) → IsNotAfter a b → IsNotAfter b c → IsNotAfter a c
-not_after_trans a b c (inl less) (inl more) = inl (omega arith)
-not_after_trans a b c (inl less) (inr (row, column)) = inl (omega arith)
-not_after_trans a b c (inr (row, column)) (inl more) = inl (omega arith)
-not_after_trans a b c (inr (row, column)) (inr (same, other)) = inr (omega arith, omega arith)
+    IsNotAfter-antisym a b (p.first b q.within (sym same)) (q.first a p.within same)
 
 preferred_trans : (a b c : Ranked) → IsPreferred a b → IsPreferred b c → IsPreferred a c
 preferred_trans a b c (inl less) (inl more) = inl (omega arith)
 preferred_trans a b c (inl less) (inr (same, order)) = inl (omega arith)
 preferred_trans a b c (inr (same, order)) (inl more) = inl (omega arith)
-preferred_trans a b c (inr (same, order)) (inr (same', order')) = inr (same ∙ same', not_after_trans a.cell b.cell c.cell order order')
+preferred_trans a b c (inr (same, order)) (inr (same', order')) = inr (same ∙ same', IsNotAfter-trans a.cell b.cell c.cell order order')
 
 -- a cell with its rank
 abbrev with_rank : (Cell → ℕ) → Cell → Ranked
@@ -119,13 +105,6 @@ best_stays rank Old New (Some best) was grows shrinks = (
 abbrev pub Before : (Cell → Type 0) → ℕ → ℕ → Cell → Type 0
 Before Offered i j cell = Offered cell × IsBefore cell (cell_at i j)
 
-before_next : (i j : ℕ) (cell : Cell) → IsBefore cell (cell_at (i + 1) j) → (cell ≡ cell_at i j) ⊎ IsBefore cell (cell_at i j)
-before_next i j cell (inl lower) = inr (inl lower)
-before_next i j cell (inr (row, column)) = elim (cases_order cell.i i) [
-  | inl same ↦ inl (same_cell cell (cell_at i j) row same)
-  | inr order ↦ inr (inr (row, elim order [ inl less ↦ less | inr more ↦ absurd (omega arith) ]))
-]
-
 before_more : (i j : ℕ) (cell : Cell) → IsBefore cell (cell_at i j) → IsBefore cell (cell_at (i + 1) j)
 before_more i j cell (inl lower) = inl lower
 before_more i j cell (inr (row, column)) = inr (row, omega arith)
@@ -139,7 +118,7 @@ row_adds rank Offered i j best next result was here ranked offered one over_next
     best_adds rank (Before Offered i j) (Before Offered (i + 1) j) best next result was ranked
     (offered, subst P (sym here) (inr (refl, omega arith)))
     (λ cell old. (old.0, before_more i j cell old.1))
-    (λ cell new. elim (before_next i j cell new.1) [ inl same ↦ inl (same ∙ sym here) | inr old ↦ inr (new.0, old) ])
+    (λ cell new. elim (before_next cell (cell_at i j) new.1) [ inl old ↦ inr (new.0, old) | inr same ↦ inl (same ∙ sym here) ])
     one over_next over_best
 
 -- the cell of column i and row j is not offered
@@ -148,7 +127,7 @@ pub row_skips : (rank : Cell → ℕ) (Offered : Cell → Type 0) (i j : ℕ) (b
 row_skips rank Offered i j best was none =
     best_stays rank (Before Offered i j) (Before Offered (i + 1) j) best was
     (λ cell old. (old.0, before_more i j cell old.1))
-    (λ cell new. elim (before_next i j cell new.1) [ inl same ↦ absurd (none (subst Offered same new.0)) | inr old ↦ (new.0, old) ])
+    (λ cell new. elim (before_next cell (cell_at i j) new.1) [ inl old ↦ (new.0, old) | inr same ↦ absurd (none (subst Offered same new.0)) ])
 
 row_ends : (size : Size) (j : ℕ) (cell : Cell) → IsInside size cell → IsBefore cell (cell_at 0 (j + 1)) → IsBefore cell (cell_at size.w j)
 row_ends size j cell inside (inr (row, column)) = absurd (omega arith)

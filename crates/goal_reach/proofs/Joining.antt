@@ -1,21 +1,16 @@
 -- Cells that a legal walk joins.
-use Rattle.std.proofs.Common.{ℕ, Bool, List, [], ◌∷◌, ◌≡◌, ◌↔◌, ◌==◌, IsTrue, IsFalse, subst, sym, ◌∙◌, inl, inr}
+use Rattle.std.proofs.Common.{ℕ, Bool, ◌≡◌, ◌↔◌, ◌==◌, IsTrue, IsFalse, sym, ◌∙◌, inl, inr}
 use Rattle.std.proofs.lemmas.Bool.{eqb-true, eq-eqb, both_ways, cases_Bool}
 use Rattle.nav_types.specs.declared.cells.Cell.{Cell}
 use Rattle.nav_types.specs.declared.cells.Size.{Size}
-use Rattle.nav_types.specs.declared.directions.Dir.{Dir}
 use Rattle.nav_types.specs.Cells.{IsInside}
-use Rattle.nav_types.specs.Walks.{IsWalk, Joined}
-use Rattle.goal_reach.specs.Targets.{IsAreaOf}
-
--- a walk from a passable cell ends at one
-pub walk_end : (passes : Cell → Bool) (from : Cell) (dirs : List Dir) (to : Cell) → IsTrue (passes from) → IsWalk passes from dirs to → IsTrue (passes to)
-walk_end passes from [] to start same = let P : Cell → Type 0 = λ cell. IsTrue (passes cell) in subst P same start
-walk_end passes from (dir ∷ dirs) to start (next, walked) = walk_end passes next dirs to walked.0.next walked.1
+use Rattle.nav_types.specs.Walks.{Joined}
+use Rattle.nav_types.proofs.Walking.{IsWalk-passes}
+use Rattle.goal_reach.specs.inner.StartAreas.{IsAreaOf}
 
 -- what is joined to a passable cell is passable
 pub joined_passes : (passes : Cell → Bool) (start cell : Cell) → IsTrue (passes start) → Joined passes start cell → IsTrue (passes cell)
-joined_passes passes start cell passable joined = walk_end passes start joined.0 cell passable joined.1
+joined_passes passes start cell passable joined = IsWalk-passes passes joined.0 start cell passable joined.1
 
 -- what is joined to a passable cell lies in the map
 pub joined_inside : (passes : Cell → Bool) (size : Size) → ((cell : Cell) → IsTrue (passes cell) → IsInside size cell) → (start cell : Cell) → IsTrue (passes start) → Joined passes start cell → IsInside size cell

@@ -2,18 +2,19 @@
 use Rattle.std.proofs.Common.{ℤ, Bool, ◌≡◌, ◌⊎◌, IsTrue, inl, inr}
 use Rattle.std.proofs.lemmas.Bool.{both_ways}
 use Rattle.nav_types.specs.declared.cells.Cell.{Cell}
-use Rattle.goal_shapes.specs.Goals.{Holds, squared_distance}
+use Rattle.goal_shapes.specs.Goals.{HoldsPoint, squared_distance}
 use Rattle.goal_reach.specs.Starts.{IsStartCell, IsBlockedAt, IsNearestPassable}
-use Rattle.goal_reach.proofs.Choosing.{same_cell, one_least}
+use Rattle.nav_types.proofs.CellOrder.{same_cell}
+use Rattle.goal_reach.proofs.Choosing.{one_least}
 
 -- one cell holds a point
-pub one_holder : (x z : ℤ) (a b : Cell) → Holds x z a → Holds x z b → a ≡ b
+pub one_holder : (x z : ℤ) (a b : Cell) → HoldsPoint x z a → HoldsPoint x z b → a ≡ b
 one_holder x z a b p q =
     let row = p.row in let row' = q.row in let column = p.column in let column' = q.column in
     same_cell a b (cc) (cc)
 
 one_of_two : (passes : Cell → Bool) (x z : ℤ) (a b : Cell) → IsTrue (passes a) → IsTrue (passes b)
-    → Holds x z a ⊎ (IsBlockedAt passes x z × IsNearestPassable passes x z a) → Holds x z b ⊎ (IsBlockedAt passes x z × IsNearestPassable passes x z b) → a ≡ b
+    → HoldsPoint x z a ⊎ (IsBlockedAt passes x z × IsNearestPassable passes x z a) → HoldsPoint x z b ⊎ (IsBlockedAt passes x z × IsNearestPassable passes x z b) → a ≡ b
 one_of_two passes x z a b free free' (inl p) (inl q) = one_holder x z a b p q
 one_of_two passes x z a b free free' (inl p) (inr (blocked, near)) = absurd (both_ways (passes a) (blocked a p) free)
 one_of_two passes x z a b free free' (inr (blocked, near)) (inl q) = absurd (both_ways (passes b) (blocked b q) free')

@@ -9,7 +9,8 @@ use Rattle.nav_types.specs.Cells.{cell_at}
 use Rattle.nav_types.specs.Directions.{east, west, north, south}
 use Rattle.nav_types.specs.Walks.{IsWalk, Joined}
 use Rattle.goal_reach.specs.Targets.{is_cell}
-use Rattle.goal_reach.proofs.Choosing.{same_cell}
+use Rattle.nav_types.proofs.CellOrder.{same_cell}
+use Rattle.nav_types.proofs.Walking.{IsWalk-append}
 
 -- the passable cells of the map, in so many columns and rows
 abbrev free_in : ℕ → ℕ → Cell → Bool
@@ -38,7 +39,7 @@ leads passes from (dir ∷ dirs) to = let next = next_of dir from in
 leads_walk : (passes : Cell → Bool) (from : Cell) (dirs : List Dir) (to : Cell) → IsTrue (leads passes from dirs to) → IsWalk passes from dirs to
 leads_walk passes from [] to h =
     let parts = and_parts (to.i == from.i) (to.j == from.j) h in
-    same_cell from to (sym (eqb-true to.j from.j parts.1)) (sym (eqb-true to.i from.i parts.0))
+    same_cell from to (sym (eqb-true to.i from.i parts.0)) (sym (eqb-true to.j from.j parts.1))
 leads_walk passes from (dir ∷ dirs) to h =
     let next = next_of dir from in
     let first = and_parts (nat_le (west dir) from.i && nat_le (south dir) from.j) ((passes from && passes next) && ((passes (cell_at next.i from.j) && passes (cell_at from.i next.j)) && leads passes next dirs to)) h in
@@ -85,10 +86,6 @@ routes (suc (suc (suc (suc zero)))) (suc zero) column row free = record { home =
 routes (suc (suc (suc (suc zero)))) (suc (suc zero)) column row free = record { home = S ∷ S ∷ []; away = N ∷ N ∷ []; leads_home = refl; leads_away = refl }
 routes (suc (suc (suc (suc (suc i))))) j column row free = absurd (omega arith)
 routes i (suc (suc (suc j))) column row free = absurd (omega arith)
-
-walk_append : (passes : Cell → Bool) (a : Cell) (xs : List Dir) (b : Cell) (ys : List Dir) (c : Cell) → IsWalk passes a xs b → IsWalk passes b ys c → IsWalk passes a (xs ++ ys) c
-walk_append passes a [] b ys c same walk = let P : Cell → Type 0 = λ cell. IsWalk passes cell ys c in subst P (sym same) walk
-walk_append passes a (dir ∷ xs) b ys c (next, (step, rest)) walk = (next, (step, walk_append passes next xs b ys c rest walk))
 
 -- a passable cell lies in the map, and not in the wall
 record IsFloor (cell : Cell) : Type 0 where
@@ -139,7 +136,7 @@ joined_by_corner a b free free' same =
     let to = routes b.i b.j there.column there.row free' in
     let P : Cell → Type 0 = λ cell. IsWalk is_free cell to.away b in (
       from.home ++ to.away,
-      walk_append is_free a from.home (corner_of a.i) to.away b (leads_walk is_free a from.home (corner_of a.i) from.leads_home)
+      IsWalk-append is_free a (corner_of a.i) b from.home to.away (leads_walk is_free a from.home (corner_of a.i) from.leads_home)
           (subst P (sym same) (leads_walk is_free (corner_of b.i) to.away b to.leads_away)),
     )
 

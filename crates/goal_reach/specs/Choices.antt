@@ -1,20 +1,10 @@
 -- The cell of least rank in a set of cells.
-use Rattle.std.specs.Prelude.{ℕ, ◌≡◌, ◌<◌, ◌≤◌, ◌⊎◌, Option, Some, None}
+use Rattle.std.specs.Prelude.{ℕ, ◌≡◌, ◌≤◌}
 use Rattle.nav_types.specs.declared.cells.Cell.{Cell}
 use Rattle.nav_types.specs.Cells.{IsNotAfter}
-use Rattle.goal_reach.specs.declared.choices.Ranked.{Ranked}
 
 -- the cell of the set that has the least rank, the first in cell order among equals
 pub record IsLeastBy (rank : Cell → ℕ) (Within : Cell → Type 0) (cell : Cell) : Type 0 where
   pub within : Within cell
   pub least : (other : Cell) → Within other → rank cell ≤ rank other
   pub first : (other : Cell) → Within other → rank other ≡ rank cell → IsNotAfter cell other
-
--- a is of less rank than b, or of the same rank and not after b in cell order
-abbrev pub IsPreferred : Ranked → Ranked → Type 0
-IsPreferred a b = (a.rank < b.rank) ⊎ ((a.rank ≡ b.rank) × IsNotAfter a.cell b.cell)
-
--- the cell of least rank of the set, with its rank; none where the set is empty
-abbrev pub IsBest : (Cell → ℕ) → (Cell → Type 0) → Option Ranked → Type 0
-IsBest rank Within None = (cell : Cell) → Within cell → ⊥
-IsBest rank Within (Some best) = (best.rank ≡ rank best.cell) × IsLeastBy rank Within best.cell

@@ -1,3 +1,4 @@
 pub mod Choices
 pub mod Starts
 pub mod Targets
+pub mod inner

@@ -1,12 +1,12 @@
 -- The targets of a goal that can be reached from a start cell. `passes` says which cells are passable.
-use Rattle.std.specs.Prelude.{ℕ, Bool, ◌≡◌, ◌&&◌, ◌==◌, IsTrue}
+use Rattle.std.specs.Prelude.{Bool, ◌≡◌, ◌&&◌, ◌==◌}
 use Rattle.nav_types.specs.declared.cells.Cell.{Cell}
 use Rattle.nav_types.specs.declared.cells.Size.{Size}
 use Rattle.nav_types.specs.Cells.{IsInside}
-use Rattle.nav_types.specs.Walks.{Joined}
+use Rattle.nav_types.specs.Walks.{Joined, CanReach}
 use Rattle.goal_shapes.specs.declared.goals.Goal.{Goal}
 use Rattle.goal_shapes.specs.Goals.{contains, remoteness, framed}
-use Rattle.goal_shapes.specs.Limits.{IsSound}
+use Rattle.goal_shapes.specs.Limits.{IsSoundGoal}
 use Rattle.goal_reach.specs.declared.targets.Target.{Target}
 use Rattle.goal_reach.specs.declared.targets.Target.TheVariants.{Goal as GoalTarget, Near}
 use Rattle.goal_reach.specs.Choices.{IsLeastBy}
@@ -27,12 +27,8 @@ framed_by (Near near) cell = is_cell near cell
 
 -- the goal is sound for a map of this size, or the near cell lies in it
 abbrev pub IsSoundTarget : Size → Target → Type 0
-IsSoundTarget size (GoalTarget goal) = IsSound size goal
+IsSoundTarget size (GoalTarget goal) = IsSoundGoal size goal
 IsSoundTarget size (Near near) = IsInside size near
-
--- a legal walk joins the start and some cell of the set
-abbrev pub IsReached : (Cell → Bool) → Cell → (Cell → Bool) → Type 0
-IsReached passes start hit = (cell : Cell) × (IsTrue (hit cell) × Joined passes start cell)
 
 -- the cell is the one joined to the start that is least remote from the goal, the first in cell order among equals
 abbrev pub IsNearCell : (Cell → Bool) → Cell → Goal → Cell → Type 0
@@ -40,10 +36,5 @@ IsNearCell passes start goal cell = IsLeastBy (remoteness goal) (Joined passes s
 
 -- The targets of a goal from a start: the goal, where one of its cells is joined to the start. Where none is, the near cell.
 abbrev pub AreTargets : (Cell → Bool) → Cell → Goal → Target → Type 0
-AreTargets passes start goal (GoalTarget same) = (same ≡ goal) × IsReached passes start (contains goal)
-AreTargets passes start goal (Near cell) = (IsReached passes start (contains goal) → ⊥) × IsNearCell passes start goal cell
-
--- the start is passable, and the number is that of its area
-pub record IsAreaOf (passes : Cell → Bool) (HasNumber : Cell → ℕ → Type 0) (start : Cell) (number : ℕ) : Type 0 where
-  pub passable : IsTrue (passes start)
-  pub numbered : HasNumber start number
+AreTargets passes start goal (GoalTarget same) = (same ≡ goal) × CanReach passes start (contains goal)
+AreTargets passes start goal (Near cell) = (CanReach passes start (contains goal) → ⊥) × IsNearCell passes start goal cell

@@ -2,7 +2,8 @@
 ghost use Rattle.std.specs.Prelude.{◌≡◌, ◌+◌, ◌<◌, ◌⊎◌, IfSome, IfNone, Some};
 ghost use Rattle.nav_types.specs.declared.cells.Cell.{Cell};
 ghost use Rattle.nav_types.specs.Cells.{IsInside, IsBefore, cell_at};
-ghost use Rattle.goal_reach.specs.Choices.{IsLeastBy, IsPreferred, IsBest};
+ghost use Rattle.goal_reach.specs.Choices.{IsLeastBy};
+ghost use Rattle.goal_reach.specs.inner.Ranking.{IsPreferred, IsBest};
 
 use nav_types::{Cell, Size};
 

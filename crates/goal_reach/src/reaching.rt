@@ -3,8 +3,10 @@ ghost use Rattle.nav_types.specs.declared.cells.Cell.{Cell};
 ghost use Rattle.nav_types.specs.Cells.{IsInside};
 ghost use Rattle.nav_types.specs.Walks.{Joined};
 ghost use Rattle.goal_shapes.specs.Goals.{contains};
-ghost use Rattle.goal_shapes.specs.Limits.{IsWellFormed, IsSound};
-ghost use Rattle.goal_reach.specs.Targets.{hit_by, IsSoundTarget, IsReached, AreTargets, IsAreaOf};
+ghost use Rattle.goal_shapes.specs.Limits.{IsWellFormed, IsSoundGoal};
+ghost use Rattle.goal_reach.specs.Targets.{hit_by, IsSoundTarget, AreTargets};
+ghost use Rattle.goal_reach.specs.inner.StartAreas.{IsAreaOf};
+ghost use Rattle.nav_types.specs.Walks.{CanReach};
 
 use crate::choices::{Choice, least_cell};
 use crate::targets::Target;
@@ -20,10 +22,10 @@ use nav_types::{Areas, Cell, Class, Size};
 pub fn made_reachable<M: Areas>(map: &M, class: Class, start: Cell, goal: &Goal) -> Target
     requires class { class < M.class_count map.now }
     requires start { IsTrue (M.passes map.now class start) }
-    requires goal { IsSound (M.extent map.now) goal.now }
+    requires goal { IsSoundGoal (M.extent map.now) goal.now }
     ensures targets { AreTargets (M.passes map.now class) start goal.now result }
     ensures sound { IsSoundTarget (M.extent map.now) result }
-    ensures reached { IsReached (M.passes map.now class) start (hit_by result) }
+    ensures reached { CanReach (M.passes map.now class) start (hit_by result) }
 {
     let cells = AreaCells {
         map,
@@ -69,7 +71,7 @@ impl<M: Areas> AreaCells<'_, M> {
         requires class { self.now.class < M.class_count self.now.map.now }
         requires area { IsAreaOf (M.passes self.now.map.now self.now.class) (M.has_area self.now.map.now self.now.class) self.now.start self.now.area }
         requires goal { IsWellFormed self.now.goal.now }
-        ensures { IsTrue result ↔ IsReached (M.passes self.now.map.now self.now.class) self.now.start (contains self.now.goal.now) }
+        ensures { IsTrue result ↔ CanReach (M.passes self.now.map.now self.now.class) self.now.start (contains self.now.goal.now) }
     {
         for j in 0..self.map.size().h {
             if self.has_goal_cell_in_row(j) {
@@ -85,7 +87,7 @@ impl<M: Areas> AreaCells<'_, M> {
         requires area { IsAreaOf (M.passes self.now.map.now self.now.class) (M.has_area self.now.map.now self.now.class) self.now.start self.now.area }
         requires goal { IsWellFormed self.now.goal.now }
         requires row { j < (M.extent self.now.map.now).h }
-        ensures some { IsTrue result → IsReached (M.passes self.now.map.now self.now.class) self.now.start (contains self.now.goal.now) }
+        ensures some { IsTrue result → CanReach (M.passes self.now.map.now self.now.class) self.now.start (contains self.now.goal.now) }
         ensures none { IsFalse result → (cell : Cell) → cell.j ≡ j → cell.i < (M.extent self.now.map.now).w
             → IsTrue (contains self.now.goal.now cell) → Joined (M.passes self.now.map.now self.now.class) self.now.start cell → ⊥ }
     {
@@ -104,7 +106,7 @@ impl<M: Areas> Choice for AreaCells<'_, M> {
     ghost use Rattle.nav_types.specs.Walks.{Joined};
     ghost use Rattle.goal_shapes.specs.Goals.{remoteness};
     ghost use Rattle.goal_shapes.specs.Limits.{IsWellFormed};
-    ghost use Rattle.goal_reach.specs.Targets.{IsAreaOf};
+    ghost use Rattle.goal_reach.specs.inner.StartAreas.{IsAreaOf};
 
     ghost extent = { λ c. M.extent c.map.now };
 

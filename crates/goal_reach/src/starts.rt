@@ -1,7 +1,7 @@
 ghost use Rattle.std.specs.Prelude.{◌≡◌, ◌<◌, ◌↔◌, IsTrue, IsFalse, IfSome, IfNone, IsNone};
 ghost use Rattle.nav_types.specs.declared.cells.Cell.{Cell};
 ghost use Rattle.fixed_point.specs.Plane.{IsOnAxis};
-ghost use Rattle.goal_shapes.specs.Goals.{Holds, squared_distance};
+ghost use Rattle.goal_shapes.specs.Goals.{HoldsPoint, squared_distance};
 ghost use Rattle.goal_reach.specs.Starts.{IsStartCell, IsBlockedAt};
 
 use crate::choices::{Choice, least_cell};
@@ -33,7 +33,7 @@ fn passable_holder<V: View>(view: &V, class: Class, x: Fixed, z: Fixed) -> Optio
     requires column { IsOnAxis (V.extent view.now).w x }
     requires row { IsOnAxis (V.extent view.now).h z }
     ensures passable { IfSome result (λ cell. IsTrue (V.passes view.now class cell)) }
-    ensures holds { IfSome result (Holds x z) }
+    ensures holds { IfSome result (HoldsPoint x z) }
     ensures none { IfNone result (IsBlockedAt (V.passes view.now class) x z) }
 {
     let Some(cell) = cell_of_point(x, z, view.size()) else {

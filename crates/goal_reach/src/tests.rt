@@ -7,8 +7,7 @@ ghost use Rattle.nav_types.specs.declared.cells.Cell.{Cell};
 ghost use Rattle.nav_types.specs.Walks.{Joined};
 
 use crate::{Target, made_reachable, nearest_passable};
-use fixed_point::Fixed;
-use fixed_point::plane::is_on_axis;
+use fixed_point::{Fixed, is_on_axis};
 use goal_shapes::{Goal, check};
 use nav_types::{Aim, Areas, Cell, Class, Rect, Size, View};
 use std::alloc::Global;

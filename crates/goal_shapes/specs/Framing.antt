@@ -1,17 +1,13 @@
 -- Each goal cell is framed.
-use Rattle.std.proofs.Common.{◌+◌, ◌*◌, ◌<◌, ◌≤◌, ℕ, suc, ⊎_elim, arith, leb-true, le-leb, refl}
+use Rattle.std.proofs.Common.{◌+◌, ℕ, arith, leb-true, le-leb, refl}
 use Rattle.std.specs.Prelude.{unsigned_abs, IsTrue, nat_le}
-use Rattle.std.proofs.lemmas.Bool.{and_parts, and_from, cases_lt}
-use Rattle.std.proofs.Math.Nat.{mul-le-mul}
+use Rattle.std.proofs.lemmas.Bool.{and_parts, and_from}
 use Rattle.nav_types.specs.declared.cells.Cell.{Cell}
 use Rattle.fixed_point.specs.Plane.{square}
+use Rattle.fixed_point.proofs.Squares.{root_le}
 use Rattle.goal_shapes.specs.declared.goals.Goal.{Goal}
 use Rattle.goal_shapes.specs.declared.goals.Goal.TheVariants.{Point, Circle, NotCircle, Square, NotSquare}
 use Rattle.goal_shapes.specs.Goals.{gap, meets_axes, meets_sides, contains, framed}
-
--- a square is no more than another only where its root is
-root_le : (a b : ℕ) → square a ≤ square b → a ≤ b
-root_le a b h = ⊎_elim (λ (g : b < a). let k : suc b * suc b ≤ a * a = mul-le-mul g g in absurd (omega arith)) (λ (l : a ≤ b). l) (cases_lt b a)
 
 -- both parts of a sum of squares are near
 both_near : (a b r : ℕ) → IsTrue (nat_le (square a + square b) (square r)) → (IsTrue (nat_le a r)) × (IsTrue (nat_le b r))
@@ -25,6 +21,5 @@ contains_framed (Circle x z r) cell hit =
     let near = both_near (gap cell.i x) (gap cell.j z) (unsigned_abs r) hit in
     and_from (nat_le (gap cell.i x) (unsigned_abs r)) (nat_le (gap cell.j z) (unsigned_abs r)) near.0 near.1
 contains_framed (NotCircle x z r) cell hit = refl
-contains_framed (Square x z ux uz hw hh) cell hit =
-    (and_parts (meets_axes x z ux uz hw hh cell) (meets_sides x z ux uz hw hh cell) hit).0
-contains_framed (NotSquare x z ux uz hw hh) cell hit = refl
+contains_framed (Square rectangle) cell hit = (and_parts (meets_axes rectangle cell) (meets_sides rectangle cell) hit).0
+contains_framed (NotSquare rectangle) cell hit = refl

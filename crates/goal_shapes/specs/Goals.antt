@@ -1,18 +1,19 @@
 -- Goals: their cells, how remote a cell is from them, and their boxes.
--- All numbers are raw: a unit of length is a navcell's side over 65536. A place along a unit vector is in units over 65536.
+-- All numbers are raw: the raw number of a navcell's side is 65536. A place along a unit vector is raw times 65536.
 use Rattle.std.specs.Prelude.{◌≡◌, ℕ, ◌+◌, ◌-◌, ◌*◌, ◌^◌, min, Bool, true, ◌&&◌, ◌||◌, nat_le, List, [], ◌∷◌, ℤ, pos, ◌-ℤ◌, unsigned_abs}
 use Rattle.std.specs.List.{list_any}
 use Rattle.std.specs.Ordering.{int_eq}
 use Rattle.nav_types.specs.declared.cells.Cell.{Cell}
 use Rattle.fixed_point.specs.Raw.{floor_of}
-use Rattle.fixed_point.specs.Plane.{square, from_centre, along, across, beyond}
+use Rattle.fixed_point.specs.declared.plane.Rectangle.{Rectangle}
+use Rattle.fixed_point.specs.Plane.{square, from_centre, along, across, centre_along, centre_across, squared_past}
 use Rattle.goal_shapes.specs.declared.goals.Goal.{Goal}
 use Rattle.goal_shapes.specs.declared.goals.Goal.TheVariants.{Point, Circle, NotCircle, Square, NotSquare}
 
 -- ---- points
 
 -- the cell holds the point
-pub record Holds (x z : ℤ) (cell : Cell) : Type 0 where
+pub record HoldsPoint (x z : ℤ) (cell : Cell) : Type 0 where
   pub column : floor_of x ≡ pos cell.i
   pub row : floor_of z ≡ pos cell.j
 
@@ -67,37 +68,43 @@ meets_axis p main other hw hh = let n = squared_length main other in
     nat_le (unsigned_abs p * n)
     (32768 * n + 65536 * (unsigned_abs hw * unsigned_abs main + unsigned_abs hh * unsigned_abs other))
 
--- an axis of the square, with this half side along it, separates it from no cell whose middle has this place along
--- the axis
-abbrev pub meets_side : ℤ → ℤ → ℤ → ℤ → Bool
-meets_side length half ux uz =
-    nat_le (unsigned_abs length) (65536 * unsigned_abs half + 32768 * (unsigned_abs ux + unsigned_abs uz))
+-- an axis of a square, with this half side along it, separates the square from no cell whose middle has this place
+-- along the axis
+abbrev pub meets_side : Rectangle → ℤ → ℤ → Bool
+meets_side rectangle half length =
+    nat_le (unsigned_abs length) (65536 * unsigned_abs half + 32768 * (unsigned_abs rectangle.ux + unsigned_abs rectangle.uz))
 
 -- no axis of the map separates the square and the cell
-abbrev pub meets_axes : ℤ → ℤ → ℤ → ℤ → ℤ → ℤ → Cell → Bool
-meets_axes x z ux uz hw hh cell =
-    meets_axis (from_centre cell.i x) ux uz hw hh && meets_axis (from_centre cell.j z) uz ux hw hh
+abbrev pub meets_axes : Rectangle → Cell → Bool
+meets_axes rectangle cell =
+    meets_axis (from_centre cell.i rectangle.x) rectangle.ux rectangle.uz rectangle.hw rectangle.hh
+    && meets_axis (from_centre cell.j rectangle.z) rectangle.uz rectangle.ux rectangle.hw rectangle.hh
 
 -- no axis of the square separates them
-abbrev pub meets_sides : ℤ → ℤ → ℤ → ℤ → ℤ → ℤ → Cell → Bool
-meets_sides x z ux uz hw hh cell =
-    let px = from_centre cell.i x in let pz = from_centre cell.j z in
-    meets_side (along px pz ux uz) hw ux uz && meets_side (across px pz ux uz) hh ux uz
+abbrev pub meets_sides : Rectangle → Cell → Bool
+meets_sides rectangle cell =
+    meets_side rectangle rectangle.hw (centre_along rectangle cell.i cell.j)
+    && meets_side rectangle rectangle.hh (centre_across rectangle cell.i cell.j)
 
 -- the square meets the cell: no axis of either separates them
-abbrev pub meets_square : ℤ → ℤ → ℤ → ℤ → ℤ → ℤ → Cell → Bool
-meets_square x z ux uz hw hh cell = meets_axes x z ux uz hw hh cell && meets_sides x z ux uz hw hh cell
+abbrev pub meets_square : Rectangle → Cell → Bool
+meets_square rectangle cell = meets_axes rectangle cell && meets_sides rectangle cell
 
 -- the corner does not lie within the square, off its rim
-abbrev pub is_off_square : ℤ → ℤ → ℤ → ℤ → ℤ → ℤ → ℕ × ℕ → Bool
-is_off_square x z ux uz hw hh corner =
-    let px = from_edge corner.0 x in let pz = from_edge corner.1 z in
-    nat_le (65536 * unsigned_abs hw) (unsigned_abs (along px pz ux uz))
-    || nat_le (65536 * unsigned_abs hh) (unsigned_abs (across px pz ux uz))
+abbrev pub is_off_square : Rectangle → ℕ × ℕ → Bool
+is_off_square rectangle corner =
+    let px = from_edge corner.0 rectangle.x in let pz = from_edge corner.1 rectangle.z in
+    nat_le (65536 * unsigned_abs rectangle.hw) (unsigned_abs (along rectangle px pz))
+    || nat_le (65536 * unsigned_abs rectangle.hh) (unsigned_abs (across rectangle px pz))
 
 -- how deep a length lies within a half side, and 0 past it, times 65536
 abbrev pub within : ℤ → ℤ → ℕ
 within length half = 65536 * unsigned_abs half - unsigned_abs length
+
+-- how deep the cell's middle lies within the square's sides: within those that are nearest to it
+abbrev pub depth : Rectangle → Cell → ℕ
+depth rectangle cell =
+    min (within (centre_along rectangle cell.i cell.j) rectangle.hw) (within (centre_across rectangle cell.i cell.j) rectangle.hh)
 
 -- ---- goals
 
@@ -106,8 +113,8 @@ unfoldable pub contains : Goal → Cell → Bool
 contains (Point x z) cell = holds x z cell
 contains (Circle x z r) cell = meets_circle x z r cell
 contains (NotCircle x z r) cell = list_any (is_off_circle x z r) (corners_of cell)
-contains (Square x z ux uz hw hh) cell = meets_square x z ux uz hw hh cell
-contains (NotSquare x z ux uz hw hh) cell = list_any (is_off_square x z ux uz hw hh) (corners_of cell)
+contains (Square rectangle) cell = meets_square rectangle cell
+contains (NotSquare rectangle) cell = list_any (is_off_square rectangle) (corners_of cell)
 
 -- How remote the cell is from the goal. A point: the squared distance from the cell that holds it. A circle: that of
 -- the cell's middle from the circle's, and 2^56 less that where it is turned inside out. A square: the squared distance
@@ -117,12 +124,8 @@ unfoldable pub remoteness : Goal → Cell → ℕ
 remoteness (Point x z) cell = 2 ^ 32 * (square (columns_from cell.i x) + square (columns_from cell.j z))
 remoteness (Circle x z r) cell = squared_distance x z cell
 remoteness (NotCircle x z r) cell = 2 ^ 56 - squared_distance x z cell
-remoteness (Square x z ux uz hw hh) cell =
-    let px = from_centre cell.i x in let pz = from_centre cell.j z in
-    square (beyond (along px pz ux uz) hw) + square (beyond (across px pz ux uz) hh)
-remoteness (NotSquare x z ux uz hw hh) cell =
-    let px = from_centre cell.i x in let pz = from_centre cell.j z in
-    min (within (along px pz ux uz) hw) (within (across px pz ux uz) hh)
+remoteness (Square rectangle) cell = squared_past rectangle cell.i cell.j
+remoteness (NotSquare rectangle) cell = depth rectangle cell
 
 -- the cell lies in the goal's box: in the cell that holds the point, no further than the radius from a circle's middle
 -- along each axis of the map, where no axis of the map separates it from the square, and anywhere for the others
@@ -130,5 +133,5 @@ unfoldable pub framed : Goal → Cell → Bool
 framed (Point x z) cell = holds x z cell
 framed (Circle x z r) cell = is_near_circle x z r cell
 framed (NotCircle x z r) cell = true
-framed (Square x z ux uz hw hh) cell = meets_axes x z ux uz hw hh cell
-framed (NotSquare x z ux uz hw hh) cell = true
+framed (Square rectangle) cell = meets_axes rectangle cell
+framed (NotSquare rectangle) cell = true

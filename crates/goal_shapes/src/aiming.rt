@@ -3,11 +3,11 @@ use crate::goals::Goal;
 use nav_types::{Aim, Cell, Rect, Size};
 
 impl Aim for Goal {
-    ghost use Rattle.goal_shapes.specs.Limits.{IsSound};
+    ghost use Rattle.goal_shapes.specs.Limits.{IsSoundGoal};
     ghost use Rattle.goal_shapes.specs.Goals.{contains, framed};
     ghost use Rattle.goal_shapes.specs.Framing.{contains_framed};
 
-    ghost sound = { λ goal size. IsSound size goal };
+    ghost sound = { λ goal size. IsSoundGoal size goal };
 
     ghost hit = { λ goal size cell. contains goal cell };
 

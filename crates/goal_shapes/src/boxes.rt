@@ -3,13 +3,12 @@ ghost use Rattle.nav_types.specs.declared.cells.Cell.{Cell};
 ghost use Rattle.nav_types.specs.Cells.{IsInside, IsInRect, IsRectInside};
 ghost use Rattle.nav_types.specs.Frames.{IsFrame};
 ghost use Rattle.fixed_point.specs.Plane.{from_centre, IsOnAxis};
-ghost use Rattle.goal_shapes.specs.Limits.{AreSides};
+ghost use Rattle.goal_shapes.specs.Limits.{IsWellFormedSquare};
 ghost use Rattle.goal_shapes.specs.Goals.{holds, is_near_circle, meets_axes};
 
 use crate::points::cell_of_point;
-use crate::squares::{Turned, axis_reach};
-use fixed_point::Fixed;
-use fixed_point::plane::{columns_near, magnitude};
+use crate::squares::axis_reach;
+use fixed_point::{Fixed, Rectangle, columns_near, magnitude};
 use nav_types::{Rect, Size};
 
 /// The box of the one cell that holds a point of the map.
@@ -39,19 +38,28 @@ pub(crate) fn circle_box(x: Fixed, z: Fixed, r: Fixed, size: Size) -> Rect
     near_box(x, z, reach, reach, size)
 }
 
-impl Turned {
-    /// The box of the cells that no axis of the map separates from the rectangle, whose middle lies on
-    /// the map.
-    pub(crate) fn square_box(&self, size: Size) -> Rect
-        requires sides { AreSides self.now.ux self.now.uz self.now.hw self.now.hh }
-        requires column { IsOnAxis size.w self.now.x }
-        requires row { IsOnAxis size.h self.now.z }
-        ensures { IsFrame (meets_axes self.now.x self.now.z self.now.ux self.now.uz self.now.hw self.now.hh) size result }
-    {
-        let reach_x = axis_reach(self.ux, self.uz, self.hw, self.hh);
-        let reach_z = axis_reach(self.uz, self.ux, self.hw, self.hh);
-        near_box(self.x, self.z, reach_x, reach_z, size)
-    }
+/// The box of the cells that no axis of the map separates from a rectangle whose middle lies on the map.
+pub(crate) fn square_box(rectangle: &Rectangle, size: Size) -> Rect
+    requires sides { IsWellFormedSquare rectangle.now }
+    requires column { IsOnAxis size.w rectangle.now.x }
+    requires row { IsOnAxis size.h rectangle.now.z }
+    ensures { IsFrame (meets_axes rectangle.now) size result }
+{
+    let Rectangle {
+        x,
+        z,
+        ux,
+        uz,
+        hw,
+        hh,
+    } = *rectangle;
+    near_box(
+        x,
+        z,
+        axis_reach(ux, uz, hw, hh),
+        axis_reach(uz, ux, hw, hh),
+        size,
+    )
 }
 
 /// The box of the cells whose middle is no further than the reaches from a point of the map along the axes.
@@ -79,6 +87,7 @@ fn reached(x: Fixed, reach: u64, count: u16) -> (u16, u16)
 {
     match columns_near(x, reach, count) {
         Some(span) => span,
+        // The column that holds the coordinate is within its reach, which is half a navcell or more.
         None => unreachable!(),
     }
 }

@@ -1,16 +1,13 @@
-ghost use Rattle.std.specs.Prelude.{◌≤◌, ◌↔◌, IsTrue, IsErrOf, Some, codes};
+ghost use Rattle.std.specs.Prelude.{◌↔◌, IsTrue, IsErrOf, Some, codes};
 ghost use Rattle.std.specs.Result.{OkIff};
-ghost use Rattle.goal_shapes.specs.Limits.{AreSides, IsUpTo, IsWellFormed, IsGoalInside, IsSound};
+ghost use Rattle.goal_shapes.specs.Limits.{IsWellFormedSquare, IsWellFormed, IsGoalInside, IsSoundGoal};
 
 use crate::goals::Goal;
-use fixed_point::Fixed;
-use fixed_point::plane::{is_on_axis, is_unit_vector};
+use fixed_point::{Rectangle, is_on_axis, is_unit_vector, is_up_to};
 use nav_types::Size;
+use nav_types::limits::MAX_GOAL_EXTENT;
 use std::error::Error;
 use std::fmt;
-
-/// The greatest radius and half side of a goal, in navcells.
-const MAX_LENGTH: u16 = 4096;
 
 /// Why a goal is refused for a map.
 #[derive(Clone, Copy, Debug, PartialEq, Eq)]
@@ -37,12 +34,12 @@ impl fmt::Display for GoalRefusal {
 
 impl Error for GoalRefusal {}
 
-/// Hands the goal back where it is sound for a map of this size (`IsSound`). `BadShape` exactly where its
+/// Hands the goal back where it is sound for a map of this size (`IsSoundGoal`). `BadShape` exactly where its
 /// radius or a half side is not from 0 to 4096 navcells or its unit vector is not of length 1 within its
 /// limits (`IsWellFormed`), and else `GoalOutside` exactly where its middle does not lie on the map
 /// (`IsGoalInside`).
 pub fn check(goal: Goal, size: Size) -> Result<Goal, GoalRefusal>
-    ensures sound { OkIff result (IsSound size goal) goal }
+    ensures sound { OkIff result (IsSoundGoal size goal) goal }
     ensures bad_shape { IsErrOf result GoalRefusal.BadShape ↔ ¬ IsWellFormed goal }
     ensures outside { IsErrOf result GoalRefusal.GoalOutside ↔ (IsWellFormed goal × ¬ IsGoalInside size goal) }
 {
@@ -61,10 +58,10 @@ fn is_well_formed(goal: &Goal) -> bool
 {
     match *goal {
         Goal::Point { .. } => true,
-        Goal::Circle { r, .. } => is_up_to(MAX_LENGTH, r),
-        Goal::NotCircle { r, .. } => is_up_to(MAX_LENGTH, r),
-        Goal::Square { ux, uz, hw, hh, .. } => are_sides(ux, uz, hw, hh),
-        Goal::NotSquare { ux, uz, hw, hh, .. } => are_sides(ux, uz, hw, hh),
+        Goal::Circle { r, .. } => is_up_to(MAX_GOAL_EXTENT, r),
+        Goal::NotCircle { r, .. } => is_up_to(MAX_GOAL_EXTENT, r),
+        Goal::Square(rectangle) => is_well_formed_square(&rectangle),
+        Goal::NotSquare(rectangle) => is_well_formed_square(&rectangle),
     }
 }
 
@@ -76,17 +73,11 @@ fn is_inside(goal: &Goal, size: Size) -> bool
     is_on_axis(x, size.w) && is_on_axis(z, size.h)
 }
 
-/// Whether the sides of a square are in their limits.
-fn are_sides(ux: Fixed, uz: Fixed, hw: Fixed, hh: Fixed) -> bool
-    ensures { IsTrue result ↔ AreSides ux uz hw hh }
+/// Whether a square's unit vector and half sides are in their limits.
+fn is_well_formed_square(rectangle: &Rectangle) -> bool
+    ensures { IsTrue result ↔ IsWellFormedSquare rectangle.now }
 {
-    is_unit_vector(ux, uz) && is_up_to(MAX_LENGTH, hw) && is_up_to(MAX_LENGTH, hh)
-}
-
-/// Whether the length is from 0 to `most` navcells, which is at most 4096.
-pub(crate) fn is_up_to(most: u16, length: Fixed) -> bool
-    requires { most ≤ 4096 }
-    ensures { IsTrue result ↔ IsUpTo most length }
-{
-    length.raw() >= 0 && length.raw() <= 65536 * i32::from(most)
+    is_unit_vector(rectangle.ux, rectangle.uz)
+        && is_up_to(MAX_GOAL_EXTENT, rectangle.hw)
+        && is_up_to(MAX_GOAL_EXTENT, rectangle.hh)
 }

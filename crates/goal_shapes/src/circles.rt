@@ -3,11 +3,10 @@ ghost use Rattle.std.specs.List.{list_any};
 ghost use Rattle.goal_shapes.specs.Goals.{gap, corners_of, squared_length, squared_distance, meets_circle, is_off_circle};
 
 use crate::corners::{corners, edge_offset};
-use fixed_point::Fixed;
-use fixed_point::plane::{magnitude, offset, squared};
+use fixed_point::{Fixed, magnitude, offset, squared};
 use nav_types::Cell;
 
-/// The squared distance from the point (`x`, `z`) to the middle of a cell, in units squared.
+/// The squared distance from the point (`x`, `z`) to the middle of a cell, as a raw number squared.
 pub fn squared_distance(x: Fixed, z: Fixed, cell: Cell) -> u128
     ensures { result ≡ squared_distance x z cell }
 {
@@ -39,7 +38,7 @@ fn is_corner_off(x: Fixed, z: Fixed, r: Fixed, columns: u32, rows: u32) -> bool
     squared(magnitude(r)) <= length_squared(edge_offset(columns, x), edge_offset(rows, z))
 }
 
-/// By how much column (or row) `i` lies away from a coordinate, in units: 0 where it holds it.
+/// By how much column (or row) `i` lies away from a coordinate, as a raw number: 0 where it holds it.
 pub(crate) fn gap_of(i: u16, x: Fixed) -> u64
     ensures value { result ≡ gap i x }
     ensures bounded { result ≤ 2 ^ 33 }
@@ -47,7 +46,7 @@ pub(crate) fn gap_of(i: u16, x: Fixed) -> u64
     offset(i, x).unsigned_abs().saturating_sub(32768)
 }
 
-/// The squared length of the way (`px`, `pz`), in units.
+/// The squared raw length of the way (`px`, `pz`).
 fn length_squared(px: i64, pz: i64) -> u128
     requires column { unsigned_abs px ≤ 2 ^ 33 }
     requires row { unsigned_abs pz ≤ 2 ^ 33 }

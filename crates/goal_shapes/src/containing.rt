@@ -1,13 +1,13 @@
 ghost use Rattle.std.specs.Prelude.{◌≡◌};
 ghost use Rattle.nav_types.specs.Frames.{IsFrame};
-ghost use Rattle.goal_shapes.specs.Limits.{IsWellFormed, IsSound};
+ghost use Rattle.goal_shapes.specs.Limits.{IsWellFormed, IsSoundGoal};
 ghost use Rattle.goal_shapes.specs.Goals.{contains, remoteness, framed};
 
-use crate::boxes::{circle_box, point_box, whole_map};
+use crate::boxes::{circle_box, point_box, square_box, whole_map};
 use crate::circles::{circle_meets, leaves_circle, squared_distance};
 use crate::goals::Goal;
 use crate::points::{is_held, squared_cells_from};
-use crate::squares::Turned;
+use crate::squares::{depth, leaves_square, square_meets};
 use nav_types::{Cell, Rect, Size};
 
 /// Whether the cell is a goal cell (`contains`).
@@ -22,38 +22,8 @@ pub fn contains(goal: &Goal, cell: Cell) -> bool
         Goal::Point { x, z } => is_held(x, z, cell),
         Goal::Circle { x, z, r } => circle_meets(x, z, r, cell),
         Goal::NotCircle { x, z, r } => leaves_circle(x, z, r, cell),
-        Goal::Square {
-            x,
-            z,
-            ux,
-            uz,
-            hw,
-            hh,
-        } => Turned {
-            x,
-            z,
-            ux,
-            uz,
-            hw,
-            hh,
-        }
-        .meets(cell),
-        Goal::NotSquare {
-            x,
-            z,
-            ux,
-            uz,
-            hw,
-            hh,
-        } => Turned {
-            x,
-            z,
-            ux,
-            uz,
-            hw,
-            hh,
-        }
-        .is_left(cell),
+        Goal::Square(rectangle) => square_meets(&rectangle, cell),
+        Goal::NotSquare(rectangle) => leaves_square(&rectangle, cell),
     }
 }
 
@@ -69,41 +39,10 @@ pub fn remoteness(goal: &Goal, cell: Cell) -> u128
     match *goal {
         Goal::Point { x, z } => squared_cells_from(x, z, cell),
         Goal::Circle { x, z, .. } => squared_distance(x, z, cell),
+        // On a map no squared distance is above 2^55, so that 2^56 turns the order of the cells about.
         Goal::NotCircle { x, z, .. } => (1u128 << 56).saturating_sub(squared_distance(x, z, cell)),
-        Goal::Square {
-            x,
-            z,
-            ux,
-            uz,
-            hw,
-            hh,
-        } => Turned {
-            x,
-            z,
-            ux,
-            uz,
-            hw,
-            hh,
-        }
-        .squared_past(cell),
-        Goal::NotSquare {
-            x,
-            z,
-            ux,
-            uz,
-            hw,
-            hh,
-        } => {
-            u128::from(Turned {
-                x,
-                z,
-                ux,
-                uz,
-                hw,
-                hh,
-            }
-            .depth(cell))
-        }
+        Goal::Square(rectangle) => rectangle.squared_past(cell.i, cell.j),
+        Goal::NotSquare(rectangle) => u128::from(depth(&rectangle, cell)),
     }
 }
 
@@ -113,29 +52,14 @@ pub fn remoteness(goal: &Goal, cell: Cell) -> u128
 /// The goal is sound for the map.
 #[tactic(auto, unfolding(crate::specs::Goals::framed))]
 pub fn cell_box(goal: &Goal, size: Size) -> Rect
-    requires { IsSound size goal.now }
+    requires { IsSoundGoal size goal.now }
     ensures { IsFrame (framed goal.now) size result }
 {
     match *goal {
         Goal::Point { x, z } => point_box(x, z, size),
         Goal::Circle { x, z, r } => circle_box(x, z, r, size),
         Goal::NotCircle { .. } => whole_map(size),
-        Goal::Square {
-            x,
-            z,
-            ux,
-            uz,
-            hw,
-            hh,
-        } => Turned {
-            x,
-            z,
-            ux,
-            uz,
-            hw,
-            hh,
-        }
-        .square_box(size),
+        Goal::Square(rectangle) => square_box(&rectangle, size),
         Goal::NotSquare { .. } => whole_map(size),
     }
 }

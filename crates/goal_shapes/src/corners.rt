@@ -18,7 +18,7 @@ pub(crate) fn corners(cell: Cell) -> [(u32, u32); 4]
     ]
 }
 
-/// From a coordinate to the edge after `count` columns (or rows), in units.
+/// From a coordinate to the edge after `count` columns (or rows), as a raw number.
 pub(crate) fn edge_offset(count: u32, x: Fixed) -> i64
     requires { count ≤ 2 ^ 16 }
     ensures value { result ≡ from_edge count x }

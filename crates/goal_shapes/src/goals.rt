@@ -1,48 +1,22 @@
 ghost use Rattle.std.specs.Prelude.{◌≡◌};
 ghost use Rattle.goal_shapes.specs.Limits.{middle_x, middle_z};
 
-use fixed_point::Fixed;
+use fixed_point::{Fixed, Rectangle};
 
 /// A goal: the set of navcells that a path may end in. Lengths and coordinates are in navcells.
 #[derive(Clone, Copy, Debug, PartialEq, Eq)]
 pub enum Goal {
     /// The cell that holds the point (`x`, `z`).
-    Point {
-        x: Fixed,
-        z: Fixed,
-    },
+    Point { x: Fixed, z: Fixed },
     /// The cells that a disc with its middle at (`x`, `z`) and the radius `r` touches.
-    Circle {
-        x: Fixed,
-        z: Fixed,
-        r: Fixed,
-    },
+    Circle { x: Fixed, z: Fixed, r: Fixed },
     /// The cells with a corner that is not nearer than `r` to the point (`x`, `z`): a circle turned
     /// inside out.
-    NotCircle {
-        x: Fixed,
-        z: Fixed,
-        r: Fixed,
-    },
-    /// The cells that a rectangle touches, with its middle at (`x`, `z`), `hw` to each side along the
-    /// unit vector (`ux`, `uz`) and `hh` to each side across it.
-    Square {
-        x: Fixed,
-        z: Fixed,
-        ux: Fixed,
-        uz: Fixed,
-        hw: Fixed,
-        hh: Fixed,
-    },
+    NotCircle { x: Fixed, z: Fixed, r: Fixed },
+    /// The cells that a rectangle along a unit vector touches.
+    Square(Rectangle),
     /// The cells with a corner that does not lie within such a rectangle: a square turned inside out.
-    NotSquare {
-        x: Fixed,
-        z: Fixed,
-        ux: Fixed,
-        uz: Fixed,
-        hw: Fixed,
-        hh: Fixed,
-    },
+    NotSquare(Rectangle),
 }
 
 /// A goal as a request names it: a plain one, or the cells about an obstruction.
@@ -64,8 +38,8 @@ impl Goal {
             Goal::Point { x, z } => (x, z),
             Goal::Circle { x, z, .. } => (x, z),
             Goal::NotCircle { x, z, .. } => (x, z),
-            Goal::Square { x, z, .. } => (x, z),
-            Goal::NotSquare { x, z, .. } => (x, z),
+            Goal::Square(rectangle) => (rectangle.x, rectangle.z),
+            Goal::NotSquare(rectangle) => (rectangle.x, rectangle.z),
         }
     }
 }

@@ -1,15 +1,13 @@
 ghost use Rattle.std.specs.Prelude.{◌≡◌, ◌+ℤ◌, Some, codes};
 ghost use Rattle.std.specs.Result.{OkIff};
-ghost use Rattle.goal_shapes.specs.Limits.{IsUpTo, grown_square};
+ghost use Rattle.fixed_point.specs.Plane.{IsUpTo};
+ghost use Rattle.goal_shapes.specs.Limits.{grown};
 
-use crate::checking::is_up_to;
 use crate::goals::Goal;
-use fixed_point::Fixed;
+use fixed_point::{Fixed, Rectangle, is_up_to};
+use nav_types::limits::MAX_GROWTH;
 use std::error::Error;
 use std::fmt;
-
-/// The greatest distance about an obstruction, in navcells.
-const MAX_GROWTH: u16 = 3840;
 
 /// The distance about an obstruction is out of its limits.
 #[derive(Clone, Copy, Debug, PartialEq, Eq)]
@@ -25,35 +23,24 @@ impl fmt::Display for BadShape {
 
 impl Error for BadShape {}
 
-/// The square goal about an obstruction: each half side longer by the distance `grow` (`grown_square`).
-/// `BadShape` exactly where the distance is not from 0 to 3840 navcells.
+/// The square goal about an obstruction: each half side longer by the distance `grow` (`grown`). `BadShape` exactly
+/// where the distance is not from 0 to 3840 navcells.
 ///
 /// The obstruction's half sides are from 0 to 256 navcells, as those of each shape that fits a map. So
 /// the goal's are in their limits.
-pub fn grown(
-    x: Fixed,
-    z: Fixed,
-    ux: Fixed,
-    uz: Fixed,
-    hw: Fixed,
-    hh: Fixed,
-    grow: Fixed,
-) -> Result<Goal, BadShape>
-    requires width { IsUpTo 256 hw }
-    requires height { IsUpTo 256 hh }
-    ensures { OkIff result (IsUpTo 3840 grow) (grown_square x z ux uz hw hh grow) }
+pub fn grown(rectangle: Rectangle, grow: Fixed) -> Result<Goal, BadShape>
+    requires width { IsUpTo 256 rectangle.hw }
+    requires height { IsUpTo 256 rectangle.hh }
+    ensures { OkIff result (IsUpTo 3840 grow) (Goal.Square (grown rectangle grow)) }
 {
     if !is_up_to(MAX_GROWTH, grow) {
         return Err(BadShape);
     }
-    Ok(Goal::Square {
-        x,
-        z,
-        ux,
-        uz,
-        hw: longer(hw, grow),
-        hh: longer(hh, grow),
-    })
+    Ok(Goal::Square(Rectangle {
+        hw: longer(rectangle.hw, grow),
+        hh: longer(rectangle.hh, grow),
+        ..rectangle
+    }))
 }
 
 /// A half side of an obstruction that is longer by a distance.

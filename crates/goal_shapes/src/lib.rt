@@ -1,7 +1,7 @@
 //! Goals: points, circles and turned squares, plain or turned inside out. Which cells are goal cells, how
 //! remote a cell is, and the box of the cells that can be one.
 //!
-//! All numbers are fixed-point: a raw unit is a navcell's side over 65536. Everything is exact, and
+//! All numbers are fixed-point: the raw number of a navcell's side is 65536. Everything is exact, and
 //! nothing here takes memory.
 #![tactic(auto)]
 

@@ -2,17 +2,16 @@ ghost use Rattle.std.specs.Prelude.{◌≡◌, ◌≤◌, ◌+◌, ◌*◌, ◌^
 ghost use Rattle.fixed_point.specs.Raw.{floor_of};
 ghost use Rattle.fixed_point.specs.Plane.{square, IsOnAxis};
 ghost use Rattle.nav_types.specs.Cells.{IsInside};
-ghost use Rattle.goal_shapes.specs.Goals.{Holds, holds, columns_from};
+ghost use Rattle.goal_shapes.specs.Goals.{HoldsPoint, holds, columns_from};
 
-use fixed_point::Fixed;
-use fixed_point::plane::{is_on_axis, magnitude, squared};
+use fixed_point::{Fixed, is_on_axis, magnitude, squared};
 use nav_types::{Cell, Size};
 
-/// The cell of a map that holds the point (`Holds`). `None` exactly where the point does not lie on the
+/// The cell of a map that holds the point (`HoldsPoint`). `None` exactly where the point does not lie on the
 /// map (`IsOnAxis`).
 pub fn cell_of_point(x: Fixed, z: Fixed, size: Size) -> Option<Cell>
     ensures on_map { IsSome result ↔ (IsOnAxis size.w x × IsOnAxis size.h z) }
-    ensures holds { IfSome result (λ cell. Holds x z cell) }
+    ensures holds { IfSome result (λ cell. HoldsPoint x z cell) }
     ensures inside { IfSome result (λ cell. IsInside size cell) }
 {
     if is_on_axis(x, size.w) && is_on_axis(z, size.h) {

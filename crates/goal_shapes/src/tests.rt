@@ -1,13 +1,18 @@
 ghost use Rattle.goal_shapes.specs.Limits.{IsWellFormed};
 
 use super::*;
-use fixed_point::Fixed;
+use fixed_point::{Fixed, Rectangle};
 use nav_types::{Aim, Cell, Rect, Size};
 use std::test::Fail;
 
-/// In each line a goal with its numbers in units, the columns and rows of a map, the goal's box, and cells
+/// In each line a goal with its numbers raw, the columns and rows of a map, the goal's box, and cells
 /// with 1 where they are goal cells and with their remoteness.
 const GOALS: &str = "\
+not-square 610610 221923 46341 46341 169049 180423;14 11;0 0 13 10;8 2 0 5905425047,8 3 0 8942428823,9 1 0 5540315787,10 1 1 2503312011,12 3 1 1067146601,10 9 1 0
+not-square 351043 387808 -39975 -51818 268826 278884;9 16;0 0 8 15;4 3 0 7164314635,4 8 0 8602656866,8 5 0 6508044190,7 2 1 2044583838,2 3 1 1924711435,0 12 1 0
+not-square 374869 263212 56756 32768 145515 210318;20 11;0 0 19 10;5 5 0 7168720068,6 5 0 3449158852,4 5 0 5644643056,4 6 1 1925081840,7 1 1 601462032,11 6 1 0
+not-square 206294 204653 12737 64304 140736 230401;9 13;0 0 8 12;1 4 0 4794728390,0 2 0 4388634682,1 2 0 5223366714,1 5 1 580501446,5 4 1 1455800262,6 0 1 0
+not-square 854869 201546 -46341 46341 259291 387603;17 9;0 0 16 8;10 4 0 4939276489,11 4 0 7976280265,14 5 0 13617202203,15 8 1 1469187099,16 7 1 1469187099,0 2 1 0
 point 458753 1146879;17 23;7 17 7 17;11 11 0 223338299392,3 12 0 176093659136,9 18 0 21474836480,3 4 0 794568949760
 not-square 131071 262145 46341 46341 77270 65536;18 12;0 0 17 11;2 11 1 0,16 3 1 0,0 6 1 0,0 5 1 0
 point 753664 0;20 4;11 0 11 0;10 1 0 8589934592,7 0 0 68719476736,15 0 0 68719476736,14 3 0 77309411328
@@ -146,7 +151,7 @@ not-square 1 1 0 65536 268435456 0;sound
 not-square 1 1 0 65792 5 5;bad
 not-square 1 1966080 0 65536 5 5;outside";
 
-/// A number of units.
+/// A raw number.
 fn fixed(word: Option<&str>) -> Option<Fixed> {
     Some(Fixed::from_raw(word?.parse().ok()?))
 }
@@ -170,24 +175,19 @@ fn goal_of(text: &str) -> Option<Goal> {
     let uz = fixed(words.next())?;
     let hw = fixed(words.next())?;
     let hh = fixed(words.next())?;
-    if kind == "square" {
-        return Some(Goal::Square {
-            x,
-            z,
-            ux: first,
-            uz,
-            hw,
-            hh,
-        });
-    }
-    Some(Goal::NotSquare {
+    let rectangle = Rectangle {
         x,
         z,
         ux: first,
         uz,
         hw,
         hh,
-    })
+    };
+    if kind == "square" {
+        Some(Goal::Square(rectangle))
+    } else {
+        Some(Goal::NotSquare(rectangle))
+    }
 }
 
 /// The size of a text, its columns and its rows.
@@ -319,14 +319,21 @@ fn a_point_lies_in_one_cell_of_its_map(rt: HostRuntime) -> Result<(), Fail> {
 #[test]
 fn an_obstruction_grows_on_all_sides(rt: HostRuntime) {
     let [x, z, ux, uz, hw, hh] = [7, 9, 0, -65536, 65536, 32768].map(Fixed::from_raw);
-    let about = |grow| grown(x, z, ux, uz, hw, hh, Fixed::from_raw(grow));
-    let square = |hw, hh| Goal::Square {
+    let rectangle = Rectangle {
         x,
         z,
         ux,
         uz,
-        hw: Fixed::from_raw(hw),
-        hh: Fixed::from_raw(hh),
+        hw,
+        hh,
+    };
+    let about = |grow| grown(rectangle, Fixed::from_raw(grow));
+    let square = |hw, hh| {
+        Goal::Square(Rectangle {
+            hw: Fixed::from_raw(hw),
+            hh: Fixed::from_raw(hh),
+            ..rectangle
+        })
     };
     assert_eq!(rt; about(0), Ok(square(65536, 32768)));
     assert_eq!(rt; about(251658240), Ok(square(251723776, 251691008)));

@@ -12,46 +12,21 @@ use Rattle.nav_types.specs.Counting.{AreFirsts, Counts}
 use Rattle.nav_types.specs.Walks.{Joined}
 use Rattle.nav_types.specs.Regions.{passes_in, InOneRegion, IsAreaBefore, HasArea, IsAreaFirst}
 use Rattle.chunk_regions.specs.Labelling.{Labelling}
-use Rattle.chunk_regions.proofs.CellLemmas.{IsChunkBefore-irrefl, IsAreaBefore-asym, IsAreaBefore-cases}
-use Rattle.chunk_regions.proofs.StepLemmas.{Joined-from_straight}
-use Rattle.chunk_regions.proofs.NumberLemmas.{Contains-from_slice_get}
+use Rattle.nav_types.proofs.CellOrder.{IsChunkBefore-irrefl, IsAreaBefore-asym, IsAreaBefore-cases, IsAreaBefore-trans}
+use Rattle.nav_types.proofs.Walking.{Joined-from_straight}
+use Rattle.nav_types.proofs.Items.{Contains-from_slice_get}
 use Rattle.region_edges.specs.Edges.{PassesInside}
 use Rattle.reach_sets.specs.declared.regions.RegionId.{RegionId}
-use Rattle.reach_sets.specs.Rows.{IsBefore as IsRegionBefore}
-use Rattle.reach_sets.specs.AreaNumbers.{area_of, AreJoined, IsFirst as IsFirstRegion}
+use Rattle.reach_sets.specs.RegionOrder.{IsRegionBefore}
+use Rattle.reach_sets.specs.AreaNumbers.{area_of, AreJoined, IsFirstRegion}
 use Rattle.reach_sets.proofs.RowLemmas.{same_region}
-use Rattle.grid_versions.specs.Chunks.{chunk_place, chunk_numbered}
-use Rattle.grid_versions.specs.Tables.{Tables, AreTables, region_counts, region_of}
-use Rattle.grid_versions.proofs.Counting.{from_map, Contains-map, AllPairs-map}
+use Rattle.grid_versions.specs.Chunks.{chunk_place}
+use Rattle.grid_versions.specs.inner.ChunkLists.{chunk_numbered}
+use Rattle.grid_versions.specs.inner.Tables.{Tables, AreTables, region_counts, region_in}
+use Rattle.nav_types.proofs.Items.{from_map, Contains-map, AllPairs-map}
 use Rattle.grid_versions.proofs.ChunkLemmas.{one_place, before_place, chunk_inside, lies_in}
 use Rattle.grid_versions.proofs.RegionLemmas.{has_region, region_exists, joined_from_same, HasFirst, has_first}
 use Rattle.grid_versions.proofs.LinkLemmas.{JoinedStraight-from_region, Joined-passes, regions_joined, cells_joined}
-
--- ---- orders
-
-IsBefore-trans : (a b c : Cell) → IsBefore a b → IsBefore b c → IsBefore a c
-IsBefore-trans a b c one two = elim one [
-  | inl row ↦ elim two [ inl on ↦ inl (omega arith) | inr on ↦ inl (omega (arith, on.0)) ]
-  | inr column ↦ elim two [ inl on ↦ inl (omega (arith, column.0)) | inr on ↦ inr (column.0 ∙ on.0, omega (arith, column.1, on.1)) ]
-]
-
-IsChunkBefore-trans : (a b c : Chunk) → IsChunkBefore a b → IsChunkBefore b c → IsChunkBefore a c
-IsChunkBefore-trans a b c one two = elim one [
-  | inl row ↦ elim two [ inl on ↦ inl (omega arith) | inr on ↦ inl (omega (arith, on.0)) ]
-  | inr column ↦ elim two [ inl on ↦ inl (omega (arith, column.0)) | inr on ↦ inr (column.0 ∙ on.0, omega (arith, column.1, on.1)) ]
-]
-
-IsAreaBefore-trans : (a b c : Cell) → IsAreaBefore a b → IsAreaBefore b c → IsAreaBefore a c
-IsAreaBefore-trans a b c one two = elim one [
-  | inl chunk ↦ elim two [
-    | inl on ↦ inl (IsChunkBefore-trans (chunk_of a) (chunk_of b) (chunk_of c) chunk on)
-    | inr on ↦ inl (subst (λ (there : Chunk). IsChunkBefore (chunk_of a) there) on.0 chunk)
-  ]
-  | inr cell ↦ elim two [
-    | inl on ↦ inl (subst (λ (here : Chunk). IsChunkBefore here (chunk_of c)) (sym cell.0) on)
-    | inr on ↦ inr (cell.0 ∙ on.0, IsBefore-trans a b c cell.1 on.1)
-  ]
-]
 
 IsRegionBefore-cases : (a b : RegionId) → (a ≡ b) ⊎ (IsRegionBefore a b ⊎ IsRegionBefore b a)
 IsRegionBefore-cases a b = elim (cases_order a.chunk b.chunk) [
@@ -104,10 +79,10 @@ module _ (passes : Cell → Bool) (size : Size) (tables : Tables) (inside : Pass
       ]
 
   -- no cell of a region comes before its first cell
-  none_before : (id : RegionId) (f : HasFirst passes size tables id) (cell : Cell) → IsTrue (passes cell) → region_of size tables cell ≡ id
+  none_before : (id : RegionId) (f : HasFirst passes size tables id) (cell : Cell) → IsTrue (passes cell) → region_in size tables cell ≡ id
       → IsAreaBefore cell f.cell → ⊥
   none_before id f cell passable is before =
-      let same : region_of size tables f.cell ≡ region_of size tables cell = f.region_is ∙ sym is in
+      let same : region_in size tables f.cell ≡ region_in size tables cell = f.region_is ∙ sym is in
       let chunk = chunk_numbered size id.chunk in
       let chunks : chunk_of f.cell ≡ chunk_of cell =
       one_place size (chunk_of f.cell) (chunk_of cell) (chunk_inside size f.cell (inside f.cell f.passable)) (chunk_inside size cell (inside cell passable))
@@ -125,7 +100,7 @@ module _ (passes : Cell → Bool) (size : Size) (tables : Tables) (inside : Pass
     passable = f.passable;
     earliest = λ other joined before.
         let passable = Joined-passes passes f.cell other f.passable joined in
-        let x = region_of size tables other in
+        let x = region_in size tables other in
         let exists = region_exists passes size tables are other (inside other passable) passable in
         let linked : AreJoined are.links id x = subst (λ (y : RegionId). AreJoined are.links y x) f.region_is (regions_joined passes size tables inside are f.cell other joined) in
         let g = has_first passes size tables inside are x exists in
@@ -140,9 +115,9 @@ module _ (passes : Cell → Bool) (size : Size) (tables : Tables) (inside : Pass
   }
 
   -- the region of the first cell of an area is the area's first region, and the cell is the region's first
-  region_of_first : (cell : Cell) → IsAreaFirst passes cell → IsFirstRegion (region_counts tables) are.links (region_of size tables cell)
+  region_of_first : (cell : Cell) → IsAreaFirst passes cell → IsFirstRegion (region_counts tables) are.links (region_in size tables cell)
   region_of_first cell first =
-      let x = region_of size tables cell in
+      let x = region_in size tables cell in
       let exists = region_exists passes size tables are cell (inside cell first.passable) first.passable in
       let f = has_first passes size tables inside are x exists in
       record {
@@ -161,9 +136,9 @@ module _ (passes : Cell → Bool) (size : Size) (tables : Tables) (inside : Pass
             ];
       }
 
-  cell_of_first : (cell : Cell) → IsAreaFirst passes cell → first_cell tables (region_of size tables cell) ≡ cell
+  cell_of_first : (cell : Cell) → IsAreaFirst passes cell → first_cell tables (region_in size tables cell) ≡ cell
   cell_of_first cell first =
-      let x = region_of size tables cell in
+      let x = region_in size tables cell in
       let exists = region_exists passes size tables are cell (inside cell first.passable) first.passable in
       let f = has_first passes size tables inside are x exists in
       let joined = Joined-from_straight passes cell f.cell (JoinedStraight-from_region passes (chunk_of cell) cell f.cell
@@ -194,7 +169,7 @@ module _ (passes : Cell → Bool) (size : Size) (tables : Tables) (inside : Pass
             subst (λ (c : Cell). IsAreaFirst passes c) (sym (first_cell_is passes size tables id f) ∙ back.1.1) (first_of_area id f first);
         all = λ cell first.
             subst (λ (c : Cell). Contains area_firsts c) (cell_of_first cell first)
-            (Contains-map (λ id. first_cell tables id) ids (region_of size tables cell) (of.all (region_of size tables cell) (region_of_first cell first)));
+            (Contains-map (λ id. first_cell tables id) ids (region_in size tables cell) (of.all (region_in size tables cell) (region_of_first cell first)));
         rising = AllPairs-map IsRegionBefore IsAreaBefore (λ id. first_cell tables id) ids of.rising
             (λ x y in_x in_y before.
             let x_is = (of.each x in_x).exists in
@@ -204,16 +179,16 @@ module _ (passes : Cell → Bool) (size : Size) (tables : Tables) (inside : Pass
             (subst (λ (c : Cell). IsAreaBefore f.cell c) (sym (first_cell_is passes size tables y g)) (firsts_before x y f g x_is.first before)));
       }
 
-  no_region : (cell : Cell) → IsInside size cell → IsFalse (passes cell) → (region_of size tables cell).region ≡ 0
+  no_region : (cell : Cell) → IsInside size cell → IsFalse (passes cell) → (region_in size tables cell).region ≡ 0
   no_region cell within shut = elim (cases_Bool (passes_in passes (chunk_of cell) cell)) [
     | inl passable ↦ absurd (both_ways (passes cell) shut (lies_in passes (chunk_of cell) cell passable).passable)
     | inr none ↦ (has_region passes size tables are cell within).blocked none
   ]
 
   -- areas of all regions and edges are the areas of the map
-  pub has_area : (cell : Cell) → IsInside size cell → HasArea passes cell (area_of tables.areas (region_of size tables cell))
+  pub has_area : (cell : Cell) → IsInside size cell → HasArea passes cell (area_of tables.areas (region_in size tables cell))
   has_area cell within =
-      let x = region_of size tables cell in
+      let x = region_in size tables cell in
       let area : ℕ → ℕ = λ n. area_of tables.areas (record { chunk = chunk_place size (chunk_of cell); region = n }) in
       record {
         blocked = λ shut. ap area (no_region cell within shut);

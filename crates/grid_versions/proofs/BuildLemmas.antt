@@ -13,21 +13,22 @@ use Rattle.nav_types.specs.declared.cells.Rect.{Rect}
 use Rattle.nav_types.specs.declared.cells.Size.{Size}
 use Rattle.nav_types.specs.Cells.{IsInside, IsInRect}
 use Rattle.nav_types.specs.Regions.{passes_in, HasRegion, IsNextChunk, IsEdge}
-use Rattle.chunk_regions.specs.Numbering.{number_of}
+use Rattle.nav_types.specs.Numbering.{number_of}
 use Rattle.chunk_regions.specs.Labelling.{Labelling, AreLabels, chunk_rect}
-use Rattle.chunk_regions.proofs.CellLemmas.{same_chunk}
+use Rattle.nav_types.proofs.CellOrder.{same_chunk}
 use Rattle.chunk_regions.proofs.LabelLemmas.{in_rect, AreLabels-placed, AreLabels-at_most}
 use Rattle.region_edges.specs.declared.neighbours.Side.{Side}
 use Rattle.region_edges.specs.declared.neighbours.Side.TheVariants.{East, North}
 use Rattle.region_edges.specs.Edges.{LiesOn, AreNeighbours, PassesInside, IsPairBefore, AreEdges}
 use Rattle.reach_sets.specs.declared.regions.RegionId.{RegionId}
-use Rattle.reach_sets.specs.Rows.{IsRegion}
+use Rattle.reach_sets.specs.RegionOrder.{IsRegion}
 use Rattle.reach_sets.specs.AreaNumbers.{AreaNumbers}
 use Rattle.reach_sets.proofs.RowLemmas.{same_region}
-use Rattle.grid_versions.specs.Chunks.{chunk_columns, chunk_rows, chunk_count, chunk_place, chunk_numbered, IsChunkInside, east_of, north_of, beyond}
-use Rattle.grid_versions.specs.Tables.{AreTouching, AreLinks, AreAllLabels, AreAllEdges, AreFew}
-use Rattle.grid_versions.specs.Building.{IsLaidOut, link_between, IsSideLink}
-use Rattle.grid_versions.proofs.Counting.{same_pair, from_map, Contains-map, AllPairs-map, AllPairs-tail, head_apart, Contains-head, Contains-tail, Contains-none}
+use Rattle.grid_versions.specs.Chunks.{chunk_columns, chunk_rows, chunk_count, chunk_place}
+use Rattle.grid_versions.specs.inner.ChunkLists.{chunk_numbered, IsChunkInside, east_of, north_of, neighbour_on}
+use Rattle.grid_versions.specs.inner.Tables.{AreTouching, AreLinks, AreAllLabels, AreAllEdges, AreFew}
+use Rattle.grid_versions.specs.inner.Building.{IsLaidOut, link_between, IsSideLink}
+use Rattle.nav_types.proofs.Items.{same_pair, from_map, Contains-map, AllPairs-map, AllPairs-tail, head_apart, Contains-head, Contains-tail, Contains-none}
 use Rattle.grid_versions.proofs.ChunkLemmas.{place_below, numbered-place, place-numbered, chunk_inside, lies_in, item_at, AreOfChunks-at, AreOfChunks-weaker}
 use Rattle.grid_versions.proofs.RegionLemmas.{one_number}
 
@@ -40,13 +41,13 @@ laid_out passes size labels of =
     (λ chunk one. (one.chunk ≡ chunk) × (one.cells.rect ≡ chunk_rect size chunk)) labels
     (λ chunk one own. (own.of_chunk, own.extent)) of
 
-lies_beyond : (side : Side) (chunk : Chunk) → LiesOn side chunk (beyond side chunk)
+lies_beyond : (side : Side) (chunk : Chunk) → LiesOn side chunk (neighbour_on side chunk)
 lies_beyond East chunk = (refl, refl)
 lies_beyond North chunk = (refl, refl)
 
 -- the labels of a chunk and of its neighbour on a side are labels of neighbours
 pub are_neighbours : (side : Side) (size : Size) (labels : List Labelling) (place to : ℕ) (here there : Chunk) (near far : Labelling)
-    → IsLaidOut size labels → here ≡ chunk_numbered size place → there ≡ beyond side here → IsChunkInside size there → to ≡ chunk_place size there
+    → IsLaidOut size labels → here ≡ chunk_numbered size place → there ≡ neighbour_on side here → IsChunkInside size there → to ≡ chunk_place size there
     → slice_get labels place ≡ Some near → slice_get labels to ≡ Some far → AreNeighbours side near far
 are_neighbours side size labels place to here there near far laid here_is there_is inside to_is near_at far_at =
     let near_of = laid.are place near near_at in
@@ -56,7 +57,7 @@ are_neighbours side size labels place to here there near far laid here_is there_
     let far_in : IsChunkInside size far.chunk = subst (λ (chunk : Chunk). IsChunkInside size chunk) (sym far_chunk) inside in
     record {
       size = size;
-      lies = subst (λ (chunk : Chunk). LiesOn side near.chunk chunk) (sym (far_chunk ∙ there_is ∙ ap (λ (chunk : Chunk). beyond side chunk) (sym near_chunk)))
+      lies = subst (λ (chunk : Chunk). LiesOn side near.chunk chunk) (sym (far_chunk ∙ there_is ∙ ap (λ (chunk : Chunk). neighbour_on side chunk) (sym near_chunk)))
           (lies_beyond side near.chunk);
       columns = far_in.column;
       rows = far_in.row;
@@ -66,21 +67,21 @@ are_neighbours side size labels place to here there near far laid here_is there_
 
 -- what `between` makes of them
 pub edges_between : (side : Side) (size : Size) (labels : List Labelling) (place to : ℕ) (here there : Chunk) (near far : Labelling)
-    → IsLaidOut size labels → here ≡ chunk_numbered size place → there ≡ beyond side here → IsChunkInside size there → to ≡ chunk_place size there
+    → IsLaidOut size labels → here ≡ chunk_numbered size place → there ≡ neighbour_on side here → IsChunkInside size there → to ≡ chunk_place size there
     → slice_get labels place ≡ Some near → slice_get labels to ≡ Some far → (edges : List (ℕ × ℕ))
     → ((passes : Cell → Bool) (size : Size) → PassesInside passes size → AreLabels passes size near.chunk near → AreLabels passes size far.chunk far
     → AreEdges passes near.chunk far.chunk edges)
     → (passes : Cell → Bool) → PassesInside passes size
     → AreAllLabels passes size labels
-    → AreEdges passes (chunk_numbered size place) (beyond side (chunk_numbered size place)) edges
+    → AreEdges passes (chunk_numbered size place) (neighbour_on side (chunk_numbered size place)) edges
 edges_between side size labels place to here there near far laid here_is there_is inside to_is near_at far_at edges made passes passes_inside of =
     let near_of = laid.are place near near_at in
     let far_of = laid.are to far far_at in
-    let far_chunk : far.chunk ≡ beyond side (chunk_numbered size place) =
-    far_of.0 ∙ ap (λ (k : ℕ). chunk_numbered size k) to_is ∙ numbered-place size there inside ∙ there_is ∙ ap (λ (chunk : Chunk). beyond side chunk) here_is in
+    let far_chunk : far.chunk ≡ neighbour_on side (chunk_numbered size place) =
+    far_of.0 ∙ ap (λ (k : ℕ). chunk_numbered size k) to_is ∙ numbered-place size there inside ∙ there_is ∙ ap (λ (chunk : Chunk). neighbour_on side chunk) here_is in
     let near_labels = subst (λ (chunk : Chunk). AreLabels passes size chunk near) (sym near_of.0) (of.are place near near_at) in
     let far_labels = subst (λ (chunk : Chunk). AreLabels passes size chunk far) (sym far_of.0) (of.are to far far_at) in
-    subst (λ (chunk : Chunk). AreEdges passes chunk (beyond side (chunk_numbered size place)) edges) near_of.0
+    subst (λ (chunk : Chunk). AreEdges passes chunk (neighbour_on side (chunk_numbered size place)) edges) near_of.0
     (subst (λ (chunk : Chunk). AreEdges passes near.chunk chunk edges) far_chunk (made passes size passes_inside near_labels far_labels))
 
 -- a chunk outside the map has no edges
@@ -101,7 +102,7 @@ same_link a b here near there far = same_pair a b (same_region a.0 b.0 here near
 
 -- one chunk more on a side
 pub side_links_more : (size : Size) (side : Side) (all : List (List (ℕ × ℕ))) (start old new : List (RegionId × RegionId)) (place step : ℕ) (edges : List (ℕ × ℕ))
-    → slice_get all place ≡ Some edges → chunk_place size (beyond side (chunk_numbered size place)) ≡ place + step
+    → slice_get all place ≡ Some edges → chunk_place size (neighbour_on side (chunk_numbered size place)) ≡ place + step
     → new ≡ old ++ map (link_between place (place + step)) edges
     → ((link : RegionId × RegionId) → Contains old link ↔ (Contains start link ⊎ ((link.0.chunk < place) × IsSideLink size side all link)))
     → (link : RegionId × RegionId) → Contains new link ↔ (Contains start link ⊎ ((link.0.chunk < place + 1) × IsSideLink size side all link))
@@ -128,7 +129,7 @@ side_links_more size side all start old new place step edges at to made so_far l
           | inr last ↦
               let chunk : link.0.chunk ≡ place = omega (arith, on.0) in
               let same : on.1.edges ≡ edges = same_Some on.1.edges edges (sym on.1.at ∙ ap (λ (k : ℕ). slice_get all k) chunk ∙ at) in
-              let there : link.1.chunk ≡ place + step = on.1.to ∙ ap (λ (k : ℕ). chunk_place size (beyond side (chunk_numbered size k))) chunk ∙ to in
+              let there : link.1.chunk ≡ place + step = on.1.to ∙ ap (λ (k : ℕ). chunk_place size (neighbour_on side (chunk_numbered size k))) chunk ∙ to in
               let listed : Contains edges (link.0.region, link.1.region) = subst (λ (xs : List (ℕ × ℕ)). Contains xs (link.0.region, link.1.region)) same on.1.listed in
               let is_link : link_between place (place + step) (link.0.region, link.1.region) ≡ link =
               same_link (link_between place (place + step) (link.0.region, link.1.region)) link (sym chunk) refl (sym there) refl in
@@ -163,7 +164,7 @@ two_sides none one both P Q empty first second x = (
 
 -- ---- links are the edges of the map
 
-next_beyond : (side : Side) (chunk : Chunk) → IsNextChunk chunk (beyond side chunk)
+next_beyond : (side : Side) (chunk : Chunk) → IsNextChunk chunk (neighbour_on side chunk)
 next_beyond East chunk = inl (refl, refl)
 next_beyond North chunk = inr (refl, refl)
 
@@ -175,7 +176,7 @@ touch_from_link passes size side all of a b link =
     let here = chunk_numbered size a.chunk in
     record {
       here = here;
-      there = beyond side here;
+      there = neighbour_on side here;
       next = next_beyond side here;
       edge = (of.are a.chunk link.edges link.at).each a.region b.region link.listed;
       from = sym (place-numbered size a.chunk);
@@ -184,19 +185,19 @@ touch_from_link passes size side all of a b link =
 
 link_from_touch : (passes : Cell → Bool) (size : Size) (side : Side) (all : List (List (ℕ × ℕ))) → PassesInside passes size
     → AreAllEdges side passes size all
-    → (a b : RegionId) (touch : AreTouching passes size a b) → beyond side touch.here ≡ touch.there → IsSideLink size side all (a, b)
+    → (a b : RegionId) (touch : AreTouching passes size a b) → neighbour_on side touch.here ≡ touch.there → IsSideLink size side all (a, b)
 link_from_touch passes size side all inside of a b touch beyond_is =
     let edge = touch.edge in
     let lies = lies_in passes touch.here edge.from edge.from_passes in
     let here_in : IsChunkInside size touch.here = subst (λ (chunk : Chunk). IsChunkInside size chunk) lies.in_chunk (chunk_inside size edge.from (inside edge.from lies.passable)) in
     let chunk : chunk_numbered size a.chunk ≡ touch.here = ap (λ (k : ℕ). chunk_numbered size k) touch.from ∙ numbered-place size touch.here here_in in
-    let there : beyond side (chunk_numbered size a.chunk) ≡ touch.there = ap (λ (c : Chunk). beyond side c) chunk ∙ beyond_is in
+    let there : neighbour_on side (chunk_numbered size a.chunk) ≡ touch.there = ap (λ (c : Chunk). neighbour_on side c) chunk ∙ beyond_is in
     let low = place_below size touch.here here_in in
     let from = touch.from in
-    let item = item_at size (chunk_count size) (λ chunk edges. AreEdges passes chunk (beyond side chunk) edges) all of a.chunk (omega arith) in
+    let item = item_at size (chunk_count size) (λ chunk edges. AreEdges passes chunk (neighbour_on side chunk) edges) all of a.chunk (omega arith) in
     let own = of.are a.chunk item.0 item.1 in
-    let moved : IsEdge passes (chunk_numbered size a.chunk) (beyond side (chunk_numbered size a.chunk)) a.region b.region =
-    subst (λ (c : Chunk). IsEdge passes c (beyond side (chunk_numbered size a.chunk)) a.region b.region) (sym chunk)
+    let moved : IsEdge passes (chunk_numbered size a.chunk) (neighbour_on side (chunk_numbered size a.chunk)) a.region b.region =
+    subst (λ (c : Chunk). IsEdge passes c (neighbour_on side (chunk_numbered size a.chunk)) a.region b.region) (sym chunk)
     (subst (λ (c : Chunk). IsEdge passes touch.here c a.region b.region) (sym there) edge) in
     record {
       edges = item.0;
@@ -354,7 +355,7 @@ module _ (passes : Cell → Bool) (size : Size) (labels : List Labelling) (insid
       let short : All (λ edges. length edges ≤ 84953089) all = λ k d low.
       let edges = get_or all k d in
       let own = edges_of.are k edges (slice_get-get_or all k d low) in
-      edges_short edges own.rising (λ pair has. edge_most most (chunk_numbered size k) (beyond side (chunk_numbered size k)) pair.0 pair.1 (own.each pair.0 pair.1 has)) in
+      edges_short edges own.rising (λ pair has. edge_most most (chunk_numbered size k) (neighbour_on side (chunk_numbered size k)) pair.0 pair.1 (own.each pair.0 pair.1 has)) in
       let long = edges_of.each in
       let few = chunks_few size in
       omega (

@@ -15,11 +15,12 @@ use Rattle.nav_types.specs.Cells.{cell_at, IsInRect}
 use Rattle.nav_types.specs.Counting.{Counts}
 use Rattle.lane_rows.specs.Rows.{has_class, DifferIn}
 use Rattle.clearance_raster.specs.Rasters.{bit_of}
-use Rattle.chunk_regions.specs.Numbering.{Numbering, IsPatch, columns, rows, place_in, number_of}
-use Rattle.chunk_regions.proofs.CellLemmas.{same_cell}
+use Rattle.nav_types.specs.Numbering.{Numbering, IsPatch, columns, rows, place_in, number_of}
+use Rattle.nav_types.proofs.CellOrder.{same_cell}
 use Rattle.chunk_regions.proofs.TableLemmas.{IsReadTo, IsReadTo-push, IsReadTo-row}
-use Rattle.grid_versions.specs.Painting.{free_count, numbering, DiffersIn}
-use Rattle.grid_versions.proofs.Counting.{Counts-listed, Counts-one, Counts-none, Counts-carried, same_pair}
+use Rattle.grid_versions.specs.inner.Painting.{free_count, numbering, DiffersIn}
+use Rattle.nav_types.proofs.Items.{same_pair}
+use Rattle.nav_types.proofs.Counting.{Counts-listed, Counts-one, Counts-none, Counts-carried}
 use Rattle.grid_versions.proofs.PaintLemmas.{bit_of-has_class}
 
 -- ---- a row at once

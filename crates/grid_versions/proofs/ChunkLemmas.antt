@@ -9,8 +9,10 @@ use Rattle.nav_types.specs.declared.cells.Chunk.{Chunk}
 use Rattle.nav_types.specs.declared.cells.Size.{Size}
 use Rattle.nav_types.specs.Cells.{IsInside, chunk_of, IsChunkBefore}
 use Rattle.nav_types.specs.Regions.{passes_in}
-use Rattle.chunk_regions.proofs.CellLemmas.{same_chunk, IsChunkBefore-cases}
-use Rattle.grid_versions.specs.Chunks.{chunk_columns, chunk_rows, chunk_count, chunk_place, chunk_numbered, IsChunkInside, AreOfChunks}
+use Rattle.nav_types.proofs.CellOrder.{same_chunk, IsChunkBefore-cases}
+use Rattle.nav_types.proofs.Items.{slice_get-push_cases}
+use Rattle.grid_versions.specs.Chunks.{chunk_columns, chunk_rows, chunk_count, chunk_place}
+use Rattle.grid_versions.specs.inner.ChunkLists.{chunk_numbered, IsChunkInside, AreOfChunks}
 
 -- a chunk inside has a chunk column below the number of columns, and a chunk row below the number of rows
 pub column_below : (size : Size) (chunk : Chunk) → IsChunkInside size chunk → chunk.ci < chunk_columns size
@@ -118,16 +120,6 @@ item_at size count Is items of place low =
 pub AreOfChunks-none : {A : Type 0} (size : Size) (Is : Chunk → A → Type 0) → AreOfChunks size 0 Is []
 AreOfChunks-none size Is = record { each = refl; are = λ place item at. absurd (cc) }
 
--- an item of a list with one more at the end
-slice_get_push : {A : Type 0} (xs : List A) (y x : A) (k : ℕ) → slice_get (xs ++ y ∷ []) k ≡ Some x → (slice_get xs k ≡ Some x) ⊎ ((k ≡ length xs) × (y ≡ x))
-slice_get_push [] y x zero at = inr (refl, same_Some y x at)
-slice_get_push [] y x (suc k) at = absurd (cc)
-slice_get_push (z ∷ xs) y x zero at = inl at
-slice_get_push (z ∷ xs) y x (suc k) at = elim (slice_get_push xs y x k at) [
-  | inl here ↦ inl here
-  | inr last ↦ inr (omega (arith, last.0), last.1)
-]
-
 -- one chunk more
 pub AreOfChunks-push : {A : Type 0} (size : Size) (count : ℕ) (Is : Chunk → A → Type 0) (items : List A) (item : A)
     → AreOfChunks size count Is items → Is (chunk_numbered size count) item → AreOfChunks size (count + 1) Is (items ++ item ∷ [])
@@ -135,7 +127,7 @@ AreOfChunks-push size count Is items item of is =
     let each = of.each in
     record {
       each = omega (arith, length-append items (item ∷ []));
-      are = λ place other at. elim (slice_get_push items item other place at) [
+      are = λ place other at. elim (slice_get-push_cases items item place other at) [
         | inl here ↦ of.are place other here
         | inr last ↦
             let same : count ≡ place = omega (arith, last.0) in

@@ -1,11 +1,9 @@
-pub mod Counting
 pub mod ChunkLemmas
 pub mod RegionLemmas
 pub mod LinkLemmas
 pub mod AreaLemmas
 pub mod TallyLemmas
 pub mod BuildLemmas
-pub mod SameLemmas
 pub mod FittingLemmas
 pub mod PassingLemmas
 pub mod EditingLemmas

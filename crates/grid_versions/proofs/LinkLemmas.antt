@@ -12,8 +12,8 @@ use Rattle.nav_types.specs.Cells.{chunk_of}
 use Rattle.nav_types.specs.Directions.{is_straight, Leads}
 use Rattle.nav_types.specs.Walks.{IsWalk, Joined}
 use Rattle.nav_types.specs.Regions.{passes_in, JoinedStraight, InOneRegion, HasRegion, IsNextChunk, IsBeside}
-use Rattle.chunk_regions.proofs.CellLemmas.{same_chunk}
-use Rattle.chunk_regions.proofs.StepLemmas.{IsBeside-back, JoinedStraight-refl, JoinedStraight-beside, JoinedStraight-trans, JoinedStraight-from_Joined, Joined-from_straight}
+use Rattle.nav_types.proofs.CellOrder.{same_chunk}
+use Rattle.nav_types.proofs.Walking.{IsWalk-passes, IsBeside-back, JoinedStraight-refl, JoinedStraight-beside, JoinedStraight-trans, JoinedStraight-from_Joined, Joined-from_straight}
 use Rattle.region_edges.specs.Edges.{PassesInside}
 use Rattle.reach_sets.specs.declared.regions.RegionId.{RegionId}
 use Rattle.reach_sets.specs.Chains.{Either, IsChain}
@@ -21,7 +21,7 @@ use Rattle.reach_sets.specs.AreaNumbers.{IsLink, AreJoined}
 use Rattle.reach_sets.proofs.ChainLemmas.{chained_same, chained_once, chained_on, chained_back}
 use Rattle.reach_sets.proofs.RowLemmas.{same_region}
 use Rattle.grid_versions.specs.Chunks.{chunk_place}
-use Rattle.grid_versions.specs.Tables.{Tables, AreTables, AreTouching, region_of}
+use Rattle.grid_versions.specs.inner.Tables.{Tables, AreTables, AreTouching, region_in}
 use Rattle.grid_versions.proofs.ChunkLemmas.{lies_in, passes_own}
 use Rattle.grid_versions.proofs.RegionLemmas.{one_number, has_region, joined_from_same, same_from_joined}
 
@@ -50,13 +50,9 @@ pub JoinedStraight-from_region : (passes : Cell → Bool) (chunk : Chunk) (a b :
 JoinedStraight-from_region passes chunk a b joined =
     (joined.0, (joined.1.0, walk_of_more (passes_in passes chunk) passes (λ cell here. (lies_in passes chunk cell here).passable) joined.0 a b joined.1.1))
 
-walk_end : (passes : Cell → Bool) (dirs : List Dir) (a b : Cell) → IsTrue (passes a) → IsWalk passes a dirs b → IsTrue (passes b)
-walk_end passes [] a b start walk = subst (λ (cell : Cell). IsTrue (passes cell)) walk start
-walk_end passes (dir ∷ dirs) a b start walk = walk_end passes dirs walk.0 b walk.1.0.next walk.1.1
-
 -- what is joined to a passable cell is passable
 pub Joined-passes : (passes : Cell → Bool) (a b : Cell) → IsTrue (passes a) → Joined passes a b → IsTrue (passes b)
-Joined-passes passes a b start joined = walk_end passes joined.0 a b start joined.1
+Joined-passes passes a b start joined = IsWalk-passes passes joined.0 a b start joined.1
 
 -- ---- a straight step stays in its chunk or leads to a neighbour
 
@@ -104,13 +100,13 @@ pub record HasTouch (passes : Cell → Bool) (size : Size) (tables : Tables) (a 
   pub beside : IsBeside from to
   pub from_passes : IsTrue (passes from)
   pub to_passes : IsTrue (passes to)
-  pub from_is : region_of size tables from ≡ a
-  pub to_is : region_of size tables to ≡ b
+  pub from_is : region_in size tables from ≡ a
+  pub to_is : region_in size tables to ≡ b
 
 module _ (passes : Cell → Bool) (size : Size) (tables : Tables) (inside : PassesInside passes size) (are : AreTables passes size tables) where
   -- passable cells side by side in neighbouring chunks: an edge joins their regions
   touching : (a b : Cell) → IsBeside a b → IsTrue (passes a) → IsTrue (passes b) → IsNextChunk (chunk_of a) (chunk_of b)
-      → AreTouching passes size (region_of size tables a) (region_of size tables b)
+      → AreTouching passes size (region_in size tables a) (region_in size tables b)
   touching a b beside here there next = record {
     here = chunk_of a;
     there = chunk_of b;
@@ -130,9 +126,9 @@ module _ (passes : Cell → Bool) (size : Size) (tables : Tables) (inside : Pass
 
   -- passable cells side by side: their regions are joined
   pub step_joined : (a b : Cell) → IsBeside a b → IsTrue (passes a) → IsTrue (passes b)
-      → AreJoined are.links (region_of size tables a) (region_of size tables b)
+      → AreJoined are.links (region_in size tables a) (region_in size tables b)
   step_joined a b beside here there =
-      let x = region_of size tables a in let y = region_of size tables b in
+      let x = region_in size tables a in let y = region_in size tables b in
       elim (crosses_by beside.0 a b beside.1.0 beside.1.1) [
         | inl same ↦
             let P = passes_in passes (chunk_of a) in
@@ -147,18 +143,18 @@ module _ (passes : Cell → Bool) (size : Size) (tables : Tables) (inside : Pass
       ]
 
   walk_joined : (dirs : List Dir) (a b : Cell) → AllPass is_straight dirs → IsWalk passes a dirs b
-      → AreJoined are.links (region_of size tables a) (region_of size tables b)
+      → AreJoined are.links (region_in size tables a) (region_in size tables b)
   walk_joined [] a b straight walk =
-      chained_same (IsLink are.links) (region_of size tables a) (region_of size tables b) (ap (λ (cell : Cell). region_of size tables cell) walk)
+      chained_same (IsLink are.links) (region_in size tables a) (region_in size tables b) (ap (λ (cell : Cell). region_in size tables cell) walk)
   walk_joined (dir ∷ dirs) a b straight walk =
       let first : IsTrue (is_straight dir) = All-head (λ way. is_straight way ≡ true) dir dirs straight in
       let rest = All-tail (λ way. is_straight way ≡ true) dir dirs straight in
-      chained_on (IsLink are.links) (region_of size tables a) (region_of size tables walk.0) (region_of size tables b)
+      chained_on (IsLink are.links) (region_in size tables a) (region_in size tables walk.0) (region_in size tables b)
       (step_joined a walk.0 (dir, (first, walk.1.0.leads)) walk.1.0.start walk.1.0.next)
       (walk_joined dirs walk.0 b rest walk.1.1)
 
   -- cells that a legal walk joins have joined regions
-  pub regions_joined : (a b : Cell) → Joined passes a b → AreJoined are.links (region_of size tables a) (region_of size tables b)
+  pub regions_joined : (a b : Cell) → Joined passes a b → AreJoined are.links (region_in size tables a) (region_in size tables b)
   regions_joined a b joined =
       let straight = JoinedStraight-from_Joined passes a b joined in
       walk_joined straight.0 a b straight.1.0 straight.1.1
@@ -169,11 +165,11 @@ module _ (passes : Cell → Bool) (size : Size) (tables : Tables) (inside : Pass
       let edge = touch.edge in
       let from_lies = lies_in passes touch.here edge.from edge.from_passes in
       let to_lies = lies_in passes touch.there edge.to edge.to_passes in
-      let from_has : HasRegion passes touch.here edge.from (region_of size tables edge.from).region =
-      subst (λ (chunk : Chunk). HasRegion passes chunk edge.from (region_of size tables edge.from).region) from_lies.in_chunk
+      let from_has : HasRegion passes touch.here edge.from (region_in size tables edge.from).region =
+      subst (λ (chunk : Chunk). HasRegion passes chunk edge.from (region_in size tables edge.from).region) from_lies.in_chunk
       (has_region passes size tables are edge.from (inside edge.from from_lies.passable)) in
-      let to_has : HasRegion passes touch.there edge.to (region_of size tables edge.to).region =
-      subst (λ (chunk : Chunk). HasRegion passes chunk edge.to (region_of size tables edge.to).region) to_lies.in_chunk
+      let to_has : HasRegion passes touch.there edge.to (region_in size tables edge.to).region =
+      subst (λ (chunk : Chunk). HasRegion passes chunk edge.to (region_in size tables edge.to).region) to_lies.in_chunk
       (has_region passes size tables are edge.to (inside edge.to to_lies.passable)) in
       record {
         from = edge.from;
@@ -181,16 +177,16 @@ module _ (passes : Cell → Bool) (size : Size) (tables : Tables) (inside : Pass
         beside = edge.beside;
         from_passes = from_lies.passable;
         to_passes = to_lies.passable;
-        from_is = same_region (region_of size tables edge.from) a
+        from_is = same_region (region_in size tables edge.from) a
             (ap (λ (chunk : Chunk). chunk_place size chunk) from_lies.in_chunk ∙ sym touch.from)
-            (one_number passes touch.here edge.from (region_of size tables edge.from).region a.region from_has edge.from_region);
-        to_is = same_region (region_of size tables edge.to) b
+            (one_number passes touch.here edge.from (region_in size tables edge.from).region a.region from_has edge.from_region);
+        to_is = same_region (region_in size tables edge.to) b
             (ap (λ (chunk : Chunk). chunk_place size chunk) to_lies.in_chunk ∙ sym touch.to)
-            (one_number passes touch.there edge.to (region_of size tables edge.to).region b.region to_has edge.to_region);
+            (one_number passes touch.there edge.to (region_in size tables edge.to).region b.region to_has edge.to_region);
       }
 
   -- passable cells of one region are joined
-  same_joined : (a b : Cell) → IsTrue (passes a) → IsTrue (passes b) → region_of size tables a ≡ region_of size tables b → JoinedStraight passes a b
+  same_joined : (a b : Cell) → IsTrue (passes a) → IsTrue (passes b) → region_in size tables a ≡ region_in size tables b → JoinedStraight passes a b
   same_joined a b here there same =
       JoinedStraight-from_region passes (chunk_of a) a b (joined_from_same passes size tables are a b (inside a here) (inside b there) here there same)
 
@@ -201,8 +197,8 @@ module _ (passes : Cell → Bool) (size : Size) (tables : Tables) (inside : Pass
     | inr behind ↦ inr (has_touch y x (are.links_are.each y x behind))
   ]
 
-  chain_joined : (way : List RegionId) (id : RegionId) (a b : Cell) → IsTrue (passes a) → IsTrue (passes b) → region_of size tables a ≡ id
-      → IsChain (IsLink are.links) id way (region_of size tables b) → JoinedStraight passes a b
+  chain_joined : (way : List RegionId) (id : RegionId) (a b : Cell) → IsTrue (passes a) → IsTrue (passes b) → region_in size tables a ≡ id
+      → IsChain (IsLink are.links) id way (region_in size tables b) → JoinedStraight passes a b
   chain_joined [] id a b here there is chain = same_joined a b here there (is ∙ chain)
   chain_joined (next ∷ way) id a b here there is chain = elim (over_link id next chain.0) [
     | inl touch ↦
@@ -217,6 +213,6 @@ module _ (passes : Cell → Bool) (size : Size) (tables : Tables) (inside : Pass
 
   -- passable cells with joined regions are joined by a legal walk
   pub cells_joined : (a b : Cell) → IsTrue (passes a) → IsTrue (passes b)
-      → AreJoined are.links (region_of size tables a) (region_of size tables b) → Joined passes a b
+      → AreJoined are.links (region_in size tables a) (region_in size tables b) → Joined passes a b
   cells_joined a b here there joined =
-      Joined-from_straight passes a b (chain_joined joined.0 (region_of size tables a) a b here there refl joined.1)
+      Joined-from_straight passes a b (chain_joined joined.0 (region_in size tables a) a b here there refl joined.1)

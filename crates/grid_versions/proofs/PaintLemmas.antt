@@ -16,11 +16,11 @@ use Rattle.nav_types.specs.Cells.{IsInside, IsInRect, IsRectInside}
 use Rattle.lane_rows.specs.Rows.{has_class}
 use Rattle.navcell_grid.specs.Grids.{GridCells, place_of, number_at, IsInSpan}
 use Rattle.clearance_raster.specs.Rasters.{IsRaster, bit_of}
-use Rattle.clearance_raster.proofs.Rastering.{raster_none}
+use Rattle.clearance_raster.proofs.Rastering.{Test, raster_none}
 use Rattle.obstruction_store.specs.Standing.{Standing}
 use Rattle.grid_versions.specs.Maps.{Map}
 use Rattle.grid_versions.specs.Passing.{is_in_rect, has_base, is_blocked}
-use Rattle.grid_versions.specs.Painting.{is_covered, IsPainted}
+use Rattle.grid_versions.specs.inner.Painting.{is_covered, IsPainted}
 use Rattle.grid_versions.proofs.PassingLemmas.{in_rect_from, in_rect_to}
 
 -- ---- bits
@@ -45,9 +45,6 @@ max-none : (n : ℕ) → max n 0 ≡ n
 max-none n = omega arith
 
 -- ---- rasters one after another
-
-abbrev pub Test : Type 0
-Test = ℕ → Cell → Bool
 
 pub raster_both : (s t : Test) (a b c : GridCells) → IsRaster s a b → IsRaster t b c → IsRaster (λ k cell. s k cell || t k cell) a c
 raster_both s t a b c one two = record {

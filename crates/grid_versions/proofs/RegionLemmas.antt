@@ -11,18 +11,20 @@ use Rattle.nav_types.specs.declared.cells.Size.{Size}
 use Rattle.nav_types.specs.Cells.{IsInside, IsInRect, IsBefore, chunk_of}
 use Rattle.nav_types.specs.Counting.{IsFirst}
 use Rattle.nav_types.specs.Regions.{passes_in, InOneRegion, HasRegion}
-use Rattle.chunk_regions.specs.Numbering.{number_of}
+use Rattle.nav_types.specs.Numbering.{number_of}
 use Rattle.chunk_regions.specs.Labelling.{Labelling, AreLabels}
-use Rattle.chunk_regions.proofs.CellLemmas.{IsBefore-asym, IsBefore-cases}
-use Rattle.chunk_regions.proofs.StepLemmas.{JoinedStraight-refl, JoinedStraight-sym, JoinedStraight-trans}
-use Rattle.chunk_regions.proofs.NumberLemmas.{HasNumber-unique, HasNumber-same, HasNumber-together, Contains-from_slice_get}
+use Rattle.nav_types.proofs.CellOrder.{IsBefore-asym, IsBefore-cases}
+use Rattle.nav_types.proofs.Walking.{JoinedStraight-refl, JoinedStraight-sym, JoinedStraight-trans}
+use Rattle.nav_types.proofs.Items.{Contains-from_slice_get}
+use Rattle.nav_types.proofs.FirstCells.{HasNumber-unique, HasNumber-same, HasNumber-together}
 use Rattle.chunk_regions.proofs.LabelLemmas.{in_rect, AreLabels-placed, AreLabels-at_most}
 use Rattle.region_edges.specs.Edges.{PassesInside}
 use Rattle.reach_sets.specs.declared.regions.RegionId.{RegionId}
-use Rattle.reach_sets.specs.Rows.{IsRegion}
+use Rattle.reach_sets.specs.RegionOrder.{IsRegion}
 use Rattle.reach_sets.proofs.RowLemmas.{same_region}
-use Rattle.grid_versions.specs.Chunks.{chunk_count, chunk_place, chunk_numbered}
-use Rattle.grid_versions.specs.Tables.{Tables, AreTables, region_counts, region_of, number_in}
+use Rattle.grid_versions.specs.Chunks.{chunk_count, chunk_place}
+use Rattle.grid_versions.specs.inner.ChunkLists.{chunk_numbered}
+use Rattle.grid_versions.specs.inner.Tables.{Tables, AreTables, region_counts, region_in, number_in}
 use Rattle.grid_versions.proofs.ChunkLemmas.{place_below, numbered-place, place-numbered, one_place, chunk_inside, lies_in, passes_own, item_at}
 
 -- the number of regions of a chunk with labels
@@ -45,7 +47,7 @@ pub record HasPlace (passes : Cell → Bool) (size : Size) (tables : Tables) (ce
   pub at : slice_get tables.labels (chunk_place size (chunk_of cell)) ≡ Some labels
   pub are : AreLabels passes size (chunk_of cell) labels
   pub inside : IsInRect labels.cells.rect cell
-  pub number : (region_of size tables cell).region ≡ number_of labels.cells cell
+  pub number : (region_in size tables cell).region ≡ number_of labels.cells cell
 
 module _ (passes : Cell → Bool) (size : Size) (tables : Tables) (are : AreTables passes size tables) where
   pub has_place : (cell : Cell) → IsInside size cell → HasPlace passes size tables cell
@@ -66,13 +68,13 @@ module _ (passes : Cell → Bool) (size : Size) (tables : Tables) (are : AreTabl
       }
 
   -- the region of a cell has the cell's number in its chunk
-  pub has_region : (cell : Cell) → IsInside size cell → HasRegion passes (chunk_of cell) cell (region_of size tables cell).region
+  pub has_region : (cell : Cell) → IsInside size cell → HasRegion passes (chunk_of cell) cell (region_in size tables cell).region
   has_region cell inside =
       let has = has_place cell inside in
       subst (λ (n : ℕ). HasRegion passes (chunk_of cell) cell n) (sym has.number) (has.are.numbers cell has.inside)
 
   -- the region of a passable cell exists
-  pub region_exists : (cell : Cell) → IsInside size cell → IsTrue (passes cell) → IsRegion (region_counts tables) (region_of size tables cell)
+  pub region_exists : (cell : Cell) → IsInside size cell → IsTrue (passes cell) → IsRegion (region_counts tables) (region_in size tables cell)
   region_exists cell inside passable =
       let has = has_place cell inside in
       let placed = AreLabels-placed passes size (chunk_of cell) has.labels has.are cell has.inside (passes_own passes cell passable) in
@@ -95,7 +97,7 @@ module _ (passes : Cell → Bool) (size : Size) (tables : Tables) (are : AreTabl
 
   -- a cell's region number is at most the number of regions of its chunk
   pub region_at_most : (cell : Cell) → IsInside size cell
-      → (region_of size tables cell).region ≤ get_or tables.areas.regions (chunk_place size (chunk_of cell)) 0
+      → (region_in size tables cell).region ≤ get_or tables.areas.regions (chunk_place size (chunk_of cell)) 0
   region_at_most cell inside =
       let has = has_place cell inside in
       let number = has.number in
@@ -110,7 +112,7 @@ module _ (passes : Cell → Bool) (size : Size) (tables : Tables) (are : AreTabl
       ap length are.areas_are.regions_are ∙ length-map tables.labels (λ (one : Labelling). length one.firsts) ∙ are.labels_are.each
 
   -- passable cells of one region lie in one chunk
-  pub one_chunk : (a b : Cell) → IsInside size a → IsInside size b → region_of size tables a ≡ region_of size tables b → chunk_of a ≡ chunk_of b
+  pub one_chunk : (a b : Cell) → IsInside size a → IsInside size b → region_in size tables a ≡ region_in size tables b → chunk_of a ≡ chunk_of b
   one_chunk a b a_in b_in same =
       one_place size (chunk_of a) (chunk_of b) (chunk_inside size a a_in) (chunk_inside size b b_in) (ap (λ (id : RegionId). id.chunk) same)
 
@@ -118,30 +120,30 @@ module _ (passes : Cell → Bool) (size : Size) (tables : Tables) (are : AreTabl
   passes_there a b same passable =
       subst (λ (chunk : Chunk). IsTrue (passes_in passes chunk b)) (sym same) (passes_own passes b passable)
 
-  region_there : (a b : Cell) → IsInside size b → chunk_of a ≡ chunk_of b → HasRegion passes (chunk_of a) b (region_of size tables b).region
+  region_there : (a b : Cell) → IsInside size b → chunk_of a ≡ chunk_of b → HasRegion passes (chunk_of a) b (region_in size tables b).region
   region_there a b b_in same =
-      subst (λ (chunk : Chunk). HasRegion passes chunk b (region_of size tables b).region) (sym same) (has_region b b_in)
+      subst (λ (chunk : Chunk). HasRegion passes chunk b (region_in size tables b).region) (sym same) (has_region b b_in)
 
   -- passable cells of one region are joined inside their chunk
   pub joined_from_same : (a b : Cell) → IsInside size a → IsInside size b → IsTrue (passes a) → IsTrue (passes b)
-      → region_of size tables a ≡ region_of size tables b → InOneRegion passes (chunk_of a) a b
+      → region_in size tables a ≡ region_in size tables b → InOneRegion passes (chunk_of a) a b
   joined_from_same a b a_in b_in a_passes b_passes same =
       let chunks = one_chunk a b a_in b_in same in
       let P = passes_in passes (chunk_of a) in
-      let number : (region_of size tables a).region ≡ (region_of size tables b).region = ap (λ (id : RegionId). id.region) same in
+      let number : (region_in size tables a).region ≡ (region_in size tables b).region = ap (λ (id : RegionId). id.region) same in
       HasNumber-same P (InOneRegion passes (chunk_of a)) IsBefore (JoinedStraight-sym P) (JoinedStraight-trans P) IsBefore-asym
-      a b (region_of size tables b).region (passes_own passes a a_passes) (passes_there a b chunks b_passes)
+      a b (region_in size tables b).region (passes_own passes a a_passes) (passes_there a b chunks b_passes)
       (subst (λ (n : ℕ). HasRegion passes (chunk_of a) a n) number (has_region a a_in)) (region_there a b b_in chunks)
 
   -- passable cells that are joined inside one chunk are of one region
   pub same_from_joined : (a b : Cell) → IsInside size a → IsInside size b → IsTrue (passes a) → IsTrue (passes b)
-      → chunk_of a ≡ chunk_of b → InOneRegion passes (chunk_of a) a b → region_of size tables a ≡ region_of size tables b
+      → chunk_of a ≡ chunk_of b → InOneRegion passes (chunk_of a) a b → region_in size tables a ≡ region_in size tables b
   same_from_joined a b a_in b_in a_passes b_passes chunks joined =
       let P = passes_in passes (chunk_of a) in
       let both = HasNumber-together P (InOneRegion passes (chunk_of a)) IsBefore (JoinedStraight-sym P) (JoinedStraight-trans P) IsBefore-asym IsBefore-cases
-      a b (region_of size tables a).region (region_of size tables b).region (passes_own passes a a_passes) (passes_there a b chunks b_passes)
+      a b (region_in size tables a).region (region_in size tables b).region (passes_own passes a a_passes) (passes_there a b chunks b_passes)
       (has_region a a_in) (region_there a b b_in chunks) in
-      same_region (region_of size tables a) (region_of size tables b) (ap (λ (chunk : Chunk). chunk_place size chunk) chunks) (both.1 joined)
+      same_region (region_in size tables a) (region_in size tables b) (ap (λ (chunk : Chunk). chunk_place size chunk) chunks) (both.1 joined)
 
 -- the first cell of a region
 pub record HasFirst (passes : Cell → Bool) (size : Size) (tables : Tables) (id : RegionId) : Type 0 where
@@ -153,7 +155,7 @@ pub record HasFirst (passes : Cell → Bool) (size : Size) (tables : Tables) (id
   pub first : IsFirst (passes_in passes (chunk_numbered size id.chunk)) (InOneRegion passes (chunk_numbered size id.chunk)) IsBefore cell
   pub passable : IsTrue (passes cell)
   pub in_chunk : chunk_of cell ≡ chunk_numbered size id.chunk
-  pub region_is : region_of size tables cell ≡ id
+  pub region_is : region_in size tables cell ≡ id
 
 module _ (passes : Cell → Bool) (size : Size) (tables : Tables) (inside : PassesInside passes size) (are : AreTables passes size tables) where
   -- each region that exists has a first cell
@@ -180,9 +182,9 @@ module _ (passes : Cell → Bool) (size : Size) (tables : Tables) (inside : Pass
         blocked = λ shut. absurd (both_ways (P cell) shut first.passable);
         placed = λ _. (labels.firsts, (own.first_cells, (id.region - 1, (cell, (some.1, (JoinedStraight-refl P cell, refl))))));
       } in
-      let by_tables : HasRegion passes chunk cell (region_of size tables cell).region =
-      subst (λ (c : Chunk). HasRegion passes c cell (region_of size tables cell).region) lies.in_chunk (has_region passes size tables are cell (inside cell lies.passable)) in
-      let value = one_number passes chunk cell (region_of size tables cell).region ((id.region - 1) + 1) by_tables number in
+      let by_tables : HasRegion passes chunk cell (region_in size tables cell).region =
+      subst (λ (c : Chunk). HasRegion passes c cell (region_in size tables cell).region) lies.in_chunk (has_region passes size tables are cell (inside cell lies.passable)) in
+      let value = one_number passes chunk cell (region_in size tables cell).region ((id.region - 1) + 1) by_tables number in
       record {
         labels = labels;
         at = item.1;
@@ -192,6 +194,6 @@ module _ (passes : Cell → Bool) (size : Size) (tables : Tables) (inside : Pass
         first = first;
         passable = lies.passable;
         in_chunk = lies.in_chunk;
-        region_is = same_region (region_of size tables cell) id
+        region_is = same_region (region_in size tables cell) id
             (ap (λ (c : Chunk). chunk_place size c) lies.in_chunk ∙ place-numbered size id.chunk) (omega arith);
       }

@@ -9,15 +9,17 @@ use Rattle.nav_types.specs.Cells.{IsBefore, IsInside, chunk_of}
 use Rattle.nav_types.specs.Counting.{IsFirst, Counts}
 use Rattle.nav_types.specs.Regions.{passes_in, InOneRegion, IsRegionFirst, IsNextChunk, IsEdge, IsAreaFirst, HasTallies, HasRelabelled}
 use Rattle.chunk_regions.specs.Labelling.{Labelling, AreLabels}
-use Rattle.chunk_regions.proofs.CellLemmas.{same_chunk, IsBefore-irrefl}
+use Rattle.nav_types.proofs.CellOrder.{same_chunk, IsBefore-irrefl}
 use Rattle.region_edges.specs.Edges.{PassesInside, IsPairBefore, AreEdges}
 use Rattle.region_edges.specs.declared.neighbours.Side.{Side}
 use Rattle.region_edges.specs.declared.neighbours.Side.TheVariants.{East, North}
 use Rattle.region_edges.proofs.PairLemmas.{IsPairBefore-asym}
-use Rattle.grid_versions.specs.Chunks.{chunk_count, chunk_place, chunk_numbered, IsChunkInside, east_of, north_of, beyond, AreOfChunks}
-use Rattle.grid_versions.specs.Tables.{Tables, AreTables, AreAllEdges, region_total, edge_total}
-use Rattle.grid_versions.specs.Tallying.{HasClassTallies, AreTablesOf, Differs, AreMarks, AreMarksOf}
-use Rattle.grid_versions.proofs.Counting.{IsOnce, same_pair, Counts-none, Counts-one, Counts-carried, Counts-either, Counts-listed}
+use Rattle.grid_versions.specs.Chunks.{chunk_count, chunk_place}
+use Rattle.grid_versions.specs.inner.ChunkLists.{chunk_numbered, IsChunkInside, east_of, north_of, neighbour_on, AreOfChunks}
+use Rattle.grid_versions.specs.inner.Tables.{Tables, AreTables, AreAllEdges, region_total, edge_total}
+use Rattle.grid_versions.specs.inner.Tallying.{HasClassTallies, AreTablesOf, Differs, AreMarks, AreMarksOf}
+use Rattle.nav_types.proofs.Items.{IsOnce, same_pair}
+use Rattle.nav_types.proofs.Counting.{Counts-none, Counts-one, Counts-carried, Counts-either, Counts-listed}
 use Rattle.grid_versions.proofs.ChunkLemmas.{place_below, numbered-place, place-numbered, numbered_inside, chunk_inside, lies_in}
 use Rattle.grid_versions.proofs.AreaLemmas.{area_tally}
 
@@ -81,12 +83,12 @@ module _ (passes : Cell → Bool) (size : Size) (tables : Tables) (inside : Pass
 
   -- the edges of a chunk to its neighbour on a side
   abbrev EdgeTo : Side → Chunk → ℕ × ℕ → Type 0
-  EdgeTo side chunk pair = IsEdge passes chunk (beyond side chunk) pair.0 pair.1
+  EdgeTo side chunk pair = IsEdge passes chunk (neighbour_on side chunk) pair.0 pair.1
 
   abbrev EdgeOn : Side → Chunk × Chunk × ℕ × ℕ → Type 0
-  EdgeOn side e = (beyond side e.0 ≡ e.1) × IsEdge passes e.0 e.1 e.2 e.3
+  EdgeOn side e = (neighbour_on side e.0 ≡ e.1) × IsEdge passes e.0 e.1 e.2 e.3
 
-  edges_counted : (side : Side) (chunk : Chunk) (edges : List (ℕ × ℕ)) → AreEdges passes chunk (beyond side chunk) edges → Counts (EdgeTo side chunk) (length edges)
+  edges_counted : (side : Side) (chunk : Chunk) (edges : List (ℕ × ℕ)) → AreEdges passes chunk (neighbour_on side chunk) edges → Counts (EdgeTo side chunk) (length edges)
   edges_counted side chunk edges of = (
     edges,
     (
@@ -102,7 +104,7 @@ module _ (passes : Cell → Bool) (size : Size) (tables : Tables) (inside : Pass
   side_tally : (side : Side) (all : List (List (ℕ × ℕ))) → AreAllEdges side passes size all
       → Counts (EdgeOn side) (sum_by length all)
   side_tally side all of =
-      let to : Chunk × (ℕ × ℕ) → Chunk × Chunk × ℕ × ℕ = λ p. (p.0, beyond side p.0, p.1.0, p.1.1) in
+      let to : Chunk × (ℕ × ℕ) → Chunk × Chunk × ℕ × ℕ = λ p. (p.0, neighbour_on side p.0, p.1.0, p.1.1) in
       Counts-carried (λ (p : Chunk × (ℕ × ℕ)). IsChunkInside size p.0 × EdgeTo side p.0 p.1) (EdgeOn side) to (sum_by length all)
       (λ p is. (refl, is.1))
       (λ e is.
@@ -117,7 +119,7 @@ module _ (passes : Cell → Bool) (size : Size) (tables : Tables) (inside : Pass
       (λ a b is_a is_b same.
       same_pair a b (ap (λ (e : Chunk × Chunk × ℕ × ℕ). e.0) same)
       (same_pair a.1 b.1 (ap (λ (e : Chunk × Chunk × ℕ × ℕ). e.2) same) (ap (λ (e : Chunk × Chunk × ℕ × ℕ). e.3) same)))
-      (Counts-chunks size (λ chunk edges. AreEdges passes chunk (beyond side chunk) edges) (EdgeTo side) length all of (edges_counted side))
+      (Counts-chunks size (λ chunk edges. AreEdges passes chunk (neighbour_on side chunk) edges) (EdgeTo side) length all of (edges_counted side))
 
   edge_tally : Counts (λ (e : Chunk × Chunk × ℕ × ℕ). IsNextChunk e.0 e.1 × IsEdge passes e.0 e.1 e.2 e.3) (edge_total tables)
   edge_tally =
@@ -171,7 +173,7 @@ all_tallies classes passes size all inside of =
 -- ---- chunks that differ
 
 -- a cell that is passable in one of two maps lies in them
-differing_inside : (before now : Cell → Bool) (size : Size) → PassesInside before size → PassesInside now size → (cell : Cell) → before cell ≢ now cell → IsInside size cell
+pub differing_inside : (before now : Cell → Bool) (size : Size) → PassesInside before size → PassesInside now size → (cell : Cell) → before cell ≢ now cell → IsInside size cell
 differing_inside before now size before_in now_in cell differ = elim (cases_Bool (before cell)) [
   | inl was ↦ before_in cell was
   | inr was_not ↦ elim (cases_Bool (now cell)) [

@@ -17,35 +17,28 @@ use Rattle.nav_types.specs.Counting.{Counts}
 use Rattle.nav_types.specs.Regions.{HasRelabelled}
 use Rattle.lane_rows.specs.Rows.{has_class}
 use Rattle.navcell_grid.specs.Grids.{GridCells, number_at, is_passable}
-use Rattle.chunk_regions.specs.Numbering.{Numbering, columns, rows, number_of}
+use Rattle.nav_types.specs.Numbering.{Numbering, columns, rows, number_of}
 use Rattle.chunk_regions.specs.Labelling.{chunk_rect}
-use Rattle.chunk_regions.proofs.CellLemmas.{same_chunk}
+use Rattle.nav_types.proofs.CellOrder.{same_chunk}
 use Rattle.chunk_regions.proofs.LabelLemmas.{in_rect, in_chunk}
 use Rattle.region_edges.specs.Edges.{PassesInside}
 use Rattle.obstruction_store.specs.Standing.{Standing, AllFit}
 use Rattle.grid_versions.specs.Maps.{Map}
 use Rattle.grid_versions.specs.Passing.{passable_at, is_inside, has_base, is_blocked}
-use Rattle.grid_versions.specs.Painting.{is_covered, IsPainted, IsReadFrom, IsPaintedChunk, ArePaintedChunks, free_count, DiffersIn, AreDiffering, SameExtents}
-use Rattle.grid_versions.specs.Chunks.{chunk_count, chunk_place, chunk_numbered, IsChunkInside, AreOfChunks}
-use Rattle.grid_versions.specs.Tables.{Tables, AreTables}
-use Rattle.grid_versions.specs.Tallying.{AreTablesOf, Differs, AreMarks, AreMarksOf}
-use Rattle.grid_versions.specs.Versions.{AreParts}
-use Rattle.grid_versions.proofs.Counting.{Counts-carried, same_pair}
+use Rattle.grid_versions.specs.inner.Painting.{is_covered, IsPainted, IsReadFrom, IsPaintedChunk, ArePaintedChunks, free_count, DiffersIn, AreDiffering, SameExtents}
+use Rattle.grid_versions.specs.Chunks.{chunk_count, chunk_place}
+use Rattle.grid_versions.specs.inner.ChunkLists.{chunk_numbered, IsChunkInside, AreOfChunks}
+use Rattle.grid_versions.specs.inner.Tables.{Tables, AreTables}
+use Rattle.grid_versions.specs.inner.Tallying.{AreTablesOf, Differs, AreMarks, AreMarksOf}
+use Rattle.grid_versions.specs.inner.Parts.{AreParts}
+use Rattle.nav_types.proofs.Items.{same_pair, slice_get-push_cases}
+use Rattle.nav_types.proofs.Counting.{Counts-carried}
 use Rattle.grid_versions.proofs.ChunkLemmas.{AreOfChunks-at, chunk_inside, item_at, numbered_inside}
-use Rattle.grid_versions.proofs.TallyLemmas.{Counts-chunks, all_relabelled}
+use Rattle.grid_versions.proofs.TallyLemmas.{Counts-chunks, all_relabelled, differing_inside}
 use Rattle.grid_versions.proofs.PassingLemmas.{inside_from, inside_to}
 use Rattle.grid_versions.proofs.CellLists.{free_counted}
 
 -- ---- one more table
-
-item_of_push : {A : Type 0} (xs : List A) (y x : A) (k : ℕ) → slice_get (xs ++ y ∷ []) k ≡ Some x → (slice_get xs k ≡ Some x) ⊎ ((k ≡ length xs) × (y ≡ x))
-item_of_push [] y x zero at = inr (refl, same_Some y x at)
-item_of_push [] y x (suc k) at = absurd (cc)
-item_of_push (z ∷ xs) y x zero at = inl at
-item_of_push (z ∷ xs) y x (suc k) at = elim (item_of_push xs y x k at) [
-  | inl here ↦ inl here
-  | inr last ↦ inr (omega (arith, last.0), last.1)
-]
 
 pub AreTablesOf-none : (passes : ℕ → Cell → Bool) (size : Size) → AreTablesOf 0 passes size []
 AreTablesOf-none passes size = record { each = refl; are = λ class tables at. absurd (cc) }
@@ -56,7 +49,7 @@ AreTablesOf-push classes passes size all one of is =
     let each = of.each in
     record {
       each = omega (arith, length-append all (one ∷ []));
-      are = λ class tables at. elim (item_of_push all one tables class at) [
+      are = λ class tables at. elim (slice_get-push_cases all one class tables at) [
         | inl here ↦ of.are class tables here
         | inr last ↦
             let same : classes ≡ class = omega (arith, last.0) in
@@ -235,16 +228,6 @@ module _ (map : Map) (old new : Standing) (before now : List Numbering) (were : 
         rects = λ place a b at_a at_b. (were.are place a at_a).extent ∙ sym (are.are place b at_b).extent;
       }
 
-  -- a cell that is passable in one of the two and not in the other lies in the map
-  differing_in : (k : ℕ) (cell : Cell) → passable_at map old k cell ≢ passable_at map new k cell → IsInside map.size cell
-  differing_in k cell differ = ⊎_elim
-      (λ (was : passable_at map old k cell ≡ true). passable_within map old k cell was)
-      (λ (was_not : passable_at map old k cell ≡ false). ⊎_elim
-      (λ (is : passable_at map new k cell ≡ true). passable_within map new k cell is)
-      (λ (is_not : passable_at map new k cell ≡ false). absurd (differ (was_not ∙ sym is_not)))
-      (cases_Bool (passable_at map new k cell)))
-      (cases_Bool (passable_at map old k cell))
-
   -- a bit of a chunk differs exactly where a cell is passable in one of the two and not in the other
   differs_where : (k : ℕ) (chunk : Chunk) (a b : Numbering) → k < length map.classes → IsPaintedChunk map old chunk a → IsPaintedChunk map new chunk b
       → DiffersIn k a b ↔ Differs (passable_at map old k) (passable_at map new k) chunk
@@ -263,7 +246,7 @@ module _ (map : Map) (old new : Standing) (before now : List Numbering) (were : 
     λ differs.
         let cell = differs.0 in
         let inside : IsInRect (chunk_rect map.size chunk) cell =
-        subst (λ (c : Chunk). IsInRect (chunk_rect map.size c) cell) differs.1.0 (own_rect map old cell (differing_in k cell differs.1.1)) in
+        subst (λ (c : Chunk). IsInRect (chunk_rect map.size c) cell) differs.1.0 (own_rect map old cell (differing_inside (passable_at map old k) (passable_at map new k) map.size (passable_within map old k) (passable_within map new k) cell differs.1.1)) in
         record {
           cell = cell;
           inside = subst (λ (r : Rect). IsInRect r cell) (sym is.extent) inside;
@@ -328,7 +311,7 @@ AreCompared before now bits = (place : ℕ) (a b : Numbering) (set : ℕ) → sl
 pub compared_more : (before now : List Numbering) (bits : List ℕ) (n set : ℕ) (a b : Numbering) → length bits ≡ n → AreCompared before now bits
     → slice_get before n ≡ Some a → slice_get now n ≡ Some b → ((k : ℕ) → (bit_at set k ≡ 1) ↔ DiffersIn k a b)
     → AreCompared before now (bits ++ set ∷ [])
-compared_more before now bits n set a b long each at_a at_b is place c d other at_c at_d at k = elim (item_of_push bits set other place at) [
+compared_more before now bits n set a b long each at_a at_b is place c d other at_c at_d at k = elim (slice_get-push_cases bits set place other at) [
   | inl here ↦ each place c d other at_c at_d here k
   | inr last ↦
       let same : n ≡ place = omega (arith, last.0) in

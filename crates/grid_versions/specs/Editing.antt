@@ -50,16 +50,16 @@ with_edit standing (Remove id) = fin_map.remove standing id
 with_edit standing (Move id x z) = moved standing id x z
 
 -- what stands after an edit: a refused one leaves what stood
-abbrev pub edited : Map → Standing → Edit → Standing
-edited map standing edit = if is_refused (edit_reply map standing edit) then standing else with_edit standing edit
+abbrev pub after_edit : Map → Standing → Edit → Standing
+after_edit map standing edit = if is_refused (edit_reply map standing edit) then standing else with_edit standing edit
 
 -- what stands after the edits, one after another
-abbrev pub edited_all : Map → Standing → List Edit → Standing
-edited_all map standing [] = standing
-edited_all map standing (edit ∷ edits) = edited_all map (edited map standing edit) edits
+abbrev pub after_edits : Map → Standing → List Edit → Standing
+after_edits map standing [] = standing
+after_edits map standing (edit ∷ edits) = after_edits map (after_edit map standing edit) edits
 
 -- the replies to the edits, one after another
 abbrev pub edit_replies : Map → Standing → List Edit → List EditReply
 edit_replies map standing [] = []
 edit_replies map standing (edit ∷ edits) =
-    edit_reply map standing edit ∷ edit_replies map (edited map standing edit) edits
+    edit_reply map standing edit ∷ edit_replies map (after_edit map standing edit) edits

@@ -3,10 +3,7 @@ pub mod Fitting
 pub mod Passing
 pub mod Editing
 pub mod Chunks
-pub mod Tables
-pub mod Building
-pub mod Tallying
-pub mod Painting
 pub mod Versions
 pub mod PassingLaws
 pub mod Words
+pub mod inner

@@ -1,5 +1,5 @@
 -- A map: its size, its callers, its passability classes and what is impassable from the start.
-use Rattle.std.specs.Prelude.{ℕ, ◌≤◌, List, All}
+use Rattle.std.specs.Prelude.{ℕ, ◌≤◌, ◌++◌, List, All}
 use Rattle.nav_types.specs.declared.cells.Rect.{Rect}
 use Rattle.nav_types.specs.declared.cells.Size.{Size}
 use Rattle.nav_types.specs.Cells.{IsRectInside}
@@ -23,6 +23,10 @@ map_of version size callers classes base = record {
   classes = classes;
   base = base;
 }
+
+-- the map with more base rectangles behind its own
+abbrev pub with_base : Map → List (Rect × ℕ) → Map
+with_base map rects = record map { base = map.base ++ rects }
 
 -- the limits of a map: script version 1 to 3, 1 to 64 callers, and base rectangles inside the map
 pub record IsMap (map : Map) : Type 0 where

@@ -6,9 +6,9 @@ use Rattle.nav_types.specs.declared.cells.Cell.{Cell}
 use Rattle.nav_types.specs.Cells.{IsInside}
 use Rattle.nav_types.specs.Walks.{Joined}
 use Rattle.nav_types.specs.Regions.{HasArea, IsAreaBefore}
-use Rattle.chunk_regions.proofs.CellLemmas.{IsAreaBefore-asym, IsAreaBefore-cases}
-use Rattle.chunk_regions.proofs.StepLemmas.{Joined-sym, Joined-trans}
-use Rattle.chunk_regions.proofs.NumberLemmas.{HasNumber-together}
+use Rattle.nav_types.proofs.CellOrder.{IsAreaBefore-asym, IsAreaBefore-cases}
+use Rattle.nav_types.proofs.Walking.{Joined-sym, Joined-trans}
+use Rattle.nav_types.proofs.FirstCells.{HasNumber-together}
 use Rattle.grid_versions.specs.Passing.{passable_at}
 use Rattle.grid_versions.specs.Versions.{MapState, passes_of}
 

@@ -5,10 +5,10 @@ ghost use Rattle.nav_types.specs.declared.cells.Cell.{Cell};
 ghost use Rattle.nav_types.specs.Cells.{IsInRect, IsRectInside};
 ghost use Rattle.lane_rows.specs.Rows.{has_class};
 ghost use Rattle.navcell_grid.specs.Grids.{number_at};
-ghost use Rattle.chunk_regions.specs.Numbering.{Numbering, IsPatch, columns, rows, number_of, place_in};
+ghost use Rattle.nav_types.specs.Numbering.{Numbering, IsPatch, columns, rows, number_of, place_in};
 ghost use Rattle.chunk_regions.specs.Labelling.{chunk_rect};
-ghost use Rattle.grid_versions.specs.Chunks.{IsChunkInside};
-ghost use Rattle.grid_versions.specs.Painting.{AreFree, DiffersIn, free_count, numbering};
+ghost use Rattle.grid_versions.specs.inner.ChunkLists.{IsChunkInside};
+ghost use Rattle.grid_versions.specs.inner.Painting.{AreFree, DiffersIn, free_count, numbering};
 
 use nav_types::limits::{CHUNK_SIDE, MAX_CLASSES};
 use nav_types::{Cell, Chunk, Class, NoMemory, Rect, Size};
@@ -27,8 +27,8 @@ pub struct ChunkCells {
 }
 
 impl Model for ChunkCells {
-    ghost use Rattle.chunk_regions.specs.Numbering.{Numbering};
-    ghost use Rattle.grid_versions.specs.Painting.{numbering, IsCounted};
+    ghost use Rattle.nav_types.specs.Numbering.{Numbering};
+    ghost use Rattle.grid_versions.specs.inner.Painting.{numbering, IsCounted};
 
     ghost Value = { Numbering };
 

@@ -1,5 +1,6 @@
 ghost use Rattle.std.specs.Prelude.{ℕ, ◌≡◌, ◌+◌, ◌<◌, ◌≤◌, IfSome, IfNone};
-ghost use Rattle.grid_versions.specs.Chunks.{chunk_columns, chunk_rows, chunk_count, chunk_place, chunk_numbered, beyond, IsChunkInside};
+ghost use Rattle.grid_versions.specs.Chunks.{chunk_columns, chunk_rows, chunk_count, chunk_place};
+ghost use Rattle.grid_versions.specs.inner.ChunkLists.{chunk_numbered, neighbour_on, IsChunkInside};
 
 use nav_types::limits::CHUNK_SIDE;
 use nav_types::{Chunk, Size};
@@ -56,9 +57,9 @@ pub fn numbered(size: Size, place: u32) -> Chunk
 /// The neighbour of a chunk on that side. None exactly where it has no cell in the map.
 pub fn neighbour(size: Size, chunk: Chunk, side: Side) -> Option<Chunk>
     requires { IsChunkInside size chunk }
-    ensures some { IfSome result (λ there. there ≡ beyond side chunk) }
+    ensures some { IfSome result (λ there. there ≡ neighbour_on side chunk) }
     ensures inside { IfSome result (IsChunkInside size) }
-    ensures none { IfNone result (IsChunkInside size (beyond side chunk) → ⊥) }
+    ensures none { IfNone result (IsChunkInside size (neighbour_on side chunk) → ⊥) }
 {
     let (ci, cj) = match side {
         Side::East => (chunk.ci + 1, chunk.cj),
@@ -73,7 +74,7 @@ pub fn neighbour(size: Size, chunk: Chunk, side: Side) -> Option<Chunk>
 
 /// By how much the place of a neighbour on that side is above a chunk's own, at most 22.
 pub fn step_to(size: Size, side: Side) -> u32
-    ensures value { (place : ℕ) → chunk_place size (beyond side (chunk_numbered size place)) ≡ place + result }
+    ensures value { (place : ℕ) → chunk_place size (neighbour_on side (chunk_numbered size place)) ≡ place + result }
     ensures few { result ≤ 22 }
 {
     match side {

@@ -1,5 +1,5 @@
 //! Maps.
-ghost use Rattle.std.specs.Prelude.{◌≡◌, ◌≤◌, ◌↔◌, All, IsTrue, IsSome, IfSome, IfOk};
+ghost use Rattle.std.specs.Prelude.{◌≡◌, ◌≤◌, ◌↔◌, All, IsTrue, IsSome, IfSome, IfOk, OnOk, OnErr};
 ghost use Rattle.nav_types.specs.Cells.{IsRectInside};
 
 use class_config::ClassTable;
@@ -38,7 +38,7 @@ impl Model for MapSpec {
 }
 
 impl MapSpec {
-    ghost use Rattle.grid_versions.specs.Maps.{IsMap, map_of};
+    ghost use Rattle.grid_versions.specs.Maps.{IsMap, map_of, with_base};
 
     /// The map of these parts. None exactly where one of them breaks a limit (`IsMap`): the version is not 1
     /// to 3, the callers are not 1 to 64, or a base rectangle has no cell or does not lie inside the map.
@@ -65,6 +65,16 @@ impl MapSpec {
             version,
             callers,
         })
+    }
+
+    /// Adds base rectangles behind those that the map has. Each of them lies inside the map. Where there is no
+    /// memory for them the map stays.
+    pub fn add_base(&mut self, rects: &[(Rect, u16)]) -> Result<(), NoMemory>
+        requires inside { All (λ entry. IsRectInside self.old.size entry.0) rects.now }
+        ensures ok { OnOk result (self.new ≡ with_base self.old rects.now) }
+        ensures err { OnErr result (self.new ≡ self.old) }
+    {
+        self.base.extend(rects)
     }
 
     /// The version of the map's script, from 1 to 3.

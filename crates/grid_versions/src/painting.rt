@@ -5,13 +5,14 @@ ghost use Rattle.lane_rows.specs.Rows.{has_class};
 ghost use Rattle.clearance_raster.specs.Rasters.{IsRaster};
 ghost use Rattle.obstruction_store.specs.Standing.{AllFit};
 ghost use Rattle.grid_versions.specs.Passing.{is_in_rect, has_base, is_blocked};
-ghost use Rattle.grid_versions.specs.Chunks.{chunk_count, AreOfChunks};
-ghost use Rattle.grid_versions.specs.Painting.{IsPainted, IsReadFrom};
+ghost use Rattle.grid_versions.specs.Chunks.{chunk_count};
+ghost use Rattle.grid_versions.specs.inner.ChunkLists.{AreOfChunks};
+ghost use Rattle.grid_versions.specs.inner.Painting.{IsPainted, IsReadFrom};
 
 use crate::chunk_cells::{ChunkCells, cells_of};
 use crate::chunks;
 use crate::maps::MapSpec;
-use crate::sharing::SharedList;
+use crate::shared_list::SharedList;
 use clearance_raster::raster;
 use nav_types::{NoMemory, Rect};
 use navcell_grid::Grid;
@@ -67,8 +68,9 @@ pub fn chunk_cells(alloc: Global, grid: &Grid) -> Result<SharedList<ChunkCells>,
     ensures { IfOk result (AreOfChunks grid.now.size (chunk_count grid.now.size) (IsReadFrom grid.now)) }
 {
     let size = grid.size();
-    let mut all = SharedList::new(alloc);
-    for place in 0..chunks::count(size) {
+    let count = chunks::count(size);
+    let mut all = SharedList::with_capacity(alloc, count as usize)?;
+    for place in 0..count {
         let rect = cells_of(size, chunks::numbered(size, place));
         all.push(alloc, ChunkCells::read(alloc, grid, rect)?)?;
     }

@@ -2,10 +2,10 @@
 ghost use Rattle.std.specs.Prelude.{ℕ, ◌≡◌, ◌≤◌, List, length, map, sum_by, count_by, IfOk};
 ghost use Rattle.std.specs.List.{range_with_len};
 ghost use Rattle.lane_rows.specs.Rows.{has_class};
-ghost use Rattle.grid_versions.specs.Painting.{AreDiffering, SameExtents};
+ghost use Rattle.grid_versions.specs.inner.Painting.{AreDiffering, SameExtents};
 
 use crate::chunk_cells::ChunkCells;
-use crate::sharing::SharedList;
+use crate::shared_list::SharedList;
 use nav_types::NoMemory;
 use std::alloc::Global;
 
@@ -35,7 +35,7 @@ fn differing_bits(
     requires { SameExtents before.now now.now }
     ensures { IfOk result (λ bits. AreDiffering before.now now.now bits.items) }
 {
-    let mut bits = Vec::new(alloc);
+    let mut bits = Vec::with_capacity(alloc, now.len())?;
     for place in 0..now.len() {
         bits.push(before.at(place).differs(now.at(place)))?;
     }

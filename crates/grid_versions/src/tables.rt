@@ -2,16 +2,16 @@ ghost use Rattle.std.specs.Prelude.{◌≡◌, ◌+◌, ◌^◌, ◌<◌, ◌≤
 ghost use Rattle.nav_types.specs.Cells.{IsInside};
 ghost use Rattle.reach_sets.specs.AreaNumbers.{area_of};
 ghost use Rattle.grid_versions.specs.Chunks.{chunk_count};
-ghost use Rattle.grid_versions.specs.Tables.{AreTables, AreOfMap, region_of, region_total, edge_total};
+ghost use Rattle.grid_versions.specs.inner.Tables.{AreTables, AreOfMap, region_in, region_total, edge_total};
 
 mod borders;
 mod labelling;
 mod sums;
 
 use crate::chunks;
-use crate::sharing::SharedList;
+use crate::shared_list::SharedList;
 use chunk_regions::Labels;
-use nav_types::{Cell, Class, NoMemory, Size, Steps, View};
+use nav_types::{Cell, Class, NoMemory, Size, Ticks, View};
 use reach_sets::{AreaTable, RegionId};
 use region_edges::{Edges, Side};
 use std::alloc::Global;
@@ -29,7 +29,7 @@ pub struct ClassTables {
 }
 
 impl Model for ClassTables {
-    ghost use Rattle.grid_versions.specs.Tables.{Tables, AreFew};
+    ghost use Rattle.grid_versions.specs.inner.Tables.{Tables, AreFew};
 
     ghost Value = { Tables };
 
@@ -45,15 +45,15 @@ impl ClassTables {
         alloc: Global,
         view: &V,
         class: Class,
-        steps: &mut Steps<L>,
+        ticks: &mut Ticks<L>,
     ) -> Result<ClassTables, NoMemory>
         requires { class < V.class_count view.now }
         ensures tables { IfOk result (AreTables (V.passes view.now class) (V.extent view.now)) }
-        ensures ticks { OnOk result (steps.new ≡ steps.old + chunk_count (V.extent view.now)) }
-        ensures most { steps.new ≤ steps.old + chunk_count (V.extent view.now) }
+        ensures ticks { OnOk result (ticks.new ≡ ticks.old + chunk_count (V.extent view.now)) }
+        ensures most { ticks.new ≤ ticks.old + chunk_count (V.extent view.now) }
     {
         let size = view.size();
-        let labels = labelling::all_labels(alloc, view, class, steps)?;
+        let labels = labelling::all_labels(alloc, view, class, ticks)?;
         let east = borders::all_edges(alloc, size, &labels, Side::East)?;
         let north = borders::all_edges(alloc, size, &labels, Side::North)?;
         let counts = sums::region_counts(alloc, &labels)?;
@@ -68,11 +68,11 @@ impl ClassTables {
     }
 
     /// The region of a cell: its chunk's place, and its number in the chunk, which is 0 exactly for an impassable
-    /// cell (`region_of`). The tables are of a map of this size.
+    /// cell (`region_in`). The tables are of a map of this size.
     pub fn region(&self, size: Size, cell: Cell) -> RegionId
         requires tables { AreOfMap size self.now }
         requires inside { IsInside size cell }
-        ensures { result ≡ region_of size self.now cell }
+        ensures { result ≡ region_in size self.now cell }
     {
         let place = chunks::place_of(size, cell.chunk());
         RegionId {
@@ -85,7 +85,7 @@ impl ClassTables {
     pub fn area(&self, size: Size, cell: Cell) -> u32
         requires tables { AreOfMap size self.now }
         requires inside { IsInside size cell }
-        ensures { result ≡ area_of self.now.areas (region_of size self.now cell) }
+        ensures { result ≡ area_of self.now.areas (region_in size self.now cell) }
     {
         self.areas.area(self.region(size, cell))
     }

@@ -5,7 +5,7 @@ ghost use Rattle.obstruction_store.specs.Standing.{AllFit};
 use crate::*;
 use class_config::ClassTable;
 use fixed_point::Fixed;
-use nav_types::{Areas, Cell, Class, NoMemory, Rect, Size, Steps, View};
+use nav_types::{Areas, Cell, Class, NoMemory, Rect, Size, Ticks, View};
 use obstruction_shapes::{Obstruction, Shape};
 use obstruction_store::{Store, all_fit_in_empty};
 use reach_sets::RegionId;
@@ -65,7 +65,7 @@ fn counted_build<L: Ledger>(
     requires some { 0 < L.parts }
     requires fit { AllFit map.now.size shapes.now }
 {
-    Version::build(alloc, map, shapes, &mut Steps::<L>::new(blank))
+    Version::build(alloc, map, shapes, &mut Ticks::<L>::new(blank))
 }
 
 /// The version of a map on which nothing stands.
@@ -86,7 +86,7 @@ fn counted_next<L: Ledger>(
     requires parts { blank.parts ≡ L.parts }
     requires some { 0 < L.parts }
 {
-    version.next(alloc, edits, &mut Steps::<L>::new(blank))
+    version.next(alloc, edits, &mut Ticks::<L>::new(blank))
 }
 
 /// The version after edits.
@@ -96,7 +96,7 @@ fn after(version: &Version, alloc: Global, edits: &[Edit]) -> Result<Next, NoMem
     counted_next::<Brand>(version, alloc, &list, Blank::new(1))
 }
 
-/// The add of a square of the axes, by its middle and its half side in units.
+/// The add of a square of the axes, by its middle and its half side, raw.
 fn add(id: u32, [x, z, half]: [i32; 3], mask: u16) -> Edit {
     let shape = Shape::Unit {
         x: Fixed::from_raw(x),
@@ -109,7 +109,7 @@ fn add(id: u32, [x, z, half]: [i32; 3], mask: u16) -> Edit {
     }
 }
 
-/// The move to a place in units.
+/// The move to a place, raw.
 fn move_to(id: u32, x: i32, z: i32) -> Edit {
     Edit::Move {
         id,
@@ -169,6 +169,74 @@ fn numbers_of(next: &Next) -> [u64; 4] {
     [relabelled, tallies.regions, tallies.edges, tallies.areas]
 }
 
+/// A map of one class with a wall: the cells of the columns from the first number to the second are impassable in
+/// the rows up to the third, where the fourth is the mask 1.
+fn walled(alloc: Global, sides: [u16; 2], [i0, i1, j1, mask]: [u16; 4]) -> Result<MapSpec, Fail> {
+    let classes = classes_of(alloc, 1, "0")?;
+    let rect = Rect { i0, j0: 0, i1, j1 };
+    Ok(spec_of(alloc, sides, classes, &[(rect, mask)])?.ok_or("no such map")?)
+}
+
+/// The numbers of regions, edges and areas of the map on which nothing stands.
+fn counts_of(alloc: Global, map: &MapSpec) -> Result<[u64; 3], NoMemory> {
+    let tallies = opened(alloc, map)?.tallies();
+    Ok([tallies.regions, tallies.edges, tallies.areas])
+}
+
+// The sides of a map, its wall, and the numbers of regions, edges and areas.
+const WALLS: [([u16; 2], [u16; 4], [u64; 3]); 6] = [
+    // two chunks that are joined along their border
+    ([100, 10], [0, 9, 9, 0], [2, 1, 1]),
+    // the wall stands along the border
+    ([100, 10], [95, 96, 9, 1], [2, 0, 2]),
+    // the wall leaves a gap in the last row
+    ([100, 10], [95, 96, 8, 1], [2, 1, 1]),
+    // the wall parts the first chunk
+    ([100, 10], [50, 50, 9, 1], [3, 1, 2]),
+    // the wall parts the two chunks in the east, and leaves a gap in the last rows
+    ([100, 100], [97, 97, 96, 1], [5, 5, 1]),
+    // nothing is passable
+    ([100, 100], [0, 99, 99, 1], [0, 0, 0]),
+];
+
+#[test]
+fn regions_edges_and_areas_are_counted(rt: HostRuntime) -> Result<(), Fail> {
+    for (sides, wall, wanted) in WALLS {
+        let map = walled(rt.alloc(), sides, wall)?;
+        let counts = counts_of(rt.alloc(), &map)?;
+        assert_eq!(rt; counts, wanted, "in {sides:?} with {wall:?}");
+    }
+    Ok(())
+}
+
+// Cells of 100 by 10 whose wall is the column 50, with the place of the chunk, the region and the area.
+const CELLS: [([u16; 2], Option<(u32, u16, u32)>); 6] = [
+    ([0, 0], Some((0, 1, 1))),
+    ([49, 9], Some((0, 1, 1))),
+    ([50, 4], Some((0, 0, 0))),
+    ([51, 9], Some((0, 2, 2))),
+    ([96, 0], Some((1, 1, 2))),
+    ([100, 0], None),
+];
+
+/// The place of the cell's chunk, its region and its area; none where the cell lies outside the map.
+fn place_in(version: &Version, [i, j]: [u16; 2]) -> Option<(u32, u16, u32)> {
+    let region = region_in(version, 0, i, j)?;
+    let area = area_in(version, 0, i, j)?;
+    Some((region.chunk, region.region, area))
+}
+
+#[test]
+fn cells_have_their_regions_and_areas(rt: HostRuntime) -> Result<(), Fail> {
+    let map = walled(rt.alloc(), [100, 10], [50, 50, 9, 1])?;
+    let version = opened(rt.alloc(), &map)?;
+    for (cell, wanted) in CELLS {
+        let place = place_in(&version, cell);
+        assert_eq!(rt; place, wanted, "at {cell:?}");
+    }
+    Ok(())
+}
+
 /// What threads may share.
 fn shared<T: Send + Sync>(value: &T) -> &T {
     value
@@ -189,7 +257,7 @@ fn a_cell_stays_blocked_by_the_other_obstruction(rt: HostRuntime) -> Result<(), 
     Ok(())
 }
 
-/// On 192 by 1 cells, with clearance 1, a unit at (95, 0.5) of half 0.5 blocks the columns 93 to 96.
+/// On 192 by 1 cells, with clearance 1, a square with its middle at (95, 0.5) and half side 0.5 blocks the columns 93 to 96.
 #[test]
 fn an_obstruction_blocks_in_both_chunks(rt: HostRuntime) -> Result<(), Fail> {
     let alloc = rt.alloc();
@@ -255,23 +323,50 @@ fn moves_and_refusals(rt: HostRuntime) -> Result<(), Fail> {
     Ok(())
 }
 
-/// The cells of a rectangle that are impassable from the start.
+/// The rectangle of one cell.
+fn cell_rect(i: u16, j: u16) -> Rect {
+    Rect {
+        i0: i,
+        j0: j,
+        i1: i,
+        j1: j,
+    }
+}
+
+/// Whether there is a map of 3 by 3 cells and two classes with this base rectangle.
+fn is_a_map(alloc: Global, rect: Rect) -> Result<bool, Fail> {
+    let classes = classes_of(alloc, 2, "0")?;
+    Ok(spec_of(alloc, [3, 3], classes, &[(rect, 1)])?.is_some())
+}
+
+/// A base rectangle has a cell and lies inside the map.
+#[test]
+fn base_rectangles_lie_inside(rt: HostRuntime) -> Result<(), Fail> {
+    let mut beyond = cell_rect(1, 1);
+    assert!(rt; is_a_map(rt.alloc(), beyond)?);
+    beyond.i1 = 3;
+    assert!(rt; !is_a_map(rt.alloc(), beyond)?);
+    Ok(())
+}
+
+/// The map with each base rectangle once more.
+fn doubled(alloc: Global, mut map: MapSpec) -> Result<MapSpec, NoMemory> {
+    let again = map.base().copy(alloc)?;
+    map.add_base(again.as_slice())?;
+    Ok(map)
+}
+
+/// The cells of a base rectangle are impassable for the classes of its mask, however often it is there.
 #[test]
 fn base_rectangles_are_impassable(rt: HostRuntime) -> Result<(), Fail> {
     let alloc = rt.alloc();
-    let mut rect = Rect {
-        i0: 1,
-        j0: 1,
-        i1: 1,
-        j1: 1,
-    };
-    let holed = spec_of(alloc, [3, 3], classes_of(alloc, 2, "0")?, &[(rect, 1)])?;
-    let holed = opened(alloc, &holed.ok_or("no such map")?)?;
-    assert_eq!(rt; passable_in(&holed, 0), Some(8));
-    assert_eq!(rt; passable_in(&holed, 1), Some(9));
-    rect.i1 = 3;
-    let beyond = spec_of(alloc, [3, 3], classes_of(alloc, 2, "0")?, &[(rect, 1)])?;
-    assert!(rt; beyond.is_none());
+    let classes = classes_of(alloc, 2, "0")?;
+    let holed = spec_of(alloc, [3, 3], classes, &[(cell_rect(1, 1), 1)])?.ok_or("no such map")?;
+    let map = doubled(alloc, holed)?;
+    assert_eq!(rt; map.base().len(), 2);
+    let version = opened(alloc, &map)?;
+    assert_eq!(rt; passable_in(&version, 0), Some(8));
+    assert_eq!(rt; passable_in(&version, 1), Some(9));
     Ok(())
 }
 

@@ -1,5 +1,6 @@
 //! Versions of a map.
 ghost use Rattle.std.specs.Prelude.{ℕ, ◌≡◌, ◌+◌, ◌*◌, ◌<◌, ◌≤◌, length, IfOk, OnOk, IsTrue};
+ghost use Rattle.std.specs.Arc.{arc_value};
 ghost use Rattle.nav_types.specs.declared.cells.Cell.{Cell};
 ghost use Rattle.nav_types.specs.Cells.{IsInside, chunk_of};
 ghost use Rattle.nav_types.specs.Counting.{Counts};
@@ -7,7 +8,6 @@ ghost use Rattle.nav_types.specs.Regions.{HasRegion, HasTallies, HasRelabelled};
 ghost use Rattle.obstruction_store.specs.Standing.{AllFit};
 ghost use Rattle.grid_versions.specs.Chunks.{chunk_count, chunk_place};
 
-use crate::applying::apply_all;
 use crate::chunk_cells::ChunkCells;
 use crate::chunks;
 use crate::class_tables::class_tables;
@@ -15,13 +15,15 @@ use crate::edits::{EditReplies, Edits};
 use crate::maps::MapSpec;
 use crate::painting::{chunk_cells, painted};
 use crate::relabelling::relabelled;
-use crate::sharing::SharedList;
+use crate::shared_list::SharedList;
+use crate::standing_edits::apply_all;
 use crate::tables::ClassTables;
-use nav_types::{Areas, Cell, Class, NoMemory, Size, Steps, View};
+use nav_types::{Areas, Cell, Class, NoMemory, Size, Ticks, View};
 use obstruction_store::Store;
 use reach_sets::RegionId;
 use std::alloc::Global;
 use std::marker::Model;
+use std::sync::Arc;
 use std::sync::ledger::Ledger;
 
 /// How many regions, region edges and areas all classes of a version have together.
@@ -38,7 +40,7 @@ pub struct Tallies {
 /// A version never changes, and threads may share it.
 #[derive(Drop)]
 pub struct Version {
-    map: MapSpec,
+    map: Arc<MapSpec, Global>,
     shapes: Store,
     cells: SharedList<ChunkCells>,
     tables: Vec<ClassTables>,
@@ -61,49 +63,71 @@ impl Model for Version {
     ghost use Rattle.std.specs.Coded.{coded_ℕ};
     ghost use Rattle.obstruction_shapes.specs.contracts.shapes.Obstruction.{the_row as obstruction_row};
     ghost use Rattle.grid_versions.specs.contracts.maps.MapSpec.{the_row as map_row};
-    ghost use Rattle.grid_versions.specs.Versions.{MapState, state_of, state_code};
+    ghost use Rattle.grid_versions.specs.Versions.{MapState, map_state, state_code};
+    ghost use Rattle.std.specs.Arc.{arc_value};
 
     ghost Value = { MapState };
 
     ghost coded = { state_code map_row.coded (fin_map.code coded_ℕ obstruction_row.coded) };
 
-    ghost use Rattle.grid_versions.specs.Versions.{AreParts};
+    ghost use Rattle.grid_versions.specs.inner.Parts.{AreParts};
 
-    ghost view = { λ v. state_of v.map v.shapes };
+    ghost view = { λ v. map_state (arc_value v.map) v.shapes };
 
-    ghost invariant = { λ v. AreParts v.map v.shapes v.cells v.tables.items };
+    ghost invariant = { λ v. AreParts (arc_value v.map) v.shapes v.cells v.tables.items };
 }
 
 impl Version {
-    ghost use Rattle.grid_versions.specs.Editing.{edited_all, edit_replies};
-    ghost use Rattle.grid_versions.specs.Versions.{passes_of, AreParts};
+    ghost use Rattle.grid_versions.specs.Editing.{after_edits, edit_replies};
+    ghost use Rattle.grid_versions.specs.Versions.{passes_of};
+    ghost use Rattle.grid_versions.specs.inner.Parts.{AreParts};
 
-    /// The version of this map and these obstructions, all of which fit the map. It is made from nothing: the work
-    /// grows with the map's cells and classes. It refuses for want of memory alone.
+    /// The version of this map and these obstructions, all of which fit the map. It is made from nothing: each chunk is
+    /// labelled once for each class, which is one tick, and the work grows with the map's cells and classes. It refuses for want of memory alone.
     pub fn build<L: Ledger>(
         alloc: Global,
         map: &MapSpec,
         shapes: &Store,
-        steps: &mut Steps<L>,
+        ticks: &mut Ticks<L>,
     ) -> Result<Version, NoMemory>
         requires { AllFit map.now.size shapes.now }
         ensures map { IfOk result (λ version. version.map ≡ map.now) }
         ensures standing { IfOk result (λ version. version.standing ≡ shapes.now) }
-        ensures ticks { OnOk result (steps.new
-            ≡ steps.old + length map.now.classes * chunk_count map.now.size) }
+        ensures ticks { OnOk result (ticks.new
+            ≡ ticks.old + length map.now.classes * chunk_count map.now.size) }
+        ensures most { ticks.new ≤ ticks.old + length map.now.classes * chunk_count map.now.size }
     {
-        let grid = painted(alloc, map, shapes)?;
+        let map = Arc::new(alloc, map.copy(alloc)?)?;
+        Version::build_shared(alloc, map, shapes.copy(alloc)?, ticks)
+    }
+
+    /// The version of this map, which other versions may share, and these obstructions.
+    fn build_shared<L: Ledger>(
+        alloc: Global,
+        map: Arc<MapSpec, Global>,
+        shapes: Store,
+        ticks: &mut Ticks<L>,
+    ) -> Result<Version, NoMemory>
+        requires { AllFit (arc_value map).size shapes }
+        ensures map { IfOk result (λ version. version.map ≡ arc_value map) }
+        ensures standing { IfOk result (λ version. version.standing ≡ shapes) }
+        ensures ticks { OnOk result (ticks.new
+            ≡ ticks.old + length (arc_value map).classes * chunk_count (arc_value map).size) }
+        ensures most { ticks.new
+            ≤ ticks.old + length (arc_value map).classes * chunk_count (arc_value map).size }
+    {
+        let grid = painted(alloc, &map, &shapes)?;
         let cells = chunk_cells(alloc, &grid)?;
-        let tables = class_tables(alloc, &grid, map.classes().count(), steps)?;
+        let tables = class_tables(alloc, &grid, map.classes().count(), ticks)?;
         Ok(Version {
-            map: map.copy(alloc)?,
-            shapes: shapes.copy(alloc)?,
+            map,
+            shapes,
             cells,
             tables,
         })
     }
 
-    /// The version after the edits, which are applied in their order, each with its reply (`edit_reply`, `edited`).
+    /// The version after the edits, which are applied in their order, each with its reply (`edit_reply`, `after_edit`).
     /// This version stays as it is. It refuses for want of memory alone.
     ///
     /// `relabelled` is the number of pairs of chunk and class in which some cell is passable in one of the two
@@ -112,19 +136,21 @@ impl Version {
         &self,
         alloc: Global,
         edits: &Edits,
-        steps: &mut Steps<L>,
+        ticks: &mut Ticks<L>,
     ) -> Result<Next, NoMemory>
         ensures map { IfOk result (λ next. next.version.map ≡ self.now.map) }
         ensures standing { IfOk result (λ next. next.version.standing
-            ≡ edited_all self.now.map self.now.standing edits.now) }
+            ≡ after_edits self.now.map self.now.standing edits.now) }
         ensures replies { IfOk result (λ next. next.replies
             ≡ edit_replies self.now.map self.now.standing edits.now) }
         ensures relabelled { IfOk result (λ next. HasRelabelled (length self.now.map.classes)
             (passes_of self.now) (passes_of next.version) next.relabelled) }
+        ensures most { ticks.new ≤ ticks.old + length self.now.map.classes * chunk_count self.now.map.size }
     {
         let mut shapes = self.shapes.copy(alloc)?;
         let replies = apply_all(alloc, &self.map, &mut shapes, edits.as_slice())?;
-        let version = Version::build(alloc, &self.map, &shapes, steps)?;
+        let map = Arc::try_clone(&self.map)?;
+        let version = Version::build_shared(alloc, map, shapes, ticks)?;
         let relabelled = version.relabelled_from(alloc, self)?;
         Ok(Next {
             version,

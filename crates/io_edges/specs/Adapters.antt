@@ -1,8 +1,8 @@
 -- What is told of a source over a reader of std, and of a sink over a writer of std.
 use Rattle.std.specs.Prelude.{ℕ, ◌-◌, List, length, take, Option, option_map}
 
--- the bytes left of a source or kept by a sink, where std tells them, and the count of faults
-pub record Told : Type 0 where
+-- the bytes left in a source or kept by a sink, where std tells them, and the count of faults
+pub record Known : Type 0 where
   pub bytes : Option (List ℕ)
   pub faults : ℕ
 

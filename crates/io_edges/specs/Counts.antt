@@ -3,9 +3,13 @@ use Rattle.std.specs.Prelude.{ℕ, ◌+◌, ◌==◌, min, Bool, true, false, na
 use Rattle.io_edges.specs.declared.edges.WriteRefusal.{WriteRefusal}
 use Rattle.io_edges.specs.declared.edges.WriteRefusal.TheVariants.{Failed, NoMemory}
 
+-- the last value of a count, 2^64 - 1
+abbrev pub last_count : ℕ
+last_count = 18446744073709551615
+
 -- the count after one more, which stays at its last value
 abbrev pub raised : ℕ → ℕ
-raised count = min (count + 1) 18446744073709551615
+raised count = min (count + 1) last_count
 
 -- the count of faults after a call that met a fault, or met none
 abbrev pub faults_after : Bool → ℕ → ℕ

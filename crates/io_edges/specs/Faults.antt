@@ -2,10 +2,11 @@
 use Rattle.std.specs.Prelude.{ℕ, ◌≡◌, ◌<◌, ◌≤◌, ◌⊎◌, List, length, Result, Ok, IsErr, IsErrOf}
 use Rattle.io_edges.specs.declared.edges.WriteRefusal.{WriteRefusal}
 use Rattle.io_edges.specs.declared.edges.WriteRefusal.TheVariants.{Failed}
+use Rattle.io_edges.specs.Counts.{last_count}
 
 -- the count of faults is higher, or stands at its last value
 abbrev pub Rose : ℕ → ℕ → Type 0
-Rose before now = (before < now) ⊎ (now ≡ 18446744073709551615)
+Rose before now = (before < now) ⊎ (now ≡ last_count)
 
 -- the count never falls, and a read fails only where it rose
 pub record ReadHasCause {E : Type 0} (before now : ℕ) (result : Result ℕ E) : Type 0 where

@@ -1,4 +1,5 @@
-pub mod Faults
 pub mod Counts
+pub mod Faults
+pub mod Passing
 pub mod Memory
 pub mod Adapters

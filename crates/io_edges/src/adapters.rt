@@ -20,9 +20,9 @@ pub struct StdSource<R: Read> {
 }
 
 impl<R: Read> Model for StdSource<R> {
-    ghost use Rattle.io_edges.specs.Adapters.{Told};
+    ghost use Rattle.io_edges.specs.Adapters.{Known};
 
-    ghost Value = { Told };
+    ghost Value = { Known };
 
     ghost view = { λ s. record { bytes = R.remaining s.reader; faults = s.faults } };
 }
@@ -61,8 +61,9 @@ impl<R: Read> Source for StdSource<R> {
 /// A sink over a writer of std, which it flushes after each write. Each error of the writer is a fault, and so is a
 /// write of which the writer takes nothing although the piece has some.
 ///
-/// Contracts see the bytes kept, where the writer tells its own, and the count of faults. Bytes whose flush failed are
-/// in doubt: they do not count as kept (`undoubted`), and each later write fails.
+/// Contracts see the bytes kept, where the writer tells its own, and the count of faults. Bytes that the writer took and
+/// whose flush failed are in doubt: they do not count as kept (`undoubted`), and each later write fails. A failed flush
+/// behind no bytes fails its own write alone.
 #[derive(Drop)]
 pub struct StdSink<W: Write> {
     writer: W,
@@ -71,9 +72,9 @@ pub struct StdSink<W: Write> {
 }
 
 impl<W: Write> Model for StdSink<W> {
-    ghost use Rattle.io_edges.specs.Adapters.{Told, undoubted};
+    ghost use Rattle.io_edges.specs.Adapters.{Known, undoubted};
 
-    ghost Value = { Told };
+    ghost Value = { Known };
 
     ghost view = { λ s. record { bytes = undoubted (W.contents s.writer) s.doubtful; faults = s.faults } };
 }
@@ -107,8 +108,8 @@ impl<W: Write> Sink for StdSink<W> {
 
     ghost faults = { λ s. s.faults };
 
-    /// Writes once and flushes. It fails where the writer or the flush fails, or an earlier flush failed, and one
-    /// fault is counted there; one is counted too where the writer takes nothing of a piece that has some.
+    /// Writes once and flushes. It fails where the writer or the flush fails, or where bytes are in doubt, and one fault
+    /// is counted there; one is counted too where the writer takes nothing of a piece that has some.
     fn write(&mut self, piece: &[u8]) -> Result<usize, WriteRefusal>
         ensures count { WritesAtMost result piece.now }
         ensures bytes { WriteAppends self.old.bytes self.new.bytes result piece.now }
@@ -116,6 +117,7 @@ impl<W: Write> Sink for StdSink<W> {
         ensures counted { self.new.faults ≡ faults_after (write_meets_fault piece.now result) self.old.faults }
         ensures no_memory { result ≢ Err WriteRefusal.NoMemory }
     {
+        // Behind bytes that may be lost nothing more may be taken, or the text kept would have a gap.
         if self.doubtful > 0 {
             return self.fail();
         }

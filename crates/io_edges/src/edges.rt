@@ -15,8 +15,9 @@ pub enum WriteRefusal {
 
 /// Where bytes come from.
 ///
-/// `left` has the bytes not read yet, where the source tells them, and `faults` counts the faults that it met.
-/// The count never falls; where it stands at its last value, 18446744073709551615, it counts as one that rose.
+/// `left` has the bytes not read yet, where the source tells them: what a read gives and what is left after it are what
+/// was left before it (`HasGiven`). `faults` counts the faults that the source met. The count never falls; where it
+/// stands at its last value, 18446744073709551615, it counts as one that rose.
 pub trait Source {
     ghost use Rattle.std.specs.Prelude.{ℕ, List, Option};
     ghost use Rattle.std.specs.Io.{ReadsAtMost};
@@ -37,7 +38,8 @@ pub trait Source {
 
 /// Where bytes go to.
 ///
-/// `kept` has the bytes taken, where the sink tells them, and `faults` counts the faults that it met, as for a source.
+/// `kept` has the bytes taken, where the sink tells them: a write leaves those kept before it at the front (`HasTaken`).
+/// `faults` counts the faults that the sink met, as for a source.
 pub trait Sink {
     ghost use Rattle.std.specs.Prelude.{ℕ, List, Option};
     ghost use Rattle.std.specs.Io.{WritesAtMost};

@@ -1,12 +1,12 @@
 //! Where bytes come from and go to, with counts of faults, and the gate that callers and workers pass.
 #![tactic(auto)]
 
-pub mod adapters;
+mod adapters;
 mod counts;
-pub mod edges;
-pub mod memory;
-pub mod never_fails;
-pub mod open_gate;
+mod edges;
+mod memory;
+mod never_fails;
+mod open_gate;
 
 pub use adapters::{StdSink, StdSource};
 pub use edges::{Failed, Gate, Sink, Source, WriteRefusal};

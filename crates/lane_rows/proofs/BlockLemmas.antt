@@ -11,7 +11,8 @@ use Rattle.std.proofs.lemmas.List.{length-map, get_or-drop, drop_all, drop-drop,
 use Rattle.std.proofs.lemmas.List.Sums.{sum_by-cons}
 use Rattle.std.proofs.lemmas.Nat.{pow_pos}
 use Rattle.std.proofs.Math.Pow.{pow-lt}
-use Rattle.lane_rows.specs.Rows.{has_class, padded}
+use Rattle.lane_rows.specs.Rows.{has_class}
+use Rattle.lane_rows.specs.inner.Blocks.{padded}
 
 pub length-padded : (n : ℕ) (xs : List ℕ) → length (padded n xs) ≡ n
 unfolding padded

@@ -6,7 +6,8 @@ use Rattle.std.proofs.lemmas.Nat.Bits.{bit_at-lt, bit_at-zero, bit_at_or, bit_at
 use Rattle.std.proofs.lemmas.Bool.{cases_eq}
 use Rattle.std.proofs.lemmas.List.{ext_get_or, length-drop, drop_all, drop-drop}
 use Rattle.std.proofs.lemmas.Simd.{length-zip2}
-use Rattle.lane_rows.specs.Rows.{DifferIn, AgreeIn, padded}
+use Rattle.lane_rows.specs.Rows.{DifferIn, AgreeIn}
+use Rattle.lane_rows.specs.inner.Blocks.{padded}
 use Rattle.lane_rows.proofs.BlockLemmas.{length-padded}
 
 -- 1 where some number has bit k, and else 0

@@ -1,6 +1,6 @@
 -- Rows of cells: a list of numbers of 16 bits, one a place. Bit k of a number is std's `bit_at`, 0 or
 -- 1, and `slice_index` gives a list's number at a place, and 0 past its end.
-use Rattle.std.specs.Prelude.{◌≡◌, ◌≢◌, ◌<◌, ◌+◌, ◌*◌, ◌/◌, ◌==◌, ◌++◌, zero, suc, ℕ, Bool, List, [], ◌∷◌, length, map, take, drop, bit_or, slice_index, slice_range}
+use Rattle.std.specs.Prelude.{◌≡◌, ◌≢◌, ◌<◌, ◌+◌, ◌*◌, ◌/◌, ◌==◌, ◌++◌, ℕ, Bool, List, length, map, take, drop, bit_or, slice_index, slice_range}
 use Rattle.std.specs.Int.{bit_at}
 
 -- the row in which the places from `from` up to and without `to` have the mask's bits besides their own
@@ -26,9 +26,3 @@ words_for places = (places + 63) / 64
 -- the words hold bit `class` of each place of the row: bit k of word w is that of place 64 w + k, and 0 past the row's end
 abbrev pub IsPlane : ℕ → List ℕ → List ℕ → Type 0
 IsPlane class row words = (w k : ℕ) → k < 64 → bit_at (slice_index words w) k ≡ bit_at (slice_index row (64 * w + k)) class
-
--- the first n numbers of a list, with 0 past its end
-unfoldable pub padded : ℕ → List ℕ → List ℕ
-padded zero xs = []
-padded (suc n) [] = 0 ∷ padded n []
-padded (suc n) (x ∷ xs) = x ∷ padded n xs

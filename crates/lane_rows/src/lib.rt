@@ -7,7 +7,8 @@
 ghost use Rattle.std.specs.Prelude.{◌≡◌, ◌↔◌, ◌<◌, ◌≤◌, ◌+◌, ◌⊎◌, ◌++◌, ℕ, length, map, drop, bit_or, slice_index, count_by};
 ghost use Rattle.std.specs.Int.{bit_at};
 ghost use Rattle.std.specs.Simd.Lanes.{mask_l};
-ghost use Rattle.lane_rows.specs.Rows.{with_span, has_class, DifferIn, AgreeIn, words_for, IsPlane, padded};
+ghost use Rattle.lane_rows.specs.Rows.{with_span, has_class, DifferIn, AgreeIn, words_for, IsPlane};
+ghost use Rattle.lane_rows.specs.inner.Blocks.{padded};
 
 use std::simd::prelude::*;
 
@@ -30,6 +31,7 @@ pub fn or_span(row: &mut [u16], from: usize, to: usize, mask: u16)
     ensures outside { (k : ℕ) → (k < from) ⊎ (to ≤ k)
         → slice_index row.new k ≡ slice_index row.old k }
 {
+    // Whole blocks first, then the rest of fewer places one by one.
     let mut start = from;
     'sweep: while to - start >= SPAN_BLOCK {
         or_block(&mut row[start..start + SPAN_BLOCK], mask);
@@ -58,7 +60,7 @@ fn or_each(row: &mut [u16], mask: u16)
 }
 
 /// The bits that differ at some place, for rows of equal lengths: bit k of the answer is set exactly
-/// where the two rows have unlike bits k at some place (`DifferIn` of `specs/Rows.antt`). So the
+/// where the two rows have unlike bits k at some place (`DifferIn`). So the
 /// answer is 0 exactly where the rows are equal.
 pub fn differs(a: &[u16], b: &[u16]) -> u16
     requires { length a.now ≡ length b.now }
@@ -75,8 +77,7 @@ pub fn differs(a: &[u16], b: &[u16]) -> u16
     bits.reduce_or()
 }
 
-/// The number of places whose bit `class` is set, for a class below 16 (`has_class` of
-/// `specs/Rows.antt`).
+/// The number of places whose bit `class` is set, for a class below 16 (`has_class`).
 pub fn count_bit(row: &[u16], class: u8) -> usize
     requires { class < 16 }
     ensures { result ≡ count_by (has_class class) row.now }
@@ -91,7 +92,7 @@ pub fn count_bit(row: &[u16], class: u8) -> usize
 }
 
 /// Writes the class plane of a row, for a class below 16: bit k of word w is bit `class` of place
-/// 64 w + k, and 0 past the row's end (`IsPlane` of `specs/Rows.antt`). `out` has exactly as many
+/// 64 w + k, and 0 past the row's end (`IsPlane`). `out` has exactly as many
 /// words as the row needs, its length divided by 64 and rounded up.
 pub fn plane_words(row: &[u16], class: u8, out: &mut [u64])
     requires class_bit { class < 16 }

@@ -59,6 +59,38 @@ is_straight SE = false
 is_straight SW = false
 is_straight NW = false
 
+-- the direction back
+abbrev pub opposite : Dir → Dir
+opposite N = S
+opposite E = W
+opposite S = N
+opposite W = E
+opposite NE = SW
+opposite SE = NW
+opposite SW = NE
+opposite NW = SE
+
+-- the straight part of a direction along the row, and along the column; a straight direction is both
+abbrev pub row_part : Dir → Dir
+row_part N = N
+row_part E = E
+row_part S = S
+row_part W = W
+row_part NE = E
+row_part SE = E
+row_part SW = W
+row_part NW = W
+
+abbrev pub column_part : Dir → Dir
+column_part N = N
+column_part E = E
+column_part S = S
+column_part W = W
+column_part NE = N
+column_part SE = S
+column_part SW = S
+column_part NW = N
+
 -- the cost of one step, in units of 65536 for a straight one
 abbrev pub step_cost : Dir → ℕ
 step_cost N = 65536

@@ -6,3 +6,6 @@ pub mod Walks
 pub mod Counting
 pub mod Regions
 pub mod Frames
+pub mod Numbering
+pub mod Beside
+pub mod Rows

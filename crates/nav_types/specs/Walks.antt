@@ -27,6 +27,10 @@ walk_cost dirs = sum_by step_cost dirs
 abbrev pub Joined : (Cell → Bool) → Cell → Cell → Type 0
 Joined passes from to = (dirs : List Dir) × IsWalk passes from dirs to
 
+-- a legal walk joins the cell and some cell of the set
+abbrev pub CanReach : (Cell → Bool) → Cell → (Cell → Bool) → Type 0
+CanReach passes from within = (cell : Cell) × (IsTrue (within cell) × Joined passes from cell)
+
 -- the least cost of a legal walk from one cell to the other
 pub record IsDistance (passes : Cell → Bool) (from to : Cell) (cost : ℕ) : Type 0 where
   pub walk : (dirs : List Dir) × (IsWalk passes from dirs to × (walk_cost dirs ≡ cost))

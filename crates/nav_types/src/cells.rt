@@ -1,7 +1,7 @@
 ghost use Rattle.std.specs.Prelude.{◌≡◌, ◌<◌, ◌≤◌, ◌*◌, ◌/◌};
 ghost use Rattle.nav_types.specs.Side.{IsSide};
 
-use crate::limits::CHUNK_SIDE;
+use crate::limits::{CHUNK_SIDE, MAX_SIDE};
 use std::marker::Model;
 
 /// A navcell by its column `i` and its row `j`, a square of one world unit.
@@ -111,7 +111,7 @@ impl Size {
         ensures columns { IfSome result (λ size. size.w ≡ w) }
         ensures rows { IfSome result (λ size. size.h ≡ h) }
     {
-        if w >= 1 && w <= 2048 && h >= 1 && h <= 2048 {
+        if w >= 1 && w <= MAX_SIDE && h >= 1 && h <= MAX_SIDE {
             Some(Size { w, h })
         } else {
             None

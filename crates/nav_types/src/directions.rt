@@ -1,10 +1,12 @@
-ghost use Rattle.std.specs.Prelude.{◌≡◌, ◌≤◌, IsTrue, false, ◌||◌};
+ghost use Rattle.std.specs.Prelude.{◌≡◌, ◌≤◌, IsTrue, false, ◌||◌, ◌&&◌};
 
 use crate::cells::Cost;
 use std::marker::Model;
 
 /// The eight directions: E is one column on, N one row on.
-#[derive(Clone, Copy, Debug, PartialEq, Eq)]
+///
+/// They are ordered as in [`Dir::ALL`].
+#[derive(Clone, Copy, Debug, PartialEq, Eq, PartialOrd, Ord, Hash)]
 pub enum Dir {
     N,
     E,
@@ -17,7 +19,7 @@ pub enum Dir {
 }
 
 impl Dir {
-    ghost use Rattle.nav_types.specs.Directions.{step_cost, is_straight, east, west, north, south};
+    ghost use Rattle.nav_types.specs.Directions.{step_cost, is_straight, opposite, east, west, north, south};
 
     /// All directions, in the order in which the chosen walk prefers them.
     pub const ALL: [Dir; 8] = [
@@ -38,6 +40,26 @@ impl Dir {
         match self {
             Dir::N | Dir::E | Dir::S | Dir::W => true,
             Dir::NE | Dir::SE | Dir::SW | Dir::NW => false,
+        }
+    }
+
+    /// The direction back: of N it is S.
+    pub fn opposite(self) -> Dir
+        ensures value { result ≡ opposite self }
+        ensures east { east result ≡ west self }
+        ensures west { west result ≡ east self }
+        ensures north { north result ≡ south self }
+        ensures south { south result ≡ north self }
+    {
+        match self {
+            Dir::N => Dir::S,
+            Dir::E => Dir::W,
+            Dir::S => Dir::N,
+            Dir::W => Dir::E,
+            Dir::NE => Dir::SW,
+            Dir::SE => Dir::NW,
+            Dir::SW => Dir::NE,
+            Dir::NW => Dir::SE,
         }
     }
 
@@ -98,20 +120,21 @@ impl Dir {
 /// A set of directions.
 #[derive(Clone, Copy, Debug, PartialEq, Eq)]
 pub struct DirSet {
-    n: bool,
-    e: bool,
-    s: bool,
-    w: bool,
-    ne: bool,
-    se: bool,
-    sw: bool,
-    nw: bool,
+    pub(crate) n: bool,
+    pub(crate) e: bool,
+    pub(crate) s: bool,
+    pub(crate) w: bool,
+    pub(crate) ne: bool,
+    pub(crate) se: bool,
+    pub(crate) sw: bool,
+    pub(crate) nw: bool,
 }
 
 impl DirSet {
     ghost use Rattle.std.specs.Prelude.{◌≢◌};
     ghost use Rattle.nav_types.specs.declared.directions.Dir.{Dir};
     ghost use Rattle.nav_types.specs.DirSets.{holds};
+    ghost use Rattle.nav_types.specs.Directions.{row_part, column_part};
 
     /// The set of no direction.
     pub fn new() -> DirSet
@@ -148,6 +171,19 @@ impl DirSet {
         set
     }
 
+    /// The directions of the set whose straight parts are in it, too.
+    pub(crate) fn with_parts(self) -> DirSet
+        ensures { (dir : Dir) → holds result dir ≡ (holds self dir && (holds self (row_part dir) && holds self (column_part dir))) }
+    {
+        DirSet {
+            ne: all_three(self.ne, self.e, self.n),
+            se: all_three(self.se, self.e, self.s),
+            sw: all_three(self.sw, self.w, self.s),
+            nw: all_three(self.nw, self.w, self.n),
+            ..self
+        }
+    }
+
     /// Whether the direction is in the set.
     pub fn has(self, dir: Dir) -> bool
         ensures { result ≡ holds self dir }
@@ -163,4 +199,11 @@ impl DirSet {
             Dir::NW => self.nw,
         }
     }
+}
+
+/// Whether all three hold.
+fn all_three(first: bool, second: bool, third: bool) -> bool
+    ensures { result ≡ (first && (second && third)) }
+{
+    first && second && third
 }

@@ -1,18 +1,18 @@
 //! Cells, directions and views of a map: the words that every other crate speaks.
 #![tactic(auto)]
 
-pub mod cells;
-pub mod directions;
+mod cells;
+mod directions;
 pub mod limits;
-pub mod sequences;
-pub mod ticks;
-pub mod views;
+mod sequences;
+mod ticks;
+mod views;
 
 pub use cells::{Cell, Chunk, Class, Cost, Rect, Size};
 pub use directions::{Dir, DirSet};
 pub use sequences::{Bytes, NoMemory, Sequence, Words};
-pub use ticks::Steps;
-pub use views::{Aim, Areas, View, step};
+pub use ticks::Ticks;
+pub use views::{Aim, Areas, Rows, View, is_free_beside, legal_steps, neighbour, step};
 
 #[cfg(test)]
 mod tests;

@@ -15,6 +15,19 @@ pub const MAX_CALLERS: u8 = 64;
 /// The most workers that solve a turn.
 pub const MAX_WORKERS: u8 = 64;
 
+/// The greatest clearance of a passability class, in navcells.
+pub const MAX_CLEARANCE: u16 = 64;
+
+/// The greatest half side of an obstruction, in navcells.
+pub const MAX_HALF_SIDE: u16 = 256;
+
+/// The greatest radius or half side of a goal, in navcells.
+pub const MAX_GOAL_EXTENT: u16 = 4096;
+
+/// The greatest distance about an obstruction that is a goal, in navcells: a half side of [`MAX_HALF_SIDE`] grows
+/// to at most [`MAX_GOAL_EXTENT`].
+pub const MAX_GROWTH: u16 = 3840;
+
 /// The most standing obstructions.
 pub const MAX_OBSTRUCTIONS: u32 = 65_536;
 

@@ -1,5 +1,6 @@
-ghost use Rattle.std.specs.Prelude.{◌≡◌, ◌++◌, ◌∷◌, [], length, slice_get, option_copied, option_to_list, IsNone, IfOk, IfErr, OnOk, OnErr, ◌↔◌, IsTrue};
+ghost use Rattle.std.specs.Prelude.{◌≡◌, ◌++◌, ◌∷◌, [], length, slice_get, option_copied, option_to_list, IsNone, IfOk, IfErr, OnOk, OnErr, ◌↔◌, IsTrue, decimal};
 
+use itoa::Buffer;
 use std::alloc::{AllocError, AllocFailed, Global};
 use std::marker::Model;
 
@@ -107,6 +108,27 @@ impl<T> Sequence<T> {
         Some(self.items.remove(0))
     }
 
+    /// All items by value, in order. They keep their memory.
+    ///
+    /// A vector can be given room before an item is taken from where it can't be put back; [`Sequence::from`] makes
+    /// a list of it again.
+    pub fn into_items(self) -> Vec<T>
+        ensures { result.items ≡ self }
+    {
+        self.items
+    }
+
+    /// Moves all items of `more` behind those of the list. Where there is no memory for them both lists stay.
+    pub fn append(&mut self, more: &mut Sequence<T>) -> Result<(), NoMemory>
+        ensures ok { OnOk result (self.new ≡ self.old ++ more.old) }
+        ensures emptied { OnOk result (more.new ≡ []) }
+        ensures err { OnErr result (self.new ≡ self.old) }
+        ensures kept { OnErr result (more.new ≡ more.old) }
+    {
+        self.items.append(&mut more.items)?;
+        Ok(())
+    }
+
     /// Lets go of all items and keeps their memory.
     pub fn clear(&mut self)
     where
@@ -141,5 +163,16 @@ impl<T: Copy> Sequence<T> {
         Ok(Sequence {
             items: Vec::from_slice(alloc, self.items.as_slice())?,
         })
+    }
+}
+
+impl Bytes {
+    /// Appends the decimal digits of a number. Where there is no memory the list stays.
+    pub fn push_decimal(&mut self, number: u64) -> Result<(), NoMemory>
+        ensures ok { OnOk result (self.new ≡ self.old ++ decimal number) }
+        ensures err { OnErr result (self.new ≡ self.old) }
+    {
+        let mut buffer = Buffer::new();
+        self.extend(buffer.format(number).as_bytes())
     }
 }

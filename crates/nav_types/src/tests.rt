@@ -42,9 +42,9 @@ fn tick_twice<L: Ledger>(blank: Blank)
     requires parts { blank.parts ≡ L.parts }
     requires some { 0 < L.parts }
 {
-    let mut steps: Steps<L> = Steps::new(blank);
-    steps.tick();
-    steps.tick();
+    let mut ticks: Ticks<L> = Ticks::new(blank);
+    ticks.tick();
+    ticks.tick();
 }
 
 #[test]
@@ -61,6 +61,11 @@ fn sequences_keep_their_items(rt: HostRuntime) -> Result<(), Fail> {
     assert_eq!(rt; copy.take_first(), Some(b'a'));
     assert_eq!(rt; copy.as_slice(), b"bc".as_slice());
     assert_eq!(rt; bytes.len(), 3);
+    copy.append(&mut bytes)?;
+    assert_eq!(rt; copy.as_slice(), b"bcabc".as_slice());
+    assert!(rt; bytes.is_empty());
+    copy.push_decimal(4_294_967_296)?;
+    assert_eq!(rt; copy.into_items().as_slice(), b"bcabc4294967296".as_slice());
     Ok(())
 }
 
@@ -83,4 +88,11 @@ fn no_step_cuts_a_corner(rt: HostRuntime) {
     assert_eq!(rt; step(&ring, class, start, Dir::NE), None);
     assert_eq!(rt; step(&ring, class, Cell::new(0, 1), Dir::NE), None);
     assert_eq!(rt; step(&ring, class, start, Dir::W), None);
+    assert_eq!(rt;
+        legal_steps(&ring, class, start),
+        DirSet::new().with(Dir::E).with(Dir::N)
+    );
+    assert_eq!(rt; legal_steps(&ring, class, Cell::new(1, 1)), DirSet::new());
+    assert!(rt; is_free_beside(&ring, class, start, Dir::E));
+    assert!(rt; !is_free_beside(&ring, class, start, Dir::NE));
 }

@@ -6,12 +6,12 @@ use std::sync::ledger::{Blank, Book, Ledger, Share};
 /// A counter of the steps of a work, for any ledger. Contracts see the number of ticks; it takes no memory and
 /// does nothing at run time.
 #[derive(Drop)]
-pub struct Steps<L: Ledger> {
+pub struct Ticks<L: Ledger> {
     book: Book<L>,
     share: Share<L>,
 }
 
-impl<L: Ledger> Model for Steps<L> {
+impl<L: Ledger> Model for Ticks<L> {
     ghost use Rattle.std.specs.Prelude.{ℕ, ◌<◌};
 
     ghost Value = { ℕ };
@@ -21,23 +21,23 @@ impl<L: Ledger> Model for Steps<L> {
     ghost invariant = { λ s. 0 < s.share.parts };
 }
 
-impl<L: Ledger> Steps<L> {
+impl<L: Ledger> Ticks<L> {
     /// A counter at 0, made of a blank ledger that has a part.
-    pub fn new(blank: Blank) -> Steps<L>
+    pub fn new(blank: Blank) -> Ticks<L>
         requires name { blank.name ≡ L.name }
         requires parts { blank.parts ≡ L.parts }
         requires some { 0 < L.parts }
         ensures { result ≡ 0 }
     {
         let (book, share) = blank.open::<L>();
-        Steps { book, share }
+        Ticks { book, share }
     }
 
     /// One step more.
     pub fn tick(&mut self)
         ensures { self.new ≡ self.old + 1 }
     {
-        let Steps { book, share } = self;
+        let Ticks { book, share } = self;
         book.add(share, 1);
     }
 }

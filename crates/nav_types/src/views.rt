@@ -1,10 +1,13 @@
-ghost use Rattle.std.specs.Prelude.{◌≡◌, ◌+◌, ◌<◌, ◌≤◌, IfSome, IfNone, ℕ};
+ghost use Rattle.std.specs.Prelude.{◌≡◌, ◌+◌, ◌<◌, ◌≤◌, IfSome, IfNone, IsTrue, ◌↔◌, ℕ};
 ghost use Rattle.nav_types.specs.Cells.{IsInside};
 ghost use Rattle.nav_types.specs.Directions.{Leads};
 ghost use Rattle.nav_types.specs.Walks.{Step};
+ghost use Rattle.nav_types.specs.Beside.{IsFreeBeside, IsLegalFrom};
+ghost use Rattle.nav_types.specs.DirSets.{holds};
+ghost use Rattle.nav_types.specs.declared.directions.Dir.{Dir};
 
 use crate::cells::{Cell, Class, Rect, Size};
-use crate::directions::Dir;
+use crate::directions::{Dir, DirSet};
 
 /// A map as a search sees it: for each class, which cells are passable.
 pub trait View {
@@ -37,6 +40,18 @@ pub trait View {
 
     // Only cells inside the map pass.
     ghost within: { (view : Self) (class : ℕ) (cell : Cell) → IsTrue (passes view class cell) → IsInside (extent view) cell };
+}
+
+/// A map that hands out the bits of a whole row at once.
+pub trait Rows: View {
+    ghost use Rattle.std.specs.Prelude.{◌≡◌, ◌<◌, length};
+    ghost use Rattle.nav_types.specs.Rows.{AreRowBits};
+
+    /// Writes one number for each cell of row `j`: bit k is set exactly where the cell is impassable for class k.
+    fn row_bits(&self, j: u16, out: &mut [u16])
+        requires row { j < (Self.extent self.now).h }
+        requires width { length out.old ≡ (Self.extent self.now).w }
+        ensures { AreRowBits (Self.extent self.now) (Self.class_count self.now) (Self.passes self.now) j out.new };
 }
 
 /// A map whose areas are numbered.
@@ -108,7 +123,7 @@ fn shifted(place: u16, gained: u16, lost: u16, side: u16) -> Option<u16>
 }
 
 /// The cell that one step in the direction leads to. None exactly where it lies outside the map.
-fn neighbour(size: Size, cell: Cell, dir: Dir) -> Option<Cell>
+pub fn neighbour(size: Size, cell: Cell, dir: Dir) -> Option<Cell>
     requires { IsInside size cell }
     ensures leads { IfSome result (Leads dir cell) }
     ensures inside { IfSome result (IsInside size) }
@@ -123,6 +138,18 @@ fn neighbour(size: Size, cell: Cell, dir: Dir) -> Option<Cell>
     Some(Cell::new(i, j))
 }
 
+/// Whether the cell that one step in the direction leads to is passable. Off the map no cell is.
+pub fn is_free_beside<V: View>(view: &V, class: Class, cell: Cell, dir: Dir) -> bool
+    requires class { class < V.class_count view.now }
+    requires inside { IsInside (V.extent view.now) cell }
+    ensures { IsTrue result ↔ IsFreeBeside (V.passes view.now class) cell dir }
+{
+    match neighbour(view.size(), cell, dir) {
+        Some(next) => view.passable(class, next),
+        None => false,
+    }
+}
+
 /// The cell that one legal step in the direction leads to. None exactly where that step is not legal.
 pub fn step<V: View>(view: &V, class: Class, cell: Cell, dir: Dir) -> Option<Cell>
     requires class { class < V.class_count view.now }
@@ -134,9 +161,42 @@ pub fn step<V: View>(view: &V, class: Class, cell: Cell, dir: Dir) -> Option<Cel
     let Some(to) = neighbour(size, cell, dir) else {
         return None;
     };
-    let open = view.passable(class, cell)
-        && view.passable(class, to)
-        && view.passable(class, Cell::new(to.i, cell.j))
-        && view.passable(class, Cell::new(cell.i, to.j));
-    if open { Some(to) } else { None }
+    let ends = view.passable(class, cell) && view.passable(class, to);
+    // The two cells beside a straight step are its own.
+    let legal = ends
+        && (dir.is_straight()
+            || view.passable(class, Cell::new(to.i, cell.j))
+                && view.passable(class, Cell::new(cell.i, to.j)));
+    if legal { Some(to) } else { None }
+}
+
+/// The directions in which a step from the cell is legal. It reads each of the nine cells about it once.
+pub fn legal_steps<V: View>(view: &V, class: Class, cell: Cell) -> DirSet
+    requires class { class < V.class_count view.now }
+    requires inside { IsInside (V.extent view.now) cell }
+    ensures { (dir : Dir) → IsTrue (holds result dir) ↔ IsLegalFrom (V.passes view.now class) cell dir }
+{
+    if view.passable(class, cell) {
+        free_beside(view, class, cell).with_parts()
+    } else {
+        DirSet::new()
+    }
+}
+
+/// The directions in which the cell beside is passable.
+fn free_beside<V: View>(view: &V, class: Class, cell: Cell) -> DirSet
+    requires class { class < V.class_count view.now }
+    requires inside { IsInside (V.extent view.now) cell }
+    ensures { (dir : Dir) → IsTrue (holds result dir) ↔ IsFreeBeside (V.passes view.now class) cell dir }
+{
+    DirSet {
+        n: is_free_beside(view, class, cell, Dir::N),
+        e: is_free_beside(view, class, cell, Dir::E),
+        s: is_free_beside(view, class, cell, Dir::S),
+        w: is_free_beside(view, class, cell, Dir::W),
+        ne: is_free_beside(view, class, cell, Dir::NE),
+        se: is_free_beside(view, class, cell, Dir::SE),
+        sw: is_free_beside(view, class, cell, Dir::SW),
+        nw: is_free_beside(view, class, cell, Dir::NW),
+    }
 }

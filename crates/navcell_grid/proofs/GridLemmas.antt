@@ -5,7 +5,7 @@ use Rattle.std.proofs.lemmas.Nat.{div-add-mod', div_below, mod_below}
 use Rattle.nav_types.specs.declared.cells.Cell.{Cell}
 use Rattle.nav_types.specs.declared.cells.Size.{Size}
 use Rattle.nav_types.specs.Cells.{cell_at, IsInside}
-use Rattle.navcell_grid.specs.Grids.{GridCells, IsWhole, place_of, number_at}
+use Rattle.navcell_grid.specs.Grids.{GridCells, IsWholeGrid, place_of, number_at}
 
 -- the cell at a place
 cell_of : Size → ℕ → Cell
@@ -31,7 +31,7 @@ same_cells size xs ys long_xs long_ys same =
     ∙ same (cell_of size k) (cell_of_inside size k short)
     ∙ ap (λ p. get_or ys p 0) (place_of_cell_of size k))
 
-pub same_grid : (a b : GridCells) → IsWhole a → IsWhole b → a.size ≡ b.size
+pub same_grid : (a b : GridCells) → IsWholeGrid a → IsWholeGrid b → a.size ≡ b.size
     → ((cell : Cell) → IsInside a.size cell → number_at a cell ≡ number_at b cell) → a ≡ b
 same_grid a b whole_a whole_b size same =
     let cells : a.cells ≡ b.cells =

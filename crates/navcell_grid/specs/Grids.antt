@@ -11,8 +11,8 @@ pub record GridCells : Type 0 where
   pub cells : List ℕ
 
 -- the grid has exactly one number for each cell of its size
-abbrev pub IsWhole : GridCells → Type 0
-IsWhole grid = length grid.cells ≡ grid.size.w * grid.size.h
+abbrev pub IsWholeGrid : GridCells → Type 0
+IsWholeGrid grid = length grid.cells ≡ grid.size.w * grid.size.h
 
 -- how many cells of the map come before the cell
 abbrev pub place_of : Size → Cell → ℕ

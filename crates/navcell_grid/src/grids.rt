@@ -1,6 +1,6 @@
 ghost use Rattle.std.specs.Prelude.{◌≡◌, ◌≤◌, ◌<◌, ◌+◌, ◌*◌, ◌⊎◌, ℕ, length, replicate, slice_index, slice_range, bit_or, IfOk};
 ghost use Rattle.nav_types.specs.Cells.{cell_at, IsInside, IsInRect, IsRectInside};
-ghost use Rattle.navcell_grid.specs.Grids.{GridCells, IsWhole, place_of, number_at, IsInSpan, is_passable};
+ghost use Rattle.navcell_grid.specs.Grids.{GridCells, IsWholeGrid, place_of, number_at, IsInSpan, is_passable};
 
 use nav_types::limits::MAX_CLASSES;
 use nav_types::{Cell, Class, NoMemory, Rect, Size, View};
@@ -40,16 +40,16 @@ impl Grid {
     }
 
     /// The size of the map, in navcells. The grid has exactly one number for each cell of it
-    /// (`IsWhole` of `specs/Grids.antt`).
+    /// (`IsWholeGrid`).
     pub fn size(&self) -> Size
         ensures size { result ≡ self.now.size }
-        ensures whole { IsWhole self.now }
+        ensures whole { IsWholeGrid self.now }
     {
         let _ = &self.cells;
         self.size
     }
 
-    /// The number of a cell inside the map (`number_at` of `specs/Grids.antt`).
+    /// The number of a cell inside the map (`number_at`).
     pub fn get(&self, cell: Cell) -> u16
         requires { IsInside self.now.size cell }
         ensures { result ≡ number_at self.now cell }
@@ -161,7 +161,7 @@ impl View for Grid {
         MAX_CLASSES
     }
 
-    /// Whether the class's bit of the cell's number is clear (`is_passable` of `specs/Grids.antt`).
+    /// Whether the class's bit of the cell's number is clear (`is_passable`).
     fn passable(&self, class: Class, cell: Cell) -> bool {
         (self.get(cell) >> class.number()) & 1 == 0
     }
@@ -170,7 +170,7 @@ impl View for Grid {
 /// A law: two grids of one size are equal where each cell of the map has one number in both. So the
 /// clauses of a call that name each cell's number say the whole list.
 pub fn one_grid()
-    ensures { (a b : GridCells) → IsWhole a → IsWhole b → a.size ≡ b.size
+    ensures { (a b : GridCells) → IsWholeGrid a → IsWholeGrid b → a.size ≡ b.size
         → ((cell : Cell) → IsInside a.size cell → number_at a cell ≡ number_at b cell) → a ≡ b }
 {}
 

@@ -4,7 +4,7 @@
 //! is made.
 #![tactic(auto)]
 
-pub mod grids;
+mod grids;
 
 pub use grids::{Grid, one_grid};
 

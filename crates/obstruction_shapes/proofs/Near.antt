@@ -1,8 +1,8 @@
 -- Nothing is blocked out of reach.
-use Rattle.std.proofs.Common.{◌+◌, ◌*◌, ℤ, leb-true}
+use Rattle.std.proofs.Common.{◌*◌, ℤ, leb-true}
 use Rattle.std.specs.Prelude.{unsigned_abs, IsTrue}
 use Rattle.nav_types.specs.declared.cells.Cell.{Cell}
-use Rattle.fixed_point.specs.Plane.{square, from_centre, along, across, beyond}
+use Rattle.fixed_point.specs.Plane.{square, from_centre, centre_along, centre_across, squared_past}
 use Rattle.obstruction_shapes.specs.declared.shapes.Shape.{Shape}
 use Rattle.obstruction_shapes.specs.Shapes.{turned_of, HasUnitVector}
 use Rattle.obstruction_shapes.specs.Blocking.{blocked, reach, IsNear}
@@ -14,8 +14,8 @@ pub blocked_near : (shape : Shape) (clearance : ℤ) (cell : Cell) → HasUnitVe
 unfolding blocked reach
 blocked_near shape clearance cell unit hit =
     let s = turned_of shape in let px = from_centre cell.i s.x in let pz = from_centre cell.j s.z in
-    let du = along px pz s.ux s.uz in let dv = across px pz s.ux s.uz in
+    let du = centre_along s cell.i cell.j in let dv = centre_across s cell.i cell.j in
     let near = near_both (unsigned_abs px) (unsigned_abs pz) (unsigned_abs s.ux) (unsigned_abs s.uz) (unsigned_abs du) (unsigned_abs dv)
     (unsigned_abs s.hw) (unsigned_abs s.hh) (unsigned_abs clearance) (signs px pz s.ux s.uz) unit.long unit.short
-    (leb-true (square (beyond du s.hw) + square (beyond dv s.hh)) (square (65536 * unsigned_abs clearance)) hit) in
+    (leb-true (squared_past s cell.i cell.j) (square (65536 * unsigned_abs clearance)) hit) in
     record { column = near.0; row = near.1 }

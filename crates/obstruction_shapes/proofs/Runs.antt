@@ -75,7 +75,7 @@ sum_between a1 a2 a3 b1 b2 b3 n m r some_gap mean_a mean_b first last =
     let whole : (m + n) * ((m + n) * (a2 * a2 + b2 * b2)) ≤ (m + n) * ((m + n) * r) = omega arith in
     le_of_mul-le-mul_left (le_of_mul-le-mul_left whole some_gap) some_gap
 
--- a step of n units along a row changes the length along, or across, by n times one amount
+-- a step of n along a row changes the length along, or across, by n times one amount
 pub along_step : (f u c : ℤ) (n : ℕ) → (f +ℤ pos n) *ℤ u +ℤ c ≡ (f *ℤ u +ℤ c) +ℤ pos n *ℤ u
 along_step f u c n =
     let sum = sum_is_lem f (pos n) in
@@ -89,7 +89,7 @@ across_step f u c n =
     let turned_up = ap (λ k. n * k) (neg_is u).0 in let turned_down = ap (λ k. n * k) (neg_is u).1 in
     omega (arith, ints)
 
--- columns of a row, n and m units apart
+-- columns of a row, apart
 pub column_step : (x : ℤ) (i k : ℕ) → i ≤ k → from_centre k x ≡ from_centre i x +ℤ pos (65536 * (k - i))
 column_step x i k order = omega (arith, ints)
 
@@ -110,7 +110,7 @@ apart shape clearance first middle last j after before gap hit_first hit_last =
     let n = 65536 * (middle - first) in let m = 65536 * (last - middle) in
     let p1 = from_centre first s.x in let p2 = from_centre middle s.x in let p3 = from_centre last s.x in
     let step1 = column_step s.x first middle after in let step2 = column_step s.x middle last before in
-    let du : ℤ → ℤ = λ p. along p pz s.ux s.uz in let dv : ℤ → ℤ = λ p. across p pz s.ux s.uz in
+    let du : ℤ → ℤ = λ p. along s p pz in let dv : ℤ → ℤ = λ p. across s p pz in
     let du1 = ap du step1 ∙ along_step p1 s.ux (pz *ℤ s.uz) n in
     let du2 = ap du step2 ∙ along_step p2 s.ux (pz *ℤ s.uz) m in
     let dv1 = ap dv step1 ∙ across_step p1 s.uz (pz *ℤ s.ux) n in

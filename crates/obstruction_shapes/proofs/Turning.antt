@@ -1,10 +1,10 @@
 -- Turning a point back from a square's axes to the map's.
-use Rattle.std.proofs.Common.{◌≡◌, ℕ, ◌+◌, ◌-◌, ◌*◌, ◌/◌, ◌^◌, ◌<◌, ◌≤◌, ◌⊎◌, inl, inr, ⊎_elim, arith, ℤ, pos, negsuc, suc}
+use Rattle.std.proofs.Common.{◌≡◌, ℕ, ◌+◌, ◌-◌, ◌*◌, ◌/◌, ◌^◌, ◌<◌, ◌≤◌, ◌⊎◌, inl, inr, ⊎_elim, arith, ℤ, pos, negsuc, ◌+ℤ◌, ◌-ℤ◌, ◌*ℤ◌}
 use Rattle.std.specs.Prelude.{unsigned_abs}
 use Rattle.std.proofs.lemmas.Int.{ints}
 use Rattle.std.proofs.lemmas.Bool.{cases_lt}
 use Rattle.std.proofs.Math.Nat.{mul-le-mul, mul-le-mul_right, mul-le-mul_left}
-use Rattle.fixed_point.specs.Plane.{along, across}
+use Rattle.fixed_point.proofs.Squares.{root_le}
 
 -- with d along and e across: the products have signs that add up in one of them and take away in the other
 pub record Adding (p q u v d e : ℕ) : Type 0 where
@@ -21,7 +21,7 @@ abbrev pub Signs : ℕ → ℕ → ℕ → ℕ → ℕ → ℕ → Type 0
 Signs p q u v d e = Adding p q u v d e ⊎ Taking p q u v d e
 
 pub signs : (px pz ux uz : ℤ) → Signs (unsigned_abs px) (unsigned_abs pz) (unsigned_abs ux) (unsigned_abs uz)
-    (unsigned_abs (along px pz ux uz)) (unsigned_abs (across px pz ux uz))
+    (unsigned_abs (px *ℤ ux +ℤ pz *ℤ uz)) (unsigned_abs (pz *ℤ ux -ℤ px *ℤ uz))
 signs (pos p) (pos q) (pos u) (pos v) = inl (record { sum = omega (arith, ints); first = omega (arith, ints); second = omega (arith, ints) })
 signs (pos p) (pos q) (pos u) (negsuc v) = inr (record { sum = omega (arith, ints); first = omega (arith, ints); second = omega (arith, ints) })
 signs (pos p) (pos q) (negsuc u) (pos v) = inr (record { sum = omega (arith, ints); first = omega (arith, ints); second = omega (arith, ints) })
@@ -52,10 +52,6 @@ row_back p q u v d e (inl s) =
 row_back p q u v d e (inr s) =
     let along = mul-le-mul_right v s.second in let across = mul-le-mul_right u s.sum in omega arith
 
--- a square is no more than another only where its root is
-pub root_le : (a b : ℕ) → a * a ≤ b * b → a ≤ b
-root_le a b h = ⊎_elim (λ (g : b < a). let k : suc b * suc b ≤ a * a = mul-le-mul g g in absurd (omega arith)) (λ (l : a ≤ b). l) (cases_lt b a)
-
 -- the components of a unit vector
 pub component_le : (u v : ℕ) → u * u + v * v ≤ 2 ^ 32 + 2 ^ 25 → u ≤ 65792
 component_le u v short =
@@ -74,7 +70,7 @@ near_one p u v d e w h c back long small_u small_v near_d near_e =
 within : (d w c rest : ℕ) → (d - 65536 * w) * (d - 65536 * w) + rest ≤ (65536 * c) * (65536 * c) → d ≤ 65536 * (w + c)
 within d w c rest near = let root = root_le (d - 65536 * w) (65536 * c) (omega arith) in omega arith
 
--- a point no further than the clearance from the square lies within the extent, a 64th of it and one unit, along both axes
+-- a point no further than the clearance from the square lies within the extent, a 64th of it and 1, along both axes
 pub near_both : (p q u v d e w h c : ℕ) → Signs p q u v d e → 2 ^ 32 ≤ u * u + v * v + 2 ^ 25 → u * u + v * v ≤ 2 ^ 32 + 2 ^ 25
     → (d - 65536 * w) * (d - 65536 * w) + (e - 65536 * h) * (e - 65536 * h) ≤ (65536 * c) * (65536 * c)
     → (p ≤ (w + h + 2 * c) + (w + h + 2 * c) / 64 + 1) × (q ≤ (w + h + 2 * c) + (w + h + 2 * c) / 64 + 1)

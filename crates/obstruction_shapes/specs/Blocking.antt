@@ -1,23 +1,21 @@
--- Which cells a shape blocks, and how far it reaches. All numbers are raw: a unit of length is a navcell's side over 65536.
+-- Which cells a shape blocks, and how far it reaches. All numbers are raw: the raw number of a navcell's side is 65536.
 use Rattle.std.specs.Prelude.{ℕ, ◌+◌, ◌*◌, ◌/◌, ◌≤◌, Bool, nat_le, ℤ, unsigned_abs}
 use Rattle.nav_types.specs.declared.cells.Cell.{Cell}
-use Rattle.fixed_point.specs.Plane.{square, from_centre, along, across, beyond}
+use Rattle.fixed_point.specs.Plane.{square, squared_past, from_centre}
 use Rattle.obstruction_shapes.specs.declared.shapes.Shape.{Shape}
 use Rattle.obstruction_shapes.specs.Shapes.{turned_of}
 
 -- the shape blocks the cell with this clearance: the cell's middle is at most the clearance away from the square
 unfoldable pub blocked : Shape → ℤ → Cell → Bool
-blocked shape clearance cell = let s = turned_of shape in
-    let px = from_centre cell.i s.x in let pz = from_centre cell.j s.z in
-    let a = beyond (along px pz s.ux s.uz) s.hw in let b = beyond (across px pz s.ux s.uz) s.hh in
-    nat_le (square a + square b) (square (65536 * unsigned_abs clearance))
+blocked shape clearance cell =
+    nat_le (squared_past (turned_of shape) cell.i cell.j) (square (65536 * unsigned_abs clearance))
 
 -- the sum of both half sides and twice the clearance
 abbrev pub extent : Shape → ℤ → ℕ
-extent shape clearance = let s = turned_of shape in
-    unsigned_abs s.hw + unsigned_abs s.hh + 2 * unsigned_abs clearance
+extent shape clearance =
+    unsigned_abs (turned_of shape).hw + unsigned_abs (turned_of shape).hh + 2 * unsigned_abs clearance
 
--- how far from the shape's middle, along either axis, a cell can be blocked: the extent, a 64th of it and one unit
+-- how far from the shape's middle, along either axis, a cell can be blocked: the extent, a 64th of it and the raw number 1
 unfoldable pub reach : Shape → ℤ → ℕ
 reach shape clearance = let t = extent shape clearance in t + t / 64 + 1
 

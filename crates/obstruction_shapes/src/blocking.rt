@@ -3,8 +3,7 @@ ghost use Rattle.obstruction_shapes.specs.Shapes.{HasUnitVector};
 ghost use Rattle.obstruction_shapes.specs.Blocking.{blocked};
 
 use crate::shapes::Shape;
-use fixed_point::Fixed;
-use fixed_point::plane::{length_across, length_along, offset, past, scaled, squared};
+use fixed_point::{Fixed, scaled, squared};
 use nav_types::Cell;
 
 /// Whether the shape blocks the cell for a class with this clearance (`blocked`): whether the middle of
@@ -15,12 +14,5 @@ pub fn blocks(shape: &Shape, clearance: Fixed, cell: Cell) -> bool
     requires { HasUnitVector shape.now }
     ensures { result ≡ blocked shape.now clearance cell }
 {
-    let turned = shape.turned();
-    let px = offset(cell.i, turned.x);
-    let pz = offset(cell.j, turned.z);
-    let along = length_along(px, pz, turned.ux, turned.uz);
-    let across = length_across(px, pz, turned.ux, turned.uz);
-    let a = squared(past(along, turned.hw));
-    let b = squared(past(across, turned.hh));
-    a + b <= squared(scaled(clearance))
+    shape.turned().squared_past(cell.i, cell.j) <= squared(scaled(clearance))
 }

@@ -1,7 +1,7 @@
 //! Obstructions: squares and turned rectangles on a map, the cells that they block, and how far they
 //! reach.
 //!
-//! All numbers are fixed-point: a raw unit is a navcell's side over 65536. Nothing here takes memory.
+//! All numbers are fixed-point: the raw number of a navcell's side is 65536. Nothing here takes memory.
 #![tactic(auto)]
 
 mod blocking;

@@ -1,12 +1,11 @@
 ghost use Rattle.std.specs.Prelude.{◌≡◌, ◌≤◌, ◌^◌, ◌↔◌, IfSome, IfNone, IsTrue};
 ghost use Rattle.nav_types.specs.declared.cells.Cell.{Cell};
 ghost use Rattle.nav_types.specs.Cells.{IsInside, IsInRect, IsRectInside};
-ghost use Rattle.obstruction_shapes.specs.Shapes.{Fits};
+ghost use Rattle.obstruction_shapes.specs.Shapes.{FitsMap};
 ghost use Rattle.obstruction_shapes.specs.Blocking.{blocked, reach, IsNear};
 
 use crate::shapes::Shape;
-use fixed_point::Fixed;
-use fixed_point::plane::{columns_near, magnitude};
+use fixed_point::{Fixed, columns_near, magnitude};
 use nav_types::{Rect, Size};
 
 /// The cells of a map that are near enough to the shape to be blocked for a class with this clearance:
@@ -16,7 +15,7 @@ use nav_types::{Rect, Size};
 ///
 /// The shape fits the map.
 pub fn reach_rect(shape: &Shape, clearance: Fixed, size: Size) -> Option<Rect>
-    requires { Fits size shape.now }
+    requires { FitsMap size shape.now }
     ensures inside { IfSome result (λ rect. IsRectInside size rect) }
     ensures near { IfSome result (λ rect. (cell : Cell) → IsInside size cell → (IsInRect rect cell ↔ IsNear shape.now clearance cell)) }
     ensures none_near { IfNone result ((cell : Cell) → IsInside size cell → ¬ IsNear shape.now clearance cell) }
@@ -34,7 +33,7 @@ pub fn reach_rect(shape: &Shape, clearance: Fixed, size: Size) -> Option<Rect>
     Some(Rect { i0, j0, i1, j1 })
 }
 
-/// How far from the shape's middle a cell can be blocked, in units.
+/// How far from the shape's middle a cell can be blocked, as a raw number.
 fn reach_of(shape: &Shape, clearance: Fixed) -> u64
     ensures value { result ≡ reach shape.now clearance }
     ensures bounded { result ≤ 2 ^ 34 }

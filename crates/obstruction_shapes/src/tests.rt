@@ -1,9 +1,9 @@
 use super::*;
-use fixed_point::Fixed;
+use fixed_point::{Fixed, Rectangle};
 use nav_types::{Cell, Rect, Size};
 use std::test::Fail;
 
-/// In each line a shape with its numbers in units, a clearance, a row, and the columns of that row
+/// In each line a shape with its numbers raw, a clearance, a row, and the columns of that row
 /// whose cells the shape blocks and those whose cells it does not block, at and beside the rim.
 const BLOCKS: &str = "\
 square 1998847 1638400 65536 0 71130 65536;621137;30;21 30 35;20
@@ -163,7 +163,7 @@ square 1376256 1114112 65536 0 65536 1;139256;16;18 23;0 17 24
 unit 655359 2126509 605668;233025;31;22;23
 unit 1441793 236602 65536;65536;36;;11 28";
 
-/// In each line a shape with its numbers in units, a clearance, the columns and the rows of a map, and
+/// In each line a shape with its numbers raw, a clearance, the columns and the rows of a map, and
 /// the rectangle of near cells, or none.
 const REACHES: &str = "\
 square 425984 196607 32768 56756 0 504638;27558;46 3;0 0 14 2
@@ -308,7 +308,7 @@ square 1 1 46341 -46341 5 5;fits
 square 1 1 -2147483648 -2147483648 5 5;bad
 square 2621440 1 65536 0 5 5;bad";
 
-/// A number of units.
+/// A raw number.
 fn fixed(word: Option<&str>) -> Option<Fixed> {
     Some(Fixed::from_raw(word?.parse().ok()?))
 }
@@ -327,14 +327,14 @@ fn shape_of(text: &str) -> Option<Shape> {
     let uz = fixed(words.next())?;
     let hw = fixed(words.next())?;
     let hh = fixed(words.next())?;
-    Some(Shape::Square {
+    Some(Shape::Square(Rectangle {
         x,
         z,
         ux,
         uz,
         hw,
         hh,
-    })
+    }))
 }
 
 /// The size of a text, its columns and its rows.

@@ -6,7 +6,7 @@ use Rattle.std.specs.FinMap as map
 use Rattle.std.specs.Ordering.{nat_cmp}
 use Rattle.nav_types.specs.declared.cells.Size.{Size}
 use Rattle.obstruction_shapes.specs.declared.shapes.Obstruction.{Obstruction}
-use Rattle.obstruction_shapes.specs.Shapes.{Fits, moved_to}
+use Rattle.obstruction_shapes.specs.Shapes.{FitsMap, moved_to}
 use Rattle.obstruction_store.specs.Standing.{Standing, AllFit, moved, with_placed, placed_at}
 
 -- what is found after an insert is the new value or was there before
@@ -28,11 +28,11 @@ AllFit-empty size = record {
 }
 
 pub AllFit-insert : (size : Size) (standing : Standing) (number : ℕ) (obstruction : Obstruction)
-    → AllFit size standing → Fits size obstruction.shape → AllFit size (map.insert standing number obstruction)
+    → AllFit size standing → FitsMap size obstruction.shape → AllFit size (map.insert standing number obstruction)
 AllFit-insert size standing number obstruction all fits = record {
   each = λ other found is.
       elim (found_after_insert _ obstruction found _ (sym (map.get-insert nat_cmp_total standing number obstruction other) ∙ is)) [
-        | inl same ↦ subst (λ (o : Obstruction). Fits size o.shape) same fits
+        | inl same ↦ subst (λ (o : Obstruction). FitsMap size o.shape) same fits
         | inr before ↦ all.each other found before
       ];
 }
@@ -45,12 +45,12 @@ AllFit-remove size standing number all = record {
 }
 
 AllFit-with_placed : (size : Size) (standing : Standing) (number : ℕ) (x z : ℤ) (old : Option Obstruction)
-    → AllFit size standing → IsSomeAnd old (λ obstruction. Fits size (moved_to obstruction.shape x z))
+    → AllFit size standing → IsSomeAnd old (λ obstruction. FitsMap size (moved_to obstruction.shape x z))
     → AllFit size (with_placed standing number x z old)
 AllFit-with_placed size standing number x z None all fits = absurd fits
 AllFit-with_placed size standing number x z (Some old) all fits = AllFit-insert size standing number (placed_at old x z) all fits
 
 pub AllFit-moved : (size : Size) (standing : Standing) (number : ℕ) (x z : ℤ) → AllFit size standing
-    → IsSomeAnd (map.get standing number) (λ obstruction. Fits size (moved_to obstruction.shape x z))
+    → IsSomeAnd (map.get standing number) (λ obstruction. FitsMap size (moved_to obstruction.shape x z))
     → AllFit size (moved standing number x z)
 AllFit-moved size standing number x z all fits = AllFit-with_placed size standing number x z (map.get standing number) all fits

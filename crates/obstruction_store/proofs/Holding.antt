@@ -16,7 +16,7 @@ use Rattle.std.specs.Ordering.{nat_cmp, eq_by_cmp, is_lt}
 use Rattle.std.specs.declared.cmp.Ordering.TheVariants.{Less}
 use Rattle.obstruction_shapes.specs.declared.shapes.Obstruction.{Obstruction}
 use Rattle.slab.specs.Slab.{Slab, Updates}
-use Rattle.obstruction_store.specs.Held.{slot_at, with_entry, held_entries, held_standing, AreFull, IsHeld}
+use Rattle.obstruction_store.specs.inner.Held.{slot_at, with_entry, held_entries, held_standing, HaveFullSlots, IsHeld}
 use Rattle.obstruction_store.specs.Standing.{Standing, Stands, IsFull}
 use Rattle.obstruction_store.proofs.Changes.{Changes, same_changes, reads, Holds, reads-add, Holds-add, reads-remove, Holds-remove, reads-write, Holds-write}
 use Rattle.obstruction_store.proofs.Listing.{ties_at, same_at, apart_by}
@@ -63,7 +63,7 @@ find-entry slots q e es (Some v) is some rest =
       | false ↦ rest
     ]
 
-find-held : (slots : List (Option Obstruction)) (q : ℕ) (es : List (ℕ × ℕ)) → AreFull slots es
+find-held : (slots : List (Option Obstruction)) (q : ℕ) (es : List (ℕ × ℕ)) → HaveFullSlots slots es
     → find nat_cmp q (held_entries slots es) ≡ option_and_then (slot_at slots) (lookup (is_at (nat_cmp q)) es)
 find-held slots q [] full = refl
 find-held slots q (e ∷ es) full = find-entry slots q e es (slot_at slots e.1) refl full.0 (find-held slots q es full.1)
@@ -73,17 +73,17 @@ length-entry : (number n : ℕ) (o : Option Obstruction) (rest : List (ℕ × Ob
 length-entry number n None rest some is = absurd (cc)
 length-entry number n (Some v) rest some is = omega (arith, is)
 
-length-held : (slots : List (Option Obstruction)) (es : List (ℕ × ℕ)) → AreFull slots es → length (held_entries slots es) ≡ length es
+length-held : (slots : List (Option Obstruction)) (es : List (ℕ × ℕ)) → HaveFullSlots slots es → length (held_entries slots es) ≡ length es
 length-held slots [] full = refl
 length-held slots (e ∷ es) full = length-entry e.0 (length es) (slot_at slots e.1) (held_entries slots es) full.0 (length-held slots es full.1)
 
 -- where each number that is found has a full slot, all slots are full
-pub AreFull-from_found : (slots : List (Option Obstruction)) (es : List (ℕ × ℕ)) → IsStrictlySortedBy nat_cmp (keys_of es)
-    → ((q key : ℕ) → lookup (is_at (nat_cmp q)) es ≡ Some key → IsSome (slot_at slots key)) → AreFull slots es
-AreFull-from_found slots [] sorted each = tt
-AreFull-from_found slots (e ∷ es) sorted each = (
+pub HaveFullSlots-from_found : (slots : List (Option Obstruction)) (es : List (ℕ × ℕ)) → IsStrictlySortedBy nat_cmp (keys_of es)
+    → ((q key : ℕ) → lookup (is_at (nat_cmp q)) es ≡ Some key → IsSome (slot_at slots key)) → HaveFullSlots slots es
+HaveFullSlots-from_found slots [] sorted each = tt
+HaveFullSlots-from_found slots (e ∷ es) sorted each = (
   each e.0 e.1 (lookup_head (is_at (nat_cmp e.0)) e es (ties_at e.0 e.0 refl)),
-  AreFull-from_found slots es (sorted_tail nat_cmp e.0 (keys_of es) sorted) (λ q key found. each q key (later q key found)),
+  HaveFullSlots-from_found slots es (sorted_tail nat_cmp e.0 (keys_of es) sorted) (λ q key found. each q key (later q key found)),
 )
   where
     later : (q key : ℕ) → lookup (is_at (nat_cmp q)) es ≡ Some key → lookup (is_at (nat_cmp q)) (e ∷ es) ≡ Some key
@@ -95,8 +95,8 @@ AreFull-from_found slots (e ∷ es) sorted each = (
     ] refl
 
 module _ (keys : BTreeMap ℕ ℕ) (slots : List (Option Obstruction)) (held : IsHeld keys slots) where
-  pub all_full : AreFull slots keys.entries
-  all_full = AreFull-from_found slots keys.entries held.ordered held.full
+  pub all_full : HaveFullSlots slots keys.entries
+  all_full = HaveFullSlots-from_found slots keys.entries held.ordered held.full
 
   pub entries-held : map.entries (held_standing keys slots) ≡ held_entries slots keys.entries
   entries-held = map.entries-from_sorted nat_cmp (held_entries slots keys.entries) (held_sorted slots keys.entries held.ordered)

@@ -2,6 +2,6 @@ pub mod Changes
 pub mod Fitting
 pub mod Holding
 pub mod Listing
-pub mod Picking
+pub mod TouchingNumbers
 pub mod Reaching
 pub mod Refusing

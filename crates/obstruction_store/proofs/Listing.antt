@@ -1,7 +1,6 @@
 -- Entries in the order of their numbers: what is among them, and lists of numbers that rise.
-use Rattle.std.proofs.Common.{◌≡◌, ◌≢◌, ◌⊎◌, ◌↔◌, ℕ, ◌<◌, Bool, true, false, ◌&&◌, cond, T, List, [], ◌∷◌, map, Some, Contains, refl, sym, ap, inl, inr, ◌∙◌, arith}
-use Rattle.std.proofs.lemmas.Map.Keys.{IsStrictlyIncreasing-from_sorted, sorted_from_strictly_increasing, sorted_head, sorted_tail}
-use Rattle.std.proofs.lemmas.List.Elements.{All-from_recursion, All-contains}
+use Rattle.std.proofs.Common.{◌≡◌, ◌≢◌, ◌↔◌, ℕ, ◌<◌, Bool, true, false, ◌&&◌, cond, T, List, [], ◌∷◌, map, Some, Contains, refl, sym, ap, inl, inr, ◌∙◌, arith}
+use Rattle.std.proofs.lemmas.Map.Keys.{IsStrictlyIncreasing-from_sorted, sorted_from_strictly_increasing, below_from_sorted}
 use Rattle.std.proofs.lemmas.Option.{same_Some}
 use Rattle.std.specs.Cmp.{ranked, nat_cmp_is}
 use Rattle.std.specs.FinMap as finite
@@ -12,7 +11,7 @@ use Rattle.std.specs.List.Sorted.{IsStrictlySortedBy, IsStrictlyIncreasing}
 use Rattle.std.specs.Ordering.{nat_cmp, eq_by_cmp, is_lt, is_eq}
 use Rattle.std.specs.declared.cmp.Ordering.{Ordering}
 use Rattle.std.specs.declared.cmp.Ordering.TheVariants.{Less, Equal, Greater}
-use Rattle.slab.proofs.SlabLemmas.{Contains-cons, Contains-cons_cases}
+use Rattle.nav_types.proofs.Items.{Contains-cons_cases, Contains-tail, same_ordered}
 
 -- ---- comparing numbers
 pub ties_at : (a b : ℕ) → a ≡ b → eq_by_cmp nat_cmp a b ≡ true
@@ -57,7 +56,7 @@ second false b p = absurd p
 -- ---- entries in order
 below_listed : {X : Type 0} (x n : ℕ) (v : X) (es : List (ℕ × X)) → T (below_all nat_cmp x es) → Contains es (n, v) → x < n
 below_listed x n v [] below listed = absurd (omega (arith, listed.1))
-below_listed x n v (e ∷ es) below listed = elim (Contains-cons_cases e (n, v) es listed) [
+below_listed x n v (e ∷ es) below listed = elim (Contains-cons_cases e es (n, v) listed) [
   | inl here ↦
       let less = less_by x e.0 (nat_cmp x e.0) refl (first _ _ below) in
       let at : e.0 ≡ n = ap (λ p. p.0) here in omega arith
@@ -67,7 +66,7 @@ below_listed x n v (e ∷ es) below listed = elim (Contains-cons_cases e (n, v) 
 found_from_listed : {X : Type 0} (n : ℕ) (v : X) (es : List (ℕ × X)) → T (is_sorted nat_cmp es) → Contains es (n, v)
     → find nat_cmp n es ≡ Some v
 found_from_listed n v [] sorted listed = absurd (omega (arith, listed.1))
-found_from_listed n v (e ∷ es) sorted listed = elim (Contains-cons_cases e (n, v) es listed) [
+found_from_listed n v (e ∷ es) sorted listed = elim (Contains-cons_cases e es (n, v) listed) [
   | inl here ↦
       let at : n ≡ e.0 = sym (ap (λ p. p.0) here) in
       ap (λ b. cond b (Some e.1) (find nat_cmp n es)) (ties_at n e.0 at) ∙ ap (λ p. Some p.1) here
@@ -84,7 +83,7 @@ listed_from_found {X} n v (e ∷ es) found =
           let number = sym (same_at n e.0 ties) in
           let value = same_Some e.1 v is in
           (0, omega arith, λ i. (number i, value i))
-      | false ↦ λ ties is. Contains-cons e (n, v) es (listed_from_found n v es is)
+      | false ↦ λ ties is. Contains-tail e es (n, v) (listed_from_found n v es is)
     ] refl found
 
 -- an entry is in the map's list exactly where the map has its value under its number
@@ -111,55 +110,10 @@ IsStrictlyIncreasing-keys m =
     IsStrictlyIncreasing-from_sorted (finite.keys m) (keys_sorted (finite.entries m) (finite.entries_sorted m))
 
 -- ---- rising lists
--- each later number is greater than the first
-above_first : (x n : ℕ) (xs : List ℕ) → IsStrictlySortedBy nat_cmp (x ∷ xs) → Contains xs n → x < n
-above_first x n xs sorted listed =
-    let below = All-from_recursion (λ y. nat_cmp x y ≡ Less) xs (sorted_head nat_cmp x xs sorted) in
-    ranked x n Less (sym (All-contains (λ y. nat_cmp x y ≡ Less) xs n below listed))
-
--- a number of the other list is its first one, or is a later one and greater
-in_other : (y n : ℕ) (ys : List ℕ) → IsStrictlySortedBy nat_cmp (y ∷ ys) → Contains (y ∷ ys) n → (y ≡ n) ⊎ ((y < n) × Contains ys n)
-in_other y n ys sorted listed = elim (Contains-cons_cases y n ys listed) [
-  | inl here ↦ inl here
-  | inr later ↦ inr (above_first y n ys sorted later, later)
-]
-
-contains_first : (x : ℕ) (xs : List ℕ) → Contains (x ∷ xs) x
-contains_first x xs = (0, omega arith, refl)
-
-same_first : (x y : ℕ) (xs ys : List ℕ) → IsStrictlySortedBy nat_cmp (x ∷ xs) → IsStrictlySortedBy nat_cmp (y ∷ ys)
-    → ((n : ℕ) → Contains (x ∷ xs) n → Contains (y ∷ ys) n) → ((n : ℕ) → Contains (y ∷ ys) n → Contains (x ∷ xs) n) → x ≡ y
-same_first x y xs ys rises rises' to from =
-    elim (in_other y x ys rises' (to x (contains_first x xs))) [
-      | inl same ↦ sym same
-      | inr above ↦ elim (in_other x y xs rises (from y (contains_first y ys))) [
-        | inl same ↦ same
-        | inr below ↦ absurd (omega (arith, above.0, below.0))
-      ]
-    ]
-
-later_in_other : (x y : ℕ) (xs ys : List ℕ) → x ≡ y → IsStrictlySortedBy nat_cmp (x ∷ xs) → IsStrictlySortedBy nat_cmp (y ∷ ys)
-    → ((n : ℕ) → Contains (x ∷ xs) n → Contains (y ∷ ys) n) → (n : ℕ) → Contains xs n → Contains ys n
-later_in_other x y xs ys same rises rises' to n listed =
-    let above = above_first x n xs rises listed in
-    elim (in_other y n ys rises' (to n (Contains-cons x n xs listed))) [
-      | inl here ↦ absurd (omega arith)
-      | inr later ↦ later.1
-    ]
-
-same_sorted : (xs ys : List ℕ) → IsStrictlySortedBy nat_cmp xs → IsStrictlySortedBy nat_cmp ys
-    → ((n : ℕ) → Contains xs n → Contains ys n) → ((n : ℕ) → Contains ys n → Contains xs n) → xs ≡ ys
-same_sorted [] [] rises rises' to from = refl
-same_sorted [] (y ∷ ys) rises rises' to from = absurd (omega (arith, (from y (contains_first y ys)).1))
-same_sorted (x ∷ xs) [] rises rises' to from = absurd (omega (arith, (to x (contains_first x xs)).1))
-same_sorted (x ∷ xs) (y ∷ ys) rises rises' to from =
-    let same = same_first x y xs ys rises rises' to from in
-    let rest = same_sorted xs ys (sorted_tail nat_cmp x xs rises) (sorted_tail nat_cmp y ys rises')
-    (later_in_other x y xs ys same rises rises' to) (later_in_other y x ys xs (sym same) rises' rises from) in
-    λ i. same i ∷ rest i
-
 -- two rising lists of the same numbers are equal
 pub same_rising : (xs ys : List ℕ) → IsStrictlyIncreasing xs → IsStrictlyIncreasing ys
     → ((n : ℕ) → Contains xs n → Contains ys n) → ((n : ℕ) → Contains ys n → Contains xs n) → xs ≡ ys
 same_rising xs ys rises rises' to from =
-    same_sorted xs ys (sorted_from_strictly_increasing xs rises) (sorted_from_strictly_increasing ys rises') to from
+    same_ordered (λ (m n : ℕ). m < n) (λ m n less more. absurd (omega arith)) xs ys
+    (λ i j d earlier inside. below_from_sorted xs i j d (sorted_from_strictly_increasing xs rises) earlier inside)
+    (λ i j d earlier inside. below_from_sorted ys i j d (sorted_from_strictly_increasing ys rises') earlier inside) to from

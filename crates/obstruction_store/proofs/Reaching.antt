@@ -5,7 +5,7 @@ use Rattle.nav_types.specs.declared.cells.Rect.{Rect}
 use Rattle.nav_types.specs.declared.cells.Size.{Size}
 use Rattle.nav_types.specs.Cells.{IsInside, IsInRect}
 use Rattle.obstruction_shapes.specs.declared.shapes.Shape.{Shape}
-use Rattle.obstruction_shapes.specs.Shapes.{Fits}
+use Rattle.obstruction_shapes.specs.Shapes.{FitsMap}
 use Rattle.obstruction_shapes.specs.Blocking.{blocked, reach, IsNear}
 use Rattle.obstruction_shapes.proofs.Near.{blocked_near}
 use Rattle.obstruction_store.specs.Touching.{Touches}
@@ -24,7 +24,7 @@ IsNear-rises shape clearance greatest cell less near =
     record { column = omega (arith, rises, near.column); row = omega (arith, rises, near.row) }
 
 -- a shape that blocks a cell of the rectangle touches it
-pub Touches-blocked : (size : Size) (rect : Rect) (clearance greatest : ℤ) (shape : Shape) (cell : Cell) → Fits size shape
+pub Touches-blocked : (size : Size) (rect : Rect) (clearance greatest : ℤ) (shape : Shape) (cell : Cell) → FitsMap size shape
     → unsigned_abs clearance ≤ unsigned_abs greatest → IsInside size cell → IsInRect rect cell
     → IsTrue (blocked shape clearance cell) → Touches size rect greatest shape
 Touches-blocked size rect clearance greatest shape cell fits less inside within hit =

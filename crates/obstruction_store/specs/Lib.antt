@@ -1,4 +1,4 @@
 pub mod Standing
 pub mod Touching
-pub mod Held
-pub mod Words
+pub mod RefusalTexts
+pub mod inner

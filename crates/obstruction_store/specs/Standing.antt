@@ -3,8 +3,9 @@ use Rattle.std.specs.Prelude.{◌≡◌, ℕ, ℤ, Option, None, Some, IsSome}
 use Rattle.std.specs.Ordering.{nat_cmp}
 use Rattle.std.specs.FinMap as map
 use Rattle.nav_types.specs.declared.cells.Size.{Size}
+use Rattle.nav_types.specs.declared.limits.TheConstants.{MAX_OBSTRUCTIONS}
 use Rattle.obstruction_shapes.specs.declared.shapes.Obstruction.{Obstruction}
-use Rattle.obstruction_shapes.specs.Shapes.{Fits, moved_to}
+use Rattle.obstruction_shapes.specs.Shapes.{FitsMap, moved_to}
 
 -- the standing obstructions: a finite map from number to obstruction
 abbrev pub Standing : Type 0
@@ -16,9 +17,9 @@ Stands standing number = IsSome (map.get standing number)
 
 -- as many obstructions stand as may at one time
 abbrev pub IsFull : Standing → Type 0
-IsFull standing = map.len standing ≡ 65536
+IsFull standing = map.len standing ≡ MAX_OBSTRUCTIONS
 
--- the obstruction with the middle of its shape at (x, z), in units of 1/65536, and its old mask
+-- the obstruction with the middle of its shape at (x, z), which are raw numbers, and its old mask
 abbrev pub placed_at : Obstruction → ℤ → ℤ → Obstruction
 placed_at obstruction x z = record { shape = moved_to obstruction.shape x z; mask = obstruction.mask }
 
@@ -33,4 +34,4 @@ moved standing number x z = with_placed standing number x z (map.get standing nu
 
 -- each standing shape fits a map of this size
 pub record AllFit (size : Size) (standing : Standing) : Type 0 where
-  pub each : (number : ℕ) (obstruction : Obstruction) → map.get standing number ≡ Some obstruction → Fits size obstruction.shape
+  pub each : (number : ℕ) (obstruction : Obstruction) → map.get standing number ≡ Some obstruction → FitsMap size obstruction.shape

@@ -10,7 +10,7 @@ use Rattle.obstruction_shapes.specs.declared.shapes.Shape.{Shape}
 use Rattle.obstruction_shapes.specs.Blocking.{IsNear}
 use Rattle.obstruction_store.specs.Standing.{Standing}
 
--- some cell of the map lies in the rectangle and within the shape's reach for this clearance, in units of 1/65536
+-- some cell of the map lies in the rectangle and within the shape's reach for this clearance, a raw number
 pub record Touches (size : Size) (rect : Rect) (clearance : ℤ) (shape : Shape) : Type 0 where
   pub cell : Cell
   pub inside : IsInside size cell

@@ -1,7 +1,7 @@
 //! The standing obstructions one after another.
 ghost use Rattle.std.specs.Prelude.{◌≡◌};
 ghost use Rattle.std.specs.Iterator.{YieldsFirstBy, item_count};
-ghost use Rattle.obstruction_store.specs.Held.{held_entries, AreFull};
+ghost use Rattle.obstruction_store.specs.inner.Held.{held_entries, HaveFullSlots};
 
 use obstruction_shapes::Obstruction;
 use slab::Slab;
@@ -19,13 +19,13 @@ pub struct Entries<'a> {
 impl<'a> Model for Entries<'a> {
     ghost use Rattle.std.specs.Prelude.{ℕ, List};
     ghost use Rattle.obstruction_shapes.specs.declared.shapes.Obstruction.{Obstruction as Standing};
-    ghost use Rattle.obstruction_store.specs.Held.{held_entries, AreFull};
+    ghost use Rattle.obstruction_store.specs.inner.Held.{held_entries, HaveFullSlots};
 
     ghost Value = { List (ℕ × Standing) };
 
     ghost view = { λ it. held_entries it.obstructions.now.slots it.keys };
 
-    ghost invariant = { λ it. AreFull it.obstructions.now.slots it.keys };
+    ghost invariant = { λ it. HaveFullSlots it.obstructions.now.slots it.keys };
 }
 
 impl<'a> Entries<'a> {
@@ -34,7 +34,7 @@ impl<'a> Entries<'a> {
         keys: Iter<'a, u32, usize>,
         obstructions: &'a Slab<Obstruction>,
     ) -> Entries<'a>
-        requires { AreFull obstructions.now.slots keys }
+        requires { HaveFullSlots obstructions.now.slots keys }
         ensures { result ≡ held_entries obstructions.now.slots keys.entry }
     {
         Entries { keys, obstructions }

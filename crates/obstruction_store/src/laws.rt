@@ -9,7 +9,7 @@ ghost use Rattle.nav_types.specs.Cells.{IsInside, IsInRect};
 ghost use Rattle.obstruction_shapes.specs.declared.shapes.Obstruction.{Obstruction};
 ghost use Rattle.obstruction_shapes.specs.declared.shapes.Shape.{Shape};
 ghost use Rattle.obstruction_shapes.specs.Blocking.{blocked};
-ghost use Rattle.obstruction_shapes.specs.Shapes.{Fits, moved_to};
+ghost use Rattle.obstruction_shapes.specs.Shapes.{FitsMap, moved_to};
 ghost use Rattle.obstruction_store.specs.Standing.{Standing, moved, AllFit};
 ghost use Rattle.obstruction_store.specs.Touching.{Touches, AreTouching};
 
@@ -32,7 +32,7 @@ pub fn all_fit_in_empty()
 /// A law: all shapes fit after one that fits is added.
 pub fn all_fit_after_add()
     ensures { (size : Size) (standing : Standing) (number : ℕ) (obstruction : Obstruction)
-        → AllFit size standing → Fits size obstruction.shape → AllFit size (map.insert standing number obstruction) }
+        → AllFit size standing → FitsMap size obstruction.shape → AllFit size (map.insert standing number obstruction) }
 {}
 
 /// A law: all shapes fit after one is removed.
@@ -43,14 +43,14 @@ pub fn all_fit_after_remove()
 /// A law: all shapes fit after one is moved to where it fits.
 pub fn all_fit_after_move()
     ensures { (size : Size) (standing : Standing) (number : ℕ) (x z : ℤ) → AllFit size standing
-        → IsSomeAnd (map.get standing number) (λ obstruction. Fits size (moved_to obstruction.shape x z))
+        → IsSomeAnd (map.get standing number) (λ obstruction. FitsMap size (moved_to obstruction.shape x z))
         → AllFit size (moved standing number x z) }
 {}
 
 /// A law: an obstruction that blocks a cell of the rectangle for some clearance touches the rectangle, for
 /// that clearance and for each greater one.
 pub fn what_blocks_touches()
-    ensures { (size : Size) (rect : Rect) (clearance greatest : ℤ) (shape : Shape) (cell : Cell) → Fits size shape
+    ensures { (size : Size) (rect : Rect) (clearance greatest : ℤ) (shape : Shape) (cell : Cell) → FitsMap size shape
         → unsigned_abs clearance ≤ unsigned_abs greatest → IsInside size cell → IsInRect rect cell
         → IsTrue (blocked shape clearance cell) → Touches size rect greatest shape }
 {}

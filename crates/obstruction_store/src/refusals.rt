@@ -29,7 +29,7 @@ pub enum MoveRefusal {
 pub struct UnknownId;
 
 impl fmt::Display for AddRefusal {
-    ghost use Rattle.obstruction_store.specs.Words.{add_refusal_text};
+    ghost use Rattle.obstruction_store.specs.RefusalTexts.{add_refusal_text};
 
     ghost output = { λ refusal. Some (add_refusal_text refusal) };
 
@@ -43,7 +43,7 @@ impl fmt::Display for AddRefusal {
 }
 
 impl fmt::Display for MoveRefusal {
-    ghost use Rattle.obstruction_store.specs.Words.{move_refusal_text};
+    ghost use Rattle.obstruction_store.specs.RefusalTexts.{move_refusal_text};
 
     ghost output = { λ refusal. Some (move_refusal_text refusal) };
 

@@ -1,7 +1,7 @@
 //! The store of the standing obstructions.
 ghost use Rattle.std.specs.Prelude.{◌≡◌, ◌≤◌, ◌↔◌, Some, None, IsSome, IsSomeAnd, IsErr, IfOk, OnOk, OnErr, option_copied};
 ghost use Rattle.std.specs.FinMap as map;
-ghost use Rattle.obstruction_shapes.specs.Shapes.{Fits, moved_to};
+ghost use Rattle.obstruction_shapes.specs.Shapes.{FitsMap, moved_to};
 ghost use Rattle.obstruction_store.specs.Standing.{Stands, IsFull, moved};
 
 use crate::entries::Entries;
@@ -36,7 +36,7 @@ impl Model for Store {
 
     ghost coded = { map.code coded_ℕ obstruction_row.coded };
 
-    ghost use Rattle.obstruction_store.specs.Held.{held_standing, IsHeld};
+    ghost use Rattle.obstruction_store.specs.inner.Held.{held_standing, IsHeld};
 
     ghost view = { λ s. held_standing s.keys s.obstructions.slots };
 
@@ -101,11 +101,11 @@ impl Store {
     /// memory.
     pub fn move_to(&mut self, id: u32, x: Fixed, z: Fixed, size: Size) -> Result<(), MoveRefusal>
         ensures moves { OnOk result (self.new ≡ moved self.old id x z) }
-        ensures fits { OnOk result (IsSomeAnd (map.get self.old id) (λ obstruction. Fits size (moved_to obstruction.shape x z))) }
+        ensures fits { OnOk result (IsSomeAnd (map.get self.old id) (λ obstruction. FitsMap size (moved_to obstruction.shape x z))) }
         ensures kept { OnErr result (self.new ≡ self.old) }
         ensures unknown { (result ≡ Err MoveRefusal.UnknownId) ↔ (map.get self.old id ≡ None) }
         ensures bad_shape { (result ≡ Err MoveRefusal.BadShape)
-            ↔ IsSomeAnd (map.get self.old id) (λ obstruction. ¬ Fits size (moved_to obstruction.shape x z)) }
+            ↔ IsSomeAnd (map.get self.old id) (λ obstruction. ¬ FitsMap size (moved_to obstruction.shape x z)) }
     {
         let Some(&key) = self.keys.get(&id) else {
             return Err(MoveRefusal::UnknownId);
@@ -134,7 +134,7 @@ impl Store {
     /// How many obstructions stand, at most 65,536.
     pub fn count(&self) -> u32
         ensures value { result ≡ map.len self.now }
-        ensures few { result ≤ 65536 }
+        ensures few { result ≤ MAX_OBSTRUCTIONS }
     {
         self.keys.len() as u32
     }

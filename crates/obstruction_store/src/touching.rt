@@ -2,7 +2,7 @@
 ghost use Rattle.std.specs.Prelude.{◌↔◌, IsTrue, IfOk};
 ghost use Rattle.nav_types.specs.declared.cells.Cell.{Cell};
 ghost use Rattle.nav_types.specs.Cells.{IsInRect};
-ghost use Rattle.obstruction_shapes.specs.Shapes.{Fits};
+ghost use Rattle.obstruction_shapes.specs.Shapes.{FitsMap};
 ghost use Rattle.obstruction_store.specs.Standing.{AllFit};
 ghost use Rattle.obstruction_store.specs.Touching.{Touches, AreTouching};
 
@@ -42,7 +42,7 @@ impl Store {
 
 /// Whether the shape, which fits the size, touches the rectangle (`Touches`).
 fn touches(shape: &Shape, rect: Rect, clearance: Fixed, size: Size) -> bool
-    requires { Fits size shape.now }
+    requires { FitsMap size shape.now }
     ensures { IsTrue result ↔ Touches size rect clearance shape.now }
 {
     match reach_rect(shape, clearance, size) {

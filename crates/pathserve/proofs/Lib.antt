@@ -1,7 +1,8 @@
-pub mod TopLines
-pub mod TopWrites
-pub mod TopWent
-pub mod TopStands
-pub mod TopTexts
-pub mod TopStops
-pub mod TopThreads
+pub mod Lines
+pub mod Writes
+pub mod Progress
+pub mod Replaying
+pub mod OneText
+pub mod Stops
+pub mod OneThread
+pub mod Passes

@@ -1,3 +1,3 @@
 pub mod Commands
 pub mod Output
-pub mod Writing
+pub mod inner

@@ -1,14 +1,15 @@
 //! The program as one call: scripts in, answers out.
 #![tactic(auto)]
 
-pub mod commands;
-pub mod laws;
-pub mod replay;
-pub mod status;
+mod commands;
+mod laws;
+mod replay;
+mod status;
 #[cfg(test)]
 mod tests;
-pub mod writing;
+mod writing;
 
 pub use commands::{Command, NotWords, read_words};
+pub use laws::{beginning_is_prefix, one_out, stop_is_not_taken, taken_text, text_is_one_thread};
 pub use replay::{run, run_replay};
 pub use status::Status;

@@ -1,6 +1,7 @@
 //! The program's work: a script is read and answered turn by turn.
 ghost use Rattle.std.specs.Prelude.{◌≡◌, ◌≢◌, ◌≤◌, ◌⊎◌, ◌↔◌, ℕ, IfOk, List, Option, Some, None};
 ghost use Rattle.io_edges.specs.Faults.{Rose};
+ghost use Rattle.io_edges.specs.Passing.{HasTaken};
 ghost use Rattle.pathserve.specs.declared.commands.Command.TheVariants.{Replay};
 ghost use Rattle.pathserve.specs.Commands.{command_of};
 ghost use Rattle.script_text.specs.Script.{reading, beginning};
@@ -22,6 +23,8 @@ use turn_core::{AnsweredTurn, TurnPosts, answer_turn, bare_version};
 
 /// All that the program does: reads the words, and does what they ask for. Where the words are not in the grammar the
 /// status is Usage, and nothing is read or written.
+///
+/// At every status the sink keeps what it took behind what it had kept, and neither count of faults has fallen.
 pub fn run<R: Threads + Wait + Sync, S: Source, K: Sink, G: Gate + Sync>(
     rt: &R,
     alloc: Global,
@@ -36,6 +39,9 @@ pub fn run<R: Threads + Wait + Sync, S: Source, K: Sink, G: Gate + Sync>(
         → ReplaysTold (S.left source.old) (S.left source.new) (K.kept sink.old) (K.kept sink.new) result }
     ensures stop { (workers : ℕ) (bytes : List ℕ) → command_of words.now ≡ Some (Replay workers) → S.left source.old ≡ Some bytes
         → ComesByStop (S.faults source.old) (S.faults source.new) (K.faults sink.old) (K.faults sink.new) (reading bytes beginning).ends result }
+    ensures taken { HasTaken (K.kept sink.old) (K.kept sink.new) }
+    ensures source_later { S.faults source.old ≤ S.faults source.new }
+    ensures sink_later { K.faults sink.old ≤ K.faults sink.new }
     ensures read { result ≡ Status.ReadFault → Rose (S.faults source.old) (S.faults source.new) }
     ensures write { result ≡ Status.WriteFault → Rose (K.faults sink.old) (K.faults sink.new) }
 {
@@ -62,6 +68,9 @@ pub fn run_replay<R: Threads + Sync, S: Source, K: Sink, G: Gate + Sync>(
     ensures stop { (bytes : List ℕ) → S.left source.old ≡ Some bytes
         → ComesByStop (S.faults source.old) (S.faults source.new) (K.faults sink.old) (K.faults sink.new) (reading bytes beginning).ends result }
     ensures usage { result ≢ Status.Usage }
+    ensures taken { HasTaken (K.kept sink.old) (K.kept sink.new) }
+    ensures source_later { S.faults source.old ≤ S.faults source.new }
+    ensures sink_later { K.faults sink.old ≤ K.faults sink.new }
     ensures read { result ≡ Status.ReadFault → Rose (S.faults source.old) (S.faults source.new) }
     ensures write { result ≡ Status.WriteFault → Rose (K.faults sink.old) (K.faults sink.new) }
 {

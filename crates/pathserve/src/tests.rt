@@ -9,8 +9,9 @@ use std::test::Fail;
 use std::thread::Threads;
 
 mod scripts;
+mod turn_by_turn;
 
-use scripts::{ANSWERED, BAD, COVER, COVER_ANSWERS};
+use scripts::{COVER, COVER_ANSWERS, SCRIPTS};
 
 /// A map of 3 by 3 cells, without its newline.
 const MAP_LINE: &str =
@@ -93,22 +94,31 @@ fn replays_to<R: Threads + Wait + Sync>(
 
 #[test]
 fn scripts_are_answered(rt: HostRuntime) {
-    for (text, answers) in ANSWERED {
+    for (script, status, answers) in SCRIPTS {
         assert!(rt;
-            replays_to(&rt, rt.alloc(), text.as_bytes(), Status::Done, answers),
-            "{text}"
+            replays_to(&rt, rt.alloc(), script.as_bytes(), status, answers),
+            "{script}"
         );
     }
 }
 
+/// Whether a replay over a source and a sink of small pieces is that over large ones.
+fn replays_in_pieces<R: Threads + Wait + Sync>(
+    rt: &R,
+    alloc: Global,
+    script: &str,
+    answers: &str,
+) -> Result<bool, NoMemory> {
+    let words = words_of(alloc, &["replay"])?;
+    let mut source = MemorySource::new(alloc, script.as_bytes(), 7, &[])?;
+    let mut sink = MemorySink::new(alloc, 5, &[])?;
+    let status = run(rt, alloc, &words, &mut source, &mut sink, &OpenGate);
+    Ok(status == Status::Done && sink.kept() == answers.as_bytes())
+}
+
 #[test]
-fn bad_lines_are_named(rt: HostRuntime) {
-    for (text, answers) in BAD {
-        assert!(rt;
-            replays_to(&rt, rt.alloc(), text.as_bytes(), Status::BadLine, answers),
-            "{text}"
-        );
-    }
+fn pieces_change_nothing(rt: HostRuntime) {
+    assert!(rt; replays_in_pieces(&rt, rt.alloc(), COVER, COVER_ANSWERS) == Ok(true));
 }
 
 /// Whether a run of the words, none of whose reads and writes may fail, reads and writes nothing.

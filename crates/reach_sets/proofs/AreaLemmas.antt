@@ -1,15 +1,15 @@
 -- The numbers of a forest's trees are the areas of the regions.
 use Rattle.std.proofs.Common.{◌≡◌, ℕ, ◌<◌, ◌≤◌, List, length, get_or, map, sum, cond, refl, sym, ap, ◌∙◌, subst, inl, inr, arith, option_map}
 use Rattle.std.specs.Prelude.{Contains}
-use Rattle.std.proofs.lemmas.List.{length-map, get_or-map}
-use Rattle.std.proofs.lemmas.List.Elements.{Contains-get_or}
+use Rattle.std.proofs.lemmas.List.{length-map}
 use Rattle.std.proofs.lemmas.Option.{slice_get-map, get_or_from_slice_get}
 use Rattle.std.proofs.lemmas.Bool.{cases_lt}
 use Rattle.std.proofs.lemmas.Bool.Decides.{eqb_tells}
 use Rattle.reach_sets.specs.declared.regions.RegionId.{RegionId}
-use Rattle.reach_sets.specs.Rows.{IsRegion, IsBefore, place}
-use Rattle.reach_sets.specs.AreaNumbers.{AreaNumbers, area_of, AreJoined, IsFirst, AreAreas}
-use Rattle.reach_sets.specs.Forests.{HasParent, AreInOneTree, IsForestOf, IsRootNumber, AreRootNumbers}
+use Rattle.reach_sets.specs.RegionOrder.{IsRegion, IsRegionBefore, place}
+use Rattle.reach_sets.specs.AreaNumbers.{AreaNumbers, area_of, AreJoined, IsFirstRegion, AreAreas}
+use Rattle.reach_sets.specs.inner.Forests.{HasParent, AreInOneTree, IsForestOf, IsRootNumber, AreRootNumbers}
+use Rattle.nav_types.proofs.Items.{Contains-map, from_map, AllPairs-map}
 use Rattle.reach_sets.proofs.ChainLemmas.{chained_on, chained_back, constant}
 use Rattle.reach_sets.proofs.ForestLemmas.{to_parent}
 use Rattle.reach_sets.proofs.RowLemmas.{region_from, place_inside, place_before, before_place, region_from-place, region_from-is_region, place-region_from}
@@ -21,16 +21,6 @@ area_of-region table id first =
       | inl zero ↦ absurd (omega (arith, zero.1))
       | inr one ↦ ap (λ b. cond b 0 (get_or table.areas (place table.regions id) 0)) one.0
     ]
-
-Contains-map : (at : ℕ → RegionId) (xs : List ℕ) (k : ℕ) → Contains xs k → Contains (map at xs) (at k)
-Contains-map at xs k has =
-    (has.0, omega (arith, length-map xs at, has.1), get_or-map at xs has.0 k (at k) has.1 ∙ ap at has.2)
-
--- an item of the mapped list comes from one of the list
-from_map : (at : ℕ → RegionId) (xs : List ℕ) (id : RegionId) → Contains (map at xs) id → (k : ℕ) × (Contains xs k × (at k ≡ id))
-from_map at xs id has =
-    let low : has.0 < length xs = omega (arith, length-map xs at, has.1) in
-    (get_or xs has.0 0, (Contains-get_or xs has.0 0 low, sym (get_or-map at xs has.0 0 id low) ∙ has.2))
 
 -- what two places with one number have in common
 same_root : (parents roots : List ℕ) (a b m n : ℕ) (x : IsRootNumber parents roots a m) (y : IsRootNumber parents roots b n) → m ≡ n → x.root ≡ y.root
@@ -68,7 +58,7 @@ same_joined regions links parents numbers count forest numbered long a b a_is b_
     (forest.together a b a_is b_is).0 tree
 
 -- the regions of the roots are the first regions of their areas
-root_first : (regions : List ℕ) (links : List (RegionId × RegionId)) (parents numbers : List ℕ) (count : ℕ) → IsForestOf regions links parents → (numbered : AreRootNumbers parents numbers count) → length numbers ≡ length parents → (k : ℕ) → Contains numbered.roots k → IsFirst regions links (region_from 0 regions k)
+root_first : (regions : List ℕ) (links : List (RegionId × RegionId)) (parents numbers : List ℕ) (count : ℕ) → IsForestOf regions links parents → (numbered : AreRootNumbers parents numbers count) → length numbers ≡ length parents → (k : ℕ) → Contains numbered.roots k → IsFirstRegion regions links (region_from 0 regions k)
 root_first regions links parents numbers count forest numbered long k has =
     let root = numbered.each_root k has in let each = forest.each in
     let at = region_from 0 regions k in
@@ -89,7 +79,7 @@ root_first regions links parents numbers count forest numbered long k has =
     }
 
 -- the first region of an area is that of a root
-first_root : (regions : List ℕ) (links : List (RegionId × RegionId)) (parents numbers : List ℕ) (count : ℕ) → IsForestOf regions links parents → (numbered : AreRootNumbers parents numbers count) → length numbers ≡ length parents → (id : RegionId) → IsFirst regions links id → Contains (map (λ y. region_from 0 regions y) numbered.roots) id
+first_root : (regions : List ℕ) (links : List (RegionId × RegionId)) (parents numbers : List ℕ) (count : ℕ) → IsForestOf regions links parents → (numbered : AreRootNumbers parents numbers count) → length numbers ≡ length parents → (id : RegionId) → IsFirstRegion regions links id → Contains (map (λ y. region_from 0 regions y) numbered.roots) id
 first_root regions links parents numbers count forest numbered long id first =
     let at : ℕ → RegionId = λ y. region_from 0 regions y in
     let k = place regions id in let each = forest.each in
@@ -128,21 +118,14 @@ areas_made regions links parents numbers count forest numbered long =
       are_firsts = record {
         each = λ id has.
             let from = from_map at roots id has in
-            let P : RegionId → Type 0 = λ x. IsFirst regions links x in
+            let P : RegionId → Type 0 = λ x. IsFirstRegion regions links x in
             subst P from.1.1 (root_first regions links parents numbers count forest numbered long from.0 from.1.0);
         all = λ id first. first_root regions links parents numbers count forest numbered long id first;
-        rising = λ i j d low high.
-            let long_roots = length-map roots at in
-            let j_low : j < length roots = omega arith in let i_low : i < length roots = omega arith in
-            let a = get_or roots i 0 in let b = get_or roots j 0 in
-            let a_root = numbered.each_root a (Contains-get_or roots i 0 i_low) in
-            let b_root = numbered.each_root b (Contains-get_or roots j 0 j_low) in
-            let a_low : a < sum regions = omega (arith, a_root.0) in let b_low : b < sum regions = omega (arith, b_root.0) in
-            let P : RegionId → Type 0 = λ x. IsBefore x (get_or (map at roots) j d) in
-            let Q : RegionId → Type 0 = λ y. IsBefore (at a) y in
-            subst P (sym (get_or-map at roots i 0 d i_low)) (subst Q (sym (get_or-map at roots j 0 d j_low))
-            (before_place regions (at a) (at b) (region_from-is_region regions a a_low) (region_from-is_region regions b b_low)
-            (omega (arith, numbered.rising i j 0 low j_low, place-region_from regions a a_low, place-region_from regions b b_low))));
+        rising = AllPairs-map ◌<◌ IsRegionBefore at roots numbered.rising (λ a b in_a in_b less.
+            let a_low : a < sum regions = omega (arith, (numbered.each_root a in_a).0) in
+            let b_low : b < sum regions = omega (arith, (numbered.each_root b in_b).0) in
+            before_place regions (at a) (at b) (region_from-is_region regions a a_low) (region_from-is_region regions b b_low)
+            (omega (arith, place-region_from regions a a_low, place-region_from regions b b_low)));
       };
       numbers = λ id is.
           let x = area_of-region table id is.first in

@@ -3,7 +3,7 @@ use Rattle.std.proofs.Common.{◌≡◌, ◌≢◌, ℕ, ◌<◌, ◌≤◌, ◌
 use Rattle.std.proofs.lemmas.List.{length-set}
 use Rattle.std.proofs.lemmas.Bool.{cases_eq}
 use Rattle.reach_sets.specs.Chains.{AreChained}
-use Rattle.reach_sets.specs.Forests.{IsForest, HasParent, IsRoot, AreInOneTree, KeepsTrees, JoinsTrees}
+use Rattle.reach_sets.specs.inner.Forests.{IsForest, HasParent, IsRoot, AreInOneTree, KeepsTrees, JoinsTrees}
 use Rattle.reach_sets.proofs.ChainLemmas.{chained_same, chained_once, chained_on, chained_back, chained_to}
 
 -- the parents after one is changed

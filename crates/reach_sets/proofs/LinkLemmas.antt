@@ -3,9 +3,9 @@ use Rattle.std.proofs.Common.{◌≡◌, ℕ, ◌+◌, ◌<◌, ◌⊎◌, List,
 use Rattle.std.specs.Prelude.{Contains, All, ◌↔◌}
 use Rattle.std.proofs.lemmas.List.Elements.{All-contains, All-weaker, All-get_or, All-more, Contains-get_or}
 use Rattle.reach_sets.specs.declared.regions.RegionId.{RegionId}
-use Rattle.reach_sets.specs.Rows.{IsRegion, place}
+use Rattle.reach_sets.specs.RegionOrder.{IsRegion, place}
 use Rattle.reach_sets.specs.AreaNumbers.{IsLink, AreJoined}
-use Rattle.reach_sets.specs.Forests.{HasParent, AreInOneTree, JoinsTrees}
+use Rattle.reach_sets.specs.inner.Forests.{HasParent, AreInOneTree, JoinsTrees}
 use Rattle.reach_sets.proofs.ChainLemmas.{chained_same, chained_once, chained_to}
 use Rattle.reach_sets.proofs.RowLemmas.{region_from, region_from-place}
 

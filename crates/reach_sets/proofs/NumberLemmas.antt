@@ -1,12 +1,12 @@
 -- Trees are numbered in the order of their roots.
 use Rattle.std.proofs.Common.{◌≡◌, ◌≢◌, ℕ, ◌+◌, ◌<◌, ◌≤◌, List, [], ◌∷◌, ◌++◌, length, get_or, refl, sym, ap, ◌∙◌, subst, inl, inr, arith, length-append}
-use Rattle.std.specs.Prelude.{Contains, Some, slice_get}
+use Rattle.std.specs.Prelude.{Contains}
 use Rattle.std.proofs.lemmas.List.{get_or_append_left, get_or_push, get_or_read}
 use Rattle.std.proofs.lemmas.List.Elements.{Contains-append_left, Contains-get_or, Contains-push, Contains-push_cases}
 use Rattle.std.proofs.lemmas.List.Quantifiers.{all_pairs_push}
-use Rattle.std.proofs.lemmas.Option.{slice_get-get_or, slice_get_within, get_or_from_slice_get}
 use Rattle.std.proofs.lemmas.Bool.{cases_lt}
-use Rattle.reach_sets.specs.Forests.{IsForest, HasParent, AreInOneTree, IsRootNumber, AreRootNumbers}
+use Rattle.reach_sets.specs.inner.Forests.{IsForest, HasParent, AreInOneTree, IsRootNumber, AreRootNumbers}
+use Rattle.nav_types.proofs.Items.{slice_get-append_left, slice_get-push_last}
 use Rattle.reach_sets.proofs.ChainLemmas.{chained_self, chained_on}
 use Rattle.reach_sets.proofs.ForestLemmas.{to_parent}
 
@@ -21,18 +21,6 @@ none_numbered parents =
       numbers_are = λ k low. absurd (omega arith);
       same = λ k low. absurd (omega arith);
     }
-
--- a place in a list stays where the list grows at its end
-slice_get_push : (xs : List ℕ) (y k x : ℕ) → slice_get xs k ≡ Some x → slice_get (xs ++ y ∷ []) k ≡ Some x
-slice_get_push xs y k x is =
-    let within = slice_get_within xs k x is in
-    slice_get-get_or (xs ++ y ∷ []) k 0 (omega (arith, length-append xs (y ∷ [])))
-    ∙ ap Some (get_or_append_left xs (y ∷ []) 0 k within ∙ get_or_from_slice_get xs k x 0 is)
-
-slice_get_last : (xs : List ℕ) (y : ℕ) → slice_get (xs ++ y ∷ []) (length xs) ≡ Some y
-slice_get_last xs y =
-    slice_get-get_or (xs ++ y ∷ []) (length xs) 0 (omega (arith, length-append xs (y ∷ [])))
-    ∙ ap Some (get_or_push xs y 0 (length xs) refl)
 
 -- what holds of the numbers so far and of one more
 numbers_push : (numbers : List ℕ) (number : ℕ) (P : ℕ → ℕ → Type 0) → ((k : ℕ) → k < length numbers → P k (get_or numbers k 0)) → P (length numbers) number → (k : ℕ) → k < length (numbers ++ number ∷ []) → P k (get_or (numbers ++ number ∷ []) k 0)
@@ -57,7 +45,7 @@ root_numbered parents numbers count forest inside root so_far =
     let kept : (k number : ℕ) → IsRootNumber parents roots k number → IsRootNumber parents more k number = λ k number is. record {
       place = is.place;
       root = is.root;
-      at = slice_get_push roots here is.place is.root is.at;
+      at = slice_get-append_left roots (here ∷ []) is.place is.root is.at;
       number_is = is.number_is;
       below = is.below;
       own = is.own;
@@ -66,7 +54,7 @@ root_numbered parents numbers count forest inside root so_far =
     let last : IsRootNumber parents more here (count + 1) = record {
       place = length roots;
       root = here;
-      at = slice_get_last roots here;
+      at = slice_get-push_last roots here;
       number_is = omega (arith, so_far.count_is);
       below = omega arith;
       own = λ _. refl;

@@ -5,7 +5,8 @@ use Rattle.std.proofs.lemmas.List.{take_all, take-take}
 use Rattle.std.proofs.lemmas.List.Sums.{sum_by-cons, sum_by_more, sum_by_more_le, sum_by-take-le}
 use Rattle.std.proofs.lemmas.Bool.{cases_lt, cases_order, lt-ltb, le-ltb}
 use Rattle.reach_sets.specs.declared.regions.RegionId.{RegionId}
-use Rattle.reach_sets.specs.Rows.{IsRegion, IsBefore, place, starts_from, steps_from, counts_of}
+use Rattle.reach_sets.specs.RegionOrder.{IsRegion, IsRegionBefore, place}
+use Rattle.reach_sets.specs.inner.RowStarts.{starts_from, steps_from, counts_of}
 
 -- the region at a place of the row whose chunks are numbered from `chunk`
 abbrev pub region_from : ℕ → List ℕ → ℕ → RegionId
@@ -158,7 +159,7 @@ sum_until xs c d low listed =
     let same : sum (take (c + 1) (take d xs)) ≡ sum (take (c + 1) xs) = ap sum (take-take (c + 1) d xs (omega arith)) in
     omega (arith, more, part, same)
 
-pub place_before : (regions : List ℕ) (a b : RegionId) → IsRegion regions a → IsRegion regions b → IsBefore a b → place regions a < place regions b
+pub place_before : (regions : List ℕ) (a b : RegionId) → IsRegion regions a → IsRegion regions b → IsRegionBefore a b → place regions a < place regions b
 place_before regions a b a_is b_is before =
     let a_first = a_is.first in let a_last = a_is.last in let b_first = b_is.first in
     elim before [
@@ -166,7 +167,7 @@ place_before regions a b a_is b_is before =
       | inr here ↦ omega (arith, here.1, ap (λ c. sum (take c regions)) here.0)
     ]
 
-pub before_place : (regions : List ℕ) (a b : RegionId) → IsRegion regions a → IsRegion regions b → place regions a < place regions b → IsBefore a b
+pub before_place : (regions : List ℕ) (a b : RegionId) → IsRegion regions a → IsRegion regions b → place regions a < place regions b → IsRegionBefore a b
 before_place regions a b a_is b_is before =
     let a_first = a_is.first in let b_first = b_is.first in let b_last = b_is.last in
     elim (cases_order a.chunk b.chunk) [

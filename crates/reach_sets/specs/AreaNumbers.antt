@@ -2,7 +2,7 @@
 use Rattle.std.specs.Prelude.{ℕ, ◌≡◌, ◌↔◌, ◌+◌, ◌==◌, if◌then◌else◌, List, length, sum, slice_index, slice_get, Some, Contains, AllPairs}
 use Rattle.reach_sets.specs.declared.regions.RegionId.{RegionId}
 use Rattle.reach_sets.specs.Chains.{AreChained}
-use Rattle.reach_sets.specs.Rows.{IsRegion, IsBefore, place}
+use Rattle.reach_sets.specs.RegionOrder.{IsRegion, IsRegionBefore, place}
 
 -- the areas of all regions
 pub record AreaNumbers : Type 0 where
@@ -26,18 +26,18 @@ abbrev pub AreJoined : List (RegionId × RegionId) → RegionId → RegionId →
 AreJoined links a b = AreChained (IsLink links) a b
 
 -- the region exists, and no region that is joined to it comes before it
-pub record IsFirst (regions : List ℕ) (links : List (RegionId × RegionId)) (id : RegionId) : Type 0 where
+pub record IsFirstRegion (regions : List ℕ) (links : List (RegionId × RegionId)) (id : RegionId) : Type 0 where
   pub exists : IsRegion regions id
-  pub earliest : (other : RegionId) → IsRegion regions other → AreJoined links id other → IsBefore other id → ⊥
+  pub earliest : (other : RegionId) → IsRegion regions other → AreJoined links id other → IsRegionBefore other id → ⊥
 
 -- the first regions of all areas, in order
-pub record AreFirsts (regions : List ℕ) (links : List (RegionId × RegionId)) (firsts : List RegionId) : Type 0 where
-  pub each : (id : RegionId) → Contains firsts id → IsFirst regions links id
-  pub all : (id : RegionId) → IsFirst regions links id → Contains firsts id
-  pub rising : AllPairs IsBefore firsts
+pub record AreFirstRegions (regions : List ℕ) (links : List (RegionId × RegionId)) (firsts : List RegionId) : Type 0 where
+  pub each : (id : RegionId) → Contains firsts id → IsFirstRegion regions links id
+  pub all : (id : RegionId) → IsFirstRegion regions links id → Contains firsts id
+  pub rising : AllPairs IsRegionBefore firsts
 
 -- the number is 1 plus the place of the first region of this one's area among the first regions of all areas
-pub record HasNumber (links : List (RegionId × RegionId)) (firsts : List RegionId) (id : RegionId) (number : ℕ) : Type 0 where
+pub record HasAreaNumber (links : List (RegionId × RegionId)) (firsts : List RegionId) (id : RegionId) (number : ℕ) : Type 0 where
   pub place : ℕ
   pub first : RegionId
   pub at : slice_get firsts place ≡ Some first
@@ -52,6 +52,6 @@ pub record AreAreas (regions : List ℕ) (links : List (RegionId × RegionId)) (
   pub together : (a b : RegionId) → IsRegion regions a → IsRegion regions b
       → (area_of table a ≡ area_of table b) ↔ AreJoined links a b
   pub firsts : List RegionId
-  pub are_firsts : AreFirsts regions links firsts
-  pub numbers : (id : RegionId) → IsRegion regions id → HasNumber links firsts id (area_of table id)
+  pub are_firsts : AreFirstRegions regions links firsts
+  pub numbers : (id : RegionId) → IsRegion regions id → HasAreaNumber links firsts id (area_of table id)
   pub count_is : table.count ≡ length firsts

@@ -1,4 +1,4 @@
 pub mod Chains
-pub mod Rows
+pub mod RegionOrder
 pub mod AreaNumbers
-pub mod Forests
+pub mod inner

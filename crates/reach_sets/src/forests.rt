@@ -1,6 +1,6 @@
 ghost use Rattle.std.specs.Prelude.{◌≡◌, ℕ, ◌<◌, ◌≤◌, ◌^◌, length, sum, slice_index, All, IfOk};
-ghost use Rattle.reach_sets.specs.Rows.{IsRegion};
-ghost use Rattle.reach_sets.specs.Forests.{IsForest, IsRoot, AreInOneTree, KeepsTrees, JoinsTrees, IsForestOf, AreRootNumbers};
+ghost use Rattle.reach_sets.specs.RegionOrder.{IsRegion};
+ghost use Rattle.reach_sets.specs.inner.Forests.{IsForest, IsRoot, AreInOneTree, KeepsTrees, JoinsTrees, IsForestOf, AreRootNumbers};
 
 use crate::offsets::Offsets;
 use crate::regions::RegionId;
@@ -33,6 +33,7 @@ fn join(parents: &mut [u32], a: u32, b: u32)
     requires b_inside { b < length parents.old }
     ensures { JoinsTrees parents.old a b parents.new }
 {
+    // a tree's root is its earliest place, which is what numbers it
     let first = root_of(parents, a);
     let second = root_of(parents, b);
     if first < second {
@@ -96,6 +97,7 @@ pub fn number_trees(alloc: Global, parents: &[u32]) -> Result<(Vec<u32>, u32), N
             count += 1;
             numbers.push(count)?;
         } else {
+            // a parent stands before its places, so its number is known
             let number = numbers[parent];
             numbers.push(number)?;
         }

@@ -3,11 +3,11 @@
 
 mod forests;
 mod offsets;
-pub mod regions;
-pub mod tables;
+mod regions;
+mod tables;
 
 pub use regions::{Links, RegionId};
-pub use tables::AreaTable;
+pub use tables::{AreaTable, one_table};
 
 #[cfg(test)]
 mod tests;

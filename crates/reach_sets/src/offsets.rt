@@ -1,5 +1,5 @@
 ghost use Rattle.std.specs.Prelude.{◌≡◌, ◌<◌, ◌^◌, sum, IfOk};
-ghost use Rattle.reach_sets.specs.Rows.{IsRegion, place};
+ghost use Rattle.reach_sets.specs.RegionOrder.{IsRegion, place};
 
 use crate::regions::RegionId;
 use nav_types::NoMemory;
@@ -16,7 +16,7 @@ pub struct Offsets {
 
 impl Model for Offsets {
     ghost use Rattle.std.specs.Prelude.{ℕ, List, ◌≡◌, ◌<◌, ◌^◌, sum};
-    ghost use Rattle.reach_sets.specs.Rows.{starts_from, counts_of};
+    ghost use Rattle.reach_sets.specs.inner.RowStarts.{starts_from, counts_of};
 
     ghost Value = { List ℕ };
 

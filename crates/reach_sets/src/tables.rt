@@ -1,6 +1,6 @@
-ghost use Rattle.std.specs.Prelude.{◌≡◌, ◌≢◌, ◌<◌, ◌≤◌, ◌↔◌, ℕ, List, length, sum, slice_index, All, IsTrue, IfOk};
+ghost use Rattle.std.specs.Prelude.{◌≡◌, ◌≢◌, ◌<◌, ◌≤◌, ◌^◌, ◌↔◌, ℕ, List, length, sum, slice_index, All, IsTrue, IfOk};
 ghost use Rattle.reach_sets.specs.declared.regions.RegionId.{RegionId};
-ghost use Rattle.reach_sets.specs.Rows.{IsRegion};
+ghost use Rattle.reach_sets.specs.RegionOrder.{IsRegion};
 ghost use Rattle.reach_sets.specs.AreaNumbers.{AreaNumbers, AreAreas, area_of};
 
 use crate::forests::{forest_of, number_trees};
@@ -36,11 +36,12 @@ impl AreaTable {
     /// of their first regions, by chunk, then by number. `regions` has the number of regions of each chunk,
     /// in the order chunk row, chunk column. Each link names regions that exist.
     ///
-    /// Links are joined in a forest whose ways are halved as they are climbed, so the work is nearly in
-    /// proportion to the regions and links, and the memory to the regions.
+    /// Links are joined in a forest whose ways are halved as they are climbed, so the work grows with the
+    /// regions and links times the logarithm of the regions, and the memory with the regions. It refuses for
+    /// want of memory alone.
     pub fn build(alloc: Global, regions: &[u16], links: &Links) -> Result<AreaTable, NoMemory>
         requires exist { All (λ link. IsRegion regions.now link.0 × IsRegion regions.now link.1) links.now }
-        requires few { sum regions.now < 4294967296 }
+        requires few { sum regions.now < 2 ^ 32 }
         ensures areas { IfOk result (λ table. AreAreas regions.now links.now table) }
     {
         let offsets = Offsets::new(alloc, regions)?;

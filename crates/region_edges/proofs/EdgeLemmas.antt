@@ -8,18 +8,17 @@ use Rattle.nav_types.specs.declared.cells.Rect.{Rect}
 use Rattle.nav_types.specs.declared.cells.Size.{Size}
 use Rattle.nav_types.specs.declared.directions.Dir.{Dir}
 use Rattle.nav_types.specs.declared.directions.Dir.TheVariants.{N, E, S, W, NE, SE, SW, NW}
-use Rattle.nav_types.specs.Cells.{cell_at, IsInside, IsInRect}
+use Rattle.nav_types.specs.Cells.{IsInside, IsInRect}
 use Rattle.nav_types.specs.Directions.{is_straight, Leads}
 use Rattle.nav_types.specs.Regions.{passes_in, HasRegion, IsBeside, IsEdge}
-use Rattle.chunk_regions.specs.Numbering.{number_of}
+use Rattle.nav_types.specs.Numbering.{number_of}
 use Rattle.chunk_regions.specs.Labelling.{Labelling, AreLabels, chunk_rect}
+use Rattle.nav_types.proofs.CellOrder.{same_cell}
+use Rattle.chunk_regions.proofs.LabelLemmas.{in_rect}
 use Rattle.region_edges.specs.declared.neighbours.Side.{Side}
 use Rattle.region_edges.specs.declared.neighbours.Side.TheVariants.{East, North}
 use Rattle.region_edges.specs.Edges.{LiesOn, AreNeighbours, PassesInside, IsPairBefore, AreEdges}
-use Rattle.region_edges.specs.Borders.{border_length, near_cell, far_cell, Meets}
-
-same_cell : (a b : Cell) → a.i ≡ b.i → a.j ≡ b.j → a ≡ b
-same_cell a b column row = ap (λ i. cell_at i a.j) column ∙ ap (λ j. cell_at b.i j) row
+use Rattle.region_edges.specs.inner.Borders.{border_length, near_cell, far_cell, Meets}
 
 -- two rectangles have the same ends
 record SameEnds (a b : Rect) : Type 0 where
@@ -145,11 +144,6 @@ lies_in passes chunk cell all =
     let place = and_parts (cell.i / 96 == chunk.ci) (cell.j / 96 == chunk.cj) parts.0 in
     record { column = eqb-true (cell.i / 96) chunk.ci place.0; row = eqb-true (cell.j / 96) chunk.cj place.1; passable = parts.1 }
 
-in_rect : (passes : Cell → Bool) (size : Size) (chunk : Chunk) (cell : Cell) → IsInside size cell → LiesIn passes chunk cell → IsInRect (chunk_rect size chunk) cell
-in_rect passes size chunk cell inside lies =
-    let i = inside.column in let j = inside.row in let ci = lies.column in let cj = lies.row in
-    record { west = omega arith; east = omega arith; south = omega arith; north = omega arith }
-
 -- a straight step into the chunk on that side goes one column east, or one row north
 abbrev GoesOn : Side → Cell → Cell → Type 0
 GoesOn East from to = (to.i ≡ from.i + 1) × (to.j ≡ from.j)
@@ -228,7 +222,7 @@ number_is : IsOneRegion → (passes : Cell → Bool) (size : Size) (labels : Lab
     → (cell : Cell) (number : ℕ) → IsTrue (passes_in passes labels.chunk cell) → HasRegion passes labels.chunk cell number → number_of labels.cells cell ≡ number
 number_is one passes size labels inside are cell number passable has =
     let lies = lies_in passes labels.chunk cell passable in
-    let place = in_rect passes size labels.chunk cell (inside cell lies.passable) lies in
+    let place = in_rect size labels.chunk cell (inside cell lies.passable) lies.column lies.row in
     one passes labels.chunk cell (number_of labels.cells cell) number
     (are.numbers cell (subst (λ (rect : Rect). IsInRect rect cell) (sym are.extent) place)) has
 

@@ -1,4 +1,3 @@
-pub mod OrderLemmas
 pub mod PairLemmas
 pub mod MeetLemmas
 pub mod EdgeLemmas

@@ -1,11 +1,11 @@
 -- Collecting the pairs that meet along a border, place by place.
-use Rattle.std.proofs.Common.{ℕ, zero, suc, ◌≡◌, ◌≢◌, ◌+◌, ◌↔◌, ◌⊎◌, List, [], ◌∷◌, ◌++◌, ap, inl, inr, sym, subst, ◌∙◌, arith}
+use Rattle.std.proofs.Common.{ℕ, ◌≡◌, ◌≢◌, ◌+◌, ◌↔◌, ◌⊎◌, List, [], ◌∷◌, ◌++◌, ap, inl, inr, sym, subst, ◌∙◌, arith}
 use Rattle.std.specs.List.{Contains}
 use Rattle.std.proofs.lemmas.Bool.{cases_lt}
-use Rattle.std.proofs.lemmas.List.Elements.{Contains-append_left, Contains-append_right, Contains-append_cases}
+use Rattle.std.proofs.lemmas.List.Elements.{Contains-push, Contains-append_left, Contains-push_cases}
 use Rattle.chunk_regions.specs.Labelling.{Labelling}
 use Rattle.region_edges.specs.declared.neighbours.Side.{Side}
-use Rattle.region_edges.specs.Borders.{Meets, numbers_at}
+use Rattle.region_edges.specs.inner.Borders.{Meets, numbers_at}
 
 -- the list has exactly the pairs that meet at the first places
 abbrev pub AreMeetings : Side → Labelling → Labelling → ℕ → List (ℕ × ℕ) → Type 0
@@ -30,25 +30,19 @@ Meets-cases side here there places pair meets =
       | inr last ↦ let same : places ≡ meets.at = omega arith in inr (ap (λ (at : ℕ). numbers_at side here there at) same ∙ meets.is)
     ]
 
--- a list of one item has that item alone
-only : (next pair : ℕ × ℕ) → Contains (next ∷ []) pair → next ≡ pair
-only next pair (zero, within, is) = is
-only next pair (suc k, within, is) = absurd (omega arith)
-
 pub AreMeetings-push : (side : Side) (here there : Labelling) (places : ℕ) (pairs : List (ℕ × ℕ)) (next : ℕ × ℕ)
     → AreMeetings side here there places pairs → next ≡ numbers_at side here there places → next.0 ≢ 0 → next.1 ≢ 0
     → AreMeetings side here there (places + 1) (pairs ++ next ∷ [])
 AreMeetings-push side here there places pairs next are is near far pair = (
-  λ inside. elim (Contains-append_cases pairs (next ∷ []) pair inside) [
+  λ inside. elim (Contains-push_cases pairs next pair inside) [
     | inl before ↦ Meets-more side here there places pair ((are pair).0 before)
-    | inr last ↦
-        let same : next ≡ pair = only next pair last in
+    | inr same ↦
         subst (λ (p : ℕ × ℕ). Meets side here there (places + 1) p) same
         (record { at = places; within = omega arith; is = sym is; near_passable = near; far_passable = far })
   ],
   λ meets. elim (Meets-cases side here there places pair meets) [
     | inl before ↦ Contains-append_left pairs (next ∷ []) pair ((are pair).1 before)
-    | inr last ↦ Contains-append_right pairs (next ∷ []) pair (0, omega arith, is ∙ last)
+    | inr last ↦ subst (λ (p : ℕ × ℕ). Contains (pairs ++ next ∷ []) p) (is ∙ last) (Contains-push pairs next)
   ],
 )
 

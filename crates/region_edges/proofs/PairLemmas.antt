@@ -1,11 +1,12 @@
 -- The order of pairs of numbers, as sorting compares them.
-use Rattle.std.proofs.Common.{ℕ, ◌≡◌, ◌<◌, ◌&&◌, Bool, true, nat_eq, refl, ap, inl, inr, arith, ◌∙◌}
+use Rattle.std.proofs.Common.{ℕ, ◌≡◌, ◌<◌, ◌&&◌, Bool, true, nat_eq, refl, inl, inr, arith}
 use Rattle.std.proofs.lemmas.Bool.{and_parts, eqb-true}
 use Rattle.std.proofs.lemmas.Cmp.{then_total, on_total, nat_cmp_total, and_equiv, on_equiv, nat_eq_equiv, ranked, by_ranked}
 use Rattle.std.specs.Cmp.{IsTotalOrder, IsEquivalence, unsigned_ties}
 use Rattle.std.specs.Ordering.{nat_cmp, ordering_then, eq_by_cmp, is_eq}
 use Rattle.std.specs.declared.cmp.Ordering.{Ordering}
 use Rattle.std.specs.declared.cmp.Ordering.TheVariants.{Less, Equal, Greater}
+use Rattle.nav_types.proofs.Items.{same_pair}
 use Rattle.region_edges.specs.Edges.{IsPairBefore}
 
 abbrev pub pair_cmp : ℕ × ℕ → ℕ × ℕ → Ordering
@@ -36,11 +37,7 @@ pair_ties a b =
 pub pair_same : (a b : ℕ × ℕ) → pair_eq a b ≡ true → a ≡ b
 pair_same a b same =
     let parts = and_parts (nat_eq a.0 b.0) (nat_eq a.1 b.1) same in
-    let first = eqb-true a.0 b.0 parts.0 in
-    let second = eqb-true a.1 b.1 parts.1 in
-    let one : ℕ → ℕ × ℕ = λ (n : ℕ). (n, a.1) in
-    let two : ℕ → ℕ × ℕ = λ (n : ℕ). (b.0, n) in
-    ap one first ∙ ap two second
+    same_pair a b (eqb-true a.0 b.0 parts.0) (eqb-true a.1 b.1 parts.1)
 
 -- what the order calls less comes before
 pub before_from_Less : (a b : ℕ × ℕ) → pair_cmp a b ≡ Less → IsPairBefore a b

@@ -1,7 +1,7 @@
 ghost use Rattle.std.specs.Prelude.{ℕ, ◌≡◌, ◌<◌, ◌≤◌, ◌↔◌, IfOk, Contains, AllPairs};
-ghost use Rattle.chunk_regions.specs.Numbering.{IsPatch};
+ghost use Rattle.nav_types.specs.Numbering.{IsPatch};
 ghost use Rattle.region_edges.specs.Edges.{AreNeighbours, IsPairBefore};
-ghost use Rattle.region_edges.specs.Borders.{border_length, numbers_at, Meets};
+ghost use Rattle.region_edges.specs.inner.Borders.{border_length, numbers_at, Meets};
 
 use crate::neighbours::Side;
 use chunk_regions::Labels;
@@ -53,6 +53,7 @@ pub fn meetings(
     let mut pairs = Vec::new(alloc);
     for at in 0..length(here.rect(), side) {
         let pair = numbers(here, there, side, at);
+        // the number 0 is that of impassable cells, which are of no region
         if pair.0 != 0 && pair.1 != 0 {
             pairs.push(pair)?;
         }
@@ -65,6 +66,7 @@ pub fn put_in_order(pairs: &mut Vec<(u16, u16)>)
     ensures rising { AllPairs IsPairBefore pairs.new.items }
     ensures same { (pair : ℕ × ℕ) → Contains pairs.new.items pair ↔ Contains pairs.old.items pair }
 {
+    // a pair can meet at several places, and `dedup` drops doubles that stand next to one another
     pairs.sort_unstable();
     pairs.dedup();
 }

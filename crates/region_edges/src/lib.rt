@@ -2,8 +2,8 @@
 #![tactic(auto)]
 
 mod borders;
-pub mod laws;
-pub mod neighbours;
+mod laws;
+mod neighbours;
 
 pub use laws::one_edge_list;
 pub use neighbours::{Edges, Side, between};

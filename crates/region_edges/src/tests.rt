@@ -5,7 +5,7 @@ ghost use Rattle.region_edges.specs.Edges.{LiesOn};
 
 use super::*;
 use chunk_regions::{Labels, label};
-use nav_types::{Cell, Chunk, Class, NoMemory, Size, Steps, View};
+use nav_types::{Cell, Chunk, Class, NoMemory, Size, Ticks, View};
 use std::alloc::{AllocError, Global};
 use std::marker::Brand;
 use std::sync::ledger::{Blank, Ledger};
@@ -67,7 +67,7 @@ fn counted<L: Ledger>(
         sketch,
         Class::new(0),
         chunk,
-        &mut Steps::<L>::new(blank),
+        &mut Ticks::<L>::new(blank),
     )
 }
 

@@ -5,7 +5,7 @@ use lib.ListN.{get_elem?}
 use Rattle.crossbeam_queue.specs.Fifo.{Pushes, Pops, Forks, Merges, Learns}
 use Rattle.crossbeam_queue.proofs.Lists.{at_set, at_snoc}
 use Rattle.request_lanes.specs.declared.rule.Log.{Log}
-use Rattle.request_lanes.specs.Order.{log, posting, taking, Fits, InOrder}
+use Rattle.request_lanes.specs.inner.Order.{log, posting, taking, IsPassOf, InOrder}
 
 module _ {T : Type 0} where
   at_end : (l : List (Log T)) (a b : Log T) (j : ℕ) → get_elem? l j ≢ some b → get_elem? (l ++ a ∷ []) j ≡ some b → j ≡ length l
@@ -22,7 +22,7 @@ module _ {T : Type 0} where
       (λ (x : (j ≢ pass) × (get_elem? views j ≡ some u)). others j u x.0 x.1) (at_set views pass j w u e)
 
   -- a pass that may do nothing fits anywhere, if it was told of no more than was posted
-  idle_fits : (poster taker : ℕ) (posted taken : List T) (pass told : ℕ) → told ≤ length posted → Fits poster taker posted taken pass (log false false [] [] told)
+  idle_fits : (poster taker : ℕ) (posted taken : List T) (pass told : ℕ) → told ≤ length posted → IsPassOf poster taker posted taken pass (log false false [] [] told)
   idle_fits poster taker posted taken pass told few = record {
     posts = λ p. absurd (true≢false (sym p));
     takes = λ p. absurd (true≢false (sym p));
@@ -40,7 +40,7 @@ module _ {T : Type 0} where
     taken = [];
     whole = refl;
     few = omega arith;
-    fits = each_set (Fits 0 0 [] []) (fresh ∷ []) 0 fresh (record { posts = λ _. (refl, refl); takes = λ _. (refl, refl); told = omega arith })
+    fits = each_set (IsPassOf 0 0 [] []) (fresh ∷ []) 0 fresh (record { posts = λ _. (refl, refl); takes = λ _. (refl, refl); told = omega arith })
         (λ j u other e. absurd (other (at_end [] _ u j (λ x. some-ne-none u (sym x)) e)));
   }
 
@@ -61,7 +61,7 @@ module _ {T : Type 0} where
           taken = h.taken;
           whole = ap (λ l. l ++ item ∷ []) h.whole ∙ append_assoc h.taken queued (item ∷ []);
           few = omega arith;
-          fits = each_set (Fits h.poster h.taker all h.taken) views pass w
+          fits = each_set (IsPassOf h.poster h.taker all h.taken) views pass w
               (record { posts = λ _. ((mine.posts may).0, ap (λ l. l ++ item ∷ []) (mine.posts may).1); takes = mine.takes; told = omega arith })
               (λ j u other e. let theirs = h.fits j u e in let heard = theirs.told in record {
                 posts = λ p. absurd (other ((theirs.posts p).0 ∙ sym (mine.posts may).0));
@@ -84,7 +84,7 @@ module _ {T : Type 0} where
         taken = all;
         whole = h.whole ∙ sym (append_assoc h.taken (item ∷ []) queued);
         few = h.few;
-        fits = each_set (Fits h.poster h.taker h.posted all) views pass w
+        fits = each_set (IsPassOf h.poster h.taker h.posted all) views pass w
             (record { posts = mine.posts; takes = λ _. ((mine.takes may).0, ap (λ l. l ++ item ∷ []) (mine.takes may).1); told = mine.told })
             (λ j u other e. let theirs = h.fits j u e in record {
               posts = theirs.posts;
@@ -157,7 +157,7 @@ module _ {T : Type 0} where
       let vs : List (Log T) = set views pass both in
       let was : get_elem? views other ≡ some u = ⊎_elim (λ x. absurd (two x.0)) (λ x. x.1) (at_set views pass other both u at') in
       let theirs = (h.fits other u was).takes b in
-      let Now : ℕ → Log T → Type 0 = λ j y. j ≢ other → Fits h.poster pass h.posted h.taken j y in
+      let Now : ℕ → Log T → Type 0 = λ j y. j ≢ other → IsPassOf h.poster pass h.posted h.taken j y in
       let now : Each Now vs = each_set Now views pass both (λ _. record { posts = λ _. mine.posts a; takes = λ _. (refl, theirs.1); told = omega arith })
       (λ j y _ e apart. record { posts = (h.fits j y e).posts; takes = λ p. absurd (apart (((h.fits j y e).takes p).0 ∙ sym theirs.0)); told = (h.fits j y e).told }) in record {
         poster = h.poster;
@@ -166,7 +166,7 @@ module _ {T : Type 0} where
         taken = h.taken;
         whole = h.whole;
         few = h.few;
-        fits = each_set (Fits h.poster pass h.posted h.taken) vs other (log false false [] [] 0) (idle_fits _ _ _ _ _ _ (omega arith)) (λ j y apart e. now j y e apart);
+        fits = each_set (IsPassOf h.poster pass h.posted h.taken) vs other (log false false [] [] 0) (idle_fits _ _ _ _ _ _ (omega arith)) (λ j y apart e. now j y e apart);
       }
 
   -- a new pass is told how many items were posted
@@ -176,7 +176,7 @@ module _ {T : Type 0} where
       let mine = h.fits pass v at in
       let same : length v.posted ≡ length h.posted = ap length (mine.posts a).1 in
       let vs : List (Log T) = set views pass v in
-      let F = Fits h.poster h.taker h.posted h.taken in
+      let F = IsPassOf h.poster h.taker h.posted h.taken in
       let old : Each F vs = each_set F views pass v mine (λ j u _ e. h.fits j u e) in record {
         poster = h.poster;
         taker = h.taker;
@@ -196,7 +196,7 @@ module _ {T : Type 0} where
       let was : get_elem? views other ≡ some u = ⊎_elim (λ x. absurd (two x.0)) (λ x. x.1) (at_set views pass other w u at') in
       let a = mine.told in
       let b = (h.fits other u was).told in
-      let F = Fits h.poster h.taker h.posted h.taken in
+      let F = IsPassOf h.poster h.taker h.posted h.taken in
       let now : Each F vs = each_set F views pass w (record { posts = mine.posts; takes = mine.takes; told = omega arith }) (λ j y _ e. h.fits j y e) in record {
         poster = h.poster;
         taker = h.taker;

@@ -1,3 +1,2 @@
 pub mod Ends
-pub mod Order
-pub mod Passes
+pub mod inner

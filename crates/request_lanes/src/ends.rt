@@ -1,4 +1,4 @@
-// The two ends of a lane.
+//! The two ends of a lane.
 ghost use Rattle.std.specs.Prelude.{◌≡◌, ◌^◌, ◌<◌, ◌≤◌, max, [], ◌∷◌, ◌++◌, List, length, IfOk, IfErr, IfSome, IfNone, OnOk, OnErr};
 ghost use Rattle.request_lanes.specs.Ends.{Leaves};
 
@@ -21,7 +21,7 @@ pub struct LaneIn<T> {
 
 impl<T> Model for LaneIn<T> {
     ghost use Rattle.request_lanes.specs.Ends.{Posting};
-    ghost use Rattle.request_lanes.specs.Passes.{posting_end, MayPost};
+    ghost use Rattle.request_lanes.specs.inner.Passes.{posting_end, MayPost};
     ghost use Rattle.crossbeam_queue.specs.SegTies.{IsSegPassOf};
     ghost use Rattle.std.specs.Arc.{arc_value};
 
@@ -43,7 +43,7 @@ pub struct LaneOut<T> {
 
 impl<T> Model for LaneOut<T> {
     ghost use Rattle.request_lanes.specs.Ends.{Taking};
-    ghost use Rattle.request_lanes.specs.Passes.{taking_end, MayTake};
+    ghost use Rattle.request_lanes.specs.inner.Passes.{taking_end, MayTake};
     ghost use Rattle.crossbeam_queue.specs.SegTies.{IsSegPassOf};
     ghost use Rattle.std.specs.Arc.{arc_value};
 
@@ -76,7 +76,7 @@ pub struct Notice<T> {
 
 impl<T> Model for Notice<T> {
     ghost use Rattle.request_lanes.specs.Ends.{Posts};
-    ghost use Rattle.request_lanes.specs.Passes.{posts_known};
+    ghost use Rattle.request_lanes.specs.inner.Passes.{posts_known};
     ghost use Rattle.std.specs.Prelude.{◌≡◌, None};
 
     ghost Value = { Posts };
@@ -88,7 +88,7 @@ impl<T> Model for Notice<T> {
 
 /// A new lane on which nothing was posted, by its two ends. They may go to two threads where the items may.
 ///
-/// Its rule is `InOrder` of `specs/Order`: what was taken, followed by what is queued, is what was posted.
+/// Its rule is `InOrder` of `specs/inner/Order.antt`: what was taken, followed by what is queued, is what was posted.
 pub fn lane<T: Drop>(_rt: &impl Wait, alloc: Global) -> Result<(LaneIn<T>, LaneOut<T>), NoMemory>
     ensures one { IfOk result (λ ends. ends.0.lane ≡ ends.1.lane) }
     ensures posted { IfOk result (λ ends. ends.0.posted ≡ []) }
@@ -162,6 +162,7 @@ impl<T: Drop> LaneOut<T> {
         ensures told { self.new.told ≡ self.old.told }
         ensures place { IfSome result (λ next. next.0 ≡ length self.old.taken) }
         ensures taken { IfSome result (λ next. self.new.taken ≡ self.old.taken ++ next.1 ∷ []) }
+        ensures few { IfSome result (λ _. length self.new.taken ≤ 2 ^ 62) }
         ensures none { IfNone result (self.new ≡ self.old) }
         ensures empty { IfNone result (self.old.told ≤ length self.old.taken) }
     {
@@ -183,7 +184,7 @@ impl<T: Drop> LaneOut<T> {
     }
 
     /// Puts both ends of one lane together. What was taken, followed by what is left, is then exactly what was posted
-    /// (`Leaves` of `specs/Ends`).
+    /// (`Leaves`).
     pub fn finish(self, rt: &impl Wait, ended: Ended<T>) -> Whole<T>
         requires { self.lane ≡ ended.lane }
         ensures posted { result.posted ≡ ended.posted }

@@ -1,7 +1,7 @@
-// The queue between the two ends of a lane.
+//! The queue between the two ends of a lane.
 ghost use Rattle.std.specs.Prelude.{◌≡◌, ◌^◌, ◌≤◌, true, ◌++◌, ◌∷◌, length, List, IfSome, IfNone};
 ghost use Rattle.crossbeam_queue.specs.SegTies.{IsSegPassOf};
-ghost use Rattle.request_lanes.specs.Order.{taking};
+ghost use Rattle.request_lanes.specs.inner.Order.{taking};
 
 use crate::rule::{Log, Order, Taken};
 use crossbeam_queue::{RuledSegQueue, SegPass};

@@ -1,6 +1,6 @@
-// The rule of a lane, and what each step of it tells. These types are for the proofs alone.
+//! The rule of a lane, and what each step of it tells. These types are for the proofs alone.
 ghost use Rattle.std.specs.Prelude.{◌≡◌, ◌^◌, ◌+◌, ◌≤◌, true, List, ◌∷◌, ◌++◌, length};
-ghost use Rattle.request_lanes.specs.Order.{posting, taking};
+ghost use Rattle.request_lanes.specs.inner.Order.{posting, taking};
 
 use crossbeam_queue::protocol::{Join, Lesson, Outcome, Protocol, Split};
 use std::collections::LinkedList;
@@ -18,7 +18,7 @@ pub struct Order;
 
 impl<T> Protocol<T, Log<T>> for Order {
     ghost use Rattle.std.specs.Prelude.{true, []};
-    ghost use Rattle.request_lanes.specs.Order.{log, InOrder};
+    ghost use Rattle.request_lanes.specs.inner.Order.{log, InOrder};
 
     ghost holds = { InOrder };
 
@@ -30,7 +30,7 @@ pub struct Apart;
 
 impl<T> Split<Log<T>> for Apart {
     ghost use Rattle.std.specs.Prelude.{true, false, []};
-    ghost use Rattle.request_lanes.specs.Order.{log};
+    ghost use Rattle.request_lanes.specs.inner.Order.{log};
 
     ghost left = { λ v. log true false v.posted [] 0 };
 
@@ -42,7 +42,7 @@ pub struct Together;
 
 impl<T> Join<Log<T>> for Together {
     ghost use Rattle.std.specs.Prelude.{true, false, []};
-    ghost use Rattle.request_lanes.specs.Order.{log};
+    ghost use Rattle.request_lanes.specs.inner.Order.{log};
 
     ghost both = { λ v w. log true true v.posted w.taken 0 };
 
@@ -54,7 +54,7 @@ pub struct Counted;
 
 impl<T> Split<Log<T>> for Counted {
     ghost use Rattle.std.specs.Prelude.{false, [], length};
-    ghost use Rattle.request_lanes.specs.Order.{log};
+    ghost use Rattle.request_lanes.specs.inner.Order.{log};
 
     ghost left = { λ v. v };
 
@@ -66,7 +66,7 @@ pub struct Heard;
 
 impl<T> Join<Log<T>> for Heard {
     ghost use Rattle.std.specs.Prelude.{false, [], max};
-    ghost use Rattle.request_lanes.specs.Order.{log};
+    ghost use Rattle.request_lanes.specs.inner.Order.{log};
 
     ghost both = { λ v w. log v.posts v.takes v.posted v.taken (max v.told w.told) };
 

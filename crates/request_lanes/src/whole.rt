@@ -1,9 +1,9 @@
-// A lane on which nothing more is posted, with both of its ends.
+//! A lane on which nothing more is posted, with both of its ends.
 ghost use Rattle.std.specs.Prelude.{◌≡◌, ◌^◌, ◌≤◌, true, [], ◌∷◌, ◌++◌, List, length, IfSome, IfNone, IsNone, ◌↔◌};
 ghost use Rattle.std.specs.Arc.{arc_value};
 ghost use Rattle.crossbeam_queue.specs.SegTies.{IsSegPassOf};
 ghost use Rattle.request_lanes.specs.Ends.{Leaves};
-ghost use Rattle.request_lanes.specs.Passes.{both_ends, MayTake};
+ghost use Rattle.request_lanes.specs.inner.Passes.{both_ends, MayTake};
 
 use crate::queue::{LanePass, Queue};
 use std::alloc::Global;
@@ -21,7 +21,7 @@ pub struct Whole<T> {
 
 impl<T> Model for Whole<T> {
     ghost use Rattle.request_lanes.specs.Ends.{Closing};
-    ghost use Rattle.request_lanes.specs.Passes.{both_ends, MayTake};
+    ghost use Rattle.request_lanes.specs.inner.Passes.{both_ends, MayTake};
     ghost use Rattle.std.specs.Prelude.{◌≡◌, true};
     ghost use Rattle.crossbeam_queue.specs.SegTies.{IsSegPassOf};
     ghost use Rattle.std.specs.Arc.{arc_value};

@@ -15,10 +15,12 @@ use Rattle.goal_shapes.specs.declared.goals.Goal.TheVariants.{Point, Circle, Not
 use Rattle.goal_shapes.specs.declared.goals.GoalSpec.{GoalSpec}
 use Rattle.goal_shapes.specs.declared.goals.GoalSpec.TheVariants.{Plain, Obstruction as ByObstruction}
 use Rattle.turn_core.specs.declared.posts.Post.{Post}
-use Rattle.turn_core.specs.declared.posts.Post.TheVariants.{Add, Remove, Move, Path, Region}
+use Rattle.grid_versions.specs.declared.edits.Edit.TheVariants.{Add, Remove, Move}
+use Rattle.turn_core.specs.declared.posts.Post.TheVariants.{Edit as Edits, Ask as Asks}
+use Rattle.turn_core.specs.declared.posts.Request.TheVariants.{Path, Region}
 use Rattle.script_text.specs.Canon.{whole_json, decimal_json, list_json, decimals_json, object_json, shape_json, goal_json, post_json, is_goal_of, is_post_of}
 use Rattle.script_text.specs.Forms.{post_of}
-use Rattle.script_text.specs.Grammar.{IsObject, IsDecimal, SayEach, IsArray, HasDecimals, IsGoal, IsPostLine, shape_key, shape_decimals}
+use Rattle.script_text.specs.Grammar.{IsObject, IsDecimal, SayEach, IsArray, HasDecimals, IsGoal, IsPostLine, rectangle_decimals, shape_key, shape_decimals}
 use Rattle.script_text.specs.ReadsBack.{AreFixed, IsGoalValue, IsPostValue}
 use Rattle.script_text.proofs.BackForms.{ReadsTo}
 use Rattle.script_text.proofs.BackTexts.{IsSimple, AreSimple, sorted, sorted_items, text-fixed_text, text-name, reads_sorted}
@@ -128,8 +130,8 @@ unfolding goal_json
 simple_goal (Plain (Point x z)) is = ((refl, refl), simple_decimals (x ∷ z ∷ []) 124 is, tt)
 simple_goal (Plain (Circle x z r)) is = ((refl, refl), simple_decimals (x ∷ z ∷ r ∷ []) 124 is, tt)
 simple_goal (Plain (NotCircle x z r)) is = ((refl, refl), simple_decimals (x ∷ z ∷ r ∷ []) 124 is, tt)
-simple_goal (Plain (Square x z ux uz hw hh)) is = ((refl, refl), simple_decimals (x ∷ z ∷ ux ∷ uz ∷ hw ∷ hh ∷ []) 124 is, tt)
-simple_goal (Plain (NotSquare x z ux uz hw hh)) is = ((refl, refl), simple_decimals (x ∷ z ∷ ux ∷ uz ∷ hw ∷ hh ∷ []) 124 is, tt)
+simple_goal (Plain (Square r)) is = ((refl, refl), simple_decimals (rectangle_decimals r) 124 is, tt)
+simple_goal (Plain (NotSquare r)) is = ((refl, refl), simple_decimals (rectangle_decimals r) 124 is, tt)
 simple_goal (ByObstruction id grow) is = ((refl, refl), (small id 4294967295 (omega arith) is.0, (text-fixed_text grow is.1, tt)), tt)
 
 says_goal : (version : ℕ) (goal : GoalSpec) → IsGoalValue goal → is_goal_of version goal ≡ true → IsGoal version goal (sorted (goal_json goal))
@@ -137,8 +139,8 @@ unfolding goal_json
 says_goal version (Plain (Point x z)) is has = says_shape (codes "point") (x ∷ z ∷ []) is
 says_goal version (Plain (Circle x z r)) is has = says_shape (codes "circle") (x ∷ z ∷ r ∷ []) is
 says_goal version (Plain (NotCircle x z r)) is has = says_shape (codes "not-circle") (x ∷ z ∷ r ∷ []) is
-says_goal version (Plain (Square x z ux uz hw hh)) is has = says_shape (codes "square") (x ∷ z ∷ ux ∷ uz ∷ hw ∷ hh ∷ []) is
-says_goal version (Plain (NotSquare x z ux uz hw hh)) is has = says_shape (codes "not-square") (x ∷ z ∷ ux ∷ uz ∷ hw ∷ hh ∷ []) is
+says_goal version (Plain (Square r)) is has = says_shape (codes "square") (rectangle_decimals r) is
+says_goal version (Plain (NotSquare r)) is has = says_shape (codes "not-square") (rectangle_decimals r) is
 says_goal version (ByObstruction id grow) is has =
     let parts : Data = array (item (whole_json id) (item (decimal_json grow) no_items)) in record {
       newest = leb-true 3 version has;
@@ -163,19 +165,19 @@ simple_add : (masked : Bool) (caller id mask : ℕ) (shape : Shape) → caller <
     → IsSimple (add_json masked caller id mask shape) 127
 simple_add true caller id mask (UnitShape x z half) c i m fixed =
     ((refl, refl), c, ((refl, refl), i, ((refl, refl), simple_decimals (x ∷ z ∷ half ∷ []) 125 fixed, ((refl, refl), m, tt))))
-simple_add true caller id mask (SquareShape x z ux uz hw hh) c i m fixed =
-    ((refl, refl), c, ((refl, refl), i, ((refl, refl), simple_decimals (x ∷ z ∷ ux ∷ uz ∷ hw ∷ hh ∷ []) 125 fixed, ((refl, refl), m, tt))))
+simple_add true caller id mask (SquareShape r) c i m fixed =
+    ((refl, refl), c, ((refl, refl), i, ((refl, refl), simple_decimals (rectangle_decimals r) 125 fixed, ((refl, refl), m, tt))))
 simple_add false caller id mask (UnitShape x z half) c i m fixed =
     ((refl, refl), c, ((refl, refl), i, ((refl, refl), simple_decimals (x ∷ z ∷ half ∷ []) 125 fixed, tt)))
-simple_add false caller id mask (SquareShape x z ux uz hw hh) c i m fixed =
-    ((refl, refl), c, ((refl, refl), i, ((refl, refl), simple_decimals (x ∷ z ∷ ux ∷ uz ∷ hw ∷ hh ∷ []) 125 fixed, tt)))
+simple_add false caller id mask (SquareShape r) c i m fixed =
+    ((refl, refl), c, ((refl, refl), i, ((refl, refl), simple_decimals (rectangle_decimals r) 125 fixed, tt)))
 
 below_two : (version : ℕ) → nat_le 2 version ≡ false → version < 2
 below_two version e = elim (leb_tells 2 version) [ inl h ↦ (let t = h.0 in absurd (cc)) | inr h ↦ h.1 ]
 
 says_add : (masked : Bool) (version callers caller id mask : ℕ) (shape : Shape) → nat_le 2 version ≡ masked → (masked || mask == 65535) ≡ true → caller < callers
     → id ≤ 4294967295 → mask ≤ 65535 → AreFixed (shape_decimals shape)
-    → IsPostLine version callers caller (Add id (record { shape = shape; mask = mask })) (sorted (add_json masked caller id mask shape))
+    → IsPostLine version callers caller (Edits (Add id (record { shape = shape; mask = mask }))) (sorted (add_json masked caller id mask shape))
 says_add true version callers caller id mask (UnitShape x z half) e has below few bits fixed =
     let shape = sorted (decimals_json (x ∷ z ∷ half ∷ [])) in (
       whole_json caller,
@@ -189,8 +191,8 @@ says_add true version callers caller id mask (UnitShape x z half) e has below fe
       (refl, few),
       says_decimals (x ∷ z ∷ half ∷ []) fixed,
     )
-says_add true version callers caller id mask (SquareShape x z ux uz hw hh) e has below few bits fixed =
-    let shape = sorted (decimals_json (x ∷ z ∷ ux ∷ uz ∷ hw ∷ hh ∷ [])) in (
+says_add true version callers caller id mask (SquareShape r) e has below few bits fixed =
+    let shape = sorted (decimals_json (rectangle_decimals r)) in (
       whole_json caller,
       whole_json id,
       shape,
@@ -200,7 +202,7 @@ says_add true version callers caller id mask (SquareShape x z ux uz hw hh) e has
       ),
       (refl, below),
       (refl, few),
-      says_decimals (x ∷ z ∷ ux ∷ uz ∷ hw ∷ hh ∷ []) fixed,
+      says_decimals (rectangle_decimals r) fixed,
     )
 says_add false version callers caller id mask (UnitShape x z half) e has below few bits fixed =
     let shape = sorted (decimals_json (x ∷ z ∷ half ∷ [])) in (
@@ -212,39 +214,39 @@ says_add false version callers caller id mask (UnitShape x z half) e has below f
       (refl, few),
       says_decimals (x ∷ z ∷ half ∷ []) fixed,
     )
-says_add false version callers caller id mask (SquareShape x z ux uz hw hh) e has below few bits fixed =
-    let shape = sorted (decimals_json (x ∷ z ∷ ux ∷ uz ∷ hw ∷ hh ∷ [])) in (
+says_add false version callers caller id mask (SquareShape r) e has below few bits fixed =
+    let shape = sorted (decimals_json (rectangle_decimals r)) in (
       whole_json caller,
       whole_json id,
       shape,
       inl (below_two version e, eqb-true mask 65535 has, second_first (codes "caller") (codes "add") (codes "square") (whole_json caller) (whole_json id) shape),
       (refl, below),
       (refl, few),
-      says_decimals (x ∷ z ∷ ux ∷ uz ∷ hw ∷ hh ∷ []) fixed,
+      says_decimals (rectangle_decimals r) fixed,
     )
 
 -- ---- post lines
 
 simple_post : (version caller : ℕ) (post : Post) → caller < 2 ^ 64 → IsPostValue post → IsSimple (post_json version caller post) 127
 unfolding post_json
-simple_post version caller (Add id o) c is =
+simple_post version caller (Edits (Add id o)) c is =
     simple_add (nat_le 2 version) caller id o.mask o.shape c (small id 4294967295 (omega arith) is.0) (small o.mask 65535 (omega arith) is.2) is.1
-simple_post version caller (Remove id) c is = ((refl, refl), c, ((refl, refl), small id 4294967295 (omega arith) is, tt))
-simple_post version caller (Move id x z) c is =
+simple_post version caller (Edits (Remove id)) c is = ((refl, refl), c, ((refl, refl), small id 4294967295 (omega arith) is, tt))
+simple_post version caller (Edits (Move id x z)) c is =
     ((refl, refl), c, ((refl, refl), small id 4294967295 (omega arith) is.0, ((refl, refl), simple_decimals (x ∷ z ∷ []) 125 is.1, tt)))
-simple_post version caller (Path class x z goal) c is =
+simple_post version caller (Asks (Path class x z goal)) c is =
     ((refl, refl), c, ((refl, refl), text-name class is.0, ((refl, refl), simple_decimals (x ∷ z ∷ []) 125 is.1, ((refl, refl), simple_goal goal is.2, tt))))
-simple_post version caller (Region class x z) c is =
+simple_post version caller (Asks (Region class x z)) c is =
     ((refl, refl), c, ((refl, refl), text-name class is.0, ((refl, refl), simple_decimals (x ∷ z ∷ []) 125 is.1, tt)))
 
 says_post : (version callers caller : ℕ) (post : Post) → caller < callers → IsPostValue post → is_post_of version post ≡ true
     → IsPostLine version callers caller post (sorted (post_json version caller post))
 unfolding post_json
-says_post version callers caller (Add id o) below is has =
+says_post version callers caller (Edits (Add id o)) below is has =
     says_add (nat_le 2 version) version callers caller id o.mask o.shape refl has below is.0 is.2 is.1
-says_post version callers caller (Remove id) below is has =
+says_post version callers caller (Edits (Remove id)) below is has =
     (whole_json caller, whole_json id, two_keys (codes "caller") (codes "remove") (whole_json caller) (whole_json id), (refl, below), (refl, is))
-says_post version callers caller (Move id x z) below is has =
+says_post version callers caller (Edits (Move id x z)) below is has =
     let to = sorted (decimals_json (x ∷ z ∷ [])) in (
       whole_json caller,
       whole_json id,
@@ -255,7 +257,7 @@ says_post version callers caller (Move id x z) below is has =
       says_decimals (x ∷ z ∷ []) is.1,
       leb-true 3 version has,
     )
-says_post version callers caller (Path class x z goal) below is has =
+says_post version callers caller (Asks (Path class x z goal)) below is has =
     let from = sorted (decimals_json (x ∷ z ∷ [])) in let to = sorted (goal_json goal) in (
       whole_json caller,
       string class,
@@ -267,7 +269,7 @@ says_post version callers caller (Path class x z goal) below is has =
       says_decimals (x ∷ z ∷ []) is.1,
       says_goal version goal is.2 has,
     )
-says_post version callers caller (Region class x z) below is has =
+says_post version callers caller (Asks (Region class x z)) below is has =
     let place = sorted (decimals_json (x ∷ z ∷ [])) in (
       whole_json caller,
       string class,

@@ -8,30 +8,33 @@ use Rattle.serde_json.specs.Data.{Data}
 use Rattle.nav_types.specs.declared.cells.Rect.{Rect}
 use Rattle.nav_types.specs.declared.cells.Size.{Size}
 use Rattle.nav_types.specs.Cells.{IsRectInside}
-use Rattle.grid_versions.specs.Maps.{Map}
+use Rattle.grid_versions.specs.Maps.{Map, with_base}
 use Rattle.turn_core.specs.declared.posts.Post.{Post}
 use Rattle.turn_core.specs.States.{list_of}
 use Rattle.script_text.specs.declared.forms.CallerPost.{CallerPost}
 use Rattle.script_text.specs.Forms.{base_of, post_of, end_of}
 use Rattle.script_text.specs.Grammar.{base_line as says_base, post_line as says_post, end_line as says_end}
-use Rattle.script_text.specs.Script.{Rules, rules_of, Part, before_map, in_base, in_turns, Place, beginning, Item, begins, adds_base, ends_turn, whole_input, stuck, with_base, map_after_item, map_after, turns_of, no_posts, placed, map_line, with_post, end_line, turn_line, placed_in_turn, base_line, is_empty, finish, reading}
+use Rattle.script_text.specs.declared.parts.Rules.{Rules}
+use Rattle.script_text.specs.declared.parts.Part.{Part}
+use Rattle.script_text.specs.declared.parts.Part.TheVariants.{BeforeMap, InBase, InTurns}
+use Rattle.script_text.specs.Script.{rules_of, Place, beginning, Item, begins, adds_base, ends_turn, whole_input, stuck, map_after_item, map_after, turns_of, no_posts, placed, map_line, with_post, end_line, turn_line, placed_in_turn, base_line, is_empty, finish, reading}
 use Rattle.script_text.specs.Reader.{stuck_after}
 use Rattle.script_text.specs.Canon.{line, map_json, base_json, pieces, canon_base, canon_map, post_json, canon_posts, canon_callers, end_json, canon_journal, is_post_of, HaveLines}
 use Rattle.script_text.specs.ReadsBack.{IsMapValue, IsPostValue, ArePostValues, AreTurns, canon_turns, canon_script, IsWithinLimits, ReadsAs}
 use Rattle.script_text.proofs.GrammarLines.{base-is, end-is, if_true}
 use Rattle.script_text.proofs.GrammarPosts.{post-is, one_line}
 use Rattle.script_text.proofs.BackLines.{map_reads, base_reads, post_reads, end_reads}
-use Rattle.script_text.proofs.BackWalk.{Stage, place_at, after_items, Fits, Goes, goes-nothing, goes-both, Gives, goes-line}
+use Rattle.script_text.proofs.BackWalk.{Stage, place_at, after_items, FitsWithin, Goes, goes-nothing, goes-both, Gives, goes-line}
 
 -- ---- stages
 
 abbrev first_stage : Stage
-first_stage = record { part = before_map; turns = 0; posts = [] }
+first_stage = record { part = BeforeMap; turns = 0; posts = [] }
 
 -- behind the map line: where base lines may stand, or where a line of a turn stood already
 abbrev part_by : Bool → Rules → Part
-part_by true rules = in_turns rules
-part_by false rules = in_base rules
+part_by true rules = InTurns rules
+part_by false rules = InBase rules
 
 abbrev stage : Rules → Bool → ℕ → List (List Post) → Stage
 stage rules begun turns posts = record { part = part_by begun rules; turns = turns; posts = posts }
@@ -362,9 +365,9 @@ script-reads m turns is are limits =
     let items : List Item = script_items m turns in
     let posted = reach_turns m false 0 turns is are in
     let all = goes-both (goes-map m is) posted.goes in
-    let fits : Fits 0 0 text =
+    let fits : FitsWithin 0 0 text =
     record { lines = limits.lines; whole = omega (arith, limits.whole); ended = omega arith } in
-    let led = all.leads [] 0 0 (subst (Fits 0 0) (sym (append-nil text)) fits) in
+    let led = all.leads [] 0 0 (subst (FitsWithin 0 0) (sym (append-nil text)) fits) in
     record {
       items = items;
       whole = ap (λ bytes. reading bytes beginning) (sym (append-nil text)) ∙ led.reads

@@ -6,7 +6,8 @@ use Rattle.serde_json.specs.Data.{Data}
 use Rattle.serde_json.specs.Written.{compact_text}
 use Rattle.turn_core.specs.declared.posts.Post.{Post}
 use Rattle.script_text.specs.Lines.{full_lines}
-use Rattle.script_text.specs.Script.{Part, Place, Item, Walk, too_long, arrived, stuck, chain, reading_of, counted, placed, is_long, accept, reading}
+use Rattle.script_text.specs.declared.parts.Part.{Part}
+use Rattle.script_text.specs.Script.{Place, Item, Walk, too_long, arrived, stuck, chain, reading_of, counted, placed, is_long, accept, reading}
 use Rattle.script_text.specs.Canon.{line}
 use Rattle.script_text.proofs.ReadLines.{full_lines-line}
 use Rattle.script_text.proofs.ReadWalk.{reading-line}
@@ -26,7 +27,7 @@ abbrev pub after_items : List Item → Walk → Walk
 after_items items w = record { items = items ++ w.items; ends = w.ends }
 
 -- a text behind so many bytes keeps to the limits, and no more turns have ended than there are bytes
-pub record Fits (bytes turns : ℕ) (text : List ℕ) : Type 0 where
+pub record FitsWithin (bytes turns : ℕ) (text : List ℕ) : Type 0 where
   pub lines : All (λ line. length line ≤ 8388608) (full_lines text)
   pub whole : bytes + length text ≤ 4294967296
   pub ended : turns ≤ bytes
@@ -36,11 +37,11 @@ pub record Leads (text rest : List ℕ) (from : Place) (items : List Item) (to :
   pub bytes : ℕ
   pub lines : ℕ
   pub reads : reading text from ≡ after_items items (reading rest (place_at bytes lines to))
-  pub fits : Fits bytes to.turns rest
+  pub fits : FitsWithin bytes to.turns rest
 
 -- in front of any rest that keeps to the limits the text leads from the one stage to the other
 pub record Goes (text : List ℕ) (s : Stage) (items : List Item) (t : Stage) : Type 0 where
-  pub leads : (rest : List ℕ) (bytes lines : ℕ) → Fits bytes s.turns (text ++ rest)
+  pub leads : (rest : List ℕ) (bytes lines : ℕ) → FitsWithin bytes s.turns (text ++ rest)
       → Leads (text ++ rest) rest (place_at bytes lines s) items t
 
 pub goes-nothing : (s : Stage) → Goes [] s [] s
@@ -56,11 +57,11 @@ pub goes-both : {a b : List ℕ} {s t u : Stage} {xs ys : List Item} → Goes a 
     → Goes (a ++ b) s (xs ++ ys) u
 goes-both {a} {b} {s} {t} {u} {xs} {ys} first second = record { leads = both }
   where
-    both : (rest : List ℕ) (bytes lines : ℕ) → Fits bytes s.turns ((a ++ b) ++ rest)
+    both : (rest : List ℕ) (bytes lines : ℕ) → FitsWithin bytes s.turns ((a ++ b) ++ rest)
         → Leads ((a ++ b) ++ rest) rest (place_at bytes lines s) (xs ++ ys) u
     both rest bytes lines fits =
         let same : (a ++ b) ++ rest ≡ a ++ (b ++ rest) = append_assoc a b rest in
-        let left = first.leads (b ++ rest) bytes lines (subst (Fits bytes s.turns) same fits) in
+        let left = first.leads (b ++ rest) bytes lines (subst (FitsWithin bytes s.turns) same fits) in
         let right = second.leads rest left.bytes left.lines left.fits in
         record {
           bytes = right.bytes;
@@ -103,13 +104,13 @@ goes-line d Says s t items reads_back turn gives = record { leads = one }
     one_more : (xs : List ℕ) → length (10 ∷ xs) ≡ length xs + 1
     one_more xs = omega arith
 
-    one : (rest : List ℕ) (bytes lines : ℕ) → Fits bytes s.turns ((compact_text d ++ 10 ∷ []) ++ rest)
+    one : (rest : List ℕ) (bytes lines : ℕ) → FitsWithin bytes s.turns ((compact_text d ++ 10 ∷ []) ++ rest)
         → Leads ((compact_text d ++ 10 ∷ []) ++ rest) rest (place_at bytes lines s) items t
     one rest bytes lines fits =
         let text : List ℕ = compact_text d in
         let back : ReadsTo d Says = reads_back (omega (arith, fits.ended, fits.whole)) in
         let same : (text ++ 10 ∷ []) ++ rest ≡ text ++ 10 ∷ rest = append_assoc text (10 ∷ []) rest in
-        let here : Fits bytes s.turns (text ++ 10 ∷ rest) = subst (Fits bytes s.turns) same fits in
+        let here : FitsWithin bytes s.turns (text ++ 10 ∷ rest) = subst (FitsWithin bytes s.turns) same fits in
         let split : full_lines (text ++ 10 ∷ rest) ≡ text ∷ full_lines rest = full_lines-line text rest back.plain in
         let Short : List ℕ → Type 0 = λ l. length l ≤ 8388608 in
         let all : All Short (text ∷ full_lines rest) = subst (All Short) split here.lines in

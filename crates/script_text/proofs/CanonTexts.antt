@@ -22,7 +22,7 @@ use Rattle.fixed_point.proofs.ReadsBack.{all_fraction_digits}
 use Rattle.class_config.specs.Forms.{is_class_name}
 use Rattle.class_config.specs.Classes.{name_at, clearance_at}
 use Rattle.class_config.specs.declared.table.PassabilityClass.{PassabilityClass}
-use Rattle.script_text.specs.Plain.{is_plain}
+use Rattle.script_text.specs.inner.Plain.{is_plain}
 use Rattle.script_text.specs.Canon.{class_json, line, base_json, pieces, canon_base}
 
 -- ---- plain bytes

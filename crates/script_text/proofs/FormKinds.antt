@@ -3,7 +3,7 @@ use Rattle.std.proofs.Common.{◌≡◌, ℕ, Some}
 use Rattle.serde_json.specs.Data.{Data, null, boolean, number, string, array, object}
 use Rattle.script_text.specs.declared.forms.CallerPost.{CallerPost}
 use Rattle.script_text.specs.Forms.{post_of, end_of}
-use Rattle.script_text.specs.Judging.{IsObject}
+use Rattle.script_text.specs.inner.Judging.{IsObject}
 
 pub end_of-object : (d : Data) (n : ℕ) → Some n ≡ end_of d → IsObject d
 unfolding end_of

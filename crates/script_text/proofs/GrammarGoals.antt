@@ -11,13 +11,12 @@ use Rattle.goal_shapes.specs.declared.goals.Goal.{Goal}
 use Rattle.goal_shapes.specs.declared.goals.Goal.TheVariants.{Point, Circle, NotCircle, Square, NotSquare}
 use Rattle.goal_shapes.specs.declared.goals.GoalSpec.{GoalSpec}
 use Rattle.goal_shapes.specs.declared.goals.GoalSpec.TheVariants.{Plain, Obstruction as ByObstruction}
-use Rattle.script_text.specs.declared.forms.values.Rectangle.{Rectangle}
 use Rattle.script_text.specs.Values.{obstruction_number, decimal, under, has_items, decimal_at, both, point_of, round_of, rectangle_of}
-use Rattle.script_text.specs.Forms.{square_with, not_square_with, plain_goal, grown_of, obstruction_goal, goal_of}
-use Rattle.script_text.specs.Grammar.{IsObject, IsDecimal, IsArray, HasDecimals, IsPlainGoal, IsGrownGoal, IsGoal}
+use Rattle.script_text.specs.Forms.{plain_goal, grown_of, obstruction_goal, goal_of}
+use Rattle.script_text.specs.Grammar.{IsObject, IsDecimal, IsArray, HasDecimals, rectangle_decimals, IsPlainGoal, IsGrownGoal, IsGoal}
 use Rattle.script_text.proofs.GrammarValues.{map_some, if_some, under_some, under_is, le_is, number-is, number-from, decimal-is, decimal-from, array_items-is, items_there, two_there}
 use Rattle.script_text.proofs.Members.{is_other, open_one, has_keys-object, has_keys-other, stand-object}
-use Rattle.script_text.proofs.GrammarLines.{two_some, either_some, or_some, or_first, or_second, if_true, if_false, point-is, point-from, round-is, round-from, decimals_of, rectangle-is, rectangle-from, and_both}
+use Rattle.script_text.proofs.GrammarLines.{two_some, either_some, or_some, or_first, or_second, if_true, if_false, point-is, point-from, round-is, round-from, rectangle-is, rectangle-from, and_both}
 
 -- ---- goals
 
@@ -64,10 +63,10 @@ abbrev not_circles : Data → Option Goal
 not_circles d = option_map (λ c. NotCircle c.0 c.1 c.2) (under round_of (codes "not-circle") d)
 
 abbrev squares : Data → Option Goal
-squares d = option_map square_with (under rectangle_of (codes "square") d)
+squares d = option_map Square (under rectangle_of (codes "square") d)
 
 abbrev not_squares : Data → Option Goal
-not_squares d = option_map not_square_with (under rectangle_of (codes "not-square") d)
+not_squares d = option_map NotSquare (under rectangle_of (codes "not-square") d)
 
 abbrev has : List ℕ → Data → Bool
 has key d = has_keys (key ∷ []) d
@@ -93,9 +92,9 @@ plain-is d g e = elim (either_some (has (codes "point") d) (points d) (from_circ
     | inr i ↦ elim (either_some (has (codes "not-circle") d) (not_circles d) (from_square d) g i.1) [
       | inl j ↦ goal_is (codes "not-circle") round_of (λ c. NotCircle c.0 c.1 c.2) (λ c. c.0 ∷ c.1 ∷ c.2 ∷ []) round-is (λ c v is. is) d g j.0 j.1
       | inr j ↦ elim (either_some (has (codes "square") d) (squares d) (from_not_square d) g j.1) [
-        | inl k ↦ goal_is (codes "square") rectangle_of square_with decimals_of rectangle-is (λ r v is. is) d g k.0 k.1
+        | inl k ↦ goal_is (codes "square") rectangle_of Square rectangle_decimals rectangle-is (λ r v is. is) d g k.0 k.1
         | inr k ↦ let l = if_some (has (codes "not-square") d) (not_squares d) g k.1 in
-            goal_is (codes "not-square") rectangle_of not_square_with decimals_of rectangle-is (λ r v is. is) d g l.0 l.1
+            goal_is (codes "not-square") rectangle_of NotSquare rectangle_decimals rectangle-is (λ r v is. is) d g l.0 l.1
       ]
     ]
   ]
@@ -115,21 +114,19 @@ plain-from d (NotCircle x z r) h =
     ∙ if_false (has (codes "circle") d) (circles d) (from_not_circle d) (not_sole (codes "not-circle") (codes "circle") h.0 d refl h.1)
     ∙ if_true (has (codes "not-circle") d) (not_circles d) (from_square d) (has_sole (codes "not-circle") h.0 d h.1)
     ∙ ap (option_map (λ c. NotCircle c.0 c.1 c.2)) (sole_is (codes "not-circle") round_of d h.0 (x, z, r) h.1 (round-from h.0 x z r h.2))
-plain-from d (Square x z ux uz hw hh) h =
-    let r : Rectangle = record { x = x; z = z; ux = ux; uz = uz; hw = hw; hh = hh } in
+plain-from d (Square r) h =
     if_false (has (codes "point") d) (points d) (from_circle d) (not_sole (codes "square") (codes "point") h.0 d refl h.1)
     ∙ if_false (has (codes "circle") d) (circles d) (from_not_circle d) (not_sole (codes "square") (codes "circle") h.0 d refl h.1)
     ∙ if_false (has (codes "not-circle") d) (not_circles d) (from_square d) (not_sole (codes "square") (codes "not-circle") h.0 d refl h.1)
     ∙ if_true (has (codes "square") d) (squares d) (from_not_square d) (has_sole (codes "square") h.0 d h.1)
-    ∙ ap (option_map square_with) (sole_is (codes "square") rectangle_of d h.0 r h.1 (rectangle-from h.0 r h.2))
-plain-from d (NotSquare x z ux uz hw hh) h =
-    let r : Rectangle = record { x = x; z = z; ux = ux; uz = uz; hw = hw; hh = hh } in
+    ∙ ap (option_map Square) (sole_is (codes "square") rectangle_of d h.0 r h.1 (rectangle-from h.0 r h.2))
+plain-from d (NotSquare r) h =
     if_false (has (codes "point") d) (points d) (from_circle d) (not_sole (codes "not-square") (codes "point") h.0 d refl h.1)
     ∙ if_false (has (codes "circle") d) (circles d) (from_not_circle d) (not_sole (codes "not-square") (codes "circle") h.0 d refl h.1)
     ∙ if_false (has (codes "not-circle") d) (not_circles d) (from_square d) (not_sole (codes "not-square") (codes "not-circle") h.0 d refl h.1)
     ∙ if_false (has (codes "square") d) (squares d) (from_not_square d) (not_sole (codes "not-square") (codes "square") h.0 d refl h.1)
     ∙ if_true (has (codes "not-square") d) (not_squares d) None (has_sole (codes "not-square") h.0 d h.1)
-    ∙ ap (option_map not_square_with) (sole_is (codes "not-square") rectangle_of d h.0 r h.1 (rectangle-from h.0 r h.2))
+    ∙ ap (option_map NotSquare) (sole_is (codes "not-square") rectangle_of d h.0 r h.1 (rectangle-from h.0 r h.2))
 
 -- an object of another key is no plain goal
 not_plain : (d v : Data) → IsObject (codes "obstruction" ∷ []) (v ∷ []) d → plain_goal d ≡ None

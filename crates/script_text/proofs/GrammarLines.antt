@@ -13,10 +13,10 @@ use Rattle.class_config.specs.Forms.{has_keys, some_if}
 use Rattle.class_config.specs.Classes.{classes_of}
 use Rattle.class_config.specs.declared.table.PassabilityClass.{PassabilityClass}
 use Rattle.grid_versions.specs.Maps.{Map, map_of as map_with}
-use Rattle.script_text.specs.declared.forms.values.Rectangle.{Rectangle}
+use Rattle.fixed_point.specs.declared.plane.Rectangle.{Rectangle}
 use Rattle.script_text.specs.Values.{whole, whole_in, decimal, under, array_items, has_items, whole_at, decimal_at, both, all_three, point_of, round_of, rectangle_with, rectangle_of, is_side, size_by, size_with, size_of}
 use Rattle.script_text.specs.Forms.{map_by, map_of, entry_by, entry_of, each, base_of, end_of}
-use Rattle.script_text.specs.Grammar.{IsWhole, IsDecimal, IsArray, IsMapLine, IsEntry, IsBaseLine, IsEndLine}
+use Rattle.script_text.specs.Grammar.{IsWholeNumber, IsDecimal, IsArray, rectangle_decimals, IsMapLine, IsEntry, IsBaseLine, IsEndLine}
 use Rattle.script_text.proofs.FormValues.{same_size}
 use Rattle.script_text.proofs.GrammarValues.{then_some, both_some, if_some, some_if-some, under_some, under_is, le_is, whole-is, whole-from, whole_in-is, whole_in-from, decimal-is, decimal-from, array_items-is, array_items-from, array-is, array-from, has_items-from, each-is, each-from}
 use Rattle.script_text.proofs.Members.{open_one, open_four, has_keys-object, stand-object}
@@ -87,9 +87,6 @@ round-from d x z r is =
     ∙ ap (λ o. all_three o (decimal_at 1 d) (decimal_at 2 d)) parts.0 ∙ ap (λ o. all_three (Some x) o (decimal_at 2 d)) parts.1.0
     ∙ ap (λ o. all_three (Some x) (Some z) o) parts.1.1.0
 
-abbrev pub decimals_of : Rectangle → List ℤ
-decimals_of r = r.x ∷ r.z ∷ r.ux ∷ r.uz ∷ r.hw ∷ r.hh ∷ []
-
 rectangle_some : (a b c d e f : Option ℤ) (r : Rectangle) → rectangle_with a b c d e f ≡ Some r
     → (a ≡ Some r.x) × (b ≡ Some r.z) × (c ≡ Some r.ux) × (d ≡ Some r.uz) × (e ≡ Some r.hw) × (f ≡ Some r.hh)
 rectangle_some None b c d e f r h = absurd (cc)
@@ -105,19 +102,19 @@ rectangle_some (Some x) (Some z) (Some ux) (Some uz) (Some hw) (Some hh) r h = b
     by_parts s t e = let same : s ≡ t = cc in
         (ap (λ p. Some p.x) same, ap (λ p. Some p.z) same, ap (λ p. Some p.ux) same, ap (λ p. Some p.uz) same, ap (λ p. Some p.hw) same, ap (λ p. Some p.hh) same)
 
-pub rectangle-is : (d : Data) (r : Rectangle) → rectangle_of d ≡ Some r → IsArray IsDecimal (decimals_of r) d
+pub rectangle-is : (d : Data) (r : Rectangle) → rectangle_of d ≡ Some r → IsArray IsDecimal (rectangle_decimals r) d
 unfolding rectangle_of
 rectangle-is d r e =
     let test = if_some (has_items 6 d) (rectangle_with (decimal_at 0 d) (decimal_at 1 d) (decimal_at 2 d) (decimal_at 3 d) (decimal_at 4 d) (decimal_at 5 d)) r e in
     let p = rectangle_some (decimal_at 0 d) (decimal_at 1 d) (decimal_at 2 d) (decimal_at 3 d) (decimal_at 4 d) (decimal_at 5 d) r test.1 in
-    array-is decimal IsDecimal decimal-is (decimals_of r) d test.0 (p.0, (p.1, (p.2, (p.3, (p.4, (p.5, tt))))))
+    array-is decimal IsDecimal decimal-is (rectangle_decimals r) d test.0 (p.0, (p.1, (p.2, (p.3, (p.4, (p.5, tt))))))
 
-pub rectangle-from : (d : Data) (r : Rectangle) → IsArray IsDecimal (decimals_of r) d → rectangle_of d ≡ Some r
+pub rectangle-from : (d : Data) (r : Rectangle) → IsArray IsDecimal (rectangle_decimals r) d → rectangle_of d ≡ Some r
 unfolding rectangle_of
 rectangle-from d r is =
-    let p = array-from decimal IsDecimal decimal-from (decimals_of r) d is in
+    let p = array-from decimal IsDecimal decimal-from (rectangle_decimals r) d is in
     if_true (has_items 6 d) (rectangle_with (decimal_at 0 d) (decimal_at 1 d) (decimal_at 2 d) (decimal_at 3 d) (decimal_at 4 d) (decimal_at 5 d)) None
-    (has_items-from IsDecimal (decimals_of r) d is)
+    (has_items-from IsDecimal (rectangle_decimals r) d is)
     ∙ ap (λ o. rectangle_with o (decimal_at 1 d) (decimal_at 2 d) (decimal_at 3 d) (decimal_at 4 d) (decimal_at 5 d)) p.0
     ∙ ap (λ o. rectangle_with (Some r.x) o (decimal_at 2 d) (decimal_at 3 d) (decimal_at 4 d) (decimal_at 5 d)) p.1.0
     ∙ ap (λ o. rectangle_with (Some r.x) (Some r.z) o (decimal_at 3 d) (decimal_at 4 d) (decimal_at 5 d)) p.1.1.0
@@ -173,7 +170,7 @@ entry-is size d entry e =
     let test = if_some (has_items 5 d) (entry_by size (whole_at 0 d) (whole_at 1 d) (whole_at 2 d) (whole_at 3 d) (whole_at 4 d)) entry e in
     let p = entry_some size (whole_at 0 d) (whole_at 1 d) (whole_at 2 d) (whole_at 3 d) (whole_at 4 d) entry test.1 in
     record {
-      says = array-is whole IsWhole whole-is (entry.0.i0 ∷ entry.0.j0 ∷ entry.0.i1 ∷ entry.0.j1 ∷ entry.1 ∷ []) d test.0 (p.0, (p.1, (p.2, (p.3, (p.4, tt)))));
+      says = array-is whole IsWholeNumber whole-is (entry.0.i0 ∷ entry.0.j0 ∷ entry.0.i1 ∷ entry.0.j1 ∷ entry.1 ∷ []) d test.0 (p.0, (p.1, (p.2, (p.3, (p.4, tt)))));
       inside = p.5;
       mask = p.6;
     }
@@ -187,7 +184,7 @@ unfolding entry_of
 entry-from size d entry is =
     let i0 = entry.0.i0 in let j0 = entry.0.j0 in let i1 = entry.0.i1 in let j1 = entry.0.j1 in let mask = entry.1 in
     let values = i0 ∷ j0 ∷ i1 ∷ j1 ∷ mask ∷ [] in
-    let p = array-from whole IsWhole whole-from values d is.says in
+    let p = array-from whole IsWholeNumber whole-from values d is.says in
     let inside = is.inside in
     let test : (nat_le i0 i1 && nat_lt i1 size.w && nat_le j0 j1 && nat_lt j1 size.h && nat_le mask 65535) ≡ true =
     and_both (nat_le i0 i1 && nat_lt i1 size.w && nat_le j0 j1 && nat_lt j1 size.h) (nat_le mask 65535)
@@ -195,7 +192,7 @@ entry-from size d entry is =
     (and_both (nat_le i0 i1 && nat_lt i1 size.w) (nat_le j0 j1)
     (and_both (nat_le i0 i1) (nat_lt i1 size.w) (le_is i0 i1 inside.columns) ((Decides-ltb i1 size.w).1 inside.last_column)) (le_is j0 j1 inside.rows))
     ((Decides-ltb j1 size.h).1 inside.last_row)) (le_is mask 65535 is.mask) in
-    if_true (has_items 5 d) (entry_by size (whole_at 0 d) (whole_at 1 d) (whole_at 2 d) (whole_at 3 d) (whole_at 4 d)) None (has_items-from IsWhole values d is.says)
+    if_true (has_items 5 d) (entry_by size (whole_at 0 d) (whole_at 1 d) (whole_at 2 d) (whole_at 3 d) (whole_at 4 d)) None (has_items-from IsWholeNumber values d is.says)
     ∙ ap (λ o. entry_by size o (whole_at 1 d) (whole_at 2 d) (whole_at 3 d) (whole_at 4 d)) p.0
     ∙ ap (λ o. entry_by size (Some i0) o (whole_at 2 d) (whole_at 3 d) (whole_at 4 d)) p.1.0
     ∙ ap (λ o. entry_by size (Some i0) (Some j0) o (whole_at 3 d) (whole_at 4 d)) p.1.1.0
@@ -240,21 +237,21 @@ size_by-self size (yes wide) (yes high) = ap Some (same_size (record { w = size.
 size_by-self size (yes wide) (no low) = absurd (low size.high)
 size_by-self size (no narrow) high = absurd (narrow size.wide)
 
-size-is : (d : Data) (size : Size) → size_of d ≡ Some size → IsArray IsWhole (size.w ∷ size.h ∷ []) d
+size-is : (d : Data) (size : Size) → size_of d ≡ Some size → IsArray IsWholeNumber (size.w ∷ size.h ∷ []) d
 unfolding size_of size_with
 size-is d size e =
     let test = if_some (has_items 2 d) (option_and_then (λ sides. size_with sides.0 sides.1) (both (whole_at 0 d) (whole_at 1 d))) size e in
     let found = then_some (λ sides. size_with sides.0 sides.1) (both (whole_at 0 d) (whole_at 1 d)) size test.1 in
     let parts = two_some (whole_at 0 d) (whole_at 1 d) found.0 found.1 in
     let same = size_by_some found.0.0 found.0.1 (is_side found.0.0) (is_side found.0.1) size found.2 in
-    array-is whole IsWhole whole-is (size.w ∷ size.h ∷ []) d test.0 (parts.0 ∙ ap Some same.0, (parts.1 ∙ ap Some same.1, tt))
+    array-is whole IsWholeNumber whole-is (size.w ∷ size.h ∷ []) d test.0 (parts.0 ∙ ap Some same.0, (parts.1 ∙ ap Some same.1, tt))
 
-size-from : (d : Data) (size : Size) → IsArray IsWhole (size.w ∷ size.h ∷ []) d → size_of d ≡ Some size
+size-from : (d : Data) (size : Size) → IsArray IsWholeNumber (size.w ∷ size.h ∷ []) d → size_of d ≡ Some size
 unfolding size_of size_with
 size-from d size is =
-    let parts = array-from whole IsWhole whole-from (size.w ∷ size.h ∷ []) d is in
+    let parts = array-from whole IsWholeNumber whole-from (size.w ∷ size.h ∷ []) d is in
     let with = λ (sides : ℕ × ℕ). size_with sides.0 sides.1 in
-    if_true (has_items 2 d) (option_and_then with (both (whole_at 0 d) (whole_at 1 d))) None (has_items-from IsWhole (size.w ∷ size.h ∷ []) d is)
+    if_true (has_items 2 d) (option_and_then with (both (whole_at 0 d) (whole_at 1 d))) None (has_items-from IsWholeNumber (size.w ∷ size.h ∷ []) d is)
     ∙ ap (λ o. option_and_then with (both o (whole_at 1 d))) parts.0 ∙ ap (λ o. option_and_then with (both (Some size.w) o)) parts.1.0
     ∙ size_by-self size (is_side size.w) (is_side size.h)
 

@@ -13,11 +13,14 @@ use Rattle.obstruction_shapes.specs.declared.shapes.Shape.{Shape}
 use Rattle.obstruction_shapes.specs.declared.shapes.Shape.TheVariants.{Unit as UnitShape, Square as SquareShape}
 use Rattle.goal_shapes.specs.declared.goals.GoalSpec.{GoalSpec}
 use Rattle.turn_core.specs.declared.posts.Post.{Post}
-use Rattle.turn_core.specs.declared.posts.Post.TheVariants.{Add, Remove, Move, Path, Region}
+use Rattle.grid_versions.specs.declared.edits.Edit.{Edit}
+use Rattle.grid_versions.specs.declared.edits.Edit.TheVariants.{Add, Remove, Move}
+use Rattle.turn_core.specs.declared.posts.Post.TheVariants.{Edit as Edits, Ask as Asks}
+use Rattle.turn_core.specs.declared.posts.Request.{Request}
+use Rattle.turn_core.specs.declared.posts.Request.TheVariants.{Path, Region}
 use Rattle.script_text.specs.declared.forms.CallerPost.{CallerPost}
-use Rattle.script_text.specs.declared.forms.values.Rectangle.{Rectangle}
 use Rattle.script_text.specs.Values.{whole_in, whole_below, obstruction_number, class_name, under, both, all_three, point_of, round_of, rectangle_of}
-use Rattle.script_text.specs.Forms.{map_of, base_of, goal_of, add_keys, mask_of, shape_with, shape_of, add_of, remove_of, move_of, path_of, region_of, edit_of, request_of, post_of, end_of}
+use Rattle.script_text.specs.Forms.{map_of, base_of, goal_of, add_keys, mask_of, shape_of, add_of, remove_of, move_of, path_of, region_of, edit_of, request_of, post_of, end_of}
 use Rattle.script_text.specs.Grammar.{IsObject, IsNumber, HasAddKeys, IsCaller, IsPostLine, Line, map_line, base_line, post_line, end_line, IsLine}
 use Rattle.script_text.proofs.GrammarValues.{map_some, if_some, under_some, under_is, le_is, whole_in-is, whole_in-from, caller-is, caller-from, number-is, number-from, name-is, name-from}
 use Rattle.script_text.proofs.Members.{are_distinct, is_other, lacks, open_two, open_three, open_four, has_keys-object, has_keys-other, stand-object, get-object-none}
@@ -127,18 +130,18 @@ abbrev units : Data → Option Shape
 units d = option_map (λ u. UnitShape u.0 u.1 u.2) (under round_of (codes "unit") d)
 
 abbrev rectangles : ℕ → Data → Option Shape
-rectangles version d = cond (has_keys (add_keys version (codes "square")) d) (option_map shape_with (under rectangle_of (codes "square") d)) None
+rectangles version d = cond (has_keys (add_keys version (codes "square")) d) (option_map SquareShape (under rectangle_of (codes "square") d)) None
 
-add-is : (version callers caller : ℕ) (d : Data) (post : Post) → under (whole_below callers) (codes "caller") d ≡ Some caller → add_of version d ≡ Some post
-    → IsPostLine version callers caller post d
+add-is : (version callers caller : ℕ) (d : Data) (post : Edit) → under (whole_below callers) (codes "caller") d ≡ Some caller → add_of version d ≡ Some post
+    → IsPostLine version callers caller (Edits post) d
 unfolding add_of shape_of
 add-is version callers caller d post said e =
     let make = λ (parts : ℕ × Shape × ℕ). let o : Obstruction = record { shape = parts.1; mask = parts.2 } in Add parts.0 o in
     let found = map_some make (all_three (under obstruction_number (codes "add") d) (shape_of version d) (mask_of version d)) post e in
     let parts = found.0 in
     let three = all_three_some (under obstruction_number (codes "add") d) (shape_of version d) (mask_of version d) parts found.1 in
-    let Is : Post → Type 0 = λ p. IsPostLine version callers caller p d in
-    let Shaped : Shape → Type 0 = λ s. IsPostLine version callers caller (Add parts.0 (record { shape = s; mask = parts.2 })) d in
+    let Is : Edit → Type 0 = λ p. IsPostLine version callers caller (Edits p) d in
+    let Shaped : Shape → Type 0 = λ s. IsPostLine version callers caller (Edits (Add parts.0 (record { shape = s; mask = parts.2 }))) d in
     let shaped : Shaped parts.1 = elim (either_some (has_keys (add_keys version (codes "unit")) d) (units d) (rectangles version d) parts.1 three.1) [
       | inl h ↦ (let made = map_some (λ u. UnitShape u.0 u.1 u.2) (under round_of (codes "unit") d) parts.1 h.1 in
           let p = add_parts version callers caller parts.0 parts.2 (codes "unit") d refl refl h.0 said three.0 three.2 in
@@ -151,8 +154,8 @@ add-is version callers caller d post said e =
             p.says_number,
             round-is p.shape made.0 (under_some round_of (codes "unit") d p.shape made.0 p.at made.1),
           ))
-      | inr h ↦ (let test = if_some (has_keys (add_keys version (codes "square")) d) (option_map shape_with (under rectangle_of (codes "square") d)) parts.1 h.1 in
-          let made = map_some shape_with (under rectangle_of (codes "square") d) parts.1 test.1 in
+      | inr h ↦ (let test = if_some (has_keys (add_keys version (codes "square")) d) (option_map SquareShape (under rectangle_of (codes "square") d)) parts.1 h.1 in
+          let made = map_some SquareShape (under rectangle_of (codes "square") d) parts.1 test.1 in
           let p = add_parts version callers caller parts.0 parts.2 (codes "square") d refl refl test.0 said three.0 three.2 in
           subst Shaped made.2 (
             p.c,
@@ -168,39 +171,39 @@ add-is version callers caller d post said e =
 
 -- the caller and the post that a value gives
 abbrev Gives : ℕ → ℕ → ℕ → Post → Data → Type 0
-Gives version callers caller post d = (under (whole_below callers) (codes "caller") d ≡ Some caller) × (option_or (edit_of version d) (request_of version d) ≡ Some post)
+Gives version callers caller post d = (under (whole_below callers) (codes "caller") d ≡ Some caller) × (option_or (option_map Edits (edit_of version d)) (option_map Asks (request_of version d)) ≡ Some post)
 
 added : (version callers caller id mask : ℕ) (shape : Shape) (d c add : Data) → get (codes "caller") d ≡ Some c → get (codes "add") d ≡ Some add
     → IsCaller callers caller c → IsNumber id add → shape_of version d ≡ Some shape → mask_of version d ≡ Some mask
-    → Gives version callers caller (Add id (record { shape = shape; mask = mask })) d
+    → Gives version callers caller (Edits (Add id (record { shape = shape; mask = mask }))) d
 unfolding add_of edit_of
 added version callers caller id mask shape d c add first second says_caller says_number shaped bits =
-    let post : Post = Add id (record { shape = shape; mask = mask }) in
+    let post : Edit = Add id (record { shape = shape; mask = mask }) in
     let make = λ (parts : ℕ × Shape × ℕ). let o : Obstruction = record { shape = parts.1; mask = parts.2 } in Add parts.0 o in
     let number = under_is obstruction_number (codes "add") d add id second (number-from add id says_number) in
     let made : add_of version d ≡ Some post =
     ap (λ o. option_map make (all_three o (shape_of version d) (mask_of version d))) number
     ∙ ap (λ o. option_map make (all_three (Some id) o (mask_of version d))) shaped ∙ ap (λ o. option_map make (all_three (Some id) (Some shape) o)) bits in (
       under_is (whole_below callers) (codes "caller") d c caller first (caller-from callers c caller says_caller),
-      or_first (edit_of version d) (request_of version d) post (or_first (add_of version d) (option_or (remove_of d) (move_of version d)) post made),
+      or_first (option_map Edits (edit_of version d)) (option_map Asks (request_of version d)) (Edits post)
+          (ap (option_map Edits) (or_first (add_of version d) (option_or (remove_of d) (move_of version d)) post made)),
     )
 
 add-from : (version callers caller id mask : ℕ) (shape : Shape) (d : Data)
-    → IsPostLine version callers caller (Add id (record { shape = shape; mask = mask })) d → Gives version callers caller (Add id (record { shape = shape; mask = mask })) d
+    → IsPostLine version callers caller (Edits (Add id (record { shape = shape; mask = mask }))) d → Gives version callers caller (Edits (Add id (record { shape = shape; mask = mask }))) d
 unfolding add_of shape_of edit_of
 add-from version callers caller id mask (UnitShape x z half) d h =
     let f = add_found version mask (codes "unit") h.0 h.1 h.2 d refl refl h.3 in
     let shape = if_true (has_keys (add_keys version (codes "unit")) d) (units d) (rectangles version d) f.has
     ∙ ap (option_map (λ u. UnitShape u.0 u.1 u.2)) (under_is round_of (codes "unit") d h.2 (x, z, half) f.third (round-from h.2 x z half h.6)) in
     added version callers caller id mask (UnitShape x z half) d h.0 h.1 f.first f.second h.4 h.5 shape f.bits
-add-from version callers caller id mask (SquareShape x z ux uz hw hh) d h =
-    let r : Rectangle = record { x = x; z = z; ux = ux; uz = uz; hw = hw; hh = hh } in
+add-from version callers caller id mask (SquareShape r) d h =
     let f = add_found version mask (codes "square") h.0 h.1 h.2 d refl refl h.3 in
     let no_unit : has_keys (add_keys version (codes "unit")) d ≡ false = lacks (add_keys version (codes "unit")) (codes "unit") d (f.no_more (codes "unit") refl) refl in
     let shape = if_false (has_keys (add_keys version (codes "unit")) d) (units d) (rectangles version d) no_unit
-    ∙ if_true (has_keys (add_keys version (codes "square")) d) (option_map shape_with (under rectangle_of (codes "square") d)) None f.has
-    ∙ ap (option_map shape_with) (under_is rectangle_of (codes "square") d h.2 r f.third (rectangle-from h.2 r h.6)) in
-    added version callers caller id mask (SquareShape x z ux uz hw hh) d h.0 h.1 f.first f.second h.4 h.5 shape f.bits
+    ∙ if_true (has_keys (add_keys version (codes "square")) d) (option_map SquareShape (under rectangle_of (codes "square") d)) None f.has
+    ∙ ap (option_map SquareShape) (under_is rectangle_of (codes "square") d h.2 r f.third (rectangle-from h.2 r h.6)) in
+    added version callers caller id mask (SquareShape r) d h.0 h.1 f.first f.second h.4 h.5 shape f.bits
 
 -- a value without the key of an add line is none
 no_add : (version : ℕ) (d : Data) → get (codes "add") d ≡ None → add_of version d ≡ None
@@ -223,14 +226,14 @@ path_keys = codes "caller" ∷ codes "path" ∷ codes "from" ∷ codes "goal" �
 abbrev region_keys : List (List ℕ)
 region_keys = codes "caller" ∷ codes "region" ∷ codes "at" ∷ []
 
-remove-is : (version callers caller : ℕ) (d : Data) (post : Post) → under (whole_below callers) (codes "caller") d ≡ Some caller → remove_of d ≡ Some post
-    → IsPostLine version callers caller post d
+remove-is : (version callers caller : ℕ) (d : Data) (post : Edit) → under (whole_below callers) (codes "caller") d ≡ Some caller → remove_of d ≡ Some post
+    → IsPostLine version callers caller (Edits post) d
 unfolding remove_of
 remove-is version callers caller d post said e =
     let test = if_some (has_keys remove_keys d) (option_map Remove (under obstruction_number (codes "remove") d)) post e in
     let o = open_two (codes "caller") (codes "remove") d refl test.0 in
     let found = map_some Remove (under obstruction_number (codes "remove") d) post test.1 in
-    let Is : Post → Type 0 = λ p. IsPostLine version callers caller p d in
+    let Is : Edit → Type 0 = λ p. IsPostLine version callers caller (Edits p) d in
     subst Is found.2 (
       o.v,
       o.w,
@@ -239,8 +242,8 @@ remove-is version callers caller d post said e =
       number-is o.w found.0 (under_some obstruction_number (codes "remove") d o.w found.0 o.second found.1),
     )
 
-move-is : (version callers caller : ℕ) (d : Data) (post : Post) → under (whole_below callers) (codes "caller") d ≡ Some caller → move_of version d ≡ Some post
-    → IsPostLine version callers caller post d
+move-is : (version callers caller : ℕ) (d : Data) (post : Edit) → under (whole_below callers) (codes "caller") d ≡ Some caller → move_of version d ≡ Some post
+    → IsPostLine version callers caller (Edits post) d
 unfolding move_of
 move-is version callers caller d post said e =
     let make = λ (parts : ℕ × (ℤ × ℤ)). Move parts.0 parts.1.0 parts.1.1 in
@@ -250,7 +253,7 @@ move-is version callers caller d post said e =
     let o = open_three (codes "caller") (codes "move") (codes "to") d refl tests.1 in
     let found = map_some make (both number to) post test.1 in let parts = found.0 in
     let two = two_some number to parts found.1 in
-    let Is : Post → Type 0 = λ p. IsPostLine version callers caller p d in
+    let Is : Edit → Type 0 = λ p. IsPostLine version callers caller (Edits p) d in
     subst Is found.2 (
       o.v,
       o.w,
@@ -262,8 +265,8 @@ move-is version callers caller d post said e =
       leb-true 3 version tests.0,
     )
 
-path-is : (version callers caller : ℕ) (d : Data) (post : Post) → under (whole_below callers) (codes "caller") d ≡ Some caller → path_of version d ≡ Some post
-    → IsPostLine version callers caller post d
+path-is : (version callers caller : ℕ) (d : Data) (post : Request) → under (whole_below callers) (codes "caller") d ≡ Some caller → path_of version d ≡ Some post
+    → IsPostLine version callers caller (Asks post) d
 unfolding path_of
 path-is version callers caller d post said e =
     let make = λ (parts : List ℕ × (ℤ × ℤ) × GoalSpec). Path parts.0 parts.1.0 parts.1.1 parts.2 in
@@ -272,7 +275,7 @@ path-is version callers caller d post said e =
     let o = open_four (codes "caller") (codes "path") (codes "from") (codes "goal") d refl test.0 in
     let found = map_some make (all_three name from goal) post test.1 in let parts = found.0 in
     let three = all_three_some name from goal parts found.1 in
-    let Is : Post → Type 0 = λ p. IsPostLine version callers caller p d in
+    let Is : Request → Type 0 = λ p. IsPostLine version callers caller (Asks p) d in
     subst Is found.2 (
       o.v,
       o.w,
@@ -285,8 +288,8 @@ path-is version callers caller d post said e =
       goal-is version o.y parts.2 (under_some (goal_of version) (codes "goal") d o.y parts.2 o.fourth three.2),
     )
 
-region-is : (version callers caller : ℕ) (d : Data) (post : Post) → under (whole_below callers) (codes "caller") d ≡ Some caller → region_of d ≡ Some post
-    → IsPostLine version callers caller post d
+region-is : (version callers caller : ℕ) (d : Data) (post : Request) → under (whole_below callers) (codes "caller") d ≡ Some caller → region_of d ≡ Some post
+    → IsPostLine version callers caller (Asks post) d
 unfolding region_of
 region-is version callers caller d post said e =
     let make = λ (parts : List ℕ × (ℤ × ℤ)). Region parts.0 parts.1.0 parts.1.1 in
@@ -295,7 +298,7 @@ region-is version callers caller d post said e =
     let o = open_three (codes "caller") (codes "region") (codes "at") d refl test.0 in
     let found = map_some make (both name place) post test.1 in let parts = found.0 in
     let two = two_some name place parts found.1 in
-    let Is : Post → Type 0 = λ p. IsPostLine version callers caller p d in
+    let Is : Request → Type 0 = λ p. IsPostLine version callers caller (Asks p) d in
     subst Is found.2 (
       o.v,
       o.w,
@@ -333,7 +336,7 @@ no_path version keys vs d is apart =
 none_of_two : {A : Type 0} (o p : Option A) → o ≡ None → p ≡ None → option_or o p ≡ None
 none_of_two o p a b = ap (λ q. option_or q p) a ∙ b
 
-remove-from : (version callers caller id : ℕ) (d : Data) → IsPostLine version callers caller (Remove id) d → Gives version callers caller (Remove id) d
+remove-from : (version callers caller id : ℕ) (d : Data) → IsPostLine version callers caller (Edits (Remove id)) d → Gives version callers caller (Edits (Remove id)) d
 unfolding remove_of edit_of
 remove-from version callers caller id d h =
     let values = h.0 ∷ h.1 ∷ [] in
@@ -342,12 +345,12 @@ remove-from version callers caller id d h =
     if_true (has_keys remove_keys d) (option_map Remove (under obstruction_number (codes "remove") d)) None (has_keys-object remove_keys values d refl h.2)
     ∙ ap (option_map Remove) (under_is obstruction_number (codes "remove") d h.1 id at.1.0 (number-from h.1 id h.4)) in (
       under_is (whole_below callers) (codes "caller") d h.0 caller at.0 (caller-from callers h.0 caller h.3),
-      or_first (edit_of version d) (request_of version d) (Remove id)
-          (or_second (add_of version d) (option_or (remove_of d) (move_of version d)) (Remove id) (no_add version d (get-object-none remove_keys values d (codes "add") h.2 refl))
-          (or_first (remove_of d) (move_of version d) (Remove id) made)),
+      or_first (option_map Edits (edit_of version d)) (option_map Asks (request_of version d)) (Edits (Remove id))
+          (ap (option_map Edits) (or_second (add_of version d) (option_or (remove_of d) (move_of version d)) (Remove id) (no_add version d (get-object-none remove_keys values d (codes "add") h.2 refl))
+          (or_first (remove_of d) (move_of version d) (Remove id) made))),
     )
 
-move-from : (version callers caller id : ℕ) (x z : ℤ) (d : Data) → IsPostLine version callers caller (Move id x z) d → Gives version callers caller (Move id x z) d
+move-from : (version callers caller id : ℕ) (x z : ℤ) (d : Data) → IsPostLine version callers caller (Edits (Move id x z)) d → Gives version callers caller (Edits (Move id x z)) d
 unfolding move_of edit_of
 move-from version callers caller id x z d h =
     let make = λ (parts : ℕ × (ℤ × ℤ)). Move parts.0 parts.1.0 parts.1.1 in
@@ -360,9 +363,9 @@ move-from version callers caller id x z d h =
     ∙ ap (λ o. option_map make (both o to)) (under_is obstruction_number (codes "move") d h.1 id at.1.0 (number-from h.1 id h.5))
     ∙ ap (λ o. option_map make (both (Some id) o)) (under_is point_of (codes "to") d h.2 (x, z) at.1.1.0 (point-from h.2 x z h.6)) in (
       under_is (whole_below callers) (codes "caller") d h.0 caller at.0 (caller-from callers h.0 caller h.4),
-      or_first (edit_of version d) (request_of version d) (Move id x z)
-          (or_second (add_of version d) (option_or (remove_of d) (move_of version d)) (Move id x z) (no_add version d (get-object-none move_keys values d (codes "add") h.3 refl))
-          (or_second (remove_of d) (move_of version d) (Move id x z) (no_remove move_keys values d h.3 refl) made)),
+      or_first (option_map Edits (edit_of version d)) (option_map Asks (request_of version d)) (Edits (Move id x z))
+          (ap (option_map Edits) (or_second (add_of version d) (option_or (remove_of d) (move_of version d)) (Move id x z) (no_add version d (get-object-none move_keys values d (codes "add") h.3 refl))
+          (or_second (remove_of d) (move_of version d) (Move id x z) (no_remove move_keys values d h.3 refl) made))),
     )
 
 no_edit : (version : ℕ) (keys : List (List ℕ)) (vs : List Data) (d : Data) → IsObject keys vs d → is_other (codes "add") keys ≡ true
@@ -372,8 +375,8 @@ no_edit version keys vs d is add remove move =
     none_of_two (add_of version d) (option_or (remove_of d) (move_of version d)) (no_add version d (get-object-none keys vs d (codes "add") is add))
     (none_of_two (remove_of d) (move_of version d) (no_remove keys vs d is remove) (no_move version keys vs d is move))
 
-path-from : (version callers caller : ℕ) (class : List ℕ) (x z : ℤ) (goal : GoalSpec) (d : Data) → IsPostLine version callers caller (Path class x z goal) d
-    → Gives version callers caller (Path class x z goal) d
+path-from : (version callers caller : ℕ) (class : List ℕ) (x z : ℤ) (goal : GoalSpec) (d : Data) → IsPostLine version callers caller (Asks (Path class x z goal)) d
+    → Gives version callers caller (Asks (Path class x z goal)) d
 unfolding path_of request_of
 path-from version callers caller class x z goal d h =
     let make = λ (parts : List ℕ × (ℤ × ℤ) × GoalSpec). Path parts.0 parts.1.0 parts.1.1 parts.2 in
@@ -386,12 +389,12 @@ path-from version callers caller class x z goal d h =
     ∙ ap (λ o. option_map make (all_three (Some class) o to)) (under_is point_of (codes "from") d h.2 (x, z) at.1.1.0 (point-from h.2 x z h.7))
     ∙ ap (λ o. option_map make (all_three (Some class) (Some (x, z)) o)) (under_is (goal_of version) (codes "goal") d h.3 goal at.1.1.1.0 (goal-from version h.3 goal h.8)) in (
       under_is (whole_below callers) (codes "caller") d h.0 caller at.0 (caller-from callers h.0 caller h.5),
-      or_second (edit_of version d) (request_of version d) (Path class x z goal) (no_edit version path_keys values d h.4 refl refl refl)
-          (or_first (path_of version d) (region_of d) (Path class x z goal) made),
+      or_second (option_map Edits (edit_of version d)) (option_map Asks (request_of version d)) (Asks (Path class x z goal)) (ap (option_map Edits) (no_edit version path_keys values d h.4 refl refl refl))
+          (ap (option_map Asks) (or_first (path_of version d) (region_of d) (Path class x z goal) made)),
     )
 
-region-from : (version callers caller : ℕ) (class : List ℕ) (x z : ℤ) (d : Data) → IsPostLine version callers caller (Region class x z) d
-    → Gives version callers caller (Region class x z) d
+region-from : (version callers caller : ℕ) (class : List ℕ) (x z : ℤ) (d : Data) → IsPostLine version callers caller (Asks (Region class x z)) d
+    → Gives version callers caller (Asks (Region class x z)) d
 unfolding region_of request_of
 region-from version callers caller class x z d h =
     let make = λ (parts : List ℕ × (ℤ × ℤ)). Region parts.0 parts.1.0 parts.1.1 in
@@ -403,18 +406,18 @@ region-from version callers caller class x z d h =
     ∙ ap (λ o. option_map make (both o place)) (under_is class_name (codes "region") d h.1 class at.1.0 (name-from h.1 class h.5))
     ∙ ap (λ o. option_map make (both (Some class) o)) (under_is point_of (codes "at") d h.2 (x, z) at.1.1.0 (point-from h.2 x z h.6)) in (
       under_is (whole_below callers) (codes "caller") d h.0 caller at.0 (caller-from callers h.0 caller h.4),
-      or_second (edit_of version d) (request_of version d) (Region class x z) (no_edit version region_keys values d h.3 refl refl refl)
-          (or_second (path_of version d) (region_of d) (Region class x z) (no_path version region_keys values d h.3 refl) made),
+      or_second (option_map Edits (edit_of version d)) (option_map Asks (request_of version d)) (Asks (Region class x z)) (ap (option_map Edits) (no_edit version region_keys values d h.3 refl refl refl))
+          (ap (option_map Asks) (or_second (path_of version d) (region_of d) (Region class x z) (no_path version region_keys values d h.3 refl) made)),
     )
 
 -- ---- all post lines
 
 gives : (version callers caller : ℕ) (post : Post) (d : Data) → IsPostLine version callers caller post d → Gives version callers caller post d
-gives version callers caller (Add id o) d h = add-from version callers caller id o.mask o.shape d h
-gives version callers caller (Remove id) d h = remove-from version callers caller id d h
-gives version callers caller (Move id x z) d h = move-from version callers caller id x z d h
-gives version callers caller (Path class x z goal) d h = path-from version callers caller class x z goal d h
-gives version callers caller (Region class x z) d h = region-from version callers caller class x z d h
+gives version callers caller (Edits (Add id o)) d h = add-from version callers caller id o.mask o.shape d h
+gives version callers caller (Edits (Remove id)) d h = remove-from version callers caller id d h
+gives version callers caller (Edits (Move id x z)) d h = move-from version callers caller id x z d h
+gives version callers caller (Asks (Path class x z goal)) d h = path-from version callers caller class x z goal d h
+gives version callers caller (Asks (Region class x z)) d h = region-from version callers caller class x z d h
 
 abbrev said_by : ℕ × Post → CallerPost
 said_by parts = record { caller = parts.0; post = parts.1 }
@@ -423,22 +426,26 @@ pub post-is : (version callers : ℕ) (d : Data) (said : CallerPost) → post_of
 unfolding post_of edit_of request_of
 post-is version callers d said e =
     let caller = under (whole_below callers) (codes "caller") d in
-    let post = option_or (edit_of version d) (request_of version d) in
-    let found = map_some said_by (both caller post) said e in let parts = found.0 in
-    let two = two_some caller post parts found.1 in
+    let edits = option_map Edits (edit_of version d) in
+    let asks = option_map Asks (request_of version d) in
+    let found = map_some said_by (both caller (option_or edits asks)) said e in let parts = found.0 in
+    let two = two_some caller (option_or edits asks) parts found.1 in
     let Is : CallerPost → Type 0 = λ s. IsPostLine version callers s.caller s.post d in
-    let is : IsPostLine version callers parts.0 parts.1 d = elim (or_some (edit_of version d) (request_of version d) parts.1 two.1) [
-      | inl h ↦ elim (or_some (add_of version d) (option_or (remove_of d) (move_of version d)) parts.1 h) [
-        | inl i ↦ add-is version callers parts.0 d parts.1 two.0 i
-        | inr i ↦ elim (or_some (remove_of d) (move_of version d) parts.1 i) [
-          | inl j ↦ remove-is version callers parts.0 d parts.1 two.0 j
-          | inr j ↦ move-is version callers parts.0 d parts.1 two.0 j
-        ]
-      ]
-      | inr h ↦ elim (or_some (path_of version d) (region_of d) parts.1 h) [
-        | inl i ↦ path-is version callers parts.0 d parts.1 two.0 i
-        | inr i ↦ region-is version callers parts.0 d parts.1 two.0 i
-      ]
+    let Said : Post → Type 0 = λ p. IsPostLine version callers parts.0 p d in
+    let is : IsPostLine version callers parts.0 parts.1 d = elim (or_some edits asks parts.1 two.1) [
+      | inl h ↦ (let edit = map_some Edits (edit_of version d) parts.1 h in
+          subst Said edit.2 (elim (or_some (add_of version d) (option_or (remove_of d) (move_of version d)) edit.0 edit.1) [
+            | inl i ↦ add-is version callers parts.0 d edit.0 two.0 i
+            | inr i ↦ elim (or_some (remove_of d) (move_of version d) edit.0 i) [
+              | inl j ↦ remove-is version callers parts.0 d edit.0 two.0 j
+              | inr j ↦ move-is version callers parts.0 d edit.0 two.0 j
+            ]
+          ]))
+      | inr h ↦ (let ask = map_some Asks (request_of version d) parts.1 h in
+          subst Said ask.2 (elim (or_some (path_of version d) (region_of d) ask.0 ask.1) [
+            | inl i ↦ path-is version callers parts.0 d ask.0 two.0 i
+            | inr i ↦ region-is version callers parts.0 d ask.0 two.0 i
+          ]))
     ] in
     subst Is found.2 is
 
@@ -446,7 +453,7 @@ pub post-from : (version callers : ℕ) (d : Data) (said : CallerPost) → IsPos
 unfolding post_of
 post-from version callers d said h =
     let both_give = gives version callers said.caller said.post d h in
-    ap (λ o. option_map said_by (both o (option_or (edit_of version d) (request_of version d)))) both_give.0
+    ap (λ o. option_map said_by (both o (option_or (option_map Edits (edit_of version d)) (option_map Asks (request_of version d))))) both_give.0
     ∙ ap (λ o. option_map said_by (both (Some said.caller) o)) both_give.1
 
 -- ---- one form

@@ -11,7 +11,7 @@ use Rattle.class_config.specs.Forms.{some_if, is_class_name}
 use Rattle.class_config.specs.Classes.{list_of}
 use Rattle.script_text.specs.Values.{whole, whole_in, whole_below, obstruction_number, decimal, class_name, under, array_items, has_items, both}
 use Rattle.script_text.specs.Forms.{each}
-use Rattle.script_text.specs.Grammar.{IsWhole, IsNumber, IsDecimal, IsName, SayEach, IsArray, IsCaller}
+use Rattle.script_text.specs.Grammar.{IsWholeNumber, IsNumber, IsDecimal, IsName, SayEach, IsArray, IsCaller}
 
 -- ---- options
 
@@ -54,7 +54,7 @@ le_is a b h = grind (arith, leb-true)
 
 -- ---- single values
 
-pub whole-is : (d : Data) (n : ℕ) → whole d ≡ Some n → IsWhole n d
+pub whole-is : (d : Data) (n : ℕ) → whole d ≡ Some n → IsWholeNumber n d
 whole-is null n e = absurd (cc)
 whole-is (boolean b) n e = absurd (cc)
 whole-is (number (unsigned m)) n e = let same : m ≡ n = cc in ap (λ k. number (unsigned k)) same
@@ -64,10 +64,10 @@ whole-is (string s) n e = absurd (cc)
 whole-is (array ds) n e = absurd (cc)
 whole-is (object ms) n e = absurd (cc)
 
-pub whole-from : (d : Data) (n : ℕ) → IsWhole n d → whole d ≡ Some n
+pub whole-from : (d : Data) (n : ℕ) → IsWholeNumber n d → whole d ≡ Some n
 whole-from d n e = ap whole e
 
-pub whole_in-is : (least most : ℕ) (d : Data) (n : ℕ) → whole_in least most d ≡ Some n → IsWhole n d × (least ≤ n) × (n ≤ most)
+pub whole_in-is : (least most : ℕ) (d : Data) (n : ℕ) → whole_in least most d ≡ Some n → IsWholeNumber n d × (least ≤ n) × (n ≤ most)
 unfolding whole_in
 whole_in-is least most d n e =
     let found = then_some (λ m. some_if (nat_le least m && nat_le m most) m) (whole d) n e in
@@ -75,7 +75,7 @@ whole_in-is least most d n e =
     let parts = and_parts (nat_le least found.0) (nat_le found.0 most) test.0 in
     (whole-is d n (found.1 ∙ ap Some test.1), rw (sym test.1) (leb-true least found.0 parts.0), rw (sym test.1) (leb-true found.0 most parts.1))
 
-pub whole_in-from : (least most : ℕ) (d : Data) (n : ℕ) → IsWhole n d → least ≤ n → n ≤ most → whole_in least most d ≡ Some n
+pub whole_in-from : (least most : ℕ) (d : Data) (n : ℕ) → IsWholeNumber n d → least ≤ n → n ≤ most → whole_in least most d ≡ Some n
 unfolding whole_in
 whole_in-from least most d n e low high =
     ap (λ o. option_and_then (λ m. some_if (nat_le least m && nat_le m most) m) o) (whole-from d n e)

@@ -8,6 +8,8 @@ pub mod ReadSize
 pub mod ReadNext
 pub mod ReadCalls
 pub mod ReadStill
+pub mod ReadNeed
+pub mod ReadWhole
 pub mod FormValues
 pub mod Members
 pub mod GrammarValues

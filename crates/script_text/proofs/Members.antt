@@ -1,7 +1,7 @@
--- Objects with exactly the keys of a list: how the test by count and keys, and the members in any order, go together.
-use Rattle.std.proofs.Common.{◌≡◌, ℕ, ◌+◌, ◌==◌, ◌&&◌, List, [], ◌∷◌, length, Bool, true, false, not, Some, None, is_some, refl, ap, sym, subst, ◌∙◌, arith, eq-eqb}
-use Rattle.std.specs.Prelude.{⊤, bytes_eq}
-use Rattle.std.specs.List.{list_all}
+-- Objects with exactly the keys of a list: how the test of the keys, and the members in any order, go together.
+use Rattle.std.proofs.Common.{◌≡◌, ℕ, ◌+◌, ◌==◌, ◌&&◌, ◌||◌, List, [], ◌∷◌, cond, Bool, true, false, not, Option, Some, None, is_some, refl, ap, sym, subst, ◌∙◌, arith, eq-eqb, zero-add}
+use Rattle.std.specs.Prelude.{⊤, bytes_eq, count_by}
+use Rattle.std.specs.List.{list_all, list_any}
 use Rattle.std.specs.declared.cmp.Ordering.{Ordering}
 use Rattle.std.specs.declared.cmp.Ordering.TheVariants.{Less, Equal, Greater}
 use Rattle.std.specs.Ordering.{nat_cmp, match_ordering}
@@ -14,7 +14,8 @@ use Rattle.std.proofs.lemmas.Map.Text.{is_eq-slice_cmp}
 use Rattle.std.proofs.lemmas.Slice.Eq.{bytes_eq-Decides}
 use Rattle.serde_json.specs.Data.{Data, null, boolean, number, string, array, object, Members, no_members, member}
 use Rattle.serde_json.specs.Find.{get, get_member}
-use Rattle.class_config.specs.Forms.{has_keys, member_count}
+use Rattle.class_config.specs.Forms.{has_keys, keys_of}
+use Rattle.class_config.proofs.FormKeys.{count-member, count-same, count-apart}
 use Rattle.script_text.specs.Grammar.{joined, AreMembers, IsObject}
 
 -- ---- what stands under a key
@@ -41,9 +42,58 @@ by_key {A} key other same differ = by_test (bytes_eq key other) (bytes_eq-Decide
     by_test true tells told = same (tells refl)
     by_test false tells told = differ (λ e. let t : false ≡ true = told e in absurd (cc))
 
-count-joined : (before after : Members) (key : List ℕ) (d : Data) → member_count (joined before (member key d after)) ≡ member_count (joined before after) + 1
-count-joined no_members after key d = refl
-count-joined (member k e ms) after key d = ap (λ n. n + 1) (count-joined ms after key d)
+eq_other : (key other : List ℕ) → (key ≡ other → ⊥) → bytes_eq key other ≡ false
+eq_other key other differ = by_test (bytes_eq key other) (bytes_eq-Decides key other).0
+  where
+    by_test : (b : Bool) → (b ≡ true → key ≡ other) → b ≡ false
+    by_test true tells = absurd (differ (tells refl))
+    by_test false tells = refl
+
+eq_same : (key : List ℕ) → bytes_eq key key ≡ true
+eq_same key = (bytes_eq-Decides key key).1 refl
+
+both_true : (a b : Bool) → a ≡ true → b ≡ true → (a && b) ≡ true
+both_true true b e f = f
+both_true false b e f = absurd (cc)
+
+-- ---- how often a key stands
+
+abbrev count_of : List ℕ → Members → ℕ
+count_of key ms = count_by (bytes_eq key) (keys_of ms)
+
+swap : (a b n : ℕ) → a + (b + n) ≡ b + (a + n)
+swap a b n = omega arith
+
+count-joined : (before after : Members) (key other : List ℕ) (d : Data)
+    → count_of key (joined before (member other d after)) ≡ cond (bytes_eq key other) 1 0 + count_of key (joined before after)
+count-joined no_members after key other d = count-member key other d after
+count-joined (member k e ms) after key other d =
+    count-member key k e (joined ms (member other d after)) ∙ ap (λ n. cond (bytes_eq key k) 1 0 + n) (count-joined ms after key other d)
+    ∙ swap (cond (bytes_eq key k) 1 0) (cond (bytes_eq key other) 1 0) (count_of key (joined ms after))
+    ∙ ap (λ n. cond (bytes_eq key other) 1 0 + n) (sym (count-member key k e (joined ms after)))
+
+count-here : (before after : Members) (key : List ℕ) (d : Data) → count_of key (joined before (member key d after)) ≡ 1 + count_of key (joined before after)
+count-here before after key d = count-joined before after key key d ∙ ap (λ b. cond b 1 0 + count_of key (joined before after)) (eq_same key)
+
+count-other : (before after : Members) (key other : List ℕ) (d : Data) → (key ≡ other → ⊥) → count_of key (joined before (member other d after)) ≡ count_of key (joined before after)
+count-other before after key other d differ =
+    count-joined before after key other d ∙ ap (λ b. cond b 1 0 + count_of key (joined before after)) (eq_other key other differ)
+    ∙ zero-add (count_of key (joined before after))
+
+-- a key that is not found stands nowhere
+count-none : (key : List ℕ) (ms : Members) → get_member key ms ≡ None → count_of key ms ≡ 0
+count-none key no_members none = refl
+count-none key (member k d ms) none =
+    by_key key k
+    (λ same. let found : get_member key (member k d ms) ≡ Some d = ap (λ q. get_member q (member k d ms)) same ∙ get-here k d ms in absurd (cc))
+    (λ differ. count-apart key k d ms (eq_other key k differ) ∙ count-none key ms (sym (get-there key k d ms differ) ∙ none))
+
+some_by_count : (key : List ℕ) (ms : Members) → count_of key ms ≡ 1 → is_some (get_member key ms) ≡ true
+some_by_count key ms one = by_found (get_member key ms) refl
+  where
+    by_found : (o : Option Data) → get_member key ms ≡ o → is_some o ≡ true
+    by_found (Some d) e = refl
+    by_found None e = let none : count_of key ms ≡ 0 = count-none key ms e in absurd (omega (arith, none, one))
 
 get-joined-other : (before after : Members) (key other : List ℕ) (d : Data) → (key ≡ other → ⊥)
     → get_member key (joined before (member other d after)) ≡ get_member key (joined before after)
@@ -99,30 +149,60 @@ under-more (key ∷ keys) (e ∷ ds) before after other d apart under =
     let parts = other_head other key keys apart in
     (get-joined-other before after key other d (λ same. parts.0 (sym same)) ∙ under.0, under-more keys ds before after other d parts.1 under.1)
 
-all_some-less : (keys : List (List ℕ)) (before after : Members) (other : List ℕ) (d : Data) → is_other other keys ≡ true
-    → list_all (λ key. is_some (get_member key (joined before (member other d after)))) keys ≡ list_all (λ key. is_some (get_member key (joined before after))) keys
-all_some-less [] before after other d apart = refl
-all_some-less (key ∷ keys) before after other d apart =
+once-same : (keys : List (List ℕ)) (before after : Members) (other : List ℕ) (d : Data) → is_other other keys ≡ true
+    → list_all (λ key. count_of key (joined before (member other d after)) == 1) keys ≡ list_all (λ key. count_of key (joined before after) == 1) keys
+once-same [] before after other d apart = refl
+once-same (key ∷ keys) before after other d apart =
     let parts = other_head other key keys apart in
-    ap (λ found. is_some found && list_all (λ k. is_some (get_member k (joined before (member other d after)))) keys)
-    (get-joined-other before after key other d (λ same. parts.0 (sym same)))
-    ∙ ap (λ rest. is_some (get_member key (joined before after)) && rest) (all_some-less keys before after other d parts.1)
+    ap (λ n. (n == 1) && list_all (λ k. count_of k (joined before (member other d after)) == 1) keys)
+    (count-other before after key other d (λ same. parts.0 (sym same)))
+    ∙ ap (λ rest. (count_of key (joined before after) == 1) && rest) (once-same keys before after other d parts.1)
 
-all_some : (keys : List (List ℕ)) (ds : List Data) (ms : Members) → AreUnder keys ds ms → list_all (λ key. is_some (get_member key ms)) keys ≡ true
-all_some [] ds ms under = refl
-all_some (key ∷ keys) [] ms under = absurd under
-all_some (key ∷ keys) (d ∷ ds) ms under =
-    ap (λ found. is_some found && list_all (λ k. is_some (get_member k ms)) keys) under.0 ∙ all_some keys ds ms under.1
+-- ---- keys that are asked for
+
+keep-less : (P : List ℕ → Bool) (before after : Members) (other : List ℕ) (d : Data) → list_all P (keys_of (joined before (member other d after))) ≡ true
+    → list_all P (keys_of (joined before after)) ≡ true
+keep-less P no_members after other d all = (and_parts (P other) (list_all P (keys_of after)) all).1
+keep-less P (member k e ms) after other d all =
+    let parts = and_parts (P k) (list_all P (keys_of (joined ms (member other d after)))) all in
+    both_true (P k) (list_all P (keys_of (joined ms after))) parts.0 (keep-less P ms after other d parts.1)
+
+keep-more : (P : List ℕ → Bool) (before after : Members) (other : List ℕ) (d : Data) → P other ≡ true → list_all P (keys_of (joined before after)) ≡ true
+    → list_all P (keys_of (joined before (member other d after))) ≡ true
+keep-more P no_members after other d here all = both_true (P other) (list_all P (keys_of after)) here all
+keep-more P (member k e ms) after other d here all =
+    let parts = and_parts (P k) (list_all P (keys_of (joined ms after))) all in
+    both_true (P k) (list_all P (keys_of (joined ms (member other d after)))) parts.0 (keep-more P ms after other d here parts.1)
+
+or_either : (a b : Bool) → b ≡ true → (a || b) ≡ true
+or_either true b e = refl
+or_either false b e = e
+
+or_rest : (a b : Bool) → a ≡ false → (a || b) ≡ true → b ≡ true
+or_rest true b e f = absurd (cc)
+or_rest false b e f = f
+
+abbrev are_asked : List (List ℕ) → Members → Bool
+are_asked keys ms = list_all (λ key. list_any (bytes_eq key) keys) (keys_of ms)
+
+asked-wider : (key : List ℕ) (keys : List (List ℕ)) (ms : Members) → are_asked keys ms ≡ true → are_asked (key ∷ keys) ms ≡ true
+asked-wider key keys no_members all = refl
+asked-wider key keys (member k d ms) all =
+    let parts = and_parts (list_any (bytes_eq k) keys) (are_asked keys ms) all in
+    both_true (bytes_eq k key || list_any (bytes_eq k) keys) (are_asked (key ∷ keys) ms)
+    (or_either (bytes_eq k key) (list_any (bytes_eq k) keys) parts.0) (asked-wider key keys ms parts.1)
+
+asked-less : (key : List ℕ) (keys : List (List ℕ)) (ms : Members) → count_of key ms ≡ 0 → are_asked (key ∷ keys) ms ≡ true → are_asked keys ms ≡ true
+asked-less key keys no_members none all = refl
+asked-less key keys (member k d ms) none all =
+    let parts = and_parts (bytes_eq k key || list_any (bytes_eq k) keys) (are_asked (key ∷ keys) ms) all in
+    by_key key k
+    (λ same. let one : count_of key (member k d ms) ≡ 1 + count_of key ms = count-same key k d ms ((bytes_eq-Decides key k).1 same) in absurd (omega (arith, one, none)))
+    (λ differ. let apart : bytes_eq k key ≡ false = eq_other k key (λ e. differ (sym e)) in
+    let rest : count_of key ms ≡ 0 = sym (count-apart key k d ms (eq_other key k differ)) ∙ none in
+    both_true (list_any (bytes_eq k) keys) (are_asked keys ms) (or_rest (bytes_eq k key) (list_any (bytes_eq k) keys) apart parts.0) (asked-less key keys ms rest parts.1))
 
 -- ---- from the members to what is found
-
-pub members-count : (keys : List (List ℕ)) (ds : List Data) (ms : Members) → AreMembers keys ds ms → member_count ms ≡ length keys
-members-count [] [] ms are = ap member_count are
-members-count [] (d ∷ ds) ms are = absurd are
-members-count (key ∷ keys) [] ms are = absurd are
-members-count (key ∷ keys) (d ∷ ds) ms are =
-    let rest = members-count keys ds (joined are.0 are.1) are.3 in
-    ap member_count are.2 ∙ count-joined are.0 are.1 key d ∙ omega (arith, rest)
 
 pub members-none : (keys : List (List ℕ)) (ds : List Data) (ms : Members) (other : List ℕ) → AreMembers keys ds ms → is_other other keys ≡ true
     → get_member other ms ≡ None
@@ -145,6 +225,28 @@ members-under (key ∷ keys) (d ∷ ds) ms distinct are =
     let Under : Members → Type 0 = λ m. AreUnder (key ∷ keys) (d ∷ ds) m in
     let there : Under (joined are.0 (member key d are.1)) = (get-joined-here are.0 are.1 key d none, under-more keys ds are.0 are.1 key d parts.0 rest) in
     rw are.2 there
+
+members-asked : (keys : List (List ℕ)) (ds : List Data) (ms : Members) → AreMembers keys ds ms → are_asked keys ms ≡ true
+members-asked [] [] ms are = ap (λ m. are_asked [] m) are
+members-asked [] (d ∷ ds) ms are = absurd are
+members-asked (key ∷ keys) [] ms are = absurd are
+members-asked (key ∷ keys) (d ∷ ds) ms are =
+    let P : List ℕ → Bool = λ k. list_any (bytes_eq k) (key ∷ keys) in
+    let rest = asked-wider key keys (joined are.0 are.1) (members-asked keys ds (joined are.0 are.1) are.3) in
+    ap (λ m. list_all P (keys_of m)) are.2 ∙ keep-more P are.0 are.1 key d (ap (λ b. b || list_any (bytes_eq key) keys) (eq_same key)) rest
+
+members-once : (keys : List (List ℕ)) (ds : List Data) (ms : Members) → are_distinct keys ≡ true → AreMembers keys ds ms
+    → list_all (λ key. count_of key ms == 1) keys ≡ true
+members-once [] ds ms distinct are = refl
+members-once (key ∷ keys) [] ms distinct are = absurd are
+members-once (key ∷ keys) (d ∷ ds) ms distinct are =
+    let parts = and_parts (is_other key keys) (are_distinct keys) distinct in
+    let rest = joined are.0 are.1 in
+    let none : count_of key rest ≡ 0 = count-none key rest (members-none keys ds rest key are.3 parts.0) in
+    let one : count_of key ms ≡ 1 = ap (count_of key) are.2 ∙ count-here are.0 are.1 key d ∙ ap (λ n. 1 + n) none in
+    let Once : Members → Type 0 = λ m. list_all (λ k. count_of k m == 1) keys ≡ true in
+    let others : Once ms = subst Once (sym are.2) (once-same keys are.0 are.1 key d parts.0 ∙ members-once keys ds rest parts.1 are.3) in
+    both_true (count_of key ms == 1) (list_all (λ k. count_of k ms == 1) keys) (eq-eqb (count_of key ms) 1 one) others
 
 -- ---- from what is found to the members
 
@@ -176,30 +278,33 @@ find_key key (member k d ms) some =
       found = there ∙ rest.found;
     })
 
-no_member : (ms : Members) → (member_count ms == 0) ≡ true → ms ≡ no_members
-no_member no_members none = refl
-no_member (member key d ms) none = let e = (Decides-eqb (member_count ms + 1) 0).0 none in absurd (omega (arith, e))
+no_member : (ms : Members) → are_asked [] ms ≡ true → ms ≡ no_members
+no_member no_members all = refl
+no_member (member key d ms) all = absurd (cc)
 
--- the members of an object with so many, among them each of these distinct keys
+-- the members of an object whose keys are exactly these distinct keys
 pub record Held (keys : List (List ℕ)) (ms : Members) : Type 0 where
   pub values : List Data
   pub are : AreMembers keys values ms
   pub under : AreUnder keys values ms
 
-pub held : (keys : List (List ℕ)) (ms : Members) → are_distinct keys ≡ true → (member_count ms == length keys) ≡ true
-    → list_all (λ key. is_some (get_member key ms)) keys ≡ true → Held keys ms
-held [] ms distinct count all = record { values = []; are = no_member ms count; under = tt }
-held (key ∷ keys) ms distinct count all =
+pub held : (keys : List (List ℕ)) (ms : Members) → are_distinct keys ≡ true → are_asked keys ms ≡ true
+    → list_all (λ key. count_of key ms == 1) keys ≡ true → Held keys ms
+held [] ms distinct all ones = record { values = []; are = no_member ms all; under = tt }
+held (key ∷ keys) ms distinct all ones =
     let apart = and_parts (is_other key keys) (are_distinct keys) distinct in
-    let first = and_parts (is_some (get_member key ms)) (list_all (λ k. is_some (get_member k ms)) keys) all in
-    let found = find_key key ms first.0 in
+    let first = and_parts (count_of key ms == 1) (list_all (λ k. count_of k ms == 1) keys) ones in
+    let one : count_of key ms ≡ 1 = (Decides-eqb (count_of key ms) 1).0 first.0 in
+    let found = find_key key ms (some_by_count key ms one) in
     let rest = joined found.before found.after in
-    let counted : member_count ms ≡ length keys + 1 = (Decides-eqb (member_count ms) (length (key ∷ keys))).0 count ∙ omega arith in
-    let fewer : member_count rest ≡ length keys = omega (arith, counted, ap member_count found.is, count-joined found.before found.after key found.value) in
-    let others : list_all (λ k. is_some (get_member k rest)) keys ≡ true =
-    sym (all_some-less keys found.before found.after key found.value apart.0)
-    ∙ ap (λ m. list_all (λ k. is_some (get_member k m)) keys) (sym found.is) ∙ first.1 in
-    let more = held keys rest apart.1 (eq-eqb (member_count rest) (length keys) fewer) others in
+    let P : List ℕ → Bool = λ k. list_any (bytes_eq k) (key ∷ keys) in
+    let counted : count_of key ms ≡ 1 + count_of key rest = ap (count_of key) found.is ∙ count-here found.before found.after key found.value in
+    let none : count_of key rest ≡ 0 = omega (arith, counted, one) in
+    let Asked : Members → Type 0 = λ m. list_all P (keys_of m) ≡ true in
+    let fewer = keep-less P found.before found.after key found.value (subst Asked found.is all) in
+    let Once : Members → Type 0 = λ m. list_all (λ k. count_of k m == 1) keys ≡ true in
+    let others = sym (once-same keys found.before found.after key found.value apart.0) ∙ subst Once found.is first.1 in
+    let more = held keys rest apart.1 (asked-less key keys rest none fewer) others in
     let more_under = under-more keys more.values found.before found.after key found.value apart.0 more.under in
     let Under : Members → Type 0 = λ m. AreUnder keys more.values m in
     record {
@@ -236,16 +341,16 @@ open_keys keys (number n) distinct has = absurd (cc)
 open_keys keys (string s) distinct has = absurd (cc)
 open_keys keys (array ds) distinct has = absurd (cc)
 open_keys keys (object ms) distinct has =
-    let parts = and_parts (member_count ms == length keys) (list_all (λ key. is_some (get_member key ms)) keys) has in
+    let parts = and_parts (are_asked keys ms) (list_all (λ key. count_of key ms == 1) keys) has in
     let all = held keys ms distinct parts.0 parts.1 in
     record { values = all.values; is = record { members = ms; is = refl; are = all.are }; stand = stand keys all.values ms all.under }
 
 -- an object of these keys has them, and the values stand under them
 pub has_keys-object : (keys : List (List ℕ)) (vs : List Data) (d : Data) → are_distinct keys ≡ true → IsObject keys vs d → has_keys keys d ≡ true
 has_keys-object keys vs d distinct o =
-    let under = members-under keys vs o.members distinct o.are in
-    let count : (member_count o.members == length keys) ≡ true = eq-eqb (member_count o.members) (length keys) (members-count keys vs o.members o.are) in
-    ap (has_keys keys) o.is ∙ ap (λ b. b && list_all (λ key. is_some (get_member key o.members)) keys) count ∙ all_some keys vs o.members under
+    ap (has_keys keys) o.is
+    ∙ both_true (are_asked keys o.members) (list_all (λ key. count_of key o.members == 1) keys) (members-asked keys vs o.members o.are)
+    (members-once keys vs o.members distinct o.are)
 
 pub stand-object : (keys : List (List ℕ)) (vs : List Data) (d : Data) → are_distinct keys ≡ true → IsObject keys vs d → Stand keys vs d
 stand-object keys vs d distinct o =
@@ -263,24 +368,20 @@ lacks keys key (boolean b) none there = refl
 lacks keys key (number n) none there = refl
 lacks keys key (string s) none there = refl
 lacks keys key (array ds) none there = refl
-lacks keys key (object ms) none there = no_all (member_count ms == length keys) (list_all (λ k. is_some (get_member k ms)) keys) (missing keys there)
+lacks keys key (object ms) none there = no_all (are_asked keys ms) (list_all (λ k. count_of k ms == 1) keys) (missing keys there)
   where
-    no_all : (count all : Bool) → all ≡ false → (count && all) ≡ false
+    no_all : (asked all : Bool) → all ≡ false → (asked && all) ≡ false
     no_all true all e = e
     no_all false all e = refl
 
-    missing : (ks : List (List ℕ)) → is_other key ks ≡ false → list_all (λ k. is_some (get_member k ms)) ks ≡ false
+    missing : (ks : List (List ℕ)) → is_other key ks ≡ false → list_all (λ k. count_of k ms == 1) ks ≡ false
     missing [] e = absurd (cc)
     missing (k ∷ ks) e =
         by_key key k
-        (λ same. ap (λ q. is_some (get_member q ms) && list_all (λ l. is_some (get_member l ms)) ks) (sym same)
-        ∙ ap (λ found. is_some found && list_all (λ l. is_some (get_member l ms)) ks) none)
-        (λ differ. let t : bytes_eq key k ≡ false = by_test (bytes_eq key k) (λ b. differ ((bytes_eq-Decides key k).0 b)) in
-        no_all (is_some (get_member k ms)) (list_all (λ l. is_some (get_member l ms)) ks) (missing ks (ap (λ b. not b && is_other key ks) (sym t) ∙ e)))
-      where
-        by_test : (b : Bool) → (b ≡ true → ⊥) → b ≡ false
-        by_test true not = absurd (not refl)
-        by_test false not = refl
+        (λ same. ap (λ q. (count_of q ms == 1) && list_all (λ l. count_of l ms == 1) ks) (sym same)
+        ∙ ap (λ n. (n == 1) && list_all (λ l. count_of l ms == 1) ks) (count-none key ms none))
+        (λ differ. let t : bytes_eq key k ≡ false = eq_other key k differ in
+        no_all (count_of k ms == 1) (list_all (λ l. count_of l ms == 1) ks) (missing ks (ap (λ b. not b && is_other key ks) (sym t) ∙ e)))
 
 -- an object of these keys has not exactly those keys, where one of those is none of these
 pub has_keys-other : (keys others : List (List ℕ)) (vs : List Data) (d : Data) (key : List ℕ) → IsObject keys vs d → is_other key keys ≡ true

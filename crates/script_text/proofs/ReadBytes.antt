@@ -6,7 +6,8 @@ use Rattle.std.proofs.lemmas.List.Elements.{All-from_get_or}
 use Rattle.std.proofs.lemmas.List.Quantifiers.{position-Some}
 use Rattle.std.proofs.lemmas.List.Sums.{fails_before_first}
 use Rattle.std.proofs.lemmas.Bool.{eqb-true, eqb-false, ltb-false}
-use Rattle.script_text.specs.Taking.{Taken, IsPlain, MovesPart, MovesAll}
+use Rattle.script_text.specs.Lines.{IsPlain}
+use Rattle.script_text.specs.inner.Taking.{Taken, MovesPart, MovesAll}
 
 abbrev pub is_newline : ℕ → Bool
 is_newline byte = byte == 10

@@ -1,16 +1,21 @@
 -- The calls of the reader over a source that tells its bytes.
-use Rattle.std.proofs.Common.{◌≡◌, ℕ, ◌+◌, List, [], ◌∷◌, ◌++◌, Option, Some, None, Result, Ok, Err, IfErr, OnOk, IsTrue, IsSome, option_and_then, refl, ap, sym, subst, ◌∙◌, append_assoc}
-use Rattle.std.proofs.lemmas.List.Elements.{All-append}
+use Rattle.std.proofs.Common.{◌≡◌, ◌≢◌, ℕ, ◌+◌, List, [], ◌∷◌, ◌++◌, Option, Some, None, Result, Ok, Err, IfErr, OnOk, IsTrue, IsSome, option_and_then, refl, ap, sym, subst, ◌∙◌, append_assoc}
+use Rattle.std.proofs.lemmas.List.Elements.{All-nil, All-append}
 use Rattle.script_text.specs.declared.faults.ScriptFault.{ScriptFault}
 use Rattle.script_text.specs.declared.faults.ScriptFault.TheVariants.{BadLine, TooLong, ReadFault, NoMemory}
+use Rattle.script_text.specs.declared.intake.LineEnd.{LineEnd}
+use Rattle.script_text.specs.declared.intake.LineEnd.TheVariants.{Newline, Input}
 use Rattle.nav_types.specs.declared.cells.Rect.{Rect}
-use Rattle.grid_versions.specs.Maps.{Map}
+use Rattle.grid_versions.specs.Maps.{Map, with_base}
 use Rattle.turn_core.specs.declared.posts.Post.{Post}
-use Rattle.script_text.specs.Lines.{unlines}
-use Rattle.script_text.specs.Script.{Rules, Place, Part, before_map, in_base, in_turns, beginning, Item, begins, adds_base, ends_turn, Stop, whole_input, too_long, bad_line, arrived, stuck, chain, map_after, map_after_item, turns_of, with_base, accept, walk, finish, reading}
-use Rattle.script_text.specs.Reader.{Held, UsesLines, GoesOn, StopsAtFault, Refuses, GivesMap, MapAnswers, MapTold, TurnTold, stuck_after, callers_of, post_count, rules_at}
-use Rattle.script_text.specs.Taking.{IsPlain, Told, HeldLine, newline_of, IsWhole, IsUsedUp, TakesNext, NextAnswer, NextTold}
-use Rattle.script_text.specs.Judging.{IsStuckBy, BeginsMap, UsesBase, KeepsLine, TakesBase, AddsToMap, BaseAnswers, BaseTold, IsInTurns, IsBetweenTurns, IsNoBaseAt, IsNoBaseLine, IsNoBaseNext, after_line, held_at}
+use Rattle.script_text.specs.Lines.{unlines, IsPlain}
+use Rattle.script_text.specs.declared.parts.Rules.{Rules}
+use Rattle.script_text.specs.declared.parts.Part.{Part}
+use Rattle.script_text.specs.declared.parts.Part.TheVariants.{BeforeMap, InBase, InTurns}
+use Rattle.script_text.specs.Script.{Place, beginning, Item, begins, adds_base, ends_turn, Stop, whole_input, too_long, bad_line, arrived, stuck, chain, map_after, map_after_item, turns_of, accept, walk, finish, reading}
+use Rattle.script_text.specs.Reader.{Held, UsesLines, GoesOn, StopsAtFault, Refuses, GivesMap, MapAnswers, MapTold, TurnTold, stuck_after, callers_of, post_count, rules_at, WhereTold}
+use Rattle.script_text.specs.inner.Taking.{Taken, HeldLine, newline_of, HasEnd, IsWholeLine, IsUsedUp, TakesNext, NextAnswer, NextTold}
+use Rattle.script_text.specs.inner.Judging.{IsStuckBy, BeginsMap, UsesBase, KeepsLine, TakesBase, AddsToMap, BaseAnswers, BaseTold, IsInTurns, IsBetweenTurns, IsNoBaseAt, IsNoBaseLine, IsNoBaseNext, after_line, held_at}
 use Rattle.script_text.specs.Forms.{base_of}
 use Rattle.script_text.proofs.ReadSize.{reading_of-nil}
 use Rattle.script_text.proofs.ReadTold.{told-same, told-weaker, told-then}
@@ -19,7 +24,7 @@ use Rattle.script_text.proofs.ReadNext.{not_ended, goes_nowhere, goes_next, goes
 
 -- ---- items
 
-map_after-append : (found : Option Map) (xs ys : List Item) → map_after found (xs ++ ys) ≡ map_after (map_after found xs) ys
+pub map_after-append : (found : Option Map) (xs ys : List Item) → map_after found (xs ++ ys) ≡ map_after (map_after found xs) ys
 map_after-append found [] ys = refl
 map_after-append found (x ∷ xs) ys = map_after-append (map_after_item found x) xs ys
 
@@ -81,12 +86,12 @@ fault_then a b c x y z xs ys stays g s = record {
 -- ---- base lines
 
 abbrev pub AddsTold : Held → Held → Map → Map → Option (List ℕ) → Option (List ℕ) → Type 0
-AddsTold old new m now left later = Told left later (λ before after. (IsTrue old.ended → before ≡ []) → AddsToMap old new before after m now)
+AddsTold old new m now left later = WhereTold left later (λ before after. (IsTrue old.ended → before ≡ []) → AddsToMap old new before after m now)
 
 pub adds_nowhere : (old : Held) (m : Map) (left : Option (List ℕ)) → AddsTold old old m m left left
 adds_nowhere old m left = told-same left _ (λ x end. record { items = []; on = goes_nowhere old x end; map = refl; no_turn = refl })
 
-adds_by : (old : Held) (p q : Place) (h now : HeldLine) (m m1 m2 : Map) (size : ℕ) (x y z : List ℕ) (rects : List (Rect × ℕ)) → (IsTrue h.rest.ended → IsTrue now.rest.ended) → IsWhole now size
+adds_by : (old : Held) (p q : Place) (h now : HeldLine) (m m1 m2 : Map) (size : ℕ) (x y z : List ℕ) (rects : List (Rect × ℕ)) → (IsTrue h.rest.ended → IsTrue now.rest.ended) → IsWholeLine now size
     → IsPlain now.line → accept size now.line p ≡ arrived (adds_base rects ∷ []) q → m2 ≡ with_base m1 rects → AddsToMap old (held_at p h) x y m m1 → TakesNext h now y z
     → AddsToMap old (held_at q (after_line now)) x z m m2
 adds_by old p q h now m m1 m2 size x y z rects stays w plain e grown a t = record {
@@ -96,7 +101,7 @@ adds_by old p q h now m m1 m2 size x y z rects stays w plain e grown a t = recor
   no_turn = no_turns a.items (adds_base rects ∷ []) a.no_turn refl;
 }
 
-pub adds_line : (old : Held) (p q : Place) (h now after : HeldLine) (m m1 m2 : Map) (size room : ℕ) (a b c : Option (List ℕ)) → (IsTrue h.rest.ended → IsTrue now.rest.ended) → IsWhole now size
+pub adds_line : (old : Held) (p q : Place) (h now after : HeldLine) (m m1 m2 : Map) (size room : ℕ) (a b c : Option (List ℕ)) → (IsTrue h.rest.ended → IsTrue now.rest.ended) → IsWholeLine now size
     → IsPlain now.line → UsesBase p q m1 m2 now after size → AddsTold old (held_at p h) m m1 a b → NextTold h now b c room (Ok (Some size)) → AddsTold old (held_at q after) m m2 a c
 adds_line old p q h now after m m1 m2 size room a b c stays w plain u told next =
     let Said : HeldLine → Type 0 = λ l. AddsTold old (held_at q l) m m2 a c in
@@ -119,7 +124,7 @@ adds_kept old p q h now after m m1 m2 size room a b c stays k told next =
     subst Place_said (sym k.line.same) (subst Line_said (sym k.same) (subst Map_said (sym k.map) (adds_end old p h now m m1 (Some size) room a b c stays told next)))
 
 base_refused : (old new : Held) (p : Place) (h now : HeldLine) (m m1 m2 : Map) (size : ℕ) (x y z : List ℕ) (fault : ScriptFault) (q : Place) (after : HeldLine) → (IsTrue h.rest.ended → IsTrue now.rest.ended)
-    → IsWhole now size → IsPlain now.line → TakesBase p q m1 m2 now after size (Err fault) → AddsToMap old (held_at p h) x y m m1 → TakesNext h now y z → BaseAnswers old new m m2 (Err fault) x z
+    → IsWholeLine now size → IsPlain now.line → TakesBase p q m1 m2 now after size (Err fault) → AddsToMap old (held_at p h) x y m m1 → TakesNext h now y z → BaseAnswers old new m m2 (Err fault) x z
 base_refused old new p h now m m1 m2 size x y z (BadLine n) q after stays w plain e a t = absurd e
 base_refused old new p h now m m1 m2 size x y z TooLong q after stays w plain e a t =
     record { items = a.items; refused = stuck_line old p now size x z a.items too_long w plain e (goes_next old p h now x y z a.items stays a.on t); no_turn = a.no_turn }
@@ -127,7 +132,7 @@ base_refused old new p h now m m1 m2 size x y z ReadFault q after stays w plain 
 base_refused old new p h now m m1 m2 size x y z NoMemory q after stays w plain e a t = tt
 
 pub adds_refused : (old new : Held) (p q : Place) (h now after : HeldLine) (m m1 m2 : Map) (size room : ℕ) (fault : ScriptFault) (a b c : Option (List ℕ)) → (IsTrue h.rest.ended → IsTrue now.rest.ended)
-    → IsWhole now size → IsPlain now.line → TakesBase p q m1 m2 now after size (Err fault) → AddsTold old (held_at p h) m m1 a b → NextTold h now b c room (Ok (Some size))
+    → IsWholeLine now size → IsPlain now.line → TakesBase p q m1 m2 now after size (Err fault) → AddsTold old (held_at p h) m m1 a b → NextTold h now b c room (Ok (Some size))
     → BaseTold old new m m2 a c (Err fault)
 adds_refused old new p q h now after m m1 m2 size room fault a b c stays w plain e told next =
     told-then a b c _ _ _ (λ x y z t n end. base_refused old new p h now m m1 m2 size x y z fault q after stays w plain e (t end) (n (t end).on.at_end)) told next
@@ -149,7 +154,7 @@ adds_fault old p h now m m1 room fault a b c e stays plain told next =
 first_on : (old : Place) (h now : HeldLine) (x z : List ℕ) → (IsTrue h.rest.ended → x ≡ []) → (IsTrue h.rest.ended → IsTrue now.rest.ended) → TakesNext h now x z → GoesOn (held_at old h) (held_at old now) x z []
 first_on old h now x z end stays t = goes_next (held_at old h) old h now x x z [] stays (goes_nowhere (held_at old h) x end) t
 
-first_by : (p q : Place) (h now : HeldLine) (size : ℕ) (x z : List ℕ) (m : Map) → (IsTrue h.rest.ended → x ≡ []) → (IsTrue h.rest.ended → IsTrue now.rest.ended) → IsWhole now size → IsPlain now.line
+first_by : (p q : Place) (h now : HeldLine) (size : ℕ) (x z : List ℕ) (m : Map) → (IsTrue h.rest.ended → x ≡ []) → (IsTrue h.rest.ended → IsTrue now.rest.ended) → IsWholeLine now size → IsPlain now.line
     → accept size now.line p ≡ arrived (begins m ∷ []) q → TakesNext h now x z → GivesMap (held_at p h) (held_at q (after_line now)) x z m
 first_by p q h now size x z m end stays w plain e t = record {
   items = begins m ∷ [];
@@ -159,7 +164,7 @@ first_by p q h now size x z m end stays w plain e t = record {
 }
 
 -- a first line that is the map line, or is refused
-pub first_told : (p q : Place) (h now after : HeldLine) (size room : ℕ) (result : Result Map ScriptFault) (a c : Option (List ℕ)) → (IsTrue h.rest.ended → IsTrue now.rest.ended) → IsWhole now size → IsPlain now.line
+pub first_told : (p q : Place) (h now after : HeldLine) (size room : ℕ) (result : Result Map ScriptFault) (a c : Option (List ℕ)) → (IsTrue h.rest.ended → IsTrue now.rest.ended) → IsWholeLine now size → IsPlain now.line
     → BeginsMap (accept size now.line p) q result → OnOk result (after ≡ after_line now) → IfErr result (λ fault. (n : ℕ) → fault ≡ BadLine n → n ≡ 1) → NextTold h now a c room (Ok (Some size))
     → MapTold (held_at p h) (held_at q after) a c result
 first_told p q h now after size room (Ok m) a c stays w plain e used number next =
@@ -226,24 +231,24 @@ map_no_memory_late a b c d m now k l n told base = told-then k l n _ _ _ (λ x y
 -- ---- turns
 
 abbrev pub GoesTold : Held → Held → Option (List ℕ) → Option (List ℕ) → Type 0
-GoesTold old new left later = Told left later (λ before after. (IsTrue old.ended → before ≡ []) → GoesOn old new before after [])
+GoesTold old new left later = WhereTold left later (λ before after. (IsTrue old.ended → before ≡ []) → GoesOn old new before after [])
 
 pub goes_begun : (old : Held) (left : Option (List ℕ)) → GoesTold old old left left
 goes_begun old left = told-same left _ (λ x end. goes_nowhere old x end)
 
-turn_on : (old : Held) (p q : Place) (h now : HeldLine) (size : ℕ) (x y z : List ℕ) (items : List Item) → (IsTrue h.rest.ended → IsTrue now.rest.ended) → IsWhole now size → IsPlain now.line
+turn_on : (old : Held) (p q : Place) (h now : HeldLine) (size : ℕ) (x y z : List ℕ) (items : List Item) → (IsTrue h.rest.ended → IsTrue now.rest.ended) → IsWholeLine now size → IsPlain now.line
     → accept size now.line p ≡ arrived items q → GoesOn old (held_at p h) x y [] → TakesNext h now y z → GoesOn old (held_at q (after_line now)) x z items
 turn_on old p q h now size x y z items stays w plain e g t = goes_line old p q now size x z [] items w plain e (goes_next old p h now x y z [] stays g t)
 
 -- a line that ends no turn
-pub goes_post : (old : Held) (p q : Place) (h now after : HeldLine) (size room : ℕ) (a b c : Option (List ℕ)) → (IsTrue h.rest.ended → IsTrue now.rest.ended) → IsWhole now size → IsPlain now.line
+pub goes_post : (old : Held) (p q : Place) (h now after : HeldLine) (size room : ℕ) (a b c : Option (List ℕ)) → (IsTrue h.rest.ended → IsTrue now.rest.ended) → IsWholeLine now size → IsPlain now.line
     → accept size now.line p ≡ arrived [] q → after ≡ after_line now → GoesTold old (held_at p h) a b → NextTold h now b c room (Ok (Some size)) → GoesTold old (held_at q after) a c
 goes_post old p q h now after size room a b c stays w plain e used told next =
     let Said : HeldLine → Type 0 = λ l. GoesTold old (held_at q l) a c in
     subst Said (sym used) (told-then a b c _ _ _ (λ x y z t n end. turn_on old p q h now size x y z [] stays w plain e (t end) (n (t end).at_end)) told next)
 
 -- an end line
-pub turn_told : (old : Held) (p q : Place) (h now after : HeldLine) (size room : ℕ) (posts : List (List Post)) (a b c : Option (List ℕ)) → (IsTrue h.rest.ended → IsTrue now.rest.ended) → IsWhole now size → IsPlain now.line
+pub turn_told : (old : Held) (p q : Place) (h now after : HeldLine) (size room : ℕ) (posts : List (List Post)) (a b c : Option (List ℕ)) → (IsTrue h.rest.ended → IsTrue now.rest.ended) → IsWholeLine now size → IsPlain now.line
     → accept size now.line p ≡ arrived (ends_turn posts ∷ []) q → after ≡ after_line now → GoesTold old (held_at p h) a b → NextTold h now b c room (Ok (Some size))
     → TurnTold old (held_at q after) a c (Ok (Some posts))
 turn_told old p q h now after size room posts a b c stays w plain e used told next =
@@ -251,7 +256,7 @@ turn_told old p q h now after size room posts a b c stays w plain e used told ne
     subst Said (sym used) (told-then a b c _ _ _ (λ x y z t n end. turn_on old p q h now size x y z (ends_turn posts ∷ []) stays w plain e (t end) (n (t end).at_end)) told next)
 
 -- a line that is refused
-pub turn_refused : (old new : Held) (p : Place) (h now : HeldLine) (size room : ℕ) (fault : ScriptFault) (a b c : Option (List ℕ)) → (IsTrue h.rest.ended → IsTrue now.rest.ended) → IsWhole now size → IsPlain now.line
+pub turn_refused : (old new : Held) (p : Place) (h now : HeldLine) (size room : ℕ) (fault : ScriptFault) (a b c : Option (List ℕ)) → (IsTrue h.rest.ended → IsTrue now.rest.ended) → IsWholeLine now size → IsPlain now.line
     → IsStuckBy (accept size now.line p) fault → GoesTold old (held_at p h) a b → NextTold h now b c room (Ok (Some size)) → TurnTold old new a c (Err fault)
 turn_refused old new p h now size room fault a b c stays w plain e told next =
     told-then a b c _ _ _ (λ x y z t n end. refuses_line old new p now size x z [] fault w plain e (goes_next old p h now x y z [] stays (t end) (n (t end).at_end))) told next
@@ -284,40 +289,74 @@ turn_missing old new p h now room fault a b c stays u e told next = told-then a 
 -- ---- what holds of any source
 
 pub callers_of-same : (p q : Part) → rules_at p ≡ rules_at q → callers_of p ≡ callers_of q
-callers_of-same before_map before_map e = refl
-callers_of-same before_map (in_base r) e = absurd cc
-callers_of-same before_map (in_turns r) e = absurd cc
-callers_of-same (in_base s) before_map e = absurd cc
-callers_of-same (in_base s) (in_base r) e = cc
-callers_of-same (in_base s) (in_turns r) e = cc
-callers_of-same (in_turns s) before_map e = absurd cc
-callers_of-same (in_turns s) (in_base r) e = cc
-callers_of-same (in_turns s) (in_turns r) e = cc
+callers_of-same BeforeMap BeforeMap e = refl
+callers_of-same BeforeMap (InBase r) e = absurd cc
+callers_of-same BeforeMap (InTurns r) e = absurd cc
+callers_of-same (InBase s) BeforeMap e = absurd cc
+callers_of-same (InBase s) (InBase r) e = cc
+callers_of-same (InBase s) (InTurns r) e = cc
+callers_of-same (InTurns s) BeforeMap e = absurd cc
+callers_of-same (InTurns s) (InBase r) e = cc
+callers_of-same (InTurns s) (InTurns r) e = cc
+
+some_end : (line_end : Option LineEnd) (rest : Taken) → HasEnd line_end rest → IsSome line_end
+some_end None rest ends = absurd ends
+some_end (Some end) rest ends = refl
 
 pub no_base_at : (part : Part) (h now : HeldLine) → IsNoBaseNext part h → (IsSome h.line_end → now ≡ h) → IsNoBaseAt part now.line
-no_base_at before_map h now n kept = tt
-no_base_at (in_base rules) h now n kept =
-    let NoBase : HeldLine → Type 0 = λ l. IsNoBaseAt (in_base rules) l.line in
-    subst NoBase (sym (kept n.0)) n.1
-no_base_at (in_turns rules) h now n kept = tt
+no_base_at BeforeMap h now n kept = tt
+no_base_at (InBase rules) h now n kept =
+    let NoBase : HeldLine → Type 0 = λ l. IsNoBaseAt (InBase rules) l.line in
+    subst NoBase (sym (kept (some_end h.line_end h.rest n.ends))) n.no_base
+no_base_at (InTurns rules) h now n kept = tt
 
 pub in_turns_next : (part : Part) (h : HeldLine) → IsInTurns part → IsNoBaseNext part h
-in_turns_next before_map h n = absurd n
-in_turns_next (in_base rules) h n = absurd n
-in_turns_next (in_turns rules) h n = tt
+in_turns_next BeforeMap h n = absurd n
+in_turns_next (InBase rules) h n = absurd n
+in_turns_next (InTurns rules) h n = tt
 
 no_bytes : (line more : List ℕ) → line ++ more ≡ [] → line ≡ []
 no_bytes [] more e = refl
 no_bytes (byte ∷ line) more e = absurd cc
 
+used_up_end : (line : List ℕ) (line_end : Option LineEnd) (rest : Taken) → IsSome line_end → line ++ (newline_of line_end ++ rest.bytes) ≡ [] → IsTrue rest.ended → HasEnd line_end rest
+used_up_end line None rest some nothing ended = absurd (cc)
+used_up_end [] (Some Newline) rest some nothing ended = tt
+used_up_end (byte ∷ line) (Some Newline) rest some nothing ended = tt
+used_up_end [] (Some Input) rest some nothing ended = (nothing, ended)
+used_up_end (byte ∷ line) (Some Input) rest some nothing ended = absurd cc
+
 -- nothing is held where the input has ended
-pub used_up_ready : (p : Place) (h : HeldLine) (rules : Rules) → p.part ≡ in_base rules → post_count p.posts ≡ 0 → IsUsedUp h → IsBetweenTurns p h
+pub used_up_ready : (p : Place) (h : HeldLine) (rules : Rules) → p.part ≡ InBase rules → post_count p.posts ≡ 0 → IsUsedUp h → IsBetweenTurns p h
 used_up_ready p h rules part posts u =
     let nothing : h.line ≡ [] = no_bytes h.line (newline_of h.line_end ++ h.rest.bytes) u.nothing in
     let NoBase : List ℕ → Type 0 = λ l. IsNoBaseLine rules.size l in
+    let Plain : List ℕ → Type 0 = IsPlain in
     let Next : Part → Type 0 = λ q. IsNoBaseNext q h in
     record {
       no_post = posts;
       between = λ e. nothing;
-      no_base = subst Next (sym part) (u.ends, subst NoBase (sym nothing) (ap (option_and_then (base_of rules.size)) reading_of-nil));
+      no_base = subst Next (sym part) (record {
+        ends = used_up_end h.line h.line_end h.rest u.ends u.nothing u.ended;
+        plain = subst Plain (sym nothing) (All-nil (λ byte. byte ≢ 10));
+        no_base = subst NoBase (sym nothing) (ap (option_and_then (base_of rules.size)) reading_of-nil);
+      });
     }
+
+-- the line that is held is no base line
+pub no_base_ready : (p q : Place) (h now : HeldLine) (size : ℕ) (rules : Rules) → p.part ≡ InBase rules → post_count p.posts ≡ 0 → IsWholeLine h size → IsPlain h.line → q ≡ p → now ≡ h
+    → IsNoBaseAt p.part h.line → (h.line_end ≡ None → h.line ≡ []) → IsBetweenTurns q now
+no_base_ready p q h now size rules part posts w plain same kept no_base between =
+    let Next : Part → Type 0 = λ q. IsNoBaseNext q h in
+    let NoBase : Part → Type 0 = λ q. IsNoBaseAt q h.line in
+    let AtPlace : Place → Type 0 = λ r. IsBetweenTurns r now in
+    let AtLine : HeldLine → Type 0 = λ l. IsBetweenTurns p l in
+    subst AtPlace (sym same) (subst AtLine (sym kept) (record {
+      no_post = posts;
+      between = between;
+      no_base = subst Next (sym part) (record { ends = w.ends; plain = plain; no_base = subst NoBase part no_base });
+    }))
+
+-- a line that is whole has an end
+pub whole_between : (h : HeldLine) (size : ℕ) → IsWholeLine h size → h.line_end ≡ None → h.line ≡ []
+whole_between h size w none = let End : Option LineEnd → Type 0 = λ e. HasEnd e h.rest in absurd (subst End none w.ends)

@@ -4,7 +4,7 @@ use Rattle.std.proofs.lemmas.List.{append-nil}
 use Rattle.script_text.specs.declared.faults.ScriptFault.{ScriptFault}
 use Rattle.script_text.specs.declared.faults.ScriptFault.TheVariants.{BadLine, TooLong, ReadFault, NoMemory}
 use Rattle.script_text.specs.declared.intake.LineEnd.{LineEnd}
-use Rattle.script_text.specs.Taking.{Taken, TakesPart, LineAnswer, LineTold, HeldLine, newline_of, bytes_of, TakesMore, NextAnswer, NextTold}
+use Rattle.script_text.specs.inner.Taking.{Taken, TakesPart, LineAnswer, LineTold, HeldLine, newline_of, bytes_of, TakesMore, NextAnswer, NextTold}
 use Rattle.script_text.proofs.ReadTold.{told-weaker}
 
 -- where nothing of a line is held, the bytes are those behind it

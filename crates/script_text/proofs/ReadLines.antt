@@ -2,8 +2,7 @@
 use Rattle.std.proofs.Common.{◌≡◌, ◌≢◌, ℕ, List, [], ◌∷◌, ◌++◌, cond, refl, ap, sym, ◌∙◌, append_assoc}
 use Rattle.std.proofs.lemmas.List.Elements.{All-head, All-tail}
 use Rattle.std.proofs.lemmas.Bool.{ne_eqb}
-use Rattle.script_text.specs.Lines.{full_lines, tail_of, tail_with, in_front, unlines}
-use Rattle.script_text.specs.Taking.{IsPlain}
+use Rattle.script_text.specs.Lines.{full_lines, tail_of, tail_with, in_front, unlines, IsPlain}
 
 abbrev not_newline : ℕ → Type 0
 not_newline byte = byte ≢ 10

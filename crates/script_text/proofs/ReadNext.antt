@@ -7,11 +7,11 @@ use Rattle.script_text.specs.declared.faults.ScriptFault.{ScriptFault}
 use Rattle.script_text.specs.declared.faults.ScriptFault.TheVariants.{BadLine, TooLong, ReadFault, NoMemory}
 use Rattle.script_text.specs.declared.intake.LineEnd.{LineEnd}
 use Rattle.script_text.specs.declared.intake.LineEnd.TheVariants.{Newline, Input}
-use Rattle.script_text.specs.Lines.{full_lines, unlines}
+use Rattle.script_text.specs.Lines.{full_lines, unlines, IsPlain}
 use Rattle.script_text.specs.Script.{Place, Item, Walk, Stop, too_long, arrived, stuck, chain, accept, finish, reading}
 use Rattle.script_text.specs.Reader.{Held, UsesLines, GoesOn, StopsAtFault, Refuses, stuck_after}
-use Rattle.script_text.specs.Taking.{Taken, IsPlain, HeldLine, newline_of, bytes_of, HasEnd, IsWhole, IsUsedUp, TakesMore, TakesNext, IsPastLimit, BreaksOff, NextAnswer}
-use Rattle.script_text.specs.Judging.{IsStuckBy, after_line, held_at}
+use Rattle.script_text.specs.inner.Taking.{Taken, HeldLine, newline_of, bytes_of, HasEnd, IsWholeLine, IsUsedUp, TakesMore, TakesNext, IsPastLimit, BreaksOff, NextAnswer}
+use Rattle.script_text.specs.inner.Judging.{IsStuckBy, after_line, held_at}
 use Rattle.script_text.proofs.ReadLines.{full_lines-plain, unlines-push}
 use Rattle.script_text.proofs.ReadWalk.{line_at, walk-push, reading-line, reading-tail, reading-long, last_line-some}
 
@@ -34,7 +34,7 @@ whole_by line (Some Input) rest size left p ends counted low plain at_end =
     ∙ ap (λ n. chain (accept n line p) finish) same
     ∙ ap (λ l. chain (accept size line p) (reading l)) (sym nothing)
 
-pub reading-whole : (h : HeldLine) (size : ℕ) (left : List ℕ) (p : Place) → IsWhole h size → IsPlain h.line → (IsTrue h.rest.ended → left ≡ [])
+pub reading-whole : (h : HeldLine) (size : ℕ) (left : List ℕ) (p : Place) → IsWholeLine h size → IsPlain h.line → (IsTrue h.rest.ended → left ≡ [])
     → reading (bytes_of h ++ left) p ≡ chain (accept size h.line p) (reading (h.rest.bytes ++ left))
 reading-whole h size left p w plain at_end = whole_by h.line h.line_end h.rest size left p w.ends w.counted w.some_byte plain at_end
 
@@ -106,7 +106,7 @@ uses_line old p q h (Some Newline) size taken xs ys is ends counted plain e goin
     }
 
 -- the line that is held was used
-pub goes_line : (old : Held) (p q : Place) (h : HeldLine) (size : ℕ) (x z : List ℕ) (xs ys : List Item) → IsWhole h size → IsPlain h.line → accept size h.line p ≡ arrived ys q
+pub goes_line : (old : Held) (p q : Place) (h : HeldLine) (size : ℕ) (x z : List ℕ) (xs ys : List Item) → IsWholeLine h size → IsPlain h.line → accept size h.line p ≡ arrived ys q
     → GoesOn old (held_at p h) x z xs → GoesOn old (held_at q (after_line h)) x z (xs ++ ys)
 goes_line old p q h size x z xs ys w plain e g = record {
   taken = g.taken;
@@ -120,13 +120,13 @@ goes_line old p q h size x z xs ys w plain e g = record {
 -- ---- refusals
 
 -- the line that is held is stuck
-pub stuck_line : (old : Held) (p : Place) (h : HeldLine) (size : ℕ) (x z : List ℕ) (items : List Item) (s : Stop) → IsWhole h size → IsPlain h.line → accept size h.line p ≡ stuck s
+pub stuck_line : (old : Held) (p : Place) (h : HeldLine) (size : ℕ) (x z : List ℕ) (items : List Item) (s : Stop) → IsWholeLine h size → IsPlain h.line → accept size h.line p ≡ stuck s
     → GoesOn old (held_at p h) x z items → reading (old.bytes ++ x) old.place ≡ stuck_after items s
 stuck_line old p h size x z items s w plain e g =
     g.same ∙ ap (λ v. chain (arrived items p) (λ r. v)) (reading-whole h size z p w plain g.at_end ∙ ap (λ v. chain v (reading (h.rest.bytes ++ z))) e)
     ∙ chain-arrived_stuck items p s
 
-pub refuses_line : (old new : Held) (p : Place) (h : HeldLine) (size : ℕ) (x z : List ℕ) (items : List Item) (fault : ScriptFault) → IsWhole h size → IsPlain h.line
+pub refuses_line : (old new : Held) (p : Place) (h : HeldLine) (size : ℕ) (x z : List ℕ) (items : List Item) (fault : ScriptFault) → IsWholeLine h size → IsPlain h.line
     → IsStuckBy (accept size h.line p) fault → GoesOn old (held_at p h) x z items → Refuses old new x z items fault
 refuses_line old new p h size x z items (BadLine n) w plain e g = stuck_line old p h size x z items _ w plain e g
 refuses_line old new p h size x z items TooLong w plain e g = stuck_line old p h size x z items _ w plain e g

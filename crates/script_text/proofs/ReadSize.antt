@@ -8,7 +8,7 @@ use Rattle.serde_json.proofs.OnLiterals.{serde_json_on_literals}
 use Rattle.script_text.specs.declared.forms.CallerPost.{CallerPost}
 use Rattle.script_text.specs.Forms.{post_of, end_of}
 use Rattle.script_text.specs.Script.{reading_of}
-use Rattle.script_text.specs.Judging.{IsObject}
+use Rattle.script_text.specs.inner.Judging.{IsObject}
 use Rattle.script_text.proofs.FormKinds.{end_of-object, post_of-object}
 
 or_left : (a b : Bool) → (a || b) ≡ false → a ≡ false

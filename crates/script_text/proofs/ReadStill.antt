@@ -1,5 +1,5 @@
 -- Where a whole line is held, nothing is read for it.
-use Rattle.std.proofs.Common.{◌≡◌, ◌≢◌, ℕ, ◌+◌, List, [], ◌∷◌, ◌++◌, length, Bool, false, Option, Some, None, Result, Ok, Err, All, IsTrue, refl, ap, sym, subst, ◌∙◌, length-append}
+use Rattle.std.proofs.Common.{◌≡◌, ◌≢◌, ℕ, ◌+◌, ◌⊎◌, inl, inr, List, [], ◌∷◌, ◌++◌, length, Bool, false, Option, Some, None, Result, Ok, Err, All, IsTrue, refl, ap, sym, subst, ◌∙◌, length-append}
 use Rattle.std.proofs.lemmas.List.{append-nil}
 use Rattle.std.proofs.lemmas.List.Elements.{All-nil, All-cons, All-head, All-tail}
 use Rattle.script_text.specs.declared.faults.ScriptFault.{ScriptFault}
@@ -7,11 +7,11 @@ use Rattle.script_text.specs.declared.faults.ScriptFault.TheVariants.{BadLine, T
 use Rattle.turn_core.specs.declared.posts.Post.{Post}
 use Rattle.script_text.specs.declared.intake.LineEnd.{LineEnd}
 use Rattle.script_text.specs.declared.intake.LineEnd.TheVariants.{Newline, Input}
-use Rattle.script_text.specs.Lines.{full_lines, unlines}
+use Rattle.script_text.specs.Lines.{full_lines, unlines, IsPlain}
 use Rattle.script_text.specs.Script.{Place, Item, ends_turn, arrived, chain, accept, walk}
-use Rattle.script_text.specs.Reader.{Held, HoldsTurn, UsesLines, GoesOn, TurnAnswers, TurnTold}
-use Rattle.script_text.specs.Taking.{Taken, HasLine, IsPlain, MovesPart, MovesAll, LineAnswer, LineTold, HeldLine, newline_of, bytes_of, HasEnd, IsWhole, TakesNext, NextTold}
-use Rattle.script_text.specs.Judging.{after_line, held_at}
+use Rattle.script_text.specs.Reader.{Held, HoldsTurn, UsesLines, GoesOn, ReadsForTurn, TakesNoneAhead, TurnAnswers, TurnTold}
+use Rattle.script_text.specs.inner.Taking.{Taken, HasLine, MovesPart, MovesAll, LineAnswer, LineTold, HeldLine, newline_of, bytes_of, HasEnd, IsWholeLine, TakesNext, NextTold}
+use Rattle.script_text.specs.inner.Judging.{after_line, held_at}
 use Rattle.script_text.proofs.ReadLines.{full_lines-plain, full_lines-line, unlines-line}
 use Rattle.script_text.proofs.ReadTold.{nothing_left, told-weaker}
 use Rattle.script_text.proofs.ReadHeld.{bytes_between}
@@ -32,7 +32,7 @@ moves_no_line old new line longer m has = absurd (has (full_lines-plain old.byte
 -- ---- lines that are held
 
 -- lines in front of bytes
-full_lines-behind : (lines : List (List ℕ)) (rest : List ℕ) → All IsPlain lines → full_lines (unlines lines ++ rest) ≡ lines ++ full_lines rest
+pub full_lines-behind : (lines : List (List ℕ)) (rest : List ℕ) → All IsPlain lines → full_lines (unlines lines ++ rest) ≡ lines ++ full_lines rest
 full_lines-behind [] rest plain = refl
 full_lines-behind (line ∷ lines) rest plain =
     ap full_lines (unlines-line line lines rest) ∙ full_lines-line line (unlines lines ++ rest) (All-head IsPlain line lines plain)
@@ -54,7 +54,7 @@ newline_by (Some Input) line rest plain ends has =
     absurd (has (ap full_lines (ap (λ l. line ++ l) ends.0 ∙ append-nil line) ∙ full_lines-plain line plain))
 
 -- the line that is held was used
-uses_line : (p q : Place) (now : HeldLine) (size : ℕ) → now.line_end ≡ Some Newline → IsWhole now size → IsPlain now.line → accept size now.line p ≡ arrived [] q
+uses_line : (p q : Place) (now : HeldLine) (size : ℕ) → now.line_end ≡ Some Newline → IsWholeLine now size → IsPlain now.line → accept size now.line p ≡ arrived [] q
     → UsesLines (held_at p now) (held_at q (after_line now)) [] []
 uses_line p q now size ends w plain e =
     let whole : bytes_of now ≡ now.line ++ 10 ∷ now.rest.bytes = ap (λ l. now.line ++ (newline_of l ++ now.rest.bytes)) ends in
@@ -67,14 +67,14 @@ uses_line p q now size ends w plain e =
     }
 
 -- the next line was found among what was held, and used
-pub uses_held : (first : Held) (p q : Place) (h now : HeldLine) (size : ℕ) → UsesLines first (held_at p h) [] [] → HasLine (bytes_of h) → bytes_of now ≡ bytes_of h → IsWhole now size → IsPlain now.line
+pub uses_held : (first : Held) (p q : Place) (h now : HeldLine) (size : ℕ) → UsesLines first (held_at p h) [] [] → HasLine (bytes_of h) → bytes_of now ≡ bytes_of h → IsWholeLine now size → IsPlain now.line
     → accept size now.line p ≡ arrived [] q → UsesLines first (held_at q (after_line now)) [] []
 uses_held first p q h now size u has same w plain e =
     let ends = newline_by now.line_end now.line now.rest plain w.ends (subst HasLine (sym same) has) in
     let Bytes : List ℕ → Type 0 = λ bytes. UsesLines (record { place = p; bytes = bytes; ended = h.rest.ended; over = false; failed = false }) (held_at q (after_line now)) [] [] in
     uses_then first (held_at p h) (held_at q (after_line now)) [] [] [] [] u (subst Bytes same (uses_any p q now size h.rest.ended ends w plain e))
   where
-    uses_any : (p q : Place) (now : HeldLine) (size : ℕ) (ended : Bool) → now.line_end ≡ Some Newline → IsWhole now size → IsPlain now.line → accept size now.line p ≡ arrived [] q
+    uses_any : (p q : Place) (now : HeldLine) (size : ℕ) (ended : Bool) → now.line_end ≡ Some Newline → IsWholeLine now size → IsPlain now.line → accept size now.line p ≡ arrived [] q
         → UsesLines (record { place = p; bytes = bytes_of now; ended = ended; over = false; failed = false }) (held_at q (after_line now)) [] []
     uses_any p q now size ended ends w plain e = let u = uses_line p q now size ends w plain e in record { lines = u.lines; plain = u.plain; bytes = u.bytes; walked = u.walked }
 
@@ -133,3 +133,10 @@ answers_flags old new a b c d x y (Err NoMemory) t = t
 pub turn_flags : (old new : Held) (a b c d : Bool) (left later : Option (List ℕ)) (result : Result (Option (List (List Post))) ScriptFault) → TurnTold old new left later result
     → TurnTold (with_flags old a b) (with_flags new c d) left later result
 turn_flags old new a b c d left later result = told-weaker left later _ _ (λ x y t end. answers_flags old new a b c d x y result (t end))
+
+ahead_by : (old : Held) (a b : Bool) (x y : List ℕ) → (x ≡ y) ⊎ ReadsForTurn old x y → (x ≡ y) ⊎ ReadsForTurn (with_flags old a b) x y
+ahead_by old a b x y (inl e) = inl e
+ahead_by old a b x y (inr r) = inr (record { earlier = r.earlier; piece = r.piece; took = r.took; few = r.few; place = r.place; no_turn = r.no_turn })
+
+pub ahead_flags : (old : Held) (a b : Bool) (left later : Option (List ℕ)) → TakesNoneAhead old left later → TakesNoneAhead (with_flags old a b) left later
+ahead_flags old a b left later = told-weaker left later _ _ (λ x y t. ahead_by old a b x y t)

@@ -7,20 +7,22 @@ use Rattle.io_edges.specs.Faults.{Rose}
 use Rattle.script_text.specs.declared.faults.ScriptFault.{ScriptFault}
 use Rattle.script_text.specs.declared.faults.ScriptFault.TheVariants.{BadLine, TooLong, ReadFault, NoMemory}
 use Rattle.script_text.specs.declared.intake.LineEnd.TheVariants.{Newline, Input}
-use Rattle.script_text.specs.Taking.{Taken, Told, IsPlain, Refills, FailsToRefill, RefillAnswer, MovesPart, MovesAll, TakesLine, TakesTail, TakesPart, FailsInLine, LineTold}
+use Rattle.script_text.specs.Reader.{WhereTold}
+use Rattle.script_text.specs.Lines.{IsPlain}
+use Rattle.script_text.specs.inner.Taking.{Taken, Refills, FailsToRefill, RefillAnswer, MovesPart, MovesAll, TakesLine, TakesTail, TakesPart, FailsInLine, LineTold}
 
 -- ---- what is told
 
-pub told-same : (a : Option (List ℕ)) (P : List ℕ → List ℕ → Type 0) → ((x : List ℕ) → P x x) → Told a a P
+pub told-same : (a : Option (List ℕ)) (P : List ℕ → List ℕ → Type 0) → ((x : List ℕ) → P x x) → WhereTold a a P
 told-same None P h = tt
 told-same (Some x) P h = h x
 
-pub told-weaker : (a b : Option (List ℕ)) (P Q : List ℕ → List ℕ → Type 0) → ((x y : List ℕ) → P x y → Q x y) → Told a b P → Told a b Q
+pub told-weaker : (a b : Option (List ℕ)) (P Q : List ℕ → List ℕ → Type 0) → ((x y : List ℕ) → P x y → Q x y) → WhereTold a b P → WhereTold a b Q
 told-weaker None b P Q h t = tt
 told-weaker (Some x) None P Q h t = absurd t
 told-weaker (Some x) (Some y) P Q h t = h x y t
 
-pub told-then : (a b c : Option (List ℕ)) (P Q R : List ℕ → List ℕ → Type 0) → ((x y z : List ℕ) → P x y → Q y z → R x z) → Told a b P → Told b c Q → Told a c R
+pub told-then : (a b c : Option (List ℕ)) (P Q R : List ℕ → List ℕ → Type 0) → ((x y z : List ℕ) → P x y → Q y z → R x z) → WhereTold a b P → WhereTold b c Q → WhereTold a c R
 told-then None b c P Q R h t u = tt
 told-then (Some x) None c P Q R h t u = absurd t
 told-then (Some x) (Some y) None P Q R h t u = absurd u
@@ -35,7 +37,7 @@ rose-later first before now low (inr e) = inr e
 -- ---- refills
 
 -- nothing more is taken where bytes are held, or at the end of the input
-pub refills-none : (old : Taken) (left : Option (List ℕ)) → (old.bytes ≡ [] → IsTrue old.ended) → Told left left (RefillAnswer old old (Ok tt))
+pub refills-none : (old : Taken) (left : Option (List ℕ)) → (old.bytes ≡ [] → IsTrue old.ended) → WhereTold left left (RefillAnswer old old (Ok tt))
 refills-none old left ended = told-same left _ (λ x h. record { taken = []; took = refl; bytes = sym (append-nil old.bytes); at_end = λ none. h (ended none) })
 
 pub some_held : (b : Bool) (bs : List ℕ) → ((b ≡ true) ↔ (bs ≡ [])) → b ≡ false → 0 < length bs
@@ -51,7 +53,7 @@ pub record InLine (first now : Taken) (line before left : List ℕ) : Type 0 whe
   pub bytes : first.bytes ++ taken ≡ line ++ now.bytes
 
 abbrev pub InLineTold : Taken → Taken → List ℕ → Option (List ℕ) → Option (List ℕ) → Type 0
-InLineTold first now line left later = Told left later (λ before after. (IsTrue first.ended → before ≡ []) → InLine first now line before after)
+InLineTold first now line left later = WhereTold left later (λ before after. (IsTrue first.ended → before ≡ []) → InLine first now line before after)
 
 -- the same after a read: none are held only where nothing is left
 pub record Refilled (first now : Taken) (line before left : List ℕ) : Type 0 where
@@ -59,7 +61,7 @@ pub record Refilled (first now : Taken) (line before left : List ℕ) : Type 0 w
   pub at_end : now.bytes ≡ [] → left ≡ []
 
 abbrev pub RefilledTold : Taken → Taken → List ℕ → Option (List ℕ) → Option (List ℕ) → Type 0
-RefilledTold first now line left later = Told left later (λ before after. (IsTrue first.ended → before ≡ []) → Refilled first now line before after)
+RefilledTold first now line left later = WhereTold left later (λ before after. (IsTrue first.ended → before ≡ []) → Refilled first now line before after)
 
 pub begun : (first : Taken) (line : List ℕ) (left : Option (List ℕ)) → line ≡ [] → InLineTold first first line left left
 begun first line left e = told-same left _ (λ x h. record { taken = []; took = refl; bytes = append-nil first.bytes ∙ sym (ap (λ l. l ++ first.bytes) e) })
@@ -81,7 +83,7 @@ refilled_by first s0 s1 line x y z same none p r =
       at_end = more.at_end;
     }
 
-pub refilled : (first s0 s1 : Taken) (line : List ℕ) (a b c : Option (List ℕ)) → s0.ended ≡ first.ended → InLineTold first s0 line a b → Told b c (RefillAnswer s0 s1 (Ok tt)) → RefilledTold first s1 line a c
+pub refilled : (first s0 s1 : Taken) (line : List ℕ) (a b c : Option (List ℕ)) → s0.ended ≡ first.ended → InLineTold first s0 line a b → WhereTold b c (RefillAnswer s0 s1 (Ok tt)) → RefilledTold first s1 line a c
 refilled first s0 s1 line a b c same = told-then a b c _ _ _ (λ x y z p r none. refilled_by first s0 s1 line x y z same none (p none) r)
 
 tail_by : (first s1 : Taken) (line x z : List ℕ) → s1.bytes ≡ [] → IsTrue s1.ended → IsPlain line → Refilled first s1 line x z → TakesTail first s1 x z line
@@ -142,7 +144,7 @@ fails_by first s0 s1 line x y z same plain p f = record {
 
 -- a fault of a read is the answer
 pub fails_told : (first s0 s1 : Taken) (line : List ℕ) (room : ℕ) (fault : ScriptFault) (a b c : Option (List ℕ)) → s0.ended ≡ first.ended → IsPlain line → InLineTold first s0 line a b
-    → Told b c (RefillAnswer s0 s1 (Err fault)) → LineTold first s1 a c line room (Err fault)
+    → WhereTold b c (RefillAnswer s0 s1 (Err fault)) → LineTold first s1 a c line room (Err fault)
 fails_told first s0 s1 line room (BadLine n) a b c same plain = told-then a b c _ _ _ (λ x y z p f none. absurd f)
 fails_told first s0 s1 line room TooLong a b c same plain = told-then a b c _ _ _ (λ x y z p f none. absurd f)
 fails_told first s0 s1 line room ReadFault a b c same plain = told-then a b c _ _ _ (λ x y z p f none. fails_by first s0 s1 line x y z same plain (p none) f)

@@ -13,8 +13,10 @@ use Rattle.goal_shapes.specs.declared.goals.GoalSpec.{GoalSpec}
 use Rattle.goal_shapes.specs.declared.goals.GoalSpec.TheVariants.{Plain, Obstruction as ByObstruction}
 use Rattle.grid_versions.specs.Maps.{Map}
 use Rattle.turn_core.specs.declared.posts.Post.{Post}
-use Rattle.turn_core.specs.declared.posts.Post.TheVariants.{Add, Remove, Move, Path, Region}
-use Rattle.script_text.specs.Grammar.{shape_key, shape_decimals}
+use Rattle.grid_versions.specs.declared.edits.Edit.TheVariants.{Add, Remove, Move}
+use Rattle.turn_core.specs.declared.posts.Post.TheVariants.{Edit as Edits, Ask as Asks}
+use Rattle.turn_core.specs.declared.posts.Request.TheVariants.{Path, Region}
+use Rattle.script_text.specs.Grammar.{rectangle_decimals, shape_key, shape_decimals}
 
 -- ---- values
 
@@ -84,8 +86,8 @@ unfoldable pub goal_json : GoalSpec → Data
 goal_json (Plain (Point x z)) = shape_json (codes "point") (x ∷ z ∷ [])
 goal_json (Plain (Circle x z r)) = shape_json (codes "circle") (x ∷ z ∷ r ∷ [])
 goal_json (Plain (NotCircle x z r)) = shape_json (codes "not-circle") (x ∷ z ∷ r ∷ [])
-goal_json (Plain (Square x z ux uz hw hh)) = shape_json (codes "square") (x ∷ z ∷ ux ∷ uz ∷ hw ∷ hh ∷ [])
-goal_json (Plain (NotSquare x z ux uz hw hh)) = shape_json (codes "not-square") (x ∷ z ∷ ux ∷ uz ∷ hw ∷ hh ∷ [])
+goal_json (Plain (Square rectangle)) = shape_json (codes "square") (rectangle_decimals rectangle)
+goal_json (Plain (NotSquare rectangle)) = shape_json (codes "not-square") (rectangle_decimals rectangle)
 goal_json (ByObstruction id grow) = object_json ((codes "obstruction", list_json (whole_json id ∷ decimal_json grow ∷ [])) ∷ [])
 
 -- the mask stands last, from version 2 on
@@ -93,16 +95,16 @@ abbrev pub mask_members : ℕ → ℕ → List (List ℕ × Data)
 mask_members version mask = if nat_le 2 version then (codes "mask", whole_json mask) ∷ [] else []
 
 unfoldable pub post_json : ℕ → ℕ → Post → Data
-post_json version caller (Add id o) = object_json (
+post_json version caller (Edits (Add id o)) = object_json (
     (codes "caller", whole_json caller) ∷ (codes "add", whole_json id) ∷ (shape_key o.shape, decimals_json (shape_decimals o.shape))
     ∷ mask_members version o.mask)
-post_json version caller (Remove id) = object_json ((codes "caller", whole_json caller) ∷ (codes "remove", whole_json id) ∷ [])
-post_json version caller (Move id x z) =
+post_json version caller (Edits (Remove id)) = object_json ((codes "caller", whole_json caller) ∷ (codes "remove", whole_json id) ∷ [])
+post_json version caller (Edits (Move id x z)) =
     object_json ((codes "caller", whole_json caller) ∷ (codes "move", whole_json id) ∷ (codes "to", decimals_json (x ∷ z ∷ [])) ∷ [])
-post_json version caller (Path class x z goal) = object_json (
+post_json version caller (Asks (Path class x z goal)) = object_json (
     (codes "caller", whole_json caller) ∷ (codes "path", string class) ∷ (codes "from", decimals_json (x ∷ z ∷ []))
     ∷ (codes "goal", goal_json goal) ∷ [])
-post_json version caller (Region class x z) =
+post_json version caller (Asks (Region class x z)) =
     object_json ((codes "caller", whole_json caller) ∷ (codes "region", string class) ∷ (codes "at", decimals_json (x ∷ z ∷ [])) ∷ [])
 
 -- the lines of a caller's posts, in their order
@@ -130,11 +132,11 @@ is_goal_of version (ByObstruction id grow) = nat_le 3 version
 
 -- an add with a mask that is not of every class stands from version 2 on, a move from version 3 on
 abbrev pub is_post_of : ℕ → Post → Bool
-is_post_of version (Add id o) = nat_le 2 version || o.mask == 65535
-is_post_of version (Remove id) = true
-is_post_of version (Move id x z) = nat_le 3 version
-is_post_of version (Path class x z goal) = is_goal_of version goal
-is_post_of version (Region class x z) = true
+is_post_of version (Edits (Add id o)) = nat_le 2 version || o.mask == 65535
+is_post_of version (Edits (Remove id)) = true
+is_post_of version (Edits (Move id x z)) = nat_le 3 version
+is_post_of version (Asks (Path class x z goal)) = is_goal_of version goal
+is_post_of version (Asks (Region class x z)) = true
 
 -- each post has a line in a script of this version
 abbrev pub HaveLines : ℕ → List (List Post) → Type 0

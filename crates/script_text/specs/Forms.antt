@@ -16,10 +16,12 @@ use Rattle.goal_shapes.specs.declared.goals.Goal.TheVariants.{Point, Circle, Not
 use Rattle.goal_shapes.specs.declared.goals.GoalSpec.{GoalSpec}
 use Rattle.goal_shapes.specs.declared.goals.GoalSpec.TheVariants.{Plain, Obstruction as ByObstruction}
 use Rattle.grid_versions.specs.Maps.{Map, map_of as map_with}
-use Rattle.turn_core.specs.declared.posts.Post.{Post}
-use Rattle.turn_core.specs.declared.posts.Post.TheVariants.{Add, Remove, Move, Path, Region}
+use Rattle.grid_versions.specs.declared.edits.Edit.{Edit}
+use Rattle.grid_versions.specs.declared.edits.Edit.TheVariants.{Add, Remove, Move}
+use Rattle.turn_core.specs.declared.posts.Post.TheVariants.{Edit as Edits, Ask as Asks}
+use Rattle.turn_core.specs.declared.posts.Request.{Request}
+use Rattle.turn_core.specs.declared.posts.Request.TheVariants.{Path, Region}
 use Rattle.script_text.specs.declared.forms.CallerPost.{CallerPost}
-use Rattle.script_text.specs.declared.forms.values.Rectangle.{Rectangle}
 use Rattle.script_text.specs.Values.{whole, whole_in, whole_below, obstruction_number, class_name, under, array_items, has_items, whole_at, decimal_at, both, all_three, point_of, round_of, rectangle_of, size_of}
 
 -- ---- the map line
@@ -66,19 +68,13 @@ base_of size d = if has_keys (codes "base" ∷ []) d
 
 -- ---- goals
 
-abbrev pub square_with : Rectangle → Goal
-square_with r = Square r.x r.z r.ux r.uz r.hw r.hh
-
-abbrev pub not_square_with : Rectangle → Goal
-not_square_with r = NotSquare r.x r.z r.ux r.uz r.hw r.hh
-
 -- a goal that is a shape, which its key names
 unfoldable pub plain_goal : Data → Option Goal
 plain_goal d = if has_keys (codes "point" ∷ []) d then option_map (λ p. Point p.0 p.1) (under point_of (codes "point") d)
     else (if has_keys (codes "circle" ∷ []) d then option_map (λ c. Circle c.0 c.1 c.2) (under round_of (codes "circle") d)
     else (if has_keys (codes "not-circle" ∷ []) d then option_map (λ c. NotCircle c.0 c.1 c.2) (under round_of (codes "not-circle") d)
-    else (if has_keys (codes "square" ∷ []) d then option_map square_with (under rectangle_of (codes "square") d)
-    else (if has_keys (codes "not-square" ∷ []) d then option_map not_square_with (under rectangle_of (codes "not-square") d)
+    else (if has_keys (codes "square" ∷ []) d then option_map Square (under rectangle_of (codes "square") d)
+    else (if has_keys (codes "not-square" ∷ []) d then option_map NotSquare (under rectangle_of (codes "not-square") d)
     else None))))
 
 -- an array of an obstruction number and a decimal, by which the obstruction grows
@@ -105,51 +101,48 @@ add_keys version shape = codes "caller" ∷ codes "add" ∷ shape ∷ (if nat_le
 unfoldable pub mask_of : ℕ → Data → Option ℕ
 mask_of version d = if nat_le 2 version then under (whole_in 0 65535) (codes "mask") d else Some 65535
 
-abbrev pub shape_with : Rectangle → Shape
-shape_with r = SquareShape r.x r.z r.ux r.uz r.hw r.hh
-
 -- the shape of an add line
 unfoldable pub shape_of : ℕ → Data → Option Shape
 shape_of version d = if has_keys (add_keys version (codes "unit")) d then option_map (λ u. UnitShape u.0 u.1 u.2) (under round_of (codes "unit") d)
     else (if has_keys (add_keys version (codes "square")) d
-    then option_map shape_with (under rectangle_of (codes "square") d)
+    then option_map SquareShape (under rectangle_of (codes "square") d)
     else None)
 
-unfoldable pub add_of : ℕ → Data → Option Post
+unfoldable pub add_of : ℕ → Data → Option Edit
 add_of version d = option_map (λ parts. Add parts.0 (record { shape = parts.1; mask = parts.2 }))
     (all_three (under obstruction_number (codes "add") d) (shape_of version d) (mask_of version d))
 
-unfoldable pub remove_of : Data → Option Post
+unfoldable pub remove_of : Data → Option Edit
 remove_of d = if has_keys (codes "caller" ∷ codes "remove" ∷ []) d then option_map Remove (under obstruction_number (codes "remove") d) else None
 
 -- a move stands under version 3 only
-unfoldable pub move_of : ℕ → Data → Option Post
+unfoldable pub move_of : ℕ → Data → Option Edit
 move_of version d = if nat_le 3 version && has_keys (codes "caller" ∷ codes "move" ∷ codes "to" ∷ []) d
     then option_map (λ parts. Move parts.0 parts.1.0 parts.1.1) (both (under obstruction_number (codes "move") d) (under point_of (codes "to") d))
     else None
 
-unfoldable pub path_of : ℕ → Data → Option Post
+unfoldable pub path_of : ℕ → Data → Option Request
 path_of version d = if has_keys (codes "caller" ∷ codes "path" ∷ codes "from" ∷ codes "goal" ∷ []) d
     then option_map (λ parts. Path parts.0 parts.1.0 parts.1.1 parts.2)
     (all_three (under class_name (codes "path") d) (under point_of (codes "from") d) (under (goal_of version) (codes "goal") d))
     else None
 
-unfoldable pub region_of : Data → Option Post
+unfoldable pub region_of : Data → Option Request
 region_of d = if has_keys (codes "caller" ∷ codes "region" ∷ codes "at" ∷ []) d
     then option_map (λ parts. Region parts.0 parts.1.0 parts.1.1) (both (under class_name (codes "region") d) (under point_of (codes "at") d))
     else None
 
 -- a line that edits, and a line that asks
-unfoldable pub edit_of : ℕ → Data → Option Post
+unfoldable pub edit_of : ℕ → Data → Option Edit
 edit_of version d = option_or (add_of version d) (option_or (remove_of d) (move_of version d))
 
-unfoldable pub request_of : ℕ → Data → Option Post
+unfoldable pub request_of : ℕ → Data → Option Request
 request_of version d = option_or (path_of version d) (region_of d)
 
 -- the post of a post line, in a script of this version with so many callers
 unfoldable pub post_of : ℕ → ℕ → Data → Option CallerPost
 post_of version callers d = option_map (λ parts. record { caller = parts.0; post = parts.1 })
-    (both (under (whole_below callers) (codes "caller") d) (option_or (edit_of version d) (request_of version d)))
+    (both (under (whole_below callers) (codes "caller") d) (option_or (option_map Edits (edit_of version d)) (option_map Asks (request_of version d))))
 
 -- ---- the end line
 

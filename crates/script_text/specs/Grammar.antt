@@ -6,6 +6,7 @@ use Rattle.serde_json.specs.View.{items_of}
 use Rattle.nav_types.specs.declared.cells.Rect.{Rect}
 use Rattle.nav_types.specs.declared.cells.Size.{Size}
 use Rattle.nav_types.specs.Cells.{IsRectInside}
+use Rattle.fixed_point.specs.declared.plane.Rectangle.{Rectangle}
 use Rattle.fixed_point.specs.Text.{fixed_value}
 use Rattle.class_config.specs.Forms.{is_class_name}
 use Rattle.class_config.specs.Classes.{classes_of}
@@ -17,7 +18,9 @@ use Rattle.goal_shapes.specs.declared.goals.GoalSpec.{GoalSpec}
 use Rattle.goal_shapes.specs.declared.goals.GoalSpec.TheVariants.{Plain, Obstruction as ByObstruction}
 use Rattle.grid_versions.specs.Maps.{Map}
 use Rattle.turn_core.specs.declared.posts.Post.{Post}
-use Rattle.turn_core.specs.declared.posts.Post.TheVariants.{Add, Remove, Move, Path, Region}
+use Rattle.grid_versions.specs.declared.edits.Edit.TheVariants.{Add, Remove, Move}
+use Rattle.turn_core.specs.declared.posts.Post.TheVariants.{Edit as Edits, Ask as Asks}
+use Rattle.turn_core.specs.declared.posts.Request.TheVariants.{Path, Region}
 use Rattle.script_text.specs.declared.forms.CallerPost.{CallerPost}
 
 -- ---- objects
@@ -44,12 +47,12 @@ pub record IsObject (keys : List (List ℕ)) (values : List Data) (d : Data) : T
 
 -- ---- values
 
-abbrev pub IsWhole : ℕ → Data → Type 0
-IsWhole n d = d ≡ number (unsigned n)
+abbrev pub IsWholeNumber : ℕ → Data → Type 0
+IsWholeNumber n d = d ≡ number (unsigned n)
 
 -- an obstruction number
 abbrev pub IsNumber : ℕ → Data → Type 0
-IsNumber id d = IsWhole id d × (id ≤ 4294967295)
+IsNumber id d = IsWholeNumber id d × (id ≤ 4294967295)
 
 -- a string that has this value
 abbrev pub IsDecimal : ℤ → Data → Type 0
@@ -77,11 +80,11 @@ pub record IsMapLine (m : Map) (d : Data) : Type 0 where
   pub callers : Data
   pub classes : Data
   pub keys : IsObject (codes "version" ∷ codes "size" ∷ codes "callers" ∷ codes "classes" ∷ []) (version ∷ size ∷ callers ∷ classes ∷ []) d
-  pub says_version : IsWhole m.version version
+  pub says_version : IsWholeNumber m.version version
   pub oldest : 1 ≤ m.version
   pub newest : m.version ≤ 3
-  pub says_size : IsArray IsWhole (m.size.w ∷ m.size.h ∷ []) size
-  pub says_callers : IsWhole m.callers callers
+  pub says_size : IsArray IsWholeNumber (m.size.w ∷ m.size.h ∷ []) size
+  pub says_callers : IsWholeNumber m.callers callers
   pub some : 1 ≤ m.callers
   pub few : m.callers ≤ 64
   pub says_classes : classes_of classes ≡ Some m.classes
@@ -89,7 +92,7 @@ pub record IsMapLine (m : Map) (d : Data) : Type 0 where
 
 -- an array of five whole numbers: a rectangle of the map, and a mask
 pub record IsEntry (size : Size) (entry : Rect × ℕ) (d : Data) : Type 0 where
-  pub says : IsArray IsWhole (entry.0.i0 ∷ entry.0.j0 ∷ entry.0.i1 ∷ entry.0.j1 ∷ entry.1 ∷ []) d
+  pub says : IsArray IsWholeNumber (entry.0.i0 ∷ entry.0.j0 ∷ entry.0.i1 ∷ entry.0.j1 ∷ entry.1 ∷ []) d
   pub inside : IsRectInside size entry.0
   pub mask : entry.1 ≤ 65535
 
@@ -102,12 +105,17 @@ IsBaseLine size rects d = (base : Data) × IsObject (codes "base" ∷ []) (base 
 abbrev pub HasDecimals : List ℕ → List ℤ → Data → Type 0
 HasDecimals key raws d = (shape : Data) × IsObject (key ∷ []) (shape ∷ []) d × IsArray IsDecimal raws shape
 
+-- the six decimals of a rectangle
+abbrev pub rectangle_decimals : Rectangle → List ℤ
+rectangle_decimals rectangle =
+    rectangle.x ∷ rectangle.z ∷ rectangle.ux ∷ rectangle.uz ∷ rectangle.hw ∷ rectangle.hh ∷ []
+
 abbrev pub IsPlainGoal : Goal → Data → Type 0
 IsPlainGoal (Point x z) d = HasDecimals (codes "point") (x ∷ z ∷ []) d
 IsPlainGoal (Circle x z r) d = HasDecimals (codes "circle") (x ∷ z ∷ r ∷ []) d
 IsPlainGoal (NotCircle x z r) d = HasDecimals (codes "not-circle") (x ∷ z ∷ r ∷ []) d
-IsPlainGoal (Square x z ux uz hw hh) d = HasDecimals (codes "square") (x ∷ z ∷ ux ∷ uz ∷ hw ∷ hh ∷ []) d
-IsPlainGoal (NotSquare x z ux uz hw hh) d = HasDecimals (codes "not-square") (x ∷ z ∷ ux ∷ uz ∷ hw ∷ hh ∷ []) d
+IsPlainGoal (Square rectangle) d = HasDecimals (codes "square") (rectangle_decimals rectangle) d
+IsPlainGoal (NotSquare rectangle) d = HasDecimals (codes "not-square") (rectangle_decimals rectangle) d
 
 -- a goal that is an obstruction, under version 3: an array of its number and the decimal by which it grows
 pub record IsGrownGoal (version id : ℕ) (grow : ℤ) (d : Data) : Type 0 where
@@ -128,38 +136,38 @@ IsGoal version (ByObstruction id grow) d = IsGrownGoal version id grow d
 
 abbrev pub shape_key : Shape → List ℕ
 shape_key (UnitShape x z half) = codes "unit"
-shape_key (SquareShape x z ux uz hw hh) = codes "square"
+shape_key (SquareShape rectangle) = codes "square"
 
 abbrev pub shape_decimals : Shape → List ℤ
 shape_decimals (UnitShape x z half) = x ∷ z ∷ half ∷ []
-shape_decimals (SquareShape x z ux uz hw hh) = x ∷ z ∷ ux ∷ uz ∷ hw ∷ hh ∷ []
+shape_decimals (SquareShape rectangle) = rectangle_decimals rectangle
 
 -- the keys of an add line: from version 2 on it has a mask, and before it the mask is of every class
 abbrev pub HasAddKeys : ℕ → ℕ → List ℕ → Data → Data → Data → Data → Type 0
 HasAddKeys version mask key caller add shape d =
     ((version < 2) × (mask ≡ 65535) × IsObject (codes "caller" ∷ codes "add" ∷ key ∷ []) (caller ∷ add ∷ shape ∷ []) d)
     ⊎ ((2 ≤ version) × ((bits : Data) × IsObject (codes "caller" ∷ codes "add" ∷ key ∷ codes "mask" ∷ []) (caller ∷ add ∷ shape ∷ bits ∷ []) d
-    × IsWhole mask bits × (mask ≤ 65535)))
+    × IsWholeNumber mask bits × (mask ≤ 65535)))
 
 -- what stands under the key of the caller is the caller's number, below the number of callers
 abbrev pub IsCaller : ℕ → ℕ → Data → Type 0
-IsCaller callers caller d = IsWhole caller d × (caller < callers)
+IsCaller callers caller d = IsWholeNumber caller d × (caller < callers)
 
 abbrev pub IsPostLine : ℕ → ℕ → ℕ → Post → Data → Type 0
-IsPostLine version callers caller (Add id o) d =
+IsPostLine version callers caller (Edits (Add id o)) d =
     (c : Data) × (add : Data) × (shape : Data) × HasAddKeys version o.mask (shape_key o.shape) c add shape d
     × IsCaller callers caller c × IsNumber id add × IsArray IsDecimal (shape_decimals o.shape) shape
-IsPostLine version callers caller (Remove id) d =
+IsPostLine version callers caller (Edits (Remove id)) d =
     (c : Data) × (remove : Data) × IsObject (codes "caller" ∷ codes "remove" ∷ []) (c ∷ remove ∷ []) d
     × IsCaller callers caller c × IsNumber id remove
-IsPostLine version callers caller (Move id x z) d =
+IsPostLine version callers caller (Edits (Move id x z)) d =
     (c : Data) × (move : Data) × (to : Data) × IsObject (codes "caller" ∷ codes "move" ∷ codes "to" ∷ []) (c ∷ move ∷ to ∷ []) d
     × IsCaller callers caller c × IsNumber id move × IsArray IsDecimal (x ∷ z ∷ []) to × (3 ≤ version)
-IsPostLine version callers caller (Path class x z goal) d =
+IsPostLine version callers caller (Asks (Path class x z goal)) d =
     (c : Data) × (path : Data) × (from : Data) × (to : Data)
     × IsObject (codes "caller" ∷ codes "path" ∷ codes "from" ∷ codes "goal" ∷ []) (c ∷ path ∷ from ∷ to ∷ []) d
     × IsCaller callers caller c × IsName class path × IsArray IsDecimal (x ∷ z ∷ []) from × IsGoal version goal to
-IsPostLine version callers caller (Region class x z) d =
+IsPostLine version callers caller (Asks (Region class x z)) d =
     (c : Data) × (region : Data) × (place : Data)
     × IsObject (codes "caller" ∷ codes "region" ∷ codes "at" ∷ []) (c ∷ region ∷ place ∷ []) d
     × IsCaller callers caller c × IsName class region × IsArray IsDecimal (x ∷ z ∷ []) place
@@ -167,7 +175,7 @@ IsPostLine version callers caller (Region class x z) d =
 -- ---- the end line
 
 abbrev pub IsEndLine : ℕ → Data → Type 0
-IsEndLine turn d = (end : Data) × IsObject (codes "end" ∷ []) (end ∷ []) d × IsWhole turn end
+IsEndLine turn d = (end : Data) × IsObject (codes "end" ∷ []) (end ∷ []) d × IsWholeNumber turn end
 
 -- ---- all lines
 

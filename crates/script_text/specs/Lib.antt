@@ -1,11 +1,9 @@
 pub mod Canon
 pub mod Forms
 pub mod Grammar
-pub mod Judging
 pub mod Lines
-pub mod Plain
 pub mod Reader
 pub mod ReadsBack
 pub mod Script
-pub mod Taking
 pub mod Values
+pub mod inner

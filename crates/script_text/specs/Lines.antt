@@ -1,5 +1,9 @@
 -- The lines of an input: those that a newline (10) ends, and what stands after the last newline.
-use Rattle.std.specs.Prelude.{ℕ, List, [], ◌∷◌, ◌++◌, ◌==◌, if◌then◌else◌}
+use Rattle.std.specs.Prelude.{ℕ, ◌≢◌, List, [], ◌∷◌, ◌++◌, ◌==◌, All, if◌then◌else◌}
+
+-- bytes without a newline (10)
+abbrev pub IsPlain : List ℕ → Type 0
+IsPlain line = All (λ byte. byte ≢ 10) line
 
 -- a byte in front of the first line, or of the tail where there is no line
 abbrev pub in_front : ℕ → List (List ℕ) → List (List ℕ)

@@ -1,12 +1,14 @@
 -- What a reader holds, and how its calls go through an input.
-use Rattle.std.specs.Prelude.{ℕ, ◌≡◌, ◌≢◌, List, [], ◌∷◌, ◌++◌, length, sum_by, Bool, true, false, All, IsFalse, IsTrue, Option, Some, None, Result, Ok, Err, ⊤}
+use Rattle.std.specs.Prelude.{ℕ, ◌≡◌, ◌≢◌, ◌≤◌, ◌⊎◌, List, [], ◌∷◌, ◌++◌, length, sum_by, Bool, true, false, All, IsFalse, IsTrue, Option, Some, None, Result, Ok, Err, ⊤}
 use Rattle.script_text.specs.declared.faults.ScriptFault.{ScriptFault}
 use Rattle.script_text.specs.declared.faults.ScriptFault.TheVariants.{BadLine, TooLong, ReadFault, NoMemory}
 use Rattle.grid_versions.specs.Maps.{Map}
 use Rattle.turn_core.specs.declared.posts.Post.{Post}
-use Rattle.script_text.specs.Lines.{full_lines, unlines}
-use Rattle.script_text.specs.Script.{Rules, Part, before_map, in_base, in_turns, Place, beginning, Item, ends_turn, Stop, whole_input, too_long, bad_line, stuck_by, Walk, arrived, stuck, chain, map_after, turns_of, walk, reading}
-use Rattle.script_text.specs.Taking.{Told, IsPlain}
+use Rattle.script_text.specs.Lines.{full_lines, unlines, IsPlain}
+use Rattle.script_text.specs.declared.parts.Rules.{Rules}
+use Rattle.script_text.specs.declared.parts.Part.{Part}
+use Rattle.script_text.specs.declared.parts.Part.TheVariants.{BeforeMap, InBase, InTurns}
+use Rattle.script_text.specs.Script.{Place, beginning, Item, ends_turn, Stop, whole_input, too_long, bad_line, stuck_by, Walk, arrived, stuck, chain, map_after, turns_of, walk, reading}
 
 -- The place that the reading has come to, the bytes taken that no line has used yet, whether the end of the input was
 -- met, whether no call may follow, and whether the reader has failed.
@@ -23,15 +25,15 @@ unread = record { place = beginning; bytes = []; ended = false; over = false; fa
 
 -- what the lines after the map line keep to, once the map line was read
 abbrev pub rules_at : Part → Option Rules
-rules_at before_map = None
-rules_at (in_base rules) = Some rules
-rules_at (in_turns rules) = Some rules
+rules_at BeforeMap = None
+rules_at (InBase rules) = Some rules
+rules_at (InTurns rules) = Some rules
 
 -- how many callers the map has
 abbrev pub callers_of : Part → ℕ
-callers_of before_map = 0
-callers_of (in_base rules) = rules.callers
-callers_of (in_turns rules) = rules.callers
+callers_of BeforeMap = 0
+callers_of (InBase rules) = rules.callers
+callers_of (InTurns rules) = rules.callers
 
 -- how many posts a turn has, over all callers
 abbrev pub post_count : List (List Post) → ℕ
@@ -110,12 +112,37 @@ TurnAnswers old new (Ok (Some posts)) before after = GoesOn old new before after
 TurnAnswers old new (Ok None) before after = IsRead old before after
 TurnAnswers old new (Err fault) before after = Refuses old new before after [] fault
 
+-- what is said of the bytes left in a source before and after, where it tells them
+abbrev pub WhereTold : Option (List ℕ) → Option (List ℕ) → (List ℕ → List ℕ → Type 0) → Type 0
+WhereTold None after Says = ⊤
+WhereTold (Some before) None Says = ⊥
+WhereTold (Some before) (Some after) Says = Says before after
+
 -- the same for any source, where it tells its bytes; a reader that has met the end finds nothing left
 abbrev pub MapTold : Held → Held → Option (List ℕ) → Option (List ℕ) → Result Map ScriptFault → Type 0
-MapTold old new left later result = Told left later (λ before after. (IsTrue old.ended → before ≡ []) → MapAnswers old new result before after)
+MapTold old new left later result = WhereTold left later (λ before after. (IsTrue old.ended → before ≡ []) → MapAnswers old new result before after)
 
 abbrev pub TurnTold : Held → Held → Option (List ℕ) → Option (List ℕ) → Result (Option (List (List Post))) ScriptFault → Type 0
-TurnTold old new left later result = Told left later (λ before after. (IsTrue old.ended → before ≡ []) → TurnAnswers old new result before after)
+TurnTold old new left later result = WhereTold left later (λ before after. (IsTrue old.ended → before ≡ []) → TurnAnswers old new result before after)
+
+-- No line behind those used adds to the map: the whole input gives the same one.
+abbrev pub IsWholeMap : Held → Option (List ℕ) → Map → Type 0
+IsWholeMap old None m = ⊤
+IsWholeMap old (Some before) m = (IsTrue old.ended → before ≡ []) → map_after None (reading (old.bytes ++ before) old.place).items ≡ Some m
+
+-- The last read of a call took a piece, at most as much as one read takes, where what was held with what was taken earlier
+-- ended no turn and did not stop the input.
+pub record ReadsForTurn (old : Held) (before after : List ℕ) : Type 0 where
+  pub earlier : List ℕ
+  pub piece : List ℕ
+  pub took : before ≡ earlier ++ (piece ++ after)
+  pub few : length piece ≤ 65536
+  pub place : Place
+  pub no_turn : walk (full_lines (old.bytes ++ earlier)) old.place ≡ arrived [] place
+
+-- Nothing is taken ahead: each read is made only where the lines before it neither end the turn nor stop the input.
+abbrev pub TakesNoneAhead : Held → Option (List ℕ) → Option (List ℕ) → Type 0
+TakesNoneAhead old left later = WhereTold left later (λ before after. (before ≡ after) ⊎ ReadsForTurn old before after)
 
 -- no call follows an answer without a turn
 abbrev pub is_last : Result (Option (List (List Post))) ScriptFault → Bool

@@ -10,11 +10,13 @@ use Rattle.goal_shapes.specs.declared.goals.GoalSpec.{GoalSpec}
 use Rattle.goal_shapes.specs.declared.goals.GoalSpec.TheVariants.{Plain, Obstruction as ByObstruction}
 use Rattle.grid_versions.specs.Maps.{Map, IsMap}
 use Rattle.turn_core.specs.declared.posts.Post.{Post}
-use Rattle.turn_core.specs.declared.posts.Post.TheVariants.{Add, Remove, Move, Path, Region}
+use Rattle.grid_versions.specs.declared.edits.Edit.TheVariants.{Add, Remove, Move}
+use Rattle.turn_core.specs.declared.posts.Post.TheVariants.{Edit as Edits, Ask as Asks}
+use Rattle.turn_core.specs.declared.posts.Request.TheVariants.{Path, Region}
 use Rattle.script_text.specs.Lines.{full_lines}
 use Rattle.script_text.specs.Script.{beginning, Item, whole_input, map_after, turns_of, reading}
 use Rattle.script_text.specs.Reader.{stuck_after}
-use Rattle.script_text.specs.Grammar.{shape_decimals}
+use Rattle.script_text.specs.Grammar.{rectangle_decimals, shape_decimals}
 use Rattle.script_text.specs.Canon.{canon_map, canon_journal, HaveLines}
 
 -- ---- the values of maps and posts
@@ -28,8 +30,8 @@ abbrev pub goal_decimals : Goal → List ℤ
 goal_decimals (Point x z) = x ∷ z ∷ []
 goal_decimals (Circle x z r) = x ∷ z ∷ r ∷ []
 goal_decimals (NotCircle x z r) = x ∷ z ∷ r ∷ []
-goal_decimals (Square x z ux uz hw hh) = x ∷ z ∷ ux ∷ uz ∷ hw ∷ hh ∷ []
-goal_decimals (NotSquare x z ux uz hw hh) = x ∷ z ∷ ux ∷ uz ∷ hw ∷ hh ∷ []
+goal_decimals (Square rectangle) = rectangle_decimals rectangle
+goal_decimals (NotSquare rectangle) = rectangle_decimals rectangle
 
 abbrev pub IsGoalValue : GoalSpec → Type 0
 IsGoalValue (Plain goal) = AreFixed (goal_decimals goal)
@@ -37,11 +39,11 @@ IsGoalValue (ByObstruction id grow) = (id ≤ 4294967295) × FitsSigned w32 grow
 
 -- a post whose numbers fit their types, and whose class has a name
 abbrev pub IsPostValue : Post → Type 0
-IsPostValue (Add id o) = (id ≤ 4294967295) × AreFixed (shape_decimals o.shape) × (o.mask ≤ 65535)
-IsPostValue (Remove id) = id ≤ 4294967295
-IsPostValue (Move id x z) = (id ≤ 4294967295) × AreFixed (x ∷ z ∷ [])
-IsPostValue (Path class x z goal) = IsTrue (is_class_name class) × AreFixed (x ∷ z ∷ []) × IsGoalValue goal
-IsPostValue (Region class x z) = IsTrue (is_class_name class) × AreFixed (x ∷ z ∷ [])
+IsPostValue (Edits (Add id o)) = (id ≤ 4294967295) × AreFixed (shape_decimals o.shape) × (o.mask ≤ 65535)
+IsPostValue (Edits (Remove id)) = id ≤ 4294967295
+IsPostValue (Edits (Move id x z)) = (id ≤ 4294967295) × AreFixed (x ∷ z ∷ [])
+IsPostValue (Asks (Path class x z goal)) = IsTrue (is_class_name class) × AreFixed (x ∷ z ∷ []) × IsGoalValue goal
+IsPostValue (Asks (Region class x z)) = IsTrue (is_class_name class) × AreFixed (x ∷ z ∷ [])
 
 -- the posts of a turn, by caller
 abbrev pub ArePostValues : List (List Post) → Type 0

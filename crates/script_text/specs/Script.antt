@@ -6,27 +6,19 @@ use Rattle.serde_json.specs.Data.{Data}
 use Rattle.serde_json.specs.Read.{read}
 use Rattle.nav_types.specs.declared.cells.Rect.{Rect}
 use Rattle.nav_types.specs.declared.cells.Size.{Size}
-use Rattle.grid_versions.specs.Maps.{Map}
+use Rattle.grid_versions.specs.Maps.{Map, with_base}
 use Rattle.turn_core.specs.declared.posts.Post.{Post}
 use Rattle.turn_core.specs.States.{list_of}
 use Rattle.script_text.specs.declared.forms.CallerPost.{CallerPost}
+use Rattle.script_text.specs.declared.parts.Rules.{Rules}
+use Rattle.script_text.specs.declared.parts.Part.{Part}
+use Rattle.script_text.specs.declared.parts.Part.TheVariants.{BeforeMap, InBase, InTurns}
 use Rattle.script_text.specs.Lines.{full_lines, tail_of}
 use Rattle.script_text.specs.Forms.{map_of, base_of, post_of, end_of}
 
 -- what the lines after the map line keep to: the version of the script, the number of callers and the size of the map
-pub record Rules : Type 0 where
-  pub version : ℕ
-  pub callers : ℕ
-  pub size : Size
-
 abbrev pub rules_of : Map → Rules
 rules_of m = record { version = m.version; callers = m.callers; size = m.size }
-
--- the part of a script that a place lies in: before the map line, where base lines may stand, or among the lines of turns
-pub data Part : Type 0 where
-  before_map : Part
-  in_base : Rules → Part
-  in_turns : Rules → Part
 
 -- Where the reading of an input stands: the bytes and lines used, the part of the script, the turns that have ended, and
 -- the posts so far of the turn that has begun, caller by caller.
@@ -38,7 +30,7 @@ pub record Place : Type 0 where
   pub posts : List (List Post)
 
 abbrev pub beginning : Place
-beginning = record { bytes = 0; lines = 0; part = before_map; turns = 0; posts = [] }
+beginning = record { bytes = 0; lines = 0; part = BeforeMap; turns = 0; posts = [] }
 
 -- what lines give: the map line begins the map, a base line adds rectangles to it, and an end line ends a turn, with the
 -- posts of each caller
@@ -79,10 +71,6 @@ chain w go_on = chain_from w.items w.ends go_on
 
 -- ---- what items say
 
--- the map with base rectangles more
-abbrev pub with_base : Map → List (Rect × ℕ) → Map
-with_base m rects = record m { base = m.base ++ rects }
-
 -- the map after an item: that of the map line, with the rectangles of the base lines so far
 abbrev pub map_after_item : Option Map → Item → Option Map
 map_after_item found (begins m) = Some m
@@ -120,7 +108,7 @@ no_posts callers = replicate callers []
 -- line 1 is the map line
 abbrev pub map_line : Place → Option Map → Walk
 map_line p None = bad p
-map_line p (Some m) = arrived (begins m ∷ []) (record p { part = in_base (rules_of m); posts = no_posts m.callers })
+map_line p (Some m) = arrived (begins m ∷ []) (record p { part = InBase (rules_of m); posts = no_posts m.callers })
 
 -- the posts with one more at the end of its caller's
 abbrev pub with_post : List (List Post) → CallerPost → List (List Post)
@@ -130,12 +118,12 @@ with_post posts said = slice_set posts said.caller (list_of posts said.caller ++
 abbrev pub end_line : Place → Rules → Option ℕ → Walk
 end_line p rules None = bad p
 end_line p rules (Some number) = if number == p.turns + 1
-    then arrived (ends_turn p.posts ∷ []) (record p { part = in_turns rules; turns = p.turns + 1; posts = no_posts rules.callers })
+    then arrived (ends_turn p.posts ∷ []) (record p { part = InTurns rules; turns = p.turns + 1; posts = no_posts rules.callers })
     else bad p
 
 -- a line of a turn: a post line, or else the end line
 abbrev pub turn_line : Place → Rules → Option CallerPost → Option ℕ → Walk
-turn_line p rules (Some said) number = arrived [] (record p { part = in_turns rules; posts = with_post p.posts said })
+turn_line p rules (Some said) number = arrived [] (record p { part = InTurns rules; posts = with_post p.posts said })
 turn_line p rules None number = end_line p rules number
 
 abbrev pub placed_in_turn : Place → Rules → Option Data → Walk
@@ -148,9 +136,9 @@ base_line p rules d None = placed_in_turn p rules d
 
 -- what a line gives in its place, by its reading, where it has one; the place has counted it already
 abbrev pub placed_in : Part → Place → Option Data → Walk
-placed_in before_map p d = map_line p (option_and_then map_of d)
-placed_in (in_base rules) p d = base_line p rules d (option_and_then (base_of rules.size) d)
-placed_in (in_turns rules) p d = placed_in_turn p rules d
+placed_in BeforeMap p d = map_line p (option_and_then map_of d)
+placed_in (InBase rules) p d = base_line p rules d (option_and_then (base_of rules.size) d)
+placed_in (InTurns rules) p d = placed_in_turn p rules d
 
 abbrev pub placed : Place → Option Data → Walk
 placed p d = placed_in p.part p d
@@ -175,9 +163,9 @@ is_empty (post ∷ posts) = false
 
 -- an input may end after the map line, a base line or an end line; elsewhere the line that is missing is bad
 abbrev pub finish_in : Part → Place → Walk
-finish_in before_map p = stuck (bad_line (p.lines + 1))
-finish_in (in_base rules) p = stuck whole_input
-finish_in (in_turns rules) p = if list_all is_empty p.posts then stuck whole_input else stuck (bad_line (p.lines + 1))
+finish_in BeforeMap p = stuck (bad_line (p.lines + 1))
+finish_in (InBase rules) p = stuck whole_input
+finish_in (InTurns rules) p = if list_all is_empty p.posts then stuck whole_input else stuck (bad_line (p.lines + 1))
 
 abbrev pub finish : Place → Walk
 finish p = finish_in p.part p

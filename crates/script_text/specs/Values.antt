@@ -10,7 +10,7 @@ use Rattle.nav_types.specs.Side.{IsSide}
 use Rattle.fixed_point.specs.Text.{fixed_value}
 use Rattle.class_config.specs.Forms.{some_if, is_class_name}
 use Rattle.class_config.specs.Classes.{list_of}
-use Rattle.script_text.specs.declared.forms.values.Rectangle.{Rectangle}
+use Rattle.fixed_point.specs.declared.plane.Rectangle.{Rectangle}
 
 -- ---- single values
 

@@ -1,4 +1,7 @@
 //! Why no part of a script came.
+ghost use Rattle.std.specs.Prelude.{◌≡◌};
+
+use nav_types::NoMemory;
 
 /// Why no part of a script came.
 #[derive(Clone, Copy, Debug, PartialEq, Eq)]
@@ -11,4 +14,14 @@ pub enum ScriptFault {
     ReadFault,
     /// There was no memory.
     NoMemory,
+}
+
+impl From<NoMemory> for ScriptFault {
+    ghost use Rattle.script_text.specs.declared.faults.ScriptFault.TheVariants.{NoMemory as no_memory};
+
+    ghost from_gives = { λ _ fault. fault ≡ no_memory };
+
+    fn from(_none: NoMemory) -> ScriptFault {
+        ScriptFault::NoMemory
+    }
 }

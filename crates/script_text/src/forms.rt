@@ -9,8 +9,6 @@ ghost use Rattle.script_text.specs.Forms as form;
 mod bases;
 mod goals;
 mod posts;
-#[cfg(test)]
-mod tests;
 mod values;
 
 use class_config::{ClassRefusal, ClassTable, has_keys};
@@ -100,11 +98,15 @@ pub(crate) fn post_of(
     let Some(caller) = values::caller_under(callers, value, "caller") else {
         return Ok(None);
     };
-    if let Some(post) = posts::edit_of(version, value) {
+    if let Some(edit) = posts::edit_of(version, value) {
+        let post = Post::Edit(edit);
         return Ok(Some(CallerPost { caller, post }));
     }
     match posts::request_of(alloc, version, value)? {
-        Some(post) => Ok(Some(CallerPost { caller, post })),
+        Some(request) => {
+            let post = Post::Ask(request);
+            Ok(Some(CallerPost { caller, post }))
+        }
         None => Ok(None),
     }
 }

@@ -18,7 +18,7 @@ pub struct HeldLines {
 }
 
 impl Model for HeldLines {
-    ghost use Rattle.script_text.specs.Taking.{HeldLine, IsHeldLine};
+    ghost use Rattle.script_text.specs.inner.Taking.{HeldLine, IsHeldLine};
 
     ghost Value = { HeldLine };
 
@@ -28,7 +28,8 @@ impl Model for HeldLines {
 }
 
 impl HeldLines {
-    ghost use Rattle.script_text.specs.Taking.{HeldLine, FindsLine, HasLine, IsPlain, NextTold, bytes_of};
+    ghost use Rattle.script_text.specs.Lines.{IsPlain};
+    ghost use Rattle.script_text.specs.inner.Taking.{HeldLine, FindsLine, HasLine, NextTold, ReadsByNeedTold, bytes_of};
 
     /// Nothing is taken yet. The buffer of one read is taken here, once.
     pub fn new(alloc: Global) -> Result<HeldLines, NoMemory>
@@ -65,7 +66,8 @@ impl HeldLines {
 
     /// Lets go of the line that is held, and of its newline.
     pub fn use_line(&mut self)
-        ensures { self.new ≡ record { line = []; line_end = None; rest = self.old.rest } }
+        ensures used { self.new ≡ record { line = []; line_end = None; rest = self.old.rest } }
+        ensures behind { length self.old.rest.bytes ≤ 65536 }
     {
         self.line.clear();
         self.line_end = None;
@@ -82,6 +84,7 @@ impl HeldLines {
         ensures kept { IsSome self.old.line_end → self.new ≡ self.old }
         ensures told { NextTold self.old self.new (S.left source.old) (S.left source.new) room result }
         ensures still { HasLine (bytes_of self.old) → source.new ≡ source.old }
+        ensures reads { ReadsByNeedTold (bytes_of self.old) self.old.rest.ended (S.left source.old) (S.left source.new) }
         ensures held { HasLine (bytes_of self.old) → OnOk result (bytes_of self.new ≡ bytes_of self.old) }
         ensures finds { IfOk result (FindsLine self.new) }
         ensures plain { IsPlain self.new.line }
@@ -106,6 +109,7 @@ impl HeldLines {
         requires between { self.old.line_end ≡ None }
         ensures told { NextTold self.old self.new (S.left source.old) (S.left source.new) room result }
         ensures still { HasLine (bytes_of self.old) → source.new ≡ source.old }
+        ensures reads { ReadsByNeedTold (bytes_of self.old) self.old.rest.ended (S.left source.old) (S.left source.new) }
         ensures held { HasLine (bytes_of self.old) → OnOk result (bytes_of self.new ≡ bytes_of self.old) }
         ensures finds { IfOk result (FindsLine self.new) }
         ensures plain { IsPlain self.new.line }

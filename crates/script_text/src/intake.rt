@@ -34,7 +34,7 @@ pub struct Intake {
 
 impl Model for Intake {
     ghost use Rattle.std.specs.Prelude.{◌≡◌, ◌≤◌, drop, take, vec_len};
-    ghost use Rattle.script_text.specs.Taking.{Taken};
+    ghost use Rattle.script_text.specs.inner.Taking.{Taken};
 
     ghost Value = { Taken };
 
@@ -45,7 +45,9 @@ impl Model for Intake {
 
 impl Intake {
     ghost use Rattle.script_text.specs.declared.intake.LineEnd.TheVariants.{Newline, Input};
-    ghost use Rattle.script_text.specs.Taking.{Taken, Told, RefillAnswer, MovesLine, LineTold, IsPlain, HasLine};
+    ghost use Rattle.script_text.specs.Reader.{WhereTold};
+    ghost use Rattle.script_text.specs.Lines.{IsPlain};
+    ghost use Rattle.script_text.specs.inner.Taking.{Taken, RefillAnswer, ReadsByNeedTold, MovesLine, LineTold, HasLine};
 
     /// Nothing is taken yet. The buffer of one read is taken here, once.
     pub fn new(alloc: Global) -> Result<Intake, NoMemory>
@@ -93,6 +95,7 @@ impl Intake {
         ensures stays { IsTrue self.old.ended → IsTrue self.new.ended }
         ensures told { LineTold self.old self.new (S.left source.old) (S.left source.new) line.new.items room result }
         ensures still { HasLine self.old.bytes → source.new ≡ source.old }
+        ensures reads { ReadsByNeedTold self.old.bytes self.old.ended (S.left source.old) (S.left source.new) }
         ensures held { HasLine self.old.bytes → OnOk result (line.new.items ++ 10 ∷ self.new.bytes ≡ self.old.bytes) }
         ensures held_end { HasLine self.old.bytes → OnOk result (result ≡ Ok Newline) }
         ensures later { S.faults source.old ≤ S.faults source.new }
@@ -100,6 +103,7 @@ impl Intake {
         ensures good { IfErr result (λ fault. (n : ℕ) → fault ≡ ScriptFault.BadLine n → ⊥) }
         ensures plain { IsPlain line.new.items }
         ensures at_end { result ≡ Ok Input → (self.new.bytes ≡ []) × IsTrue self.new.ended }
+        ensures behind { length self.new.bytes ≤ 65536 }
         ensures size { length line.new.items + length self.new.bytes ≤ 8454144 }
         ensures newline { result ≡ Ok Newline → length line.new.items + 1 + length self.new.bytes ≤ 8454144 }
     {
@@ -116,6 +120,7 @@ impl Intake {
                 Ok(false) => {}
                 Err(NoMemory) => return Err(ScriptFault::NoMemory),
             }
+            // Tested before the newline comes: a line without an end must not fill the memory.
             let size = line.len() as u64;
             if size > MAX_LINE_BYTES || size > room {
                 return Err(ScriptFault::TooLong);
@@ -125,8 +130,9 @@ impl Intake {
 
     /// Takes the next bytes from the source where none are held, and none once the end of the input was met.
     fn refill<S: Source>(&mut self, source: &mut S) -> Result<(), ScriptFault>
-        ensures told { Told (S.left source.old) (S.left source.new) (RefillAnswer self.old self.new result) }
+        ensures told { WhereTold (S.left source.old) (S.left source.new) (RefillAnswer self.old self.new result) }
         ensures still { self.old.bytes ≢ [] → source.new ≡ source.old }
+        ensures reads { ReadsByNeedTold self.old.bytes self.old.ended (S.left source.old) (S.left source.new) }
         ensures kept { self.old.bytes ≢ [] → self.new ≡ self.old }
         ensures ended { OnOk result (self.new.bytes ≡ [] → IsTrue self.new.ended) }
         ensures stays { IsTrue self.old.ended → IsTrue self.new.ended }
@@ -136,6 +142,7 @@ impl Intake {
         ensures later { S.faults source.old ≤ S.faults source.new }
         ensures fault { IsErrOf result ScriptFault.ReadFault → Rose (S.faults source.old) (S.faults source.new) }
     {
+        // A read that took nothing met the end, and a source may have bytes again after it: it is not asked again.
         if self.ended {
             return Ok(());
         }
@@ -158,6 +165,7 @@ impl Intake {
     /// all bytes move. It answers whether there is one.
     fn move_line(&mut self, line: &mut Vec<u8>) -> Result<bool, NoMemory>
         ensures moves { IfOk result (MovesLine self.old self.new line.old.items line.new.items) }
+        ensures fewer { length self.new.bytes ≤ length self.old.bytes }
         ensures ended { self.new.ended ≡ self.old.ended }
         ensures err { OnErr result ((line.new.items ≡ line.old.items) × (self.new ≡ self.old)) }
     {

@@ -4,18 +4,19 @@
 mod canon;
 mod faults;
 mod forms;
-mod growing_map;
 mod held_lines;
 mod intake;
-pub mod laws;
+mod laws;
+mod parts;
 mod progress;
 mod reader;
 #[cfg(test)]
-mod reader_tests;
+mod tests;
 mod versions;
 
 pub use canon::{write_journal, write_map};
 pub use faults::ScriptFault;
 pub use forms::CallerPost;
+pub use laws::{base_lines, canonical_reads_back, end_lines, map_lines, one_line, post_lines};
 pub use reader::ScriptReader;
 pub use versions::have_lines;

@@ -9,6 +9,7 @@ ghost use Rattle.script_text.specs.Script.{is_empty, no_posts, reading_of};
 
 use crate::faults::ScriptFault;
 use crate::forms::{self, CallerPost};
+use crate::parts::{Part, Rules};
 use grid_versions::{BaseRects, MapSpec};
 use nav_types::limits::{MAX_INPUT_BYTES, MAX_LINE_BYTES};
 use nav_types::{NoMemory, Sequence, Size};
@@ -18,25 +19,6 @@ use std::marker::Model;
 use std::mem;
 use turn_core::{Post, Posts, TurnPosts};
 
-/// What the lines after the map line keep to: the size of the map, the version of the script and the number of callers.
-#[derive(Clone, Copy, Debug, PartialEq, Eq)]
-pub struct ScriptRules {
-    size: Size,
-    version: u8,
-    callers: u8,
-}
-
-/// The part of a script.
-#[derive(Clone, Copy, Debug, PartialEq, Eq)]
-pub enum ScriptPart {
-    /// Nothing was read.
-    BeforeMap,
-    /// Base lines may stand here.
-    InBase(ScriptRules),
-    /// Among the lines of turns.
-    InTurns(ScriptRules),
-}
-
 /// The place that the reading of a script has come to.
 #[derive(Drop)]
 pub struct Progress {
@@ -44,24 +26,24 @@ pub struct Progress {
     bytes: u64,
     lines: u64,
     turns: u64,
-    part: ScriptPart,
+    part: Part,
 }
 
 impl Model for Progress {
     ghost use Rattle.script_text.specs.Script.{Place};
-    ghost use Rattle.script_text.specs.Judging.{IsReached, part_by};
+    ghost use Rattle.script_text.specs.inner.Judging.{IsReadTo};
 
     ghost Value = { Place };
 
-    ghost view = { λ p. record { bytes = p.bytes; lines = p.lines; part = part_by p.part; turns = p.turns; posts = p.posts.items } };
+    ghost view = { λ p. record { bytes = p.bytes; lines = p.lines; part = p.part; turns = p.turns; posts = p.posts.items } };
 
-    ghost invariant = { λ p. IsReached (record { bytes = p.bytes; lines = p.lines; part = part_by p.part; turns = p.turns; posts = p.posts.items }) };
+    ghost invariant = { λ p. IsReadTo (record { bytes = p.bytes; lines = p.lines; part = p.part; turns = p.turns; posts = p.posts.items }) };
 }
 
 impl Progress {
-    ghost use Rattle.script_text.specs.Script.{beginning, before_map, in_base, in_turns, rules_of, accept, counted, end_line, finish, is_long, map_line, placed_in_turn, with_post};
+    ghost use Rattle.script_text.specs.Script.{beginning, rules_of, accept, counted, end_line, finish, is_long, map_line, placed_in_turn, with_post};
     ghost use Rattle.script_text.specs.Reader.{callers_of, post_count, rules_at};
-    ghost use Rattle.script_text.specs.Judging.{AddsBase, BeginsMap, CountsPosts, GivesTurn, IsBase, IsInTurns, IsInsideAt, IsNoBaseAt, IsObject, Stops, rules_by};
+    ghost use Rattle.script_text.specs.inner.Judging.{AddsBase, BeginsMap, CountsPosts, GivesTurn, IsBase, IsInTurns, IsInsideAt, IsNoBaseAt, IsObject, Stops};
 
     /// Nothing is read yet.
     pub fn new(alloc: Global) -> Progress
@@ -72,14 +54,14 @@ impl Progress {
             bytes: 0,
             lines: 0,
             turns: 0,
-            part: ScriptPart::BeforeMap,
+            part: Part::BeforeMap,
         }
     }
 
     /// How many bytes the input may still have.
     pub fn room(&self) -> u64
-        ensures room { result + self.now.bytes ≡ 4294967296 }
-        ensures limit { self.now.bytes ≤ 4294967296 }
+        ensures room { result + self.now.bytes ≡ MAX_INPUT_BYTES }
+        ensures limit { self.now.bytes ≤ MAX_INPUT_BYTES }
     {
         MAX_INPUT_BYTES - self.bytes
     }
@@ -91,47 +73,42 @@ impl Progress {
         line: &[u8],
         size: u64,
     ) -> Result<MapSpec, ScriptFault>
-        requires first { self.old.part ≡ before_map }
+        requires first { self.old.part ≡ Part.BeforeMap }
         requires some_byte { 1 ≤ size }
         ensures begins { BeginsMap (accept size line.now self.old) self.new result }
-        ensures part { IfOk result (λ map. self.new.part ≡ in_base (rules_of map)) }
+        ensures part { IfOk result (λ map. self.new.part ≡ Part.InBase (rules_of map)) }
         ensures posts { OnOk result (post_count self.new.posts ≡ 0) }
         ensures number { IfErr result (λ fault. (n : ℕ) → fault ≡ ScriptFault.BadLine n → n ≡ self.old.lines + 1) }
-        ensures limit { self.new.bytes ≤ 4294967296 }
+        ensures limit { self.new.bytes ≤ MAX_INPUT_BYTES }
     {
         if self.is_long(line, size) {
             return Err(ScriptFault::TooLong);
         }
+        // Counted first, so that a bad line's number is that of the place.
         self.count(size);
-        match read_map(alloc, line) {
-            Ok(Some(map)) => self.begin(alloc, map),
-            Ok(None) => Err(ScriptFault::BadLine(self.lines)),
-            Err(NoMemory) => Err(ScriptFault::NoMemory),
+        match read_map(alloc, line)? {
+            Some(map) => self.begin(alloc, map),
+            None => Err(ScriptFault::BadLine(self.lines)),
         }
     }
 
     /// Goes on behind the map line, with an empty list of posts for each caller.
     fn begin(&mut self, alloc: Global, map: MapSpec) -> Result<MapSpec, ScriptFault>
-        requires first { self.old.part ≡ before_map }
+        requires first { self.old.part ≡ Part.BeforeMap }
         ensures begins { BeginsMap (map_line self.old (Some map)) self.new result }
         ensures same { IfOk result (λ same. same ≡ map) }
         ensures bytes { self.new.bytes ≡ self.old.bytes }
         ensures posts { OnOk result (post_count self.new.posts ≡ 0) }
         ensures number { IfErr result (λ fault. (n : ℕ) → fault ≡ ScriptFault.BadLine n → ⊥) }
     {
-        let rules = ScriptRules {
+        let rules = Rules {
             size: map.size(),
             version: map.version(),
             callers: map.callers(),
         };
-        match empty_lists(alloc, rules.callers) {
-            Ok(empty) => {
-                self.posts = empty;
-                self.part = ScriptPart::InBase(rules);
-                Ok(map)
-            }
-            Err(NoMemory) => Err(ScriptFault::NoMemory),
-        }
+        self.posts = empty_lists(alloc, rules.callers)?;
+        self.part = Part::InBase(rules);
+        Ok(map)
     }
 
     /// Takes the next line where it is a base line, and answers its rectangles. Where it is none, nothing changes.
@@ -148,21 +125,20 @@ impl Progress {
         ensures inside { IfOk result (λ next. IfSome next (λ rects. IsInsideAt self.old.part rects)) }
         ensures part { self.new.part ≡ self.old.part }
         ensures posts { self.new.posts ≡ self.old.posts }
-        ensures limit { self.new.bytes ≤ 4294967296 }
+        ensures limit { self.new.bytes ≤ MAX_INPUT_BYTES }
     {
-        let ScriptPart::InBase(rules) = self.part else {
+        let Part::InBase(rules) = self.part else {
             unreachable!();
         };
         if self.is_long(line, size) {
             return Err(ScriptFault::TooLong);
         }
-        match read_base(alloc, rules.size, line) {
-            Ok(Some(rects)) => {
+        match read_base(alloc, rules.size, line)? {
+            Some(rects) => {
                 self.count(size);
                 Ok(Some(rects))
             }
-            Ok(None) => Ok(None),
-            Err(NoMemory) => Err(ScriptFault::NoMemory),
+            None => Ok(None),
         }
     }
 
@@ -181,7 +157,7 @@ impl Progress {
         ensures used { OnOk result (self.new.bytes ≡ self.old.bytes + size) }
         ensures rules { rules_at self.new.part ≡ rules_at self.old.part }
         ensures part { OnOk result (IsInTurns self.new.part) }
-        ensures limit { self.new.bytes ≤ 4294967296 }
+        ensures limit { self.new.bytes ≤ MAX_INPUT_BYTES }
         ensures two_bytes { OnOk result (2 ≤ length line.now) }
         ensures counts { IfOk result (CountsPosts self.old.posts self.new.posts) }
         ensures lists { IfOk result (λ next. IfSome next (λ turn. length turn ≡ callers_of self.old.part)) }
@@ -190,10 +166,9 @@ impl Progress {
             return Err(ScriptFault::TooLong);
         }
         self.count(size);
-        match read_line(alloc, line) {
-            Ok(Some(value)) => self.take_turn_line(alloc, &value),
-            Ok(None) => Err(ScriptFault::BadLine(self.lines)),
-            Err(NoMemory) => Err(ScriptFault::NoMemory),
+        match read_line(alloc, line)? {
+            Some(value) => self.take_reading(alloc, &value),
+            None => Err(ScriptFault::BadLine(self.lines)),
         }
     }
 
@@ -203,9 +178,9 @@ impl Progress {
         ensures stops { Stops (finish self.now) result }
     {
         match self.part {
-            ScriptPart::BeforeMap => unreachable!(),
-            ScriptPart::InBase(_) => Ok(()),
-            ScriptPart::InTurns(_) => self.end_between_turns(),
+            Part::BeforeMap => unreachable!(),
+            Part::InBase(_) => Ok(()),
+            Part::InTurns(_) => self.end_between_turns(),
         }
     }
 
@@ -224,9 +199,10 @@ impl Progress {
     /// Whether the line is longer than a line may be, or the input with it than an input may be.
     fn is_long(&self, line: &[u8], size: u64) -> bool
         ensures long { result ≡ is_long self.now size line.now }
-        ensures fits { IsFalse result → self.now.bytes + size ≤ 4294967296 }
-        ensures limit { self.now.bytes ≤ 4294967296 }
+        ensures fits { IsFalse result → self.now.bytes + size ≤ MAX_INPUT_BYTES }
+        ensures limit { self.now.bytes ≤ MAX_INPUT_BYTES }
     {
+        // The newline counts in the limit of the input, and not in that of the line.
         let room = self.room();
         line.len() as u64 > MAX_LINE_BYTES || size > room
     }
@@ -234,7 +210,7 @@ impl Progress {
     /// Counts a line of so many bytes.
     fn count(&mut self, size: u64)
         requires some_byte { 1 ≤ size }
-        requires fits { self.old.bytes + size ≤ 4294967296 }
+        requires fits { self.old.bytes + size ≤ MAX_INPUT_BYTES }
         ensures counted { self.new ≡ counted self.old size }
         ensures turns { self.new.turns < self.new.lines }
     {
@@ -243,7 +219,7 @@ impl Progress {
     }
 
     /// Goes on after a line of a turn that was counted, by its reading.
-    fn take_turn_line(
+    fn take_reading(
         &mut self,
         alloc: Global,
         value: &Value,
@@ -259,38 +235,37 @@ impl Progress {
         ensures lists { IfOk result (λ next. IfSome next (λ turn. length turn ≡ callers_of self.old.part)) }
     {
         let rules = self.rules();
-        match forms::post_of(alloc, rules.version, rules.callers, value) {
-            Ok(Some(said)) => match self.keep_post(rules, said) {
-                Ok(()) => Ok(None),
-                Err(NoMemory) => Err(ScriptFault::NoMemory),
-            },
-            Ok(None) => self.end_turn(alloc, rules, forms::end_of(value)),
-            Err(NoMemory) => Err(ScriptFault::NoMemory),
+        match forms::post_of(alloc, rules.version, rules.callers, value)? {
+            Some(said) => {
+                self.keep_post(rules, said)?;
+                Ok(None)
+            }
+            None => self.end_turn(alloc, rules, forms::end_of(value)),
         }
     }
 
     /// What the lines after the map line keep to.
-    fn rules(&self) -> ScriptRules
+    fn rules(&self) -> Rules
         requires begun { IsSome (rules_at self.now.part) }
-        ensures { rules_at self.now.part ≡ Some (rules_by result) }
+        ensures { rules_at self.now.part ≡ Some result }
     {
         match self.part {
-            ScriptPart::BeforeMap => unreachable!(),
-            ScriptPart::InBase(rules) => rules,
-            ScriptPart::InTurns(rules) => rules,
+            Part::BeforeMap => unreachable!(),
+            Part::InBase(rules) => rules,
+            Part::InTurns(rules) => rules,
         }
     }
 
     /// Keeps the post behind those of its caller.
-    fn keep_post(&mut self, rules: ScriptRules, said: CallerPost) -> Result<(), NoMemory>
-        requires rules { rules_at self.old.part ≡ Some (rules_by rules) }
+    fn keep_post(&mut self, rules: Rules, said: CallerPost) -> Result<(), NoMemory>
+        requires rules { rules_at self.old.part ≡ Some rules }
         requires caller { said.caller < rules.callers }
-        ensures ok { OnOk result (self.new ≡ record self.old { part = in_turns (rules_by rules); posts = with_post self.old.posts said }) }
+        ensures ok { OnOk result (self.new ≡ record self.old { part = Part.InTurns rules; posts = with_post self.old.posts said }) }
         ensures err { OnErr result (self.new ≡ self.old) }
         ensures counts { OnOk result (post_count self.new.posts ≡ post_count self.old.posts + 1) }
     {
         push_post(&mut self.posts, usize::from(said.caller), said.post)?;
-        self.part = ScriptPart::InTurns(rules);
+        self.part = Part::InTurns(rules);
         Ok(())
     }
 
@@ -298,12 +273,12 @@ impl Progress {
     fn end_turn(
         &mut self,
         alloc: Global,
-        rules: ScriptRules,
+        rules: Rules,
         number: Option<u64>,
     ) -> Result<Option<TurnPosts>, ScriptFault>
-        requires rules { rules_at self.old.part ≡ Some (rules_by rules) }
+        requires rules { rules_at self.old.part ≡ Some rules }
         requires counted { self.old.turns < self.old.lines }
-        ensures gives { GivesTurn (end_line self.old (rules_by rules) number) self.new result }
+        ensures gives { GivesTurn (end_line self.old rules number) self.new result }
         ensures bytes { self.new.bytes ≡ self.old.bytes }
         ensures rules { rules_at self.new.part ≡ rules_at self.old.part }
         ensures part { OnOk result (IsInTurns self.new.part) }
@@ -317,15 +292,11 @@ impl Progress {
         if number != self.turns + 1 {
             return Err(ScriptFault::BadLine(self.lines));
         }
-        match empty_lists(alloc, rules.callers) {
-            Ok(empty) => {
-                self.turns += 1;
-                self.part = ScriptPart::InTurns(rules);
-                let posts = mem::replace(&mut self.posts, empty);
-                Ok(Some(TurnPosts::from(posts)))
-            }
-            Err(NoMemory) => Err(ScriptFault::NoMemory),
-        }
+        let empty = empty_lists(alloc, rules.callers)?;
+        self.turns += 1;
+        self.part = Part::InTurns(rules);
+        let posts = mem::replace(&mut self.posts, empty);
+        Ok(Some(TurnPosts::from(posts)))
     }
 }
 
@@ -362,10 +333,9 @@ fn are_empty(posts: &[Posts]) -> bool
 fn read_map(alloc: Global, line: &[u8]) -> Result<Option<MapSpec>, NoMemory>
     ensures { IfOk result (λ made. made ≡ option_and_then map_of (reading_of line.now)) }
 {
-    match read_line(alloc, line) {
-        Ok(Some(value)) => forms::map_of(alloc, &value),
-        Ok(None) => Ok(None),
-        Err(NoMemory) => Err(NoMemory),
+    match read_line(alloc, line)? {
+        Some(value) => forms::map_of(alloc, &value),
+        None => Ok(None),
     }
 }
 
@@ -374,10 +344,9 @@ fn read_base(alloc: Global, size: Size, line: &[u8]) -> Result<Option<BaseRects>
     ensures rects { IfOk result (λ made. made ≡ option_and_then (base_of size) (reading_of line.now)) }
     ensures inside { IfOk result (λ made. IfSome made (All (λ entry. IsRectInside size entry.0))) }
 {
-    match read_line(alloc, line) {
-        Ok(Some(value)) => forms::base_of(alloc, size, &value),
-        Ok(None) => Ok(None),
-        Err(NoMemory) => Err(NoMemory),
+    match read_line(alloc, line)? {
+        Some(value) => forms::base_of(alloc, size, &value),
+        None => Ok(None),
     }
 }
 

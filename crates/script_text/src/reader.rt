@@ -1,13 +1,15 @@
 //! Scripts, read turn by turn.
 ghost use Rattle.std.specs.Prelude.{◌≡◌, ◌+◌, ◌*◌, ◌≤◌, ℕ, IfErr, IfOk, IfSome, IsErrOf, IsFalse, IsSome, IsTrue, None, OnOk, Some, is_err, length, [], ◌∷◌};
+ghost use Rattle.nav_types.specs.declared.limits.TheConstants.{MAX_INPUT_BYTES};
 ghost use Rattle.io_edges.specs.Faults.{Rose};
-ghost use Rattle.script_text.specs.Script.{accept, beginning, in_base, rules_of};
-ghost use Rattle.script_text.specs.Reader.{HoldsTurn, MapTold, TurnTold, callers_of, is_last, post_count, rules_at};
-ghost use Rattle.script_text.specs.Judging.{BaseTold, BeginsMap, CountsPosts, GivesTurn, IsBase, IsBetweenTurns, IsInTurns, IsNoBaseAt, IsNoBaseNext, TakesBase, held_at};
-ghost use Rattle.script_text.specs.Taking.{HeldLine, IsPlain, IsWhole};
+ghost use Rattle.script_text.specs.declared.parts.Part.TheVariants.{InBase};
+ghost use Rattle.script_text.specs.Script.{accept, beginning, rules_of};
+ghost use Rattle.script_text.specs.Reader.{HoldsTurn, IsWholeMap, MapTold, TakesNoneAhead, TurnTold, callers_of, is_last, post_count, rules_at};
+ghost use Rattle.script_text.specs.inner.Judging.{BaseTold, BeginsMap, CountsPosts, GivesTurn, IsBase, IsBetweenTurns, IsInTurns, IsNoBaseAt, IsNoBaseNext, TakesBase, held_at};
+ghost use Rattle.script_text.specs.Lines.{IsPlain};
+ghost use Rattle.script_text.specs.inner.Taking.{HeldLine, IsWholeLine, bytes_of};
 
 use crate::faults::ScriptFault;
-use crate::growing_map::GrowingMap;
 use crate::held_lines::HeldLines;
 use crate::progress::Progress;
 use grid_versions::MapSpec;
@@ -31,9 +33,9 @@ pub struct ScriptReader {
 
 impl Model for ScriptReader {
     ghost use Rattle.std.specs.Prelude.{IsFalse};
-    ghost use Rattle.script_text.specs.Taking.{bytes_of};
+    ghost use Rattle.script_text.specs.inner.Taking.{bytes_of};
     ghost use Rattle.script_text.specs.Reader.{Held};
-    ghost use Rattle.script_text.specs.Judging.{IsBetweenTurns};
+    ghost use Rattle.script_text.specs.inner.Judging.{IsBetweenTurns};
 
     ghost Value = { Held };
 
@@ -71,11 +73,12 @@ impl ScriptReader {
         requires first { self.old.place ≡ beginning }
         requires going { IsFalse self.old.over }
         ensures told { MapTold self.old self.new (S.left source.old) (S.left source.new) result }
+        ensures whole { IfOk result (λ map. IsWholeMap self.old (S.left source.old) map) }
         ensures later { S.faults source.old ≤ S.faults source.new }
         ensures fault { IsErrOf result ScriptFault.ReadFault → Rose (S.faults source.old) (S.faults source.new) }
         ensures bad_line { IfErr result (λ fault. (n : ℕ) → fault ≡ ScriptFault.BadLine n → n ≡ 1) }
-        ensures rules { IfOk result (λ map. self.new.place.part ≡ in_base (rules_of map)) }
-        ensures limit { self.new.place.bytes ≤ 4294967296 }
+        ensures rules { IfOk result (λ map. self.new.place.part ≡ InBase (rules_of map)) }
+        ensures limit { self.new.place.bytes ≤ MAX_INPUT_BYTES }
         ensures stays { IsTrue self.old.ended → IsTrue self.new.ended }
         ensures over { self.new.over ≡ is_err result }
         ensures failed { self.new.failed ≡ is_err result }
@@ -89,7 +92,8 @@ impl ScriptReader {
     /// Reads the next turn: one list of posts for each caller. None exactly where the input ended after the map line, a
     /// base line or an end line. No call follows None or a refusal.
     ///
-    /// Where the lines held end a turn or stop the script (`HoldsTurn`), nothing is read.
+    /// It reads only while the lines that are held neither end the turn nor stop the script, so a turn is answered
+    /// before anything more is taken than the read that completed it (`HoldsTurn`, `TakesNoneAhead`).
     ///
     /// It refuses a line that is not in the grammar in its place, by its number, a line or an input past its limit, and
     /// a fault of the source that comes before the end line is whole.
@@ -102,12 +106,14 @@ impl ScriptReader {
         requires going { IsFalse self.old.over }
         ensures told { TurnTold self.old self.new (S.left source.old) (S.left source.new) result }
         ensures still { HoldsTurn self.old → source.new ≡ source.old }
+        ensures ahead { TakesNoneAhead self.old (S.left source.old) (S.left source.new) }
         ensures later { S.faults source.old ≤ S.faults source.new }
         ensures fault { IsErrOf result ScriptFault.ReadFault → Rose (S.faults source.old) (S.faults source.new) }
         ensures rules { rules_at self.new.place.part ≡ rules_at self.old.place.part }
+        ensures few { IfOk result (λ next. IfSome next (λ turn. length self.new.bytes ≤ 65536)) }
         ensures lists { IfOk result (λ next. IfSome next (λ turn. length turn ≡ callers_of self.old.place.part)) }
         ensures used { IfOk result (λ next. IfSome next (λ turn. self.old.place.bytes + 2 * post_count turn + 2 ≤ self.new.place.bytes)) }
-        ensures limit { self.new.place.bytes ≤ 4294967296 }
+        ensures limit { self.new.place.bytes ≤ MAX_INPUT_BYTES }
         ensures stays { IsTrue self.old.ended → IsTrue self.new.ended }
         ensures over { self.new.over ≡ is_last result }
         ensures failed { self.new.failed ≡ is_err result }
@@ -158,26 +164,18 @@ fn read_lines_of_map<S: Source>(
     ensures later { S.faults source.old ≤ S.faults source.new }
     ensures fault { IsErrOf result ScriptFault.ReadFault → Rose (S.faults source.old) (S.faults source.new) }
     ensures bad_line { IfErr result (λ fault. (n : ℕ) → fault ≡ ScriptFault.BadLine n → n ≡ 1) }
-    ensures rules { IfOk result (λ map. progress.new.part ≡ in_base (rules_of map)) }
+    ensures rules { IfOk result (λ map. progress.new.part ≡ InBase (rules_of map)) }
     ensures ready { OnOk result (IsBetweenTurns progress.new lines.new) }
-    ensures limit { progress.new.bytes ≤ 4294967296 }
+    ensures limit { progress.new.bytes ≤ MAX_INPUT_BYTES }
     ensures stays { IsTrue lines.old.rest.ended → IsTrue lines.new.rest.ended }
 {
-    let map = match read_first_line(alloc, source, lines, progress) {
+    let mut map = match read_first_line(alloc, source, lines, progress) {
         Ok(map) => map,
         Err(fault) => return Err(fault),
     };
-    let mut growing = match GrowingMap::new(alloc, map) {
-        Ok(growing) => growing,
-        Err(NoMemory) => return Err(ScriptFault::NoMemory),
-    };
-    match read_base_lines(alloc, source, lines, progress, &mut growing) {
-        Ok(()) => {}
-        Err(fault) => return Err(fault),
-    }
-    match growing.into_map(alloc) {
-        Ok(map) => Ok(map),
-        Err(NoMemory) => Err(ScriptFault::NoMemory),
+    match read_base_lines(alloc, source, lines, progress, &mut map) {
+        Ok(()) => Ok(map),
+        Err(fault) => Err(fault),
     }
 }
 
@@ -194,10 +192,10 @@ fn read_first_line<S: Source>(
     ensures later { S.faults source.old ≤ S.faults source.new }
     ensures fault { IsErrOf result ScriptFault.ReadFault → Rose (S.faults source.old) (S.faults source.new) }
     ensures bad_line { IfErr result (λ fault. (n : ℕ) → fault ≡ ScriptFault.BadLine n → n ≡ 1) }
-    ensures rules { IfOk result (λ map. progress.new.part ≡ in_base (rules_of map)) }
+    ensures rules { IfOk result (λ map. progress.new.part ≡ InBase (rules_of map)) }
     ensures posts { OnOk result (post_count progress.new.posts ≡ 0) }
     ensures empty { OnOk result (lines.new.line ≡ []) }
-    ensures limit { progress.new.bytes ≤ 4294967296 }
+    ensures limit { progress.new.bytes ≤ MAX_INPUT_BYTES }
     ensures stays { IsTrue lines.old.rest.ended → IsTrue lines.new.rest.ended }
 {
     let room = progress.room();
@@ -216,15 +214,15 @@ fn take_map_line(
     size: u64,
 ) -> Result<MapSpec, ScriptFault>
     requires first { progress.old ≡ beginning }
-    requires whole { IsWhole lines.old size }
+    requires whole { IsWholeLine lines.old size }
     ensures begins { BeginsMap (accept size lines.old.line progress.old) progress.new result }
     ensures line { OnOk result (lines.new ≡ record { line = []; line_end = None; rest = lines.old.rest }) }
     ensures rest { lines.new.rest ≡ lines.old.rest }
     ensures bad_line { IfErr result (λ fault. (n : ℕ) → fault ≡ ScriptFault.BadLine n → n ≡ 1) }
     ensures read { IfErr result (λ fault. fault ≡ ScriptFault.ReadFault → ⊥) }
-    ensures rules { IfOk result (λ map. progress.new.part ≡ in_base (rules_of map)) }
+    ensures rules { IfOk result (λ map. progress.new.part ≡ InBase (rules_of map)) }
     ensures posts { OnOk result (post_count progress.new.posts ≡ 0) }
-    ensures limit { progress.new.bytes ≤ 4294967296 }
+    ensures limit { progress.new.bytes ≤ MAX_INPUT_BYTES }
 {
     match progress.map_line(alloc, lines.line(), size) {
         Ok(map) => {
@@ -241,18 +239,18 @@ fn read_base_lines<S: Source>(
     source: &mut S,
     lines: &mut HeldLines,
     progress: &mut Progress,
-    map: &mut GrowingMap,
+    map: &mut MapSpec,
 ) -> Result<(), ScriptFault>
-    requires part { progress.old.part ≡ in_base (rules_of map.old) }
+    requires part { progress.old.part ≡ InBase (rules_of map.old) }
     requires posts { post_count progress.old.posts ≡ 0 }
     requires between { lines.old.line_end ≡ None → lines.old.line ≡ [] }
     ensures told { BaseTold (held_at progress.old lines.old) (held_at progress.new lines.new) map.old map.new (S.left source.old) (S.left source.new) result }
     ensures later { S.faults source.old ≤ S.faults source.new }
     ensures fault { IsErrOf result ScriptFault.ReadFault → Rose (S.faults source.old) (S.faults source.new) }
     ensures good { IfErr result (λ fault. (n : ℕ) → fault ≡ ScriptFault.BadLine n → ⊥) }
-    ensures rules { progress.new.part ≡ in_base (rules_of map.new) }
+    ensures rules { progress.new.part ≡ InBase (rules_of map.new) }
     ensures ready { OnOk result (IsBetweenTurns progress.new lines.new) }
-    ensures limit { progress.new.bytes ≤ 4294967296 }
+    ensures limit { progress.new.bytes ≤ MAX_INPUT_BYTES }
     ensures stays { IsTrue lines.old.rest.ended → IsTrue lines.new.rest.ended }
 {
     'lines: loop {
@@ -260,6 +258,7 @@ fn read_base_lines<S: Source>(
         match lines.next_line(source, room) {
             Ok(Some(size)) => match take_base_line(alloc, lines, progress, map, size) {
                 Ok(true) => {}
+                // The line stays held, and is judged as the first line of a turn.
                 Ok(false) => return Ok(()),
                 Err(fault) => return Err(fault),
             },
@@ -274,26 +273,24 @@ fn take_base_line(
     alloc: Global,
     lines: &mut HeldLines,
     progress: &mut Progress,
-    map: &mut GrowingMap,
+    map: &mut MapSpec,
     size: u64,
 ) -> Result<bool, ScriptFault>
-    requires part { progress.old.part ≡ in_base (rules_of map.old) }
-    requires whole { IsWhole lines.old size }
+    requires part { progress.old.part ≡ InBase (rules_of map.old) }
+    requires whole { IsWholeLine lines.old size }
     ensures takes { TakesBase progress.old progress.new map.old map.new lines.old lines.new size result }
     ensures rest { lines.new.rest ≡ lines.old.rest }
     ensures used { IfOk result (λ taken. IsTrue taken → progress.new.bytes ≡ progress.old.bytes + size) }
-    ensures rules { progress.new.part ≡ in_base (rules_of map.new) }
+    ensures rules { progress.new.part ≡ InBase (rules_of map.new) }
     ensures posts { progress.new.posts ≡ progress.old.posts }
-    ensures limit { progress.new.bytes ≤ 4294967296 }
+    ensures limit { progress.new.bytes ≤ MAX_INPUT_BYTES }
 {
     match progress.base_line(alloc, lines.line(), size) {
-        Ok(Some(rects)) => match map.add(&rects) {
-            Ok(()) => {
-                lines.use_line();
-                Ok(true)
-            }
-            Err(NoMemory) => Err(ScriptFault::NoMemory),
-        },
+        Ok(Some(rects)) => {
+            map.add_base(rects.as_slice())?;
+            lines.use_line();
+            Ok(true)
+        }
         Ok(None) => Ok(false),
         Err(fault) => Err(fault),
     }
@@ -310,13 +307,15 @@ fn read_turn<S: Source>(
     requires ready { IsBetweenTurns progress.old lines.old }
     ensures told { TurnTold (held_at progress.old lines.old) (held_at progress.new lines.new) (S.left source.old) (S.left source.new) result }
     ensures still { HoldsTurn (held_at progress.old lines.old) → source.new ≡ source.old }
+    ensures ahead { TakesNoneAhead (held_at progress.old lines.old) (S.left source.old) (S.left source.new) }
     ensures later { S.faults source.old ≤ S.faults source.new }
     ensures fault { IsErrOf result ScriptFault.ReadFault → Rose (S.faults source.old) (S.faults source.new) }
     ensures rules { rules_at progress.new.part ≡ rules_at progress.old.part }
+    ensures few { IfOk result (λ next. IfSome next (λ turn. length (bytes_of lines.new) ≤ 65536)) }
     ensures lists { IfOk result (λ next. IfSome next (λ turn. length turn ≡ callers_of progress.old.part)) }
     ensures used { IfOk result (λ next. IfSome next (λ turn. progress.old.bytes + 2 * post_count turn + 2 ≤ progress.new.bytes)) }
     ensures ready { IfOk result (λ next. IfSome next (λ turn. IsBetweenTurns progress.new lines.new)) }
-    ensures limit { progress.new.bytes ≤ 4294967296 }
+    ensures limit { progress.new.bytes ≤ MAX_INPUT_BYTES }
     ensures stays { IsTrue lines.old.rest.ended → IsTrue lines.new.rest.ended }
 {
     'lines: loop {
@@ -347,9 +346,10 @@ fn take_turn_line(
 ) -> Result<Option<TurnPosts>, ScriptFault>
     requires map { IsSome (rules_at progress.old.part) }
     requires no_base { IsNoBaseAt progress.old.part lines.old.line }
-    requires whole { IsWhole lines.old size }
+    requires whole { IsWholeLine lines.old size }
     ensures gives { GivesTurn (accept size lines.old.line progress.old) progress.new result }
     ensures line { OnOk result (lines.new ≡ record { line = []; line_end = None; rest = lines.old.rest }) }
+    ensures few { OnOk result (length (bytes_of lines.new) ≤ 65536) }
     ensures rest { lines.new.rest ≡ lines.old.rest }
     ensures used { OnOk result (progress.new.bytes ≡ progress.old.bytes + size) }
     ensures two_bytes { OnOk result (2 ≤ size) }
@@ -357,7 +357,7 @@ fn take_turn_line(
     ensures part { OnOk result (IsInTurns progress.new.part) }
     ensures counts { IfOk result (CountsPosts progress.old.posts progress.new.posts) }
     ensures lists { IfOk result (λ next. IfSome next (λ turn. length turn ≡ callers_of progress.old.part)) }
-    ensures limit { progress.new.bytes ≤ 4294967296 }
+    ensures limit { progress.new.bytes ≤ MAX_INPUT_BYTES }
 {
     match progress.accept(alloc, lines.line(), size) {
         Ok(next) => {

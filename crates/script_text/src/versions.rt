@@ -4,8 +4,8 @@ ghost use Rattle.std.specs.List.{list_all};
 ghost use Rattle.script_text.specs.Canon as canon;
 
 use goal_shapes::GoalSpec;
-use grid_versions::MapSpec;
-use turn_core::{Post, Posts, TurnPosts};
+use grid_versions::{Edit, MapSpec};
+use turn_core::{Post, Posts, Request, TurnPosts};
 
 /// The first version with a mask in each add line.
 pub(crate) const FIRST_WITH_MASKS: u8 = 2;
@@ -43,12 +43,13 @@ fn is_post_of(version: u8, post: &Post) -> bool
     ensures { result ≡ canon.is_post_of version post.now }
 {
     match post {
-        Post::Add { obstruction, .. } => {
+        Post::Edit(Edit::Add { obstruction, .. }) => {
             version >= FIRST_WITH_MASKS || obstruction.mask == u16::MAX
         }
-        Post::Move { .. } => version >= FIRST_WITH_MOVES,
-        Post::Path { goal, .. } => is_goal_of(version, *goal),
-        Post::Remove { .. } | Post::Region { .. } => true,
+        Post::Edit(Edit::Remove { .. }) => true,
+        Post::Edit(Edit::Move { .. }) => version >= FIRST_WITH_MOVES,
+        Post::Ask(Request::Path { goal, .. }) => is_goal_of(version, *goal),
+        Post::Ask(Request::Region { .. }) => true,
     }
 }
 

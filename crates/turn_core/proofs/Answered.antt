@@ -9,8 +9,8 @@ use Rattle.fixed_point.specs.Plane.{IsOnAxis}
 use Rattle.goal_shapes.specs.declared.goals.Goal.{Goal}
 use Rattle.grid_versions.specs.declared.edits.Refusal.{Refusal}
 use Rattle.grid_versions.specs.declared.edits.Refusal.TheVariants.{StartOutside}
-use Rattle.turn_core.specs.declared.replies.Reply.{Reply}
-use Rattle.turn_core.specs.declared.replies.Reply.TheVariants.{Refused}
+use Rattle.turn_core.specs.declared.replies.Answer.{Answer}
+use Rattle.turn_core.specs.declared.replies.Answer.TheVariants.{Refused}
 use Rattle.turn_core.specs.Finding.{is_on_map}
 use Rattle.turn_core.specs.Solving.{IsPathTo, IsPathFound, IsAnswerAt}
 use Rattle.turn_core.proofs.FoundGoals.{on_map_decides}
@@ -22,33 +22,33 @@ on_map_held size x z None holds =
     false_from_ne_true (is_on_map size x z) (λ on. let both : false ≡ true = holds.1 ((on_map_decides size x z).0 on) in cc)
 
 -- the answer at a class that the map has and a point that lies on it
-pub answered_at : (named : Option ℕ) (on_map : Bool) (Answers : ℕ → Reply → Type 0) (reply : Reply) (class : ℕ)
-    → named ≡ Some class → on_map ≡ true → Answers class reply → IsAnswerAt named on_map Answers reply
-answered_at named on_map Answers reply class has on is =
-    subst (λ (n : Option ℕ). IsAnswerAt n on_map Answers reply) (sym has)
-    (subst (λ (o : Bool). IsAnswerAt (Some class) o Answers reply) (sym on) is)
+pub answered_at : (named : Option ℕ) (on_map : Bool) (Answers : ℕ → Answer → Type 0) (answer : Answer) (class : ℕ)
+    → named ≡ Some class → on_map ≡ true → Answers class answer → IsAnswerAt named on_map Answers answer
+answered_at named on_map Answers answer class has on is =
+    subst (λ (n : Option ℕ). IsAnswerAt n on_map Answers answer) (sym has)
+    (subst (λ (o : Bool). IsAnswerAt (Some class) o Answers answer) (sym on) is)
 
 -- the same, where it comes with memory
-pub answered_ok : (named : Option ℕ) (on_map : Bool) (Answers : ℕ → Reply → Type 0) (result : Result Reply NoMemory) (class : ℕ)
+pub answered_ok : (named : Option ℕ) (on_map : Bool) (Answers : ℕ → Answer → Type 0) (result : Result Answer NoMemory) (class : ℕ)
     → named ≡ Some class → on_map ≡ true → IfOk result (Answers class) → IfOk result (IsAnswerAt named on_map Answers)
-answered_ok named on_map Answers (Ok reply) class has on is = answered_at named on_map Answers reply class has on is
+answered_ok named on_map Answers (Ok answer) class has on is = answered_at named on_map Answers answer class has on is
 answered_ok named on_map Answers (Err refused) class has on is = tt
 
 -- the refusal at a point that does not lie on the map
-pub outside_at : (named : Option ℕ) (on_map : Bool) (Answers : ℕ → Reply → Type 0) (class : ℕ)
+pub outside_at : (named : Option ℕ) (on_map : Bool) (Answers : ℕ → Answer → Type 0) (class : ℕ)
     → named ≡ Some class → on_map ≡ false → IsAnswerAt named on_map Answers (Refused StartOutside)
 outside_at named on_map Answers class has off =
-    let reply : Reply = Refused StartOutside in
-    subst (λ (n : Option ℕ). IsAnswerAt n on_map Answers reply) (sym has)
-    (subst (λ (o : Bool). IsAnswerAt (Some class) o Answers reply) (sym off) refl)
+    let answer : Answer = Refused StartOutside in
+    subst (λ (n : Option ℕ). IsAnswerAt n on_map Answers answer) (sym has)
+    (subst (λ (o : Bool). IsAnswerAt (Some class) o Answers answer) (sym off) refl)
 
 -- the answer to a path to a goal that is found
-pub found_ok : (passes : Cell → Bool) (x z : ℤ) (goal : Goal) (found : Result Goal Refusal) (result : Result Reply NoMemory)
+pub found_ok : (passes : Cell → Bool) (x z : ℤ) (goal : Goal) (found : Result Goal Refusal) (result : Result Answer NoMemory)
     → Ok goal ≡ found → IfOk result (IsPathTo passes x z goal) → IfOk result (IsPathFound passes x z found)
 found_ok passes x z goal found result is answers = subst (λ (f : Result Goal Refusal). IfOk result (IsPathFound passes x z f)) is answers
 
 -- the answer to a path to a goal that is refused
 pub found_err : (passes : Cell → Bool) (x z : ℤ) (refusal : Refusal) (found : Result Goal Refusal) → Err refusal ≡ found → IsPathFound passes x z found (Refused refusal)
 found_err passes x z refusal found is =
-    let reply : Reply = Refused refusal in
-    subst (λ (f : Result Goal Refusal). IsPathFound passes x z f reply) is refl
+    let answer : Answer = Refused refusal in
+    subst (λ (f : Result Goal Refusal). IsPathFound passes x z f answer) is refl

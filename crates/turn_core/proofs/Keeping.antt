@@ -8,6 +8,7 @@ use Rattle.turn_core.specs.declared.events.Event.{Event}
 use Rattle.turn_core.specs.declared.events.Event.TheVariants.{Post as Posting, Stage, Start, Claim, Finish, Deliver, Collect}
 use Rattle.turn_core.specs.declared.events.Why.{Why}
 use Rattle.turn_core.specs.declared.posts.Post.{Post}
+use Rattle.turn_core.specs.declared.replies.Answer.{Answer}
 use Rattle.turn_core.specs.declared.replies.Reply.{Reply}
 use Rattle.turn_core.specs.Words.{Standing, bare}
 use Rattle.turn_core.specs.Turns.{after_turn, jobs, of_caller}
@@ -177,7 +178,7 @@ kept_claim s (Some run) last e why f =
     }) f
 
 -- a job is answered
-pub kept_finish : (s : State) (o : Option Run) (job last : ℕ) (r : Reply) → s.running ≡ o → why_no_finish job last o ≡ None → AnswersJob s job r o → Facts s → Facts (finished s job r o)
+pub kept_finish : (s : State) (o : Option Run) (job last : ℕ) (r : Answer) → s.running ≡ o → why_no_finish job last o ≡ None → AnswersJob s job r o → Facts s → Facts (finished s job r o)
 kept_finish s None job last r e why x f = f
 kept_finish s (Some run) job last r e why x f =
     let held : IsRunning s.map (stands_after_done s) run = running_is s run e f in
@@ -195,7 +196,7 @@ kept_deliver s (Some run) last e why f =
     let m : Map = s.map in
     let before : Standing = stands_after_done s in
     let held : IsRunning m before run = running_is s run e f in
-    let answers : List Reply = known run.answers in
+    let answers : List Answer = known run.answers in
     let rss : List (List Reply) = given_turn m before run.turn answers in
     let all_known : why_unanswered 0 run.answers ≡ None = second_none (unless (nat_le (length (jobs run.turn)) run.claimed) _) (why_unanswered 0 run.answers) why in
     let are = given_turn_are m (stands_in_run s run) before run.turn answers (solves_known m (stands_in_run s run) (jobs run.turn) run.answers 0 held.answers all_known) in

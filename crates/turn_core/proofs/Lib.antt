@@ -12,5 +12,6 @@ pub mod Answering
 pub mod Keeping
 pub mod OneRun
 pub mod Settling
+pub mod Reaching
 pub mod Arriving
 pub mod MachineSteps

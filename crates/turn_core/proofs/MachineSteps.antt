@@ -4,13 +4,16 @@ use Rattle.std.specs.Prelude.{nat_lt, slice_get, IsSome, ◌↔◌}
 use Rattle.std.proofs.lemmas.List.{map_push}
 use Rattle.std.proofs.lemmas.Option.{slice_get-get_or}
 use Rattle.grid_versions.specs.Maps.{Map}
+use Rattle.grid_versions.specs.declared.edits.EditReply.{EditReply}
 use Rattle.turn_core.specs.declared.events.Event.{Event}
 use Rattle.turn_core.specs.declared.events.Event.TheVariants.{Post as Posting, Stage, Start, Claim, Finish, Deliver, Collect}
 use Rattle.turn_core.specs.declared.events.Why.{Why}
 use Rattle.turn_core.specs.declared.posts.Post.{Post}
 use Rattle.turn_core.specs.declared.posts.Request.{Request}
+use Rattle.turn_core.specs.declared.replies.Answer.{Answer}
+use Rattle.turn_core.specs.declared.replies.Answer.TheVariants.{Nowhere}
 use Rattle.turn_core.specs.declared.replies.Reply.{Reply}
-use Rattle.turn_core.specs.declared.replies.Reply.TheVariants.{Nowhere}
+use Rattle.turn_core.specs.declared.replies.Reply.TheVariants.{Answer as Answered}
 use Rattle.turn_core.specs.declared.machines.running.RunningTurn.{RunningTurn}
 use Rattle.turn_core.specs.declared.machines.delivered.DeliveredTurn.{DeliveredTurn}
 use Rattle.turn_core.specs.declared.machines.Machine.TheInside.{Inside}
@@ -23,7 +26,7 @@ use Rattle.turn_core.specs.Effects.{joined_up, known, given_turn, started, claim
 use Rattle.turn_core.specs.Facts.{WhileRunning, Facts}
 use Rattle.turn_core.specs.Merging.{edits_told_in, merged_turn}
 use Rattle.turn_core.specs.Runs.{run_of, option_run_of, option_posts_of, base_of, IsReadyOn, posts_in, gathered, replies_to, with_claim, IsHeldOn, HasUnclaimed, HasJob, HasPlace, AnswersOn, AnswersHeld, PutsIn, PutsAnswer}
-use Rattle.turn_core.specs.Machines.{state_of, HoldsRun, HoldsStaged, Holds}
+use Rattle.turn_core.specs.Machines.{state_of, HoldsRun, HoldsStaged, HoldsState}
 use Rattle.turn_core.proofs.CallerLists.{none_at}
 use Rattle.turn_core.proofs.Threads.{standing_more}
 use Rattle.turn_core.proofs.Answering.{length_answers}
@@ -59,7 +62,7 @@ claim_stays version None = refl
 claim_stays version (Some run) = refl
 
 -- the version that is held stays, and so does the staged turn
-pub claimed_holds : (a : Inside) → Holds a → Holds (record a { running = with_claim a.running })
+pub claimed_holds : (a : Inside) → HoldsState a → HoldsState (record a { running = with_claim a.running })
 claimed_holds a holds = record {
   standing = holds.standing;
   running = claim_holds a.version a.running holds.running;
@@ -82,7 +85,7 @@ place_held last job version (Some run) held f why =
     let less : job < run.claimed = is_less job run.claimed (unless_none (nat_lt job run.claimed) _ (first_none (unless (nat_lt job run.claimed) _) _ why)) in
     omega (arith, f.claimed, length_answers version.map (after_turn version.map version.standing run.posts) (jobs run.posts) run.answers.items f.answers)
 
-pub put_holds : (version : MapState) (old new : Option RunningTurn) (job : ℕ) (answer : Reply) → PutsAnswer old new job answer → HoldsRun version old → HoldsRun version new
+pub put_holds : (version : MapState) (old new : Option RunningTurn) (job : ℕ) (answer : Answer) → PutsAnswer old new job answer → HoldsRun version old → HoldsRun version new
 put_holds version None new job answer puts held = absurd puts
 put_holds version (Some old) None job answer puts held = absurd puts
 put_holds version (Some old) (Some new) job answer puts held = record {
@@ -92,34 +95,34 @@ put_holds version (Some old) (Some new) job answer puts held = record {
   jobs = puts.jobs ∙ held.jobs ∙ ap jobs (sym puts.posts);
 }
 
-put_stays : (version : MapState) (old new : Option RunningTurn) (job : ℕ) (answer : Reply) → PutsAnswer old new job answer → base_of version new ≡ base_of version old
+put_stays : (version : MapState) (old new : Option RunningTurn) (job : ℕ) (answer : Answer) → PutsAnswer old new job answer → base_of version new ≡ base_of version old
 put_stays version None new job answer puts = absurd puts
 put_stays version (Some old) None job answer puts = absurd puts
 put_stays version (Some old) (Some new) job answer puts = puts.version
 
-pub finished_holds : (a : Inside) (new : Option RunningTurn) (job : ℕ) (answer : Reply) → PutsAnswer a.running new job answer → Holds a → Holds (record a { running = new })
+pub finished_holds : (a : Inside) (new : Option RunningTurn) (job : ℕ) (answer : Answer) → PutsAnswer a.running new job answer → HoldsState a → HoldsState (record a { running = new })
 finished_holds a new job answer puts holds = record {
   standing = holds.standing;
   running = put_holds a.version a.running new job answer puts holds.running;
   staged = subst (λ (v : MapState). HoldsStaged v a.staged) (sym (put_stays a.version a.running new job answer puts)) holds.staged;
 }
 
-put_run : (old new : RunningTurn) (job : ℕ) (answer : Reply) → PutsIn old new job answer → run_of new ≡ record (run_of old) { answers = set old.answers.items job (Some answer) }
+put_run : (old new : RunningTurn) (job : ℕ) (answer : Answer) → PutsIn old new job answer → run_of new ≡ record (run_of old) { answers = set old.answers.items job (Some answer) }
 put_run old new job answer puts = λ i. record { turn = puts.posts i; claimed = puts.claimed i; answers = puts.answers i }
 
-pub finished_is : (a : Inside) (old new : Option RunningTurn) (job : ℕ) (answer : Reply) → PutsAnswer old new job answer
+pub finished_is : (a : Inside) (old new : Option RunningTurn) (job : ℕ) (answer : Answer) → PutsAnswer old new job answer
     → state_of (record a { running = new }) ≡ finished (state_of a) job answer (option_run_of old)
 finished_is a None new job answer puts = absurd puts
 finished_is a (Some old) None job answer puts = absurd puts
 finished_is a (Some old) (Some new) job answer puts = ap (λ (r : Run). record (state_of a) { running = Some r }) (put_run old new job answer puts)
 
-answers_step : (m : Map) (final : Standing) (version : MapState) (qs : List Request) (job : ℕ) (answer : Reply) (o : Option Request) → slice_get qs job ≡ o → version.map ≡ m → version.standing ≡ final
+answers_step : (m : Map) (final : Standing) (version : MapState) (qs : List Request) (job : ℕ) (answer : Answer) (o : Option Request) → slice_get qs job ≡ o → version.map ≡ m → version.standing ≡ final
     → AnswersOn version o answer → (request : Request) × ((slice_get qs job ≡ Some request) × IsAnswerTo m final request answer)
 answers_step m final version qs job answer None e f g x = absurd x
 answers_step m final version qs job answer (Some q) e f g x =
     (q, (e, subst (λ (n : Map). IsAnswerTo n final q answer) f (subst (λ (s : Standing). IsAnswerTo version.map s q answer) g x)))
 
-pub answers_job : (a : Inside) (job : ℕ) (answer : Reply) (o : Option RunningTurn) → Holds a → HoldsRun a.version o → AnswersHeld o job answer → AnswersJob (state_of a) job answer (option_run_of o)
+pub answers_job : (a : Inside) (job : ℕ) (answer : Answer) (o : Option RunningTurn) → HoldsState a → HoldsRun a.version o → AnswersHeld o job answer → AnswersJob (state_of a) job answer (option_run_of o)
 answers_job a job answer None holds held x = absurd x
 answers_job a job answer (Some run) holds held x =
     answers_step a.version.map (stands_in_run (state_of a) (run_of run)) run.version (jobs run.posts) job answer (slice_get run.jobs job)
@@ -127,7 +130,7 @@ answers_job a job answer (Some run) holds held x =
     (held.standing ∙ ap (λ (s : Standing). after_turn a.version.map s run.posts) holds.standing) x
 
 -- what holds of the running turn, on the version that is held
-pub while_held : (a : Inside) → Holds a → Facts (state_of a) → WhileRunning a.version.map a.version.standing (option_run_of a.running)
+pub while_held : (a : Inside) → HoldsState a → Facts (state_of a) → WhileRunning a.version.map a.version.standing (option_run_of a.running)
 while_held a holds f = subst (λ (s : Standing). WhileRunning a.version.map s (option_run_of a.running)) (sym holds.standing) f.running
 
 -- Starts
@@ -142,7 +145,7 @@ start_none s why o e =
     not_running (running_turn s) o
     (ap (why_running (running_turn s)) (sym e) ∙ second_none (why_none_staged (last_turn s) s.staged) (why_running (running_turn s) s.running) why)
 
-pub started_holds : (a : Inside) (ready : RunningTurn) → Holds a → a.staged ≡ Some ready → a.running ≡ None → (b : Inside) → b.version ≡ a.version → b.delivered ≡ a.delivered → b.running ≡ Some ready → b.staged ≡ None → Holds b
+pub started_holds : (a : Inside) (ready : RunningTurn) → HoldsState a → a.staged ≡ Some ready → a.running ≡ None → (b : Inside) → b.version ≡ a.version → b.delivered ≡ a.delivered → b.running ≡ Some ready → b.staged ≡ None → HoldsState b
 started_holds a ready holds is none b version delivered running staged =
     let ready_on : IsReadyOn a.version ready =
     subst (λ (o : Option RunningTurn). HoldsStaged (base_of a.version o) (Some ready)) none (subst (HoldsStaged (base_of a.version a.running)) is holds.staged) in
@@ -154,7 +157,7 @@ started_holds a ready holds is none b version delivered running staged =
       staged = subst (HoldsStaged (base_of b.version b.running)) (sym staged) tt;
     }
 
-pub started_is : (a b : Inside) (ready : RunningTurn) → Holds a → a.staged ≡ Some ready → a.running ≡ None
+pub started_is : (a b : Inside) (ready : RunningTurn) → HoldsState a → a.staged ≡ Some ready → a.running ≡ None
     → b.version ≡ a.version → b.posted ≡ a.posted → b.taken ≡ a.taken → b.staged ≡ None → b.running ≡ Some ready → b.delivered ≡ a.delivered → b.collected ≡ a.collected
     → state_of b ≡ started (state_of a) (state_of a).staged
 started_is a b ready holds is none version posted taken staged running delivered collected =
@@ -170,7 +173,7 @@ started_is a b ready holds is none version posted taken staged running delivered
 
 -- Deliveries
 
-pub delivered_holds : (a : Inside) (run : RunningTurn) (ds : List DeliveredTurn) (turn : DeliveredTurn) → Holds a → IsHeldOn a.version run → ds ≡ a.delivered.items ++ turn ∷ [] → turn.posts ≡ run.posts
+pub delivered_holds : (a : Inside) (run : RunningTurn) (ds : List DeliveredTurn) (turn : DeliveredTurn) → HoldsState a → IsHeldOn a.version run → ds ≡ a.delivered.items ++ turn ∷ [] → turn.posts ≡ run.posts
     → run.version.standing ≡ standing run.version.map bare (posts_in ds)
 delivered_holds a run ds turn holds held pushed same =
     held.standing
@@ -181,7 +184,7 @@ delivered_holds a run ds turn holds held pushed same =
     ∙ ap (λ (l : List DeliveredTurn). standing a.version.map bare (posts_in l)) (sym pushed)
     ∙ ap (λ (m : Map). standing m bare (posts_in ds)) (sym held.map)
 
-pub delivered_is : (a b : Inside) (run : RunningTurn) (turn : DeliveredTurn) → Holds a → IsHeldOn a.version run → a.running ≡ Some run
+pub delivered_is : (a b : Inside) (run : RunningTurn) (turn : DeliveredTurn) → HoldsState a → IsHeldOn a.version run → a.running ≡ Some run
     → b.version ≡ run.version → b.posted ≡ a.posted → b.taken ≡ a.taken → b.staged ≡ a.staged → b.running ≡ None → b.collected ≡ a.collected
     → b.delivered.items ≡ a.delivered.items ++ turn ∷ [] → turn.posts ≡ run.posts → turn.replies ≡ merged_turn run.posts run.edits (known run.answers.items)
     → state_of b ≡ delivered (state_of a) (state_of a).running
@@ -190,7 +193,7 @@ delivered_is a b run turn holds held is version posted taken staged none collect
     let map_is : b.version.map ≡ m = ap (λ (v : MapState). v.map) version ∙ held.map in
     let given : turn.replies ≡ given_turn m (stands_after_done (state_of a)) run.posts (known run.answers.items) =
     replies
-    ∙ ap (λ (es : List Reply). merged_turn run.posts es (known run.answers.items)) held.edits
+    ∙ ap (λ (es : List EditReply). merged_turn run.posts es (known run.answers.items)) held.edits
     ∙ merged_turn_given m a.version.standing run.posts (known run.answers.items)
     ∙ ap (λ (s : Standing). given_turn m s run.posts (known run.answers.items)) holds.standing in
     let lists : List (List Reply) = gathered (replicate m.callers []) a.delivered.items in
@@ -212,7 +215,7 @@ reply_left s c why none =
     let k : ℕ = slice_index s.collected c in
     let replies : List Reply = list_of s.replies c in
     let less : k < length replies = is_less k (length replies) (unless_none (nat_lt k (length replies)) _ (second_none (why_no_caller s.map.callers c) _ why)) in
-    let found = slice_get-get_or replies k Nowhere less in
+    let found = slice_get-get_or replies k (Answered Nowhere) less in
     cc
 
 pub caller_is : (s : State) (c : ℕ) (rest : Option Why) → or_else (why_no_caller s.map.callers c) rest ≡ None → c < s.map.callers
@@ -239,4 +242,4 @@ handed_is old (Collect c) handed new step =
     let k : ℕ = slice_index old.collected c in
     let replies : List Reply = list_of old.replies c in
     let less : k < length replies = is_less k (length replies) (unless_none (nat_lt k (length replies)) _ (second_none (why_no_caller old.map.callers c) _ step.enabled)) in
-    (λ x. tt, λ x. some_handed handed (slice_index_or replies k Nowhere) (step.effect.0 ∙ slice_get-get_or replies k Nowhere less))
+    (λ x. tt, λ x. some_handed handed (slice_index_or replies k (Answered Nowhere)) (step.effect.0 ∙ slice_get-get_or replies k (Answered Nowhere) less))

@@ -6,9 +6,9 @@ use Rattle.nav_types.specs.declared.cells.Chunk.{Chunk}
 use Rattle.nav_types.specs.Cells.{chunk_of, IsBefore}
 use Rattle.nav_types.specs.Walks.{Joined}
 use Rattle.nav_types.specs.Regions.{passes_in, InOneRegion, IsAreaBefore, HasRegion, HasArea}
-use Rattle.chunk_regions.proofs.CellLemmas.{IsBefore-asym, IsBefore-cases, IsAreaBefore-asym, IsAreaBefore-cases}
-use Rattle.chunk_regions.proofs.StepLemmas.{Joined-sym, Joined-trans, JoinedStraight-sym, JoinedStraight-trans}
-use Rattle.chunk_regions.proofs.NumberLemmas.{HasNumber-unique}
+use Rattle.nav_types.proofs.CellOrder.{IsBefore-asym, IsBefore-cases, IsAreaBefore-asym, IsAreaBefore-cases}
+use Rattle.nav_types.proofs.Walking.{Joined-sym, Joined-trans, JoinedStraight-sym, JoinedStraight-trans}
+use Rattle.nav_types.proofs.FirstCells.{HasNumber-unique}
 use Rattle.goal_shapes.specs.declared.goals.Goal.{Goal}
 use Rattle.goal_reach.specs.declared.targets.Target.{Target}
 use Rattle.goal_reach.specs.Targets.{AreTargets, hit_by}
@@ -23,8 +23,8 @@ use Rattle.turn_core.specs.declared.posts.Request.{Request}
 use Rattle.turn_core.specs.declared.posts.Request.TheVariants.{Path as AsksPath, Region as AsksRegion}
 use Rattle.turn_core.specs.declared.replies.PathAnswer.{PathAnswer}
 use Rattle.turn_core.specs.declared.replies.RegionAnswer.{RegionAnswer}
-use Rattle.turn_core.specs.declared.replies.Reply.{Reply}
-use Rattle.turn_core.specs.declared.replies.Reply.TheVariants.{Path as IsPath, Region as IsRegion}
+use Rattle.turn_core.specs.declared.replies.Answer.{Answer}
+use Rattle.turn_core.specs.declared.replies.Answer.TheVariants.{Path as IsPath, Region as IsRegion}
 use Rattle.turn_core.specs.Words.{Standing}
 use Rattle.turn_core.specs.Finding.{class_named, is_on_map, goal_found}
 use Rattle.turn_core.specs.Solving.{IsImpassable, is_near, IsPathAnswer, IsPathTo, IsPathFound, IsRegionAnswer, IsRegionAt, IsAnswerAt, IsAnswerTo, AreAnswersTo}
@@ -40,19 +40,19 @@ one_area passes cell m n one two =
 
 -- ---- paths
 
-same_path : (a b : PathAnswer) → a.start ≡ b.start → a.end ≡ b.end → a.near ≡ b.near → a.cost.0 ≡ b.cost.0 → a.corners ≡ b.corners → a ≡ b
-same_path a b p q r s t = λ i. record { start = p i; end = q i; near = r i; cost = record { 0 = s i }; corners = t i }
+same_path : (a b : PathAnswer) → a.start ≡ b.start → a.end ≡ b.end → a.near ≡ b.near → a.cost.0 ≡ b.cost.0 → a.waypoints ≡ b.waypoints → a ≡ b
+same_path a b p q r s t = λ i. record { start = p i; end = q i; near = r i; cost = record { 0 = s i }; waypoints = t i }
 
 -- the answer of a walk to the target of the other path, which is the same
 one_walk : (passes : Cell → Bool) (a b : PathAnswer) (goal : Goal) (t u : Target) → a.start ≡ b.start → AreTargets passes a.start goal t → AreTargets passes b.start goal u
-    → a.near ≡ is_near t → b.near ≡ is_near u → IsAnswer passes a.start (hit_by t) a.end a.cost.0 a.corners → IsAnswer passes b.start (hit_by u) b.end b.cost.0 b.corners → a ≡ b
+    → a.near ≡ is_near t → b.near ≡ is_near u → IsAnswer passes a.start (hit_by t) a.end a.cost.0 a.waypoints → IsAnswer passes b.start (hit_by u) b.end b.cost.0 b.waypoints → a ≡ b
 one_walk passes a b goal t u start at bt an bn aw bw =
     let same : t ≡ u = one_target passes a.start goal t u at (subst (λ (c : Cell). AreTargets passes c goal u) (sym start) bt) in
-    let moved : IsAnswer passes a.start (hit_by u) b.end b.cost.0 b.corners =
-    subst (λ (c : Cell). IsAnswer passes c (hit_by u) b.end b.cost.0 b.corners) (sym start) bw in
-    let walk : IsAnswer passes a.start (hit_by t) b.end b.cost.0 b.corners =
-    subst (λ (v : Target). IsAnswer passes a.start (hit_by v) b.end b.cost.0 b.corners) (sym same) moved in
-    let one = one_answer passes a.start (hit_by t) a.end b.end a.cost.0 b.cost.0 a.corners b.corners aw walk in
+    let moved : IsAnswer passes a.start (hit_by u) b.end b.cost.0 b.waypoints =
+    subst (λ (c : Cell). IsAnswer passes c (hit_by u) b.end b.cost.0 b.waypoints) (sym start) bw in
+    let walk : IsAnswer passes a.start (hit_by t) b.end b.cost.0 b.waypoints =
+    subst (λ (v : Target). IsAnswer passes a.start (hit_by v) b.end b.cost.0 b.waypoints) (sym same) moved in
+    let one = one_answer passes a.start (hit_by t) a.end b.end a.cost.0 b.cost.0 a.waypoints b.waypoints aw walk in
     same_path a b start one.0 (an ∙ ap is_near same ∙ sym bn) one.1.0 one.1.1
 
 one_path : (passes : Cell → Bool) (x z : ℤ) (goal : Goal) (a b : PathAnswer) → IsPathAnswer passes x z goal a → IsPathAnswer passes x z goal b → a ≡ b
@@ -67,13 +67,13 @@ path_passes passes x z goal a none is =
     let yes : passes a.start ≡ true = is.start_cell.passable in
     cc
 
-one_path_to : (passes : Cell → Bool) (x z : ℤ) (goal : Goal) (a b : Reply) → IsPathTo passes x z goal a → IsPathTo passes x z goal b → a ≡ b
+one_path_to : (passes : Cell → Bool) (x z : ℤ) (goal : Goal) (a b : Answer) → IsPathTo passes x z goal a → IsPathTo passes x z goal b → a ≡ b
 one_path_to passes x z goal a b (inl p) (inl q) = p.1 ∙ sym q.1
 one_path_to passes x z goal a b (inl p) (inr q) = absurd (path_passes passes x z goal q.0 p.0 q.1.1)
 one_path_to passes x z goal a b (inr p) (inl q) = absurd (path_passes passes x z goal p.0 q.0 p.1.1)
 one_path_to passes x z goal a b (inr p) (inr q) = p.1.0 ∙ ap IsPath (one_path passes x z goal p.0 q.0 p.1.1 q.1.1) ∙ sym q.1.0
 
-one_path_found : (passes : Cell → Bool) (x z : ℤ) (found : Result Goal Refusal) (a b : Reply) → IsPathFound passes x z found a → IsPathFound passes x z found b → a ≡ b
+one_path_found : (passes : Cell → Bool) (x z : ℤ) (found : Result Goal Refusal) (a b : Answer) → IsPathFound passes x z found a → IsPathFound passes x z found b → a ≡ b
 one_path_found passes x z (Err refusal) a b p q = p ∙ sym q
 one_path_found passes x z (Ok goal) a b p q = one_path_to passes x z goal a b p q
 
@@ -93,28 +93,28 @@ one_region_answer passes x z a b p q =
     (one_region passes (chunk_of p.cell) p.cell a.region b.region p.region_number region)
     (one_area passes p.cell a.area b.area p.area_number area)
 
-one_region_at : (passes : Cell → Bool) (x z : ℤ) (a b : Reply) → IsRegionAt passes x z a → IsRegionAt passes x z b → a ≡ b
+one_region_at : (passes : Cell → Bool) (x z : ℤ) (a b : Answer) → IsRegionAt passes x z a → IsRegionAt passes x z b → a ≡ b
 one_region_at passes x z a b p q = p.1.0 ∙ ap IsRegion (one_region_answer passes x z p.0 q.0 p.1.1 q.1.1) ∙ sym q.1.0
 
 -- ---- requests
 
-one_at : (named : Option ℕ) (on_map : Bool) (Answers : ℕ → Reply → Type 0) (a b : Reply)
+one_at : (named : Option ℕ) (on_map : Bool) (Answers : ℕ → Answer → Type 0) (a b : Answer)
     → ((class : ℕ) → Answers class a → Answers class b → a ≡ b) → IsAnswerAt named on_map Answers a → IsAnswerAt named on_map Answers b → a ≡ b
 one_at None on_map Answers a b one p q = p ∙ sym q
 one_at (Some class) false Answers a b one p q = p ∙ sym q
 one_at (Some class) true Answers a b one p q = one class p q
 
-pub one_answer_to : (map : Map) (standing : Standing) (request : Request) (a b : Reply) → IsAnswerTo map standing request a → IsAnswerTo map standing request b → a ≡ b
+pub one_answer_to : (map : Map) (standing : Standing) (request : Request) (a b : Answer) → IsAnswerTo map standing request a → IsAnswerTo map standing request b → a ≡ b
 unfolding IsAnswerTo
 one_answer_to map standing (AsksPath name x z goal) a b p q =
-    let Answers : ℕ → Reply → Type 0 = λ class. IsPathFound (passable_at map standing class) x z (goal_found map standing goal) in
+    let Answers : ℕ → Answer → Type 0 = λ class. IsPathFound (passable_at map standing class) x z (goal_found map standing goal) in
     one_at (class_named map name) (is_on_map map.size x z) Answers a b
     (λ class. one_path_found (passable_at map standing class) x z (goal_found map standing goal) a b) p q
 one_answer_to map standing (AsksRegion name x z) a b p q =
-    let Answers : ℕ → Reply → Type 0 = λ class. IsRegionAt (passable_at map standing class) x z in
+    let Answers : ℕ → Answer → Type 0 = λ class. IsRegionAt (passable_at map standing class) x z in
     one_at (class_named map name) (is_on_map map.size x z) Answers a b (λ class. one_region_at (passable_at map standing class) x z a b) p q
 
-pub one_answers : (map : Map) (standing : Standing) (requests : List Request) (a b : List Reply) → AreAnswersTo map standing requests a → AreAnswersTo map standing requests b → a ≡ b
+pub one_answers : (map : Map) (standing : Standing) (requests : List Request) (a b : List Answer) → AreAnswersTo map standing requests a → AreAnswersTo map standing requests b → a ≡ b
 one_answers map standing [] [] [] p q = refl
 one_answers map standing [] [] (y ∷ b) p q = absurd q
 one_answers map standing [] (x ∷ a) b p q = absurd p

@@ -4,6 +4,7 @@ use Rattle.std.specs.Prelude.{slice_get}
 use Rattle.turn_core.specs.declared.events.Event.{Event}
 use Rattle.turn_core.specs.declared.events.Event.TheVariants.{Post as Posting, Stage, Start, Claim, Finish, Deliver, Collect}
 use Rattle.turn_core.specs.declared.posts.Request.{Request}
+use Rattle.turn_core.specs.declared.replies.Answer.{Answer}
 use Rattle.turn_core.specs.declared.replies.Reply.{Reply}
 use Rattle.turn_core.specs.Solving.{IsAnswerTo}
 use Rattle.turn_core.specs.Turns.{jobs}
@@ -11,7 +12,7 @@ use Rattle.turn_core.specs.States.{State, Run, stands_in_run}
 use Rattle.turn_core.specs.Effects.{finished, AnswersJob, IsStep, IsRun}
 use Rattle.turn_core.proofs.Threads.{same_cons, one_answer_lem}
 
-one_job_answer : (s : State) (job : ℕ) (a b : Reply) (o : Option Run) → AnswersJob s job a o → AnswersJob s job b o → a ≡ b
+one_job_answer : (s : State) (job : ℕ) (a b : Answer) (o : Option Run) → AnswersJob s job a o → AnswersJob s job b o → a ≡ b
 one_job_answer s job a b None x y = absurd x
 one_job_answer s job a b (Some run) x y =
     let q : Request = x.0 in
@@ -29,7 +30,7 @@ one_step old Start a b s t x y = (x.effect.0 ∙ sym y.effect.0, x.effect.1 ∙ 
 one_step old Claim a b s t x y = (x.effect.0 ∙ sym y.effect.0, x.effect.1 ∙ sym y.effect.1)
 one_step old (Finish job) a b s t x y = (
   x.effect.0 ∙ sym y.effect.0,
-  x.effect.1.1.1 ∙ ap (λ (r : Reply). finished old job r old.running) (one_job_answer old job x.effect.1.0 y.effect.1.0 old.running x.effect.1.1.0 y.effect.1.1.0) ∙ sym y.effect.1.1.1,
+  x.effect.1.1.1 ∙ ap (λ (r : Answer). finished old job r old.running) (one_job_answer old job x.effect.1.0 y.effect.1.0 old.running x.effect.1.1.0 y.effect.1.1.0) ∙ sym y.effect.1.1.1,
 )
 one_step old Deliver a b s t x y = (x.effect.0 ∙ sym y.effect.0, x.effect.1 ∙ sym y.effect.1)
 one_step old (Collect c) a b s t x y = (x.effect.0 ∙ sym y.effect.0, x.effect.1 ∙ sym y.effect.1)

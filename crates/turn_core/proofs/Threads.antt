@@ -1,5 +1,5 @@
 -- The answer to a journal: it is one, its first part answers the first turns, and a turn more adds its replies.
-use Rattle.std.proofs.Common.{◌≡◌, ◌≢◌, ℕ, ◌<◌, List, [], ◌∷◌, ◌++◌, Option, None, Some, length, take, refl, sym, ◌∙◌, subst}
+use Rattle.std.proofs.Common.{◌≡◌, ◌≢◌, ℕ, ◌<◌, List, [], ◌∷◌, ◌++◌, length, take, refl, sym, ap, ◌∙◌, subst}
 use Rattle.std.proofs.lemmas.List.{take-map}
 use Rattle.nav_types.specs.declared.cells.Cell.{Cell}
 use Rattle.nav_types.specs.declared.cells.Chunk.{Chunk}
@@ -7,25 +7,28 @@ use Rattle.nav_types.specs.Cells.{chunk_of}
 use Rattle.nav_types.specs.Regions.{IsRegionFirst, IsNextChunk, IsEdge, IsAreaFirst}
 use Rattle.grid_versions.specs.Maps.{Map}
 use Rattle.grid_versions.specs.Passing.{passable_at}
-use Rattle.grid_versions.proofs.Counting.{Counts-unique}
+use Rattle.nav_types.proofs.Counting.{Counts-unique}
 use Rattle.turn_core.specs.declared.posts.Post.{Post}
+use Rattle.turn_core.specs.declared.posts.Post.TheVariants.{Edit as Editing, Ask as Asking}
 use Rattle.turn_core.specs.declared.posts.Request.{Request}
+use Rattle.turn_core.specs.declared.replies.Answer.{Answer}
 use Rattle.turn_core.specs.declared.replies.Reply.{Reply}
+use Rattle.turn_core.specs.declared.replies.Reply.TheVariants.{Answer as Answered}
 use Rattle.turn_core.specs.declared.replies.TurnReplies.{TurnReplies}
 use Rattle.turn_core.specs.Solving.{IsAnswerTo}
-use Rattle.turn_core.specs.Words.{Standing, bare, edited, request_of, TellsNumbers}
+use Rattle.turn_core.specs.Words.{Standing, bare, edited, TellsNumbers}
 use Rattle.turn_core.proofs.OneAnswer.{one_answer_to}
 use Rattle.turn_core.specs.Turns.{after, after_turn, standing, Gets, AreReplies, AreTurnReplies, OneThread, TellNumbers, IsTurnTold, replies_in, IsOneThread}
 
 pub same_cons : {A : Type 0} (x y : A) (xs ys : List A) → x ≡ y → xs ≡ ys → x ∷ xs ≡ y ∷ ys
 same_cons x y xs ys p q = cc
 
-pub one_answer_lem : (m : Map) (s : Standing) (q : Request) (a b : Reply) → IsAnswerTo m s q a → IsAnswerTo m s q b → a ≡ b
+pub one_answer_lem : (m : Map) (s : Standing) (q : Request) (a b : Answer) → IsAnswerTo m s q a → IsAnswerTo m s q b → a ≡ b
 one_answer_lem m s q a b x y = one_answer_to m s q a b x y
 
-one_reply : (m : Map) (final s : Standing) (p : Post) (q : Option Request) (a b : Reply) → Gets m final s p q a → Gets m final s p q b → a ≡ b
-one_reply m final s p None a b x y = x ∙ sym y
-one_reply m final s p (Some q) a b x y = one_answer_lem m final q a b x y
+one_reply : (m : Map) (final s : Standing) (p : Post) (a b : Reply) → Gets m final s p a → Gets m final s p b → a ≡ b
+one_reply m final s (Editing e) a b x y = x ∙ sym y
+one_reply m final s (Asking q) a b x y = x.1.0 ∙ ap Answered (one_answer_lem m final q x.0 y.0 x.1.1 y.1.1) ∙ sym y.1.0
 
 one_list : (m : Map) (final s : Standing) (ps : List Post) (a b : List Reply) → AreReplies m final s ps a → AreReplies m final s ps b → a ≡ b
 one_list m final s [] [] [] x y = refl
@@ -34,9 +37,9 @@ one_list m final s [] (r ∷ a) b x y = absurd x
 one_list m final s (p ∷ ps) [] b x y = absurd x
 one_list m final s (p ∷ ps) (r ∷ a) [] x y = absurd y
 one_list m final s (p ∷ ps) (r ∷ a) (t ∷ b) x y =
-    same_cons r t a b (one_reply m final s p (request_of p) r t x.0 y.0) (one_list m final (edited m s p) ps a b x.1 y.1)
+    same_cons r t a b (one_reply m final s p r t x.0 y.0) (one_list m final (edited m s p) ps a b x.1 y.1)
 
-one_turn : (m : Map) (final s : Standing) (turn : List (List Post)) (a b : List (List Reply)) → AreTurnReplies m final s turn a → AreTurnReplies m final s turn b → a ≡ b
+pub one_turn : (m : Map) (final s : Standing) (turn : List (List Post)) (a b : List (List Reply)) → AreTurnReplies m final s turn a → AreTurnReplies m final s turn b → a ≡ b
 one_turn m final s [] [] [] x y = refl
 one_turn m final s [] [] (r ∷ b) x y = absurd y
 one_turn m final s [] (r ∷ a) b x y = absurd x

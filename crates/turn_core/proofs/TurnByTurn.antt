@@ -1,27 +1,30 @@
 -- A journal that one thread answers, turn by turn.
-use Rattle.std.proofs.Common.{◌≡◌, ℕ, ◌+◌, ◌<◌, List, [], ◌∷◌, ◌++◌, Option, None, Some, length, take, get_or, refl, sym, ap, ◌∙◌, subst}
+use Rattle.std.proofs.Common.{◌≡◌, ℕ, zero, suc, ◌+◌, ◌<◌, List, [], ◌∷◌, ◌++◌, Option, None, Some, length, take, get_or, refl, sym, ap, ◌∙◌, subst, arith}
+use Rattle.std.specs.Prelude.{◌↔◌, slice_get}
 use Rattle.std.proofs.lemmas.List.{take_more}
 use Rattle.nav_types.specs.Regions.{HasTallies, HasRelabelled}
 use Rattle.grid_versions.specs.Maps.{Map}
-use Rattle.grid_versions.specs.Versions.{state_of, passes_of}
+use Rattle.grid_versions.specs.declared.edits.EditReply.{EditReply}
+use Rattle.grid_versions.specs.Versions.{map_state, passes_of}
 use Rattle.turn_core.specs.declared.posts.Post.{Post}
 use Rattle.turn_core.specs.declared.posts.Request.{Request}
+use Rattle.turn_core.specs.declared.replies.Answer.{Answer}
+use Rattle.turn_core.specs.declared.replies.Answer.TheVariants.{Nowhere}
 use Rattle.turn_core.specs.declared.replies.Reply.{Reply}
-use Rattle.turn_core.specs.declared.replies.Reply.TheVariants.{Nowhere}
 use Rattle.turn_core.specs.declared.replies.TurnReplies.{TurnReplies}
 use Rattle.turn_core.specs.Words.{Standing, MapState, bare, TellsNumbers}
 use Rattle.turn_core.specs.Solving.{IsAnswerTo, AreAnswersTo}
-use Rattle.turn_core.specs.Turns.{after_turn, standing, jobs, AreTurnReplies, OneThread, TellNumbers, replies_in, IsOneThread}
+use Rattle.turn_core.specs.Turns.{after_turn, standing, jobs, AreTurnReplies, OneThread, TellNumbers, IsTurnTold, replies_in, IsOneThread}
 use Rattle.turn_core.specs.Effects.{known}
 use Rattle.turn_core.specs.Merging.{edits_told_in, merged_turn}
-use Rattle.turn_core.proofs.Answering.{Solves, given_turn_are}
+use Rattle.turn_core.proofs.Answering.{given_turn_are}
 use Rattle.turn_core.proofs.MergedReplies.{merged_turn_given}
 use Rattle.turn_core.proofs.Threads.{standing_more, thread_more}
 
 -- ---- the answers to requests
 
 -- one answer more
-pub answers_end : (m : Map) (s : Standing) (requests : List Request) (answers : List Reply) (request : Request) (answer : Reply)
+pub answers_end : (m : Map) (s : Standing) (requests : List Request) (answers : List Answer) (request : Request) (answer : Answer)
     → AreAnswersTo m s requests answers → IsAnswerTo m s request answer → AreAnswersTo m s (requests ++ request ∷ []) (answers ++ answer ∷ [])
 answers_end m s [] [] request answer are is = (is, tt)
 answers_end m s [] (other ∷ answers) request answer are is = absurd are
@@ -29,27 +32,65 @@ answers_end m s (first ∷ requests) [] request answer are is = absurd are
 answers_end m s (first ∷ requests) (other ∷ answers) request answer are is = (are.0, answers_end m s requests answers request answer are.1 is)
 
 -- the answers to the first of the requests, and one more
-pub answers_next : (m : Map) (s : Standing) (requests : List Request) (answers : List Reply) (i : ℕ) (request : Request) (answer : Reply) → i < length requests
+pub answers_next : (m : Map) (s : Standing) (requests : List Request) (answers : List Answer) (i : ℕ) (request : Request) (answer : Answer) → i < length requests
     → AreAnswersTo m s (take i requests) answers → IsAnswerTo m s (get_or requests i request) answer
     → AreAnswersTo m s (take (i + 1) requests) (answers ++ answer ∷ [])
 answers_next m s requests answers i request answer lt are is =
     subst (λ (rs : List Request). AreAnswersTo m s rs (answers ++ answer ∷ [])) (sym (take_more requests i request lt))
     (answers_end m s (take i requests) answers (get_or requests i request) answer are is)
 
-known_end : (answers : List (Option Reply)) (answer : Reply) → known (answers ++ Some answer ∷ []) ≡ known answers ++ answer ∷ []
+known_end : (answers : List (Option Answer)) (answer : Answer) → known (answers ++ Some answer ∷ []) ≡ known answers ++ answer ∷ []
 known_end [] answer = refl
-known_end (None ∷ answers) answer = ap (λ (l : List Reply). Nowhere ∷ l) (known_end answers answer)
-known_end (Some other ∷ answers) answer = ap (λ (l : List Reply). other ∷ l) (known_end answers answer)
+known_end (None ∷ answers) answer = ap (λ (l : List Answer). Nowhere ∷ l) (known_end answers answer)
+known_end (Some other ∷ answers) answer = ap (λ (l : List Answer). other ∷ l) (known_end answers answer)
 
-pub answers_more : (m : Map) (s : Standing) (requests : List Request) (answers : List (Option Reply)) (i : ℕ) (request : Request) (answer : Reply) → i < length requests
+pub answers_more : (m : Map) (s : Standing) (requests : List Request) (answers : List (Option Answer)) (i : ℕ) (request : Request) (answer : Answer) → i < length requests
     → AreAnswersTo m s (take i requests) (known answers) → IsAnswerTo m s (get_or requests i request) answer
     → AreAnswersTo m s (take (i + 1) requests) (known (answers ++ Some answer ∷ []))
 answers_more m s requests answers i request answer lt are is =
     subst (AreAnswersTo m s (take (i + 1) requests)) (sym (known_end answers answer))
     (answers_next m s requests (known answers) i request answer lt are is)
 
+-- ---- answers by their places
+
+place_more : (m : Map) (s : Standing) (q : Request) (r : Answer) (qs : List Request) (rs : List Answer) → IsAnswerTo m s q r
+    → ((k : ℕ) (p : Request) (a : Answer) → slice_get qs k ≡ Some p → slice_get rs k ≡ Some a → IsAnswerTo m s p a)
+    → (k : ℕ) (p : Request) (a : Answer) → slice_get (q ∷ qs) k ≡ Some p → slice_get (r ∷ rs) k ≡ Some a → IsAnswerTo m s p a
+place_more m s q r qs rs x rest zero p a e f =
+    let same_request : q ≡ p = cc in
+    let same_answer : r ≡ a = cc in
+    subst (λ (z : Request). IsAnswerTo m s z a) same_request (subst (λ (z : Answer). IsAnswerTo m s q z) same_answer x)
+place_more m s q r qs rs x rest (suc k) p a e f = rest k p a e f
+
+abbrev no_requests : List Request
+no_requests = []
+
+no_item : (k : ℕ) (p : Request) → slice_get no_requests k ≡ Some p → ⊥
+no_item zero p e = cc
+no_item (suc k) p e = cc
+
+to_places : (m : Map) (s : Standing) (qs : List Request) (rs : List Answer) → AreAnswersTo m s qs rs
+    → (length rs ≡ length qs) × ((k : ℕ) (p : Request) (a : Answer) → slice_get qs k ≡ Some p → slice_get rs k ≡ Some a → IsAnswerTo m s p a)
+to_places m s [] [] x = (refl, λ k p a e f. absurd (no_item k p e))
+to_places m s [] (r ∷ rs) x = absurd x
+to_places m s (q ∷ qs) [] x = absurd x
+to_places m s (q ∷ qs) (r ∷ rs) x =
+    let rest = to_places m s qs rs x.1 in
+    (ap suc rest.0, place_more m s q r qs rs x.0 rest.1)
+
+from_places : (m : Map) (s : Standing) (qs : List Request) (rs : List Answer) → length rs ≡ length qs
+    → ((k : ℕ) (p : Request) (a : Answer) → slice_get qs k ≡ Some p → slice_get rs k ≡ Some a → IsAnswerTo m s p a) → AreAnswersTo m s qs rs
+from_places m s [] [] e each = tt
+from_places m s [] (r ∷ rs) e each = absurd (omega (arith, e))
+from_places m s (q ∷ qs) [] e each = absurd (omega (arith, e))
+from_places m s (q ∷ qs) (r ∷ rs) e each = (each 0 q r refl refl, from_places m s qs rs (omega (arith, e)) (λ k. each (suc k)))
+
+pub by_place : (m : Map) (s : Standing) (qs : List Request) (rs : List Answer)
+    → AreAnswersTo m s qs rs ↔ ((length rs ≡ length qs) × ((k : ℕ) (p : Request) (a : Answer) → slice_get qs k ≡ Some p → slice_get rs k ≡ Some a → IsAnswerTo m s p a))
+by_place m s qs rs = (to_places m s qs rs, λ x. from_places m s qs rs x.0 x.1)
+
 -- the same answers, by what the map, what stands and the requests are
-pub answers_moved : (state : MapState) (m : Map) (s : Standing) (asked requests : List Request) (answers : List Reply)
+pub answers_moved : (state : MapState) (m : Map) (s : Standing) (asked requests : List Request) (answers : List Answer)
     → state.map ≡ m → state.standing ≡ s → asked ≡ requests → AreAnswersTo state.map state.standing asked answers → AreAnswersTo m s requests answers
 answers_moved state m s asked requests answers p q r are =
     subst (λ (n : Map). AreAnswersTo n s requests answers) p
@@ -58,23 +99,17 @@ answers_moved state m s asked requests answers p q r are =
 
 -- ---- the replies to a turn
 
-solves : (m : Map) (s : Standing) (requests : List Request) (answers : List Reply) → AreAnswersTo m s requests answers → Solves m s requests answers
-solves m s [] [] are = tt
-solves m s [] (answer ∷ answers) are = absurd are
-solves m s (request ∷ requests) [] are = absurd are
-solves m s (request ∷ requests) (answer ∷ answers) are = (are.0, solves m s requests answers are.1)
-
 -- put together from the replies to its edits and the answers to its requests
-pub merged_are : (m : Map) (s : Standing) (turn : List (List Post)) (edits answers : List Reply)
+pub merged_are : (m : Map) (s : Standing) (turn : List (List Post)) (edits : List EditReply) (answers : List Answer)
     → edits ≡ edits_told_in m s turn → AreAnswersTo m (after_turn m s turn) (jobs turn) answers
     → AreTurnReplies m (after_turn m s turn) s turn (merged_turn turn edits answers)
 merged_are m s turn edits answers told are =
     let final = after_turn m s turn in
     subst (λ (rs : List (List Reply)). AreTurnReplies m final s turn rs)
-    (sym (merged_turn_given m s turn answers) ∙ ap (λ (es : List Reply). merged_turn turn es answers) (sym told))
-    (given_turn_are m final s turn answers (solves m final (jobs turn) answers are))
+    (sym (merged_turn_given m s turn answers) ∙ ap (λ (es : List EditReply). merged_turn turn es answers) (sym told))
+    (given_turn_are m final s turn answers are)
 
-same_state : (state : MapState) (m : Map) (s : Standing) → state.map ≡ m → state.standing ≡ s → state ≡ state_of m s
+same_state : (state : MapState) (m : Map) (s : Standing) → state.map ≡ m → state.standing ≡ s → state ≡ map_state m s
 same_state state m s p q = λ i. record { map = p i; standing = q i }
 
 -- the numbers of a turn
@@ -88,7 +123,7 @@ numbers_told m s turn before after told bm bs am al tallies relabelled =
     let was = same_state before m s bm bs in
     let now = same_state after m (after_turn m s turn) am al in (
       subst (λ (v : MapState). HasTallies (length v.map.classes) (passes_of v) told.tallies.regions told.tallies.edges told.tallies.areas) now tallies,
-      subst (λ (v : MapState). HasRelabelled (length v.map.classes) (passes_of v) (passes_of (state_of m (after_turn m s turn))) told.relabelled) was
+      subst (λ (v : MapState). HasRelabelled (length v.map.classes) (passes_of v) (passes_of (map_state m (after_turn m s turn))) told.relabelled) was
           (subst (λ (v : MapState). HasRelabelled (length before.map.classes) (passes_of before) (passes_of v) told.relabelled) now relabelled),
     )
 
@@ -107,6 +142,15 @@ replies_end : (all : List TurnReplies) (told : TurnReplies) → replies_in (all 
 replies_end [] told = refl
 replies_end (t ∷ all) told = ap (λ (l : List (List (List Reply))). t.replies ∷ l) (replies_end all told)
 
+-- the answer to one turn more
+pub told_more : (m : Map) (journal : List (List (List Post))) (turn : List (List Post)) (all : List TurnReplies) (told : TurnReplies)
+    → IsOneThread m journal all → IsTurnTold m (standing m bare journal) turn told → IsOneThread m (journal ++ turn ∷ []) (all ++ told ∷ [])
+told_more m journal turn all told is more = record {
+  replies = subst (λ (rs : List (List (List Reply))). OneThread m bare (journal ++ turn ∷ []) rs) (sym (replies_end all told))
+      (thread_more m bare journal turn (replies_in all) told.replies is.replies more.replies);
+  numbers = numbers_more m bare journal turn all told is.numbers more.numbers;
+}
+
 -- the first turns of a journal are answered, and the version is the one after them
 pub record HasAnswered (m : Map) (journal : List (List (List Post))) (version : MapState) (all : List TurnReplies) : Type 0 where
   pub ground_map : version.map ≡ m
@@ -118,31 +162,20 @@ none_answered m version p q = record { ground_map = p; stands = q; answered = re
 
 -- one turn more
 turn_answered : (m : Map) (journal : List (List (List Post))) (turn : List (List Post)) (before after : MapState) (all : List TurnReplies) (told : TurnReplies)
-    → HasAnswered m journal before all → after.map ≡ before.map → after.standing ≡ after_turn before.map before.standing turn
-    → AreTurnReplies before.map (after_turn before.map before.standing turn) before.standing turn told.replies
-    → TellsNumbers before.map before.standing (after_turn before.map before.standing turn) told
+    → HasAnswered m journal before all → after.map ≡ before.map → after.standing ≡ after_turn before.map before.standing turn → IsTurnTold before.map before.standing turn told
     → HasAnswered m (journal ++ turn ∷ []) after (all ++ told ∷ [])
-turn_answered m journal turn before after all told has p q replies numbers =
-    let s = standing m bare journal in
-    let was = same_state before m s has.ground_map has.stands in
-    let are = subst (λ (v : MapState). AreTurnReplies v.map (after_turn v.map v.standing turn) v.standing turn told.replies) was replies in
-    let tells = subst (λ (v : MapState). TellsNumbers v.map v.standing (after_turn v.map v.standing turn) told) was numbers in
+turn_answered m journal turn before after all told has p q is =
+    let was = same_state before m (standing m bare journal) has.ground_map has.stands in
     record {
       ground_map = p ∙ has.ground_map;
       stands = q ∙ ap (λ (v : MapState). after_turn v.map v.standing turn) was ∙ sym (standing_more m bare journal turn);
-      answered = record {
-        replies = subst (λ (rs : List (List (List Reply))). OneThread m bare (journal ++ turn ∷ []) rs) (sym (replies_end all told))
-            (thread_more m bare journal turn (replies_in all) told.replies has.answered.replies are);
-        numbers = numbers_more m bare journal turn all told has.answered.numbers tells;
-      };
+      answered = told_more m journal turn all told has.answered (subst (λ (v : MapState). IsTurnTold v.map v.standing turn told) was is);
     }
 
 pub answered_more : (m : Map) (journal : List (List (List Post))) (i : ℕ) (turn : List (List Post)) (before after : MapState) (all : List TurnReplies) (told : TurnReplies)
     → i < length journal → turn ≡ get_or journal i turn → HasAnswered m (take i journal) before all → after.map ≡ before.map → after.standing ≡ after_turn before.map before.standing turn
-    → AreTurnReplies before.map (after_turn before.map before.standing turn) before.standing turn told.replies
-    → TellsNumbers before.map before.standing (after_turn before.map before.standing turn) told
-    → HasAnswered m (take (i + 1) journal) after (all ++ told ∷ [])
-answered_more m journal i turn before after all told lt is has p q replies numbers =
+    → IsTurnTold before.map before.standing turn told → HasAnswered m (take (i + 1) journal) after (all ++ told ∷ [])
+answered_more m journal i turn before after all told lt is has p q telling =
     subst (λ (j : List (List (List Post))). HasAnswered m j after (all ++ told ∷ []))
     (ap (λ (t : List (List Post)). take i journal ++ t ∷ []) is ∙ sym (take_more journal i turn lt))
-    (turn_answered m (take i journal) turn before after all told has p q replies numbers)
+    (turn_answered m (take i journal) turn before after all told has p q telling)

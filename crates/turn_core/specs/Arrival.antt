@@ -1,13 +1,15 @@
 -- The events that bring the machine to a journal, and the state that they leave.
-use Rattle.std.specs.Prelude.{ℕ, zero, suc, ◌≡◌, ◌+◌, ◌≤◌, None, List, [], ◌∷◌, ◌++◌, length, map, replicate, slice_index}
+use Rattle.std.specs.Prelude.{ℕ, zero, suc, ◌≡◌, ◌+◌, ◌≤◌, None, Some, List, [], ◌∷◌, ◌++◌, length, map, replicate, slice_index}
 use Rattle.grid_versions.specs.Maps.{Map}
 use Rattle.turn_core.specs.declared.events.Event.{Event}
 use Rattle.turn_core.specs.declared.events.Event.TheVariants.{Post as Posting, Stage, Start, Claim, Finish, Deliver, Collect}
 use Rattle.turn_core.specs.declared.posts.Post.{Post}
+use Rattle.turn_core.specs.declared.replies.Answer.{Answer}
 use Rattle.turn_core.specs.declared.replies.Reply.{Reply}
 use Rattle.turn_core.specs.Turns.{jobs, of_caller}
-use Rattle.turn_core.specs.States.{State, list_of}
-use Rattle.turn_core.specs.Facts.{HaveLists}
+use Rattle.turn_core.specs.States.{State, Run, list_of}
+use Rattle.turn_core.specs.Facts.{HaveLists, all_turns}
+use Rattle.turn_core.specs.Effects.{added_up, joined_up}
 
 -- a caller posts these posts, one after another
 abbrev pub posts_of : ℕ → List Post → List Event
@@ -23,10 +25,13 @@ abbrev pub finishes : ℕ → ℕ → List Event
 finishes job zero = []
 finishes job (suc count) = Finish job ∷ finishes (job + 1) count
 
--- the turn is staged, started, claimed job by job, finished job by job, and delivered
+-- the staged turn is started, claimed job by job and finished job by job
+abbrev pub answering : List (List Post) → List Event
+answering turn = Start ∷ replicate (length (jobs turn)) Claim ++ finishes 0 (length (jobs turn))
+
+-- the turn is staged, answered and delivered
 abbrev pub whole_turn : List (List Post) → List Event
-whole_turn turn =
-    Stage (map length turn) ∷ Start ∷ replicate (length (jobs turn)) Claim ++ finishes 0 (length (jobs turn)) ++ Deliver ∷ []
+whole_turn turn = Stage (map length turn) ∷ answering turn ++ Deliver ∷ []
 
 -- the turns of a journal, one after another
 abbrev pub turn_events : List (List (List Post)) → List Event
@@ -42,6 +47,26 @@ collect_events caller (count ∷ counts) = replicate count (Collect caller) ++ c
 abbrev pub arrival : List (List (List Post)) → List (List Post) → List ℕ → List Event
 arrival journal posted counts = post_events 0 posted ++ turn_events journal ++ collect_events 0 counts
 
+-- each caller's posts in all turns, and then in this one, are the first of its posts
+abbrev pub CanStage : State → List (List Post) → Type 0
+CanStage s turn = (caller : ℕ) → (rest : List Post) × ((of_caller caller (all_turns s) ++ list_of turn caller) ++ rest ≡ list_of s.posted caller)
+
+-- a running turn whose jobs are all claimed and have these answers
+abbrev pub answered_run : List (List Post) → List Answer → Run
+answered_run turn answers = record { turn = turn; claimed = length (jobs turn); answers = map (λ (answer : Answer). Some answer) answers }
+
+-- the state once the turn is staged
+abbrev pub in_stage : State → List (List Post) → State
+in_stage s turn = record s { taken = added_up s.taken (map length turn); staged = Some turn }
+
+-- the state once the staged turn runs so
+abbrev pub in_run : State → Run → State
+in_run s run = record s { staged = None; running = Some run }
+
+-- the state once the running turn is delivered with these replies
+abbrev pub at_end : State → List (List Post) → List (List Reply) → State
+at_end s turn replies = record s { running = None; done = s.done ++ turn ∷ []; replies = joined_up s.replies replies }
+
 -- A journal on a map, a list of posts for each caller and a number for each caller, where each caller's posts in the
 -- journal, turn after turn, are the first of its list, and its number is at most the number of these.
 pub record CanArrive (m : Map) (journal : List (List (List Post))) (posted : List (List Post)) (counts : List ℕ) : Type 0 where
@@ -51,9 +76,10 @@ pub record CanArrive (m : Map) (journal : List (List (List Post))) (posted : Lis
   pub first : (caller : ℕ) → (rest : List Post) × (of_caller caller journal ++ rest ≡ list_of posted caller)
   pub few : (caller : ℕ) → slice_index counts caller ≤ length (of_caller caller journal)
 
--- the state has these posted lists, done turns and collected numbers, as many posts taken as the journal holds, and the
+-- the state has this map, these posted lists, done turns and collected numbers, as many posts taken as the journal holds, and the
 -- replies of one thread to the journal; nothing is staged or running
-pub record HasArrived (s : State) (journal : List (List (List Post))) (posted : List (List Post)) (counts : List ℕ) (all : List (List (List Reply))) : Type 0 where
+pub record HasArrived (m : Map) (s : State) (journal : List (List (List Post))) (posted : List (List Post)) (counts : List ℕ) (all : List (List (List Reply))) : Type 0 where
+  pub map : s.map ≡ m
   pub posted_lists : s.posted ≡ posted
   pub taken : (caller : ℕ) → slice_index s.taken caller ≡ length (of_caller caller journal)
   pub done : s.done ≡ journal

@@ -1,14 +1,18 @@
 -- What the events of the machine do, and runs of it.
 use Rattle.std.specs.Prelude.{ℕ, ◌≡◌, ◌+◌, Option, None, Some, List, [], ◌∷◌, ◌++◌, drop, take, length, map, replicate, slice_get, slice_index, slice_set}
 use Rattle.grid_versions.specs.Maps.{Map}
+use Rattle.grid_versions.specs.Editing.{edit_reply}
 use Rattle.turn_core.specs.declared.events.Event.{Event}
 use Rattle.turn_core.specs.declared.events.Event.TheVariants.{Post as Posting, Stage, Start, Claim, Finish, Deliver, Collect}
 use Rattle.turn_core.specs.declared.posts.Post.{Post}
+use Rattle.turn_core.specs.declared.posts.Post.TheVariants.{Edit as Editing, Ask as Asking}
 use Rattle.turn_core.specs.declared.posts.Request.{Request}
+use Rattle.turn_core.specs.declared.replies.Answer.{Answer}
+use Rattle.turn_core.specs.declared.replies.Answer.TheVariants.{Nowhere}
 use Rattle.turn_core.specs.declared.replies.Reply.{Reply}
-use Rattle.turn_core.specs.declared.replies.Reply.TheVariants.{Nowhere}
+use Rattle.turn_core.specs.declared.replies.Reply.TheVariants.{Edit as Edited, Answer as Answered}
 use Rattle.turn_core.specs.Solving.{IsAnswerTo}
-use Rattle.turn_core.specs.Words.{Standing, edited, edit_reply, request_of}
+use Rattle.turn_core.specs.Words.{Standing, edited}
 use Rattle.turn_core.specs.Turns.{after, requests, jobs}
 use Rattle.turn_core.specs.States.{State, Run, list_of, stands_after_done, stands_in_run}
 use Rattle.turn_core.specs.Table.{first, why_not}
@@ -39,34 +43,24 @@ abbrev pub begun : List (List Post) → Run
 begun turn = record { turn = turn; claimed = 0; answers = replicate (length (jobs turn)) None }
 
 -- the answers to all jobs, where each is answered
-abbrev pub known : List (Option Reply) → List Reply
+abbrev pub known : List (Option Answer) → List Answer
 known [] = []
 known (None ∷ answers) = Nowhere ∷ known answers
 known (Some answer ∷ answers) = answer ∷ known answers
 
 -- the first answer
-abbrev pub first_answer : List Reply → Reply
+abbrev pub first_answer : List Answer → Answer
 first_answer [] = Nowhere
 first_answer (answer ∷ answers) = answer
 
--- the reply to a post: an edit gets its own, and a request the first of the answers
-abbrev pub given_reply : Map → Standing → Post → List Reply → Option Request → Reply
-given_reply m s post answers None = edit_reply m s post
-given_reply m s post answers (Some request) = first_answer answers
-
--- the answers that are left after a post: a request takes one
-abbrev pub answers_left : List Reply → Option Request → List Reply
-answers_left answers None = answers
-answers_left answers (Some request) = drop 1 answers
-
--- the replies to the posts of one caller, whose requests get these answers in order
-abbrev pub given : Map → Standing → List Post → List Reply → List Reply
+-- the replies to the posts of one caller: an edit gets its own, and each request the next of the answers
+abbrev pub given : Map → Standing → List Post → List Answer → List Reply
 given m s [] answers = []
-given m s (post ∷ posts) answers =
-    given_reply m s post answers (request_of post) ∷ given m (edited m s post) posts (answers_left answers (request_of post))
+given m s (Editing edit ∷ posts) answers = Edited (edit_reply m s edit) ∷ given m (edited m s (Editing edit)) posts answers
+given m s (Asking request ∷ posts) answers = Answered (first_answer answers) ∷ given m (edited m s (Asking request)) posts (drop 1 answers)
 
 -- the replies to the posts of a turn, caller by caller, where its jobs get these answers
-abbrev pub given_turn : Map → Standing → List (List Post) → List Reply → List (List Reply)
+abbrev pub given_turn : Map → Standing → List (List Post) → List Answer → List (List Reply)
 given_turn m s [] answers = []
 given_turn m s (posts ∷ turn) answers =
     given m s posts answers ∷ given_turn m (after m s posts) turn (drop (length (requests posts)) answers)
@@ -93,7 +87,7 @@ claimed s None = s
 claimed s (Some run) = record s { running = Some (record run { claimed = run.claimed + 1 }) }
 
 -- a job gets its answer
-abbrev pub finished : State → ℕ → Reply → Option Run → State
+abbrev pub finished : State → ℕ → Answer → Option Run → State
 finished s job answer None = s
 finished s job answer (Some run) = record s { running = Some (record run { answers = slice_set run.answers job (Some answer) }) }
 
@@ -111,7 +105,7 @@ abbrev pub collected : State → ℕ → State
 collected s caller = record s { collected = slice_set s.collected caller (slice_index s.collected caller + 1) }
 
 -- the answer is one to that job of the running turn
-abbrev pub AnswersJob : State → ℕ → Reply → Option Run → Type 0
+abbrev pub AnswersJob : State → ℕ → Answer → Option Run → Type 0
 AnswersJob s job answer None = ⊥
 AnswersJob s job answer (Some run) =
     (request : Request) × ((slice_get (jobs run.turn) job ≡ Some request) × IsAnswerTo s.map (stands_in_run s run) request answer)
@@ -123,7 +117,7 @@ Effect s (Stage takes) handed new = (handed ≡ None) × (new ≡ staged s takes
 Effect s Start handed new = (handed ≡ None) × (new ≡ started s s.staged)
 Effect s Claim handed new = (handed ≡ None) × (new ≡ claimed s s.running)
 Effect s (Finish job) handed new =
-    (handed ≡ None) × ((answer : Reply) × (AnswersJob s job answer s.running × (new ≡ finished s job answer s.running)))
+    (handed ≡ None) × ((answer : Answer) × (AnswersJob s job answer s.running × (new ≡ finished s job answer s.running)))
 Effect s Deliver handed new = (handed ≡ None) × (new ≡ delivered s s.running)
 Effect s (Collect caller) handed new =
     (handed ≡ slice_get (list_of s.replies caller) (slice_index s.collected caller)) × (new ≡ collected s caller)

@@ -3,6 +3,7 @@ use Rattle.std.specs.Prelude.{ℕ, ◌≡◌, ◌≤◌, Option, None, Some, Lis
 use Rattle.grid_versions.specs.Maps.{Map}
 use Rattle.turn_core.specs.declared.posts.Post.{Post}
 use Rattle.turn_core.specs.declared.posts.Request.{Request}
+use Rattle.turn_core.specs.declared.replies.Answer.{Answer}
 use Rattle.turn_core.specs.declared.replies.Reply.{Reply}
 use Rattle.turn_core.specs.Solving.{IsAnswerTo}
 use Rattle.turn_core.specs.Words.{Standing, bare}
@@ -37,7 +38,7 @@ pub record IsWide (s : State) : Type 0 where
   pub turns : HaveLists s.map.callers (all_turns s)
 
 -- there is one place for each job, and each answer is one to the job in its place
-abbrev pub AreAnswers : Map → Standing → List Request → List (Option Reply) → Type 0
+abbrev pub AreAnswers : Map → Standing → List Request → List (Option Answer) → Type 0
 AreAnswers m final [] [] = Unit {0}
 AreAnswers m final [] (answer ∷ answers) = ⊥
 AreAnswers m final (request ∷ rest) [] = ⊥

@@ -1,7 +1,9 @@
 -- What a request names: its class, its point and its goal. All numbers are raw: a unit of length is a navcell's side over 65536.
-use Rattle.std.specs.Prelude.{ℕ, ◌*◌, Bool, true, ◌&&◌, not, if◌then◌else◌, List, Option, None, Some, Result, Ok, Err, ℤ, pos, int_le, position, bytes_eq}
+use Rattle.std.specs.Prelude.{ℕ, Bool, true, ◌&&◌, not, if◌then◌else◌, List, Option, None, Some, Result, Ok, Err, ℤ, position, bytes_eq}
 use Rattle.std.specs.FinMap as fin_map
 use Rattle.nav_types.specs.declared.cells.Size.{Size}
+use Rattle.fixed_point.specs.declared.plane.Rectangle.{Rectangle}
+use Rattle.fixed_point.specs.Plane.{is_unit_vector, is_on_axis, is_up_to}
 use Rattle.obstruction_shapes.specs.declared.shapes.Shape.{Shape}
 use Rattle.obstruction_shapes.specs.declared.shapes.Obstruction.{Obstruction as StandingShape}
 use Rattle.obstruction_shapes.specs.Shapes.{turned_of}
@@ -9,11 +11,10 @@ use Rattle.goal_shapes.specs.declared.goals.Goal.{Goal}
 use Rattle.goal_shapes.specs.declared.goals.Goal.TheVariants.{Point, Circle, NotCircle, Square, NotSquare}
 use Rattle.goal_shapes.specs.declared.goals.GoalSpec.{GoalSpec}
 use Rattle.goal_shapes.specs.declared.goals.GoalSpec.TheVariants.{Plain, Obstruction}
-use Rattle.goal_shapes.specs.Limits.{middle_x, middle_z, grown_square}
+use Rattle.goal_shapes.specs.Limits.{middle_x, middle_z, grown}
 use Rattle.grid_versions.specs.declared.edits.Refusal.{Refusal}
 use Rattle.grid_versions.specs.declared.edits.Refusal.TheVariants.{BadShape, UnknownId, GoalOutside}
 use Rattle.grid_versions.specs.Maps.{Map}
-use Rattle.grid_versions.specs.Fitting.{is_on_axis, is_unit_vector}
 use Rattle.turn_core.specs.Words.{Standing}
 
 -- the number of the map's class of that name, where it has one
@@ -24,21 +25,18 @@ class_named map name = position (λ class. bytes_eq class.name name) map.classes
 unfoldable pub is_on_map : Size → ℤ → ℤ → Bool
 is_on_map size x z = is_on_axis size.w x && is_on_axis size.h z
 
--- a length from 0 to `most` navcells
-unfoldable pub is_up_to : ℕ → ℤ → Bool
-is_up_to most length = int_le (pos 0) length && int_le length (pos (most * 65536))
-
--- a goal's half sides are from 0 to 4096 navcells, and it lies along a unit vector
-abbrev pub are_sides : ℤ → ℤ → ℤ → ℤ → Bool
-are_sides ux uz hw hh = is_unit_vector ux uz && is_up_to 4096 hw && is_up_to 4096 hh
+-- a square lies along a unit vector, and its half sides are from 0 to 4096 navcells
+abbrev pub is_well_formed_square : Rectangle → Bool
+is_well_formed_square rectangle =
+    is_unit_vector rectangle.ux rectangle.uz && is_up_to 4096 rectangle.hw && is_up_to 4096 rectangle.hh
 
 -- the goal's radius or sides are in their limits
 unfoldable pub is_well_formed : Goal → Bool
 is_well_formed (Point x z) = true
 is_well_formed (Circle x z r) = is_up_to 4096 r
 is_well_formed (NotCircle x z r) = is_up_to 4096 r
-is_well_formed (Square x z ux uz hw hh) = are_sides ux uz hw hh
-is_well_formed (NotSquare x z ux uz hw hh) = are_sides ux uz hw hh
+is_well_formed (Square rectangle) = is_well_formed_square rectangle
+is_well_formed (NotSquare rectangle) = is_well_formed_square rectangle
 
 -- a plain goal is itself, where it is well formed and its middle lies on the map
 abbrev pub plain_goal : Size → Goal → Result Goal Refusal
@@ -47,7 +45,7 @@ plain_goal size goal = if not (is_well_formed goal) then Err BadShape
 
 -- the square of a shape, each half side longer by a distance
 abbrev pub square_about : Shape → ℤ → Goal
-square_about shape grow = let s = turned_of shape in grown_square s.x s.z s.ux s.uz s.hw s.hh grow
+square_about shape grow = Square (grown (turned_of shape) grow)
 
 -- the goal about what stands under a number, where something does
 abbrev pub goal_about : Option StandingShape → ℤ → Result Goal Refusal

@@ -31,7 +31,7 @@ HoldsStaged version None = Unit {0}
 HoldsStaged version (Some held) = IsReadyOn version held
 
 -- the version that is held is the one after the turns delivered, and the staged turn is ready to run on the next one
-pub record Holds (a : Inside) : Type 0 where
+pub record HoldsState (a : Inside) : Type 0 where
   pub standing : a.version.standing ≡ standing a.version.map bare (posts_in a.delivered.items)
   pub running : HoldsRun a.version a.running
   pub staged : HoldsStaged (base_of a.version a.running) a.staged

@@ -3,6 +3,7 @@ use Rattle.std.specs.Prelude.{ℕ, ◌≡◌, ◌+◌, ◌<◌, Option, None, So
 use Rattle.turn_core.specs.Words.{MapState}
 use Rattle.turn_core.specs.declared.posts.Post.{Post}
 use Rattle.turn_core.specs.declared.posts.Request.{Request}
+use Rattle.turn_core.specs.declared.replies.Answer.{Answer}
 use Rattle.turn_core.specs.declared.replies.Reply.{Reply}
 use Rattle.turn_core.specs.declared.machines.running.RunningTurn.{RunningTurn}
 use Rattle.turn_core.specs.declared.machines.delivered.DeliveredTurn.{DeliveredTurn}
@@ -82,17 +83,17 @@ HasPlace None job = ⊥
 HasPlace (Some held) job = job < length held.answers.items
 
 -- the answer is one to the request, on the version
-abbrev pub AnswersOn : MapState → Option Request → Reply → Type 0
+abbrev pub AnswersOn : MapState → Option Request → Answer → Type 0
 AnswersOn version None answer = ⊥
 AnswersOn version (Some request) answer = IsAnswerTo version.map version.standing request answer
 
 -- the answer is one to that job of the turn that is held
-abbrev pub AnswersHeld : Option RunningTurn → ℕ → Reply → Type 0
+abbrev pub AnswersHeld : Option RunningTurn → ℕ → Answer → Type 0
 AnswersHeld None job answer = ⊥
 AnswersHeld (Some held) job answer = AnswersOn held.version (slice_get held.jobs job) answer
 
 -- the answer is put in the place of its job, and all else stays
-pub record PutsIn (old new : RunningTurn) (job : ℕ) (answer : Reply) : Type 0 where
+pub record PutsIn (old new : RunningTurn) (job : ℕ) (answer : Answer) : Type 0 where
   pub posts : new.posts ≡ old.posts
   pub edits : new.edits ≡ old.edits
   pub version : new.version ≡ old.version
@@ -101,7 +102,7 @@ pub record PutsIn (old new : RunningTurn) (job : ℕ) (answer : Reply) : Type 0 
   pub answers : new.answers.items ≡ slice_set old.answers.items job (Some answer)
 
 -- the same where a turn is held
-abbrev pub PutsAnswer : Option RunningTurn → Option RunningTurn → ℕ → Reply → Type 0
+abbrev pub PutsAnswer : Option RunningTurn → Option RunningTurn → ℕ → Answer → Type 0
 PutsAnswer None new job answer = ⊥
 PutsAnswer (Some old) None job answer = ⊥
 PutsAnswer (Some old) (Some new) job answer = PutsIn old new job answer

@@ -4,7 +4,7 @@ use Rattle.nav_types.specs.declared.cells.Cell.{Cell}
 use Rattle.nav_types.specs.Cells.{chunk_of}
 use Rattle.nav_types.specs.Regions.{HasRegion, HasArea}
 use Rattle.goal_shapes.specs.declared.goals.Goal.{Goal}
-use Rattle.goal_shapes.specs.Goals.{Holds}
+use Rattle.goal_shapes.specs.Goals.{HoldsPoint}
 use Rattle.goal_reach.specs.declared.targets.Target.{Target}
 use Rattle.goal_reach.specs.declared.targets.Target.TheVariants.{Goal as GoalTarget, Near}
 use Rattle.goal_reach.specs.Starts.{IsStartCell}
@@ -18,8 +18,8 @@ use Rattle.turn_core.specs.declared.posts.Request.{Request}
 use Rattle.turn_core.specs.declared.posts.Request.TheVariants.{Path as AsksPath, Region as AsksRegion}
 use Rattle.turn_core.specs.declared.replies.PathAnswer.{PathAnswer}
 use Rattle.turn_core.specs.declared.replies.RegionAnswer.{RegionAnswer}
-use Rattle.turn_core.specs.declared.replies.Reply.{Reply}
-use Rattle.turn_core.specs.declared.replies.Reply.TheVariants.{Refused, Nowhere, Path as IsPath, Region as IsRegion}
+use Rattle.turn_core.specs.declared.replies.Answer.{Answer}
+use Rattle.turn_core.specs.declared.replies.Answer.TheVariants.{Refused, Nowhere, Path as IsPath, Region as IsRegion}
 use Rattle.turn_core.specs.Words.{Standing}
 use Rattle.turn_core.specs.Finding.{class_named, is_on_map, goal_found}
 
@@ -39,49 +39,49 @@ pub record IsPathAnswer (passes : Cell → Bool) (x z : ℤ) (goal : Goal) (path
   pub target : Target
   pub targets : AreTargets passes path.start goal target
   pub nearness : path.near ≡ is_near target
-  pub walk : IsAnswer passes path.start (hit_by target) path.end path.cost.0 path.corners
+  pub walk : IsAnswer passes path.start (hit_by target) path.end path.cost.0 path.waypoints
 
 -- the answer to a path from the point (x, z) to the goal: nowhere where no cell is passable, else a path
-abbrev pub IsPathTo : (Cell → Bool) → ℤ → ℤ → Goal → Reply → Type 0
-IsPathTo passes x z goal reply =
-    (IsImpassable passes × (reply ≡ Nowhere)) ⊎ ((path : PathAnswer) × ((reply ≡ IsPath path) × IsPathAnswer passes x z goal path))
+abbrev pub IsPathTo : (Cell → Bool) → ℤ → ℤ → Goal → Answer → Type 0
+IsPathTo passes x z goal answer =
+    (IsImpassable passes × (answer ≡ Nowhere)) ⊎ ((path : PathAnswer) × ((answer ≡ IsPath path) × IsPathAnswer passes x z goal path))
 
 -- the same for a goal that is found, and the refusal of one that is not
-abbrev pub IsPathFound : (Cell → Bool) → ℤ → ℤ → Result Goal Refusal → Reply → Type 0
-IsPathFound passes x z (Err refusal) reply = reply ≡ Refused refusal
-IsPathFound passes x z (Ok goal) reply = IsPathTo passes x z goal reply
+abbrev pub IsPathFound : (Cell → Bool) → ℤ → ℤ → Result Goal Refusal → Answer → Type 0
+IsPathFound passes x z (Err refusal) answer = answer ≡ Refused refusal
+IsPathFound passes x z (Ok goal) answer = IsPathTo passes x z goal answer
 
 -- The chunk, the region and the area are those of the cell that holds the point (x, z).
 pub record IsRegionAnswer (passes : Cell → Bool) (x z : ℤ) (answer : RegionAnswer) : Type 0 where
   pub cell : Cell
-  pub holder : Holds x z cell
+  pub holder : HoldsPoint x z cell
   pub chunk_column : answer.ci ≡ (chunk_of cell).ci
   pub chunk_row : answer.cj ≡ (chunk_of cell).cj
   pub region_number : HasRegion passes (chunk_of cell) cell answer.region
   pub area_number : HasArea passes cell answer.area
 
 -- the answer to a region query at the point (x, z)
-abbrev pub IsRegionAt : (Cell → Bool) → ℤ → ℤ → Reply → Type 0
-IsRegionAt passes x z reply = (answer : RegionAnswer) × ((reply ≡ IsRegion answer) × IsRegionAnswer passes x z answer)
+abbrev pub IsRegionAt : (Cell → Bool) → ℤ → ℤ → Answer → Type 0
+IsRegionAt passes x z answer = (region : RegionAnswer) × ((answer ≡ IsRegion region) × IsRegionAnswer passes x z region)
 
 -- a request is refused where the map has no class of its name, else where its point does not lie on the map
-abbrev pub IsAnswerAt : Option ℕ → Bool → (ℕ → Reply → Type 0) → Reply → Type 0
-IsAnswerAt None on_map Answers reply = reply ≡ Refused UnknownClass
-IsAnswerAt (Some class) false Answers reply = reply ≡ Refused StartOutside
-IsAnswerAt (Some class) true Answers reply = Answers class reply
+abbrev pub IsAnswerAt : Option ℕ → Bool → (ℕ → Answer → Type 0) → Answer → Type 0
+IsAnswerAt None on_map Answers answer = answer ≡ Refused UnknownClass
+IsAnswerAt (Some class) false Answers answer = answer ≡ Refused StartOutside
+IsAnswerAt (Some class) true Answers answer = Answers class answer
 
--- The reply answers the request on the map with what stands on it.
-unfoldable pub IsAnswerTo : Map → Standing → Request → Reply → Type 0
-IsAnswerTo map standing (AsksPath name x z goal) reply =
+-- The answer is one to the request on the map with what stands on it.
+unfoldable pub IsAnswerTo : Map → Standing → Request → Answer → Type 0
+IsAnswerTo map standing (AsksPath name x z goal) answer =
     IsAnswerAt (class_named map name) (is_on_map map.size x z)
-    (λ class. IsPathFound (passable_at map standing class) x z (goal_found map standing goal)) reply
-IsAnswerTo map standing (AsksRegion name x z) reply =
-    IsAnswerAt (class_named map name) (is_on_map map.size x z) (λ class. IsRegionAt (passable_at map standing class) x z) reply
+    (λ class. IsPathFound (passable_at map standing class) x z (goal_found map standing goal)) answer
+IsAnswerTo map standing (AsksRegion name x z) answer =
+    IsAnswerAt (class_named map name) (is_on_map map.size x z) (λ class. IsRegionAt (passable_at map standing class) x z) answer
 
 -- one answer to each request, in their order
-abbrev pub AreAnswersTo : Map → Standing → List Request → List Reply → Type 0
+abbrev pub AreAnswersTo : Map → Standing → List Request → List Answer → Type 0
 AreAnswersTo map standing [] [] = Unit {0}
-AreAnswersTo map standing [] (reply ∷ replies) = ⊥
+AreAnswersTo map standing [] (answer ∷ answers) = ⊥
 AreAnswersTo map standing (request ∷ requests) [] = ⊥
-AreAnswersTo map standing (request ∷ requests) (reply ∷ replies) =
-    IsAnswerTo map standing request reply × AreAnswersTo map standing requests replies
+AreAnswersTo map standing (request ∷ requests) (answer ∷ answers) =
+    IsAnswerTo map standing request answer × AreAnswersTo map standing requests answers

@@ -2,6 +2,7 @@
 use Rattle.std.specs.Prelude.{ℕ, Option, None, List, [], replicate, slice_index_or}
 use Rattle.grid_versions.specs.Maps.{Map}
 use Rattle.turn_core.specs.declared.posts.Post.{Post}
+use Rattle.turn_core.specs.declared.replies.Answer.{Answer}
 use Rattle.turn_core.specs.declared.replies.Reply.{Reply}
 use Rattle.turn_core.specs.Words.{Standing, bare}
 use Rattle.turn_core.specs.Turns.{standing, after_turn}
@@ -10,7 +11,7 @@ use Rattle.turn_core.specs.Turns.{standing, after_turn}
 pub record Run : Type 0 where
   pub turn : List (List Post)
   pub claimed : ℕ
-  pub answers : List (Option Reply)
+  pub answers : List (Option Answer)
 
 -- A state of the machine on a map. The lists `posted`, `taken`, `replies` and `collected` have one item for each caller:
 -- all that it posted, how many of these were taken into a turn, all replies to it, and how many of these it collected.

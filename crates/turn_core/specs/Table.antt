@@ -5,7 +5,7 @@ use Rattle.turn_core.specs.declared.events.Event.TheVariants.{Post as Posting, S
 use Rattle.turn_core.specs.declared.events.Why.{Why}
 use Rattle.turn_core.specs.declared.events.Why.TheVariants.{Callers, Staged, Posted, NoneStaged, Running, NoneRunning, AllClaimed, Claimed, Answered, Unclaimed, Unanswered, Collected}
 use Rattle.turn_core.specs.declared.posts.Post.{Post}
-use Rattle.turn_core.specs.declared.replies.Reply.{Reply}
+use Rattle.turn_core.specs.declared.replies.Answer.{Answer}
 use Rattle.turn_core.specs.Turns.{jobs}
 use Rattle.turn_core.specs.States.{State, Run, list_of}
 
@@ -75,7 +75,7 @@ why_no_claim last None = Some (NoneRunning last)
 why_no_claim last (Some run) = unless (nat_lt run.claimed (length (jobs run.turn))) (AllClaimed (length (jobs run.turn)))
 
 -- the job is answered
-abbrev pub why_answered : ℕ → Option Reply → Option Why
+abbrev pub why_answered : ℕ → Option Answer → Option Why
 why_answered job None = None
 why_answered job (Some answer) = Some (Answered job)
 
@@ -86,7 +86,7 @@ why_no_finish job last (Some run) =
     or_else (unless (nat_lt job run.claimed) (Claimed run.claimed)) (why_answered job (slice_index_or run.answers job None))
 
 -- the least job, from the given number on, that is not answered
-abbrev pub why_unanswered : ℕ → List (Option Reply) → Option Why
+abbrev pub why_unanswered : ℕ → List (Option Answer) → Option Why
 why_unanswered job [] = None
 why_unanswered job (None ∷ answers) = Some (Unanswered job)
 why_unanswered job (Some answer ∷ answers) = why_unanswered (job + 1) answers

@@ -1,12 +1,16 @@
 -- Turns: what stands after posts, the requests of a turn, and the replies that one thread gives.
-use Rattle.std.specs.Prelude.{ℕ, ◌≡◌, Option, None, Some, List, [], ◌∷◌, map, filter_map, flat_map, slice_index_or}
+use Rattle.std.specs.Prelude.{ℕ, ◌≡◌, List, [], ◌∷◌, map, filter_map, flat_map, slice_index_or}
 use Rattle.grid_versions.specs.Maps.{Map}
+use Rattle.grid_versions.specs.Editing.{edit_reply}
 use Rattle.turn_core.specs.declared.posts.Post.{Post}
+use Rattle.turn_core.specs.declared.posts.Post.TheVariants.{Edit as Editing, Ask as Asking}
 use Rattle.turn_core.specs.declared.posts.Request.{Request}
+use Rattle.turn_core.specs.declared.replies.Answer.{Answer}
 use Rattle.turn_core.specs.declared.replies.Reply.{Reply}
+use Rattle.turn_core.specs.declared.replies.Reply.TheVariants.{Edit as Edited, Answer as Answered}
 use Rattle.turn_core.specs.declared.replies.TurnReplies.{TurnReplies}
 use Rattle.turn_core.specs.Solving.{IsAnswerTo}
-use Rattle.turn_core.specs.Words.{Standing, bare, edited, edit_reply, request_of, TellsNumbers}
+use Rattle.turn_core.specs.Words.{Standing, bare, edited, request_of, TellsNumbers}
 
 -- what stands after posts, one after another
 abbrev pub after : Map → Standing → List Post → Standing
@@ -33,9 +37,9 @@ jobs turn = flat_map requests turn
 
 -- Where `s` stands before a post and `final` after the edits of its turn, the post gets the reply: an edit gets its
 -- own, and a request its answer on what stands in the end.
-abbrev pub Gets : Map → Standing → Standing → Post → Option Request → Reply → Type 0
-Gets m final s post None reply = reply ≡ edit_reply m s post
-Gets m final s post (Some request) reply = IsAnswerTo m final request reply
+abbrev pub Gets : Map → Standing → Standing → Post → Reply → Type 0
+Gets m final s (Editing edit) reply = reply ≡ Edited (edit_reply m s edit)
+Gets m final s (Asking request) reply = (answer : Answer) × ((reply ≡ Answered answer) × IsAnswerTo m final request answer)
 
 -- the replies to the posts of one caller
 abbrev pub AreReplies : Map → Standing → Standing → List Post → List Reply → Type 0
@@ -43,7 +47,7 @@ AreReplies m final s [] [] = Unit {0}
 AreReplies m final s [] (reply ∷ replies) = ⊥
 AreReplies m final s (post ∷ posts) [] = ⊥
 AreReplies m final s (post ∷ posts) (reply ∷ replies) =
-    Gets m final s post (request_of post) reply × AreReplies m final (edited m s post) posts replies
+    Gets m final s post reply × AreReplies m final (edited m s post) posts replies
 
 -- the replies to the posts of a turn, caller by caller
 abbrev pub AreTurnReplies : Map → Standing → Standing → List (List Post) → List (List Reply) → Type 0

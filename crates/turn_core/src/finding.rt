@@ -1,17 +1,16 @@
 //! What a request names on a version: a point of the map, and its goal.
 ghost use Rattle.std.specs.Prelude.{◌≡◌, IfOk};
 ghost use Rattle.obstruction_shapes.specs.Shapes.{turned_of};
-ghost use Rattle.goal_shapes.specs.Limits.{IsSound, IsUpTo};
-ghost use Rattle.turn_core.specs.Finding.{is_up_to, plain_goal, square_about, goal_found};
+ghost use Rattle.fixed_point.specs.Plane.{IsUpTo, is_up_to};
+ghost use Rattle.goal_shapes.specs.Limits.{IsSoundGoal};
+ghost use Rattle.turn_core.specs.Finding.{plain_goal, square_about, goal_found};
 
 use fixed_point::Fixed;
 use goal_shapes::{BadShape, Goal, GoalRefusal, GoalSpec, check, grown, grown_goals_are_sound};
 use grid_versions::{Refusal, Version};
 use nav_types::Size;
+use nav_types::limits::MAX_GROWTH;
 use obstruction_shapes::Shape;
-
-/// The greatest distance about an obstruction, in units.
-const MAX_GROWTH: i32 = 3840 * 65536;
 
 /// The goal that a request names on a version (`goal_found`). It takes no memory.
 ///
@@ -22,7 +21,7 @@ const MAX_GROWTH: i32 = 3840 * 65536;
 /// stands under the number.
 pub fn goal_of(version: &Version, spec: &GoalSpec) -> Result<Goal, Refusal>
     ensures found { result ≡ goal_found version.now.map version.now.standing spec.now }
-    ensures sound { IfOk result (IsSound version.now.map.size) }
+    ensures sound { IfOk result (IsSoundGoal version.now.map.size) }
 {
     match *spec {
         GoalSpec::Plain(goal) => plain_goal(goal, version.map().size()),
@@ -33,7 +32,7 @@ pub fn goal_of(version: &Version, spec: &GoalSpec) -> Result<Goal, Refusal>
 /// A plain goal on a map of this size.
 fn plain_goal(goal: Goal, size: Size) -> Result<Goal, Refusal>
     ensures found { result ≡ plain_goal size goal }
-    ensures sound { IfOk result (IsSound size) }
+    ensures sound { IfOk result (IsSoundGoal size) }
 {
     match check(goal, size) {
         Ok(goal) => Ok(goal),
@@ -45,7 +44,7 @@ fn plain_goal(goal: Goal, size: Size) -> Result<Goal, Refusal>
 /// The goal about the obstruction of a number, by a distance.
 fn goal_about(version: &Version, id: u32, grow: Fixed) -> Result<Goal, Refusal>
     ensures found { result ≡ goal_found version.now.map version.now.standing (GoalSpec.Obstruction id grow) }
-    ensures sound { IfOk result (IsSound version.now.map.size) }
+    ensures sound { IfOk result (IsSoundGoal version.now.map.size) }
 {
     if !is_growth(grow) {
         return Err(Refusal::BadShape);
@@ -58,11 +57,10 @@ fn goal_about(version: &Version, id: u32, grow: Fixed) -> Result<Goal, Refusal>
 }
 
 /// Whether a distance about an obstruction is from 0 to 3840 navcells.
-#[tactic(auto, unfolding(crate::specs::Finding::is_up_to))]
 fn is_growth(grow: Fixed) -> bool
     ensures { result ≡ is_up_to 3840 grow }
 {
-    grow.raw() >= 0 && grow.raw() <= MAX_GROWTH
+    grow.raw() >= 0 && grow.raw() <= 65536 * i32::from(MAX_GROWTH)
 }
 
 /// The square of a shape, each half side longer by a distance from 0 to 3840 navcells.
@@ -72,26 +70,7 @@ fn square_about(shape: Shape, grow: Fixed) -> Goal
     requires grow { IsUpTo 3840 grow }
     ensures { result ≡ square_about shape grow }
 {
-    let square = match shape {
-        Shape::Unit { x, z, half } => grown(
-            x,
-            z,
-            Fixed::from_raw(65536),
-            Fixed::from_raw(0),
-            half,
-            half,
-            grow,
-        ),
-        Shape::Square {
-            x,
-            z,
-            ux,
-            uz,
-            hw,
-            hh,
-        } => grown(x, z, ux, uz, hw, hh, grow),
-    };
-    match square {
+    match grown(shape.turned(), grow) {
         Ok(goal) => goal,
         Err(BadShape) => unreachable!(),
     }

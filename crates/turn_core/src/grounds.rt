@@ -1,16 +1,15 @@
 //! Versions under turns: all that the machine asks of maps.
-ghost use Rattle.std.specs.Prelude.{◌≡◌, ◌<◌, ◌++◌, IfOk, OnOk, filter_map, flat_map, length, map, option_to_list};
+ghost use Rattle.std.specs.Prelude.{◌≡◌, ◌<◌, ◌++◌, IfOk, OnOk, filter_map, flat_map, length, option_to_list};
 ghost use Rattle.nav_types.specs.Regions.{HasRelabelled};
-ghost use Rattle.grid_versions.specs.Editing.{edited_all, edit_replies};
+ghost use Rattle.grid_versions.specs.Editing.{after_edits, edit_replies};
 ghost use Rattle.grid_versions.specs.Versions.{passes_of};
-ghost use Rattle.turn_core.specs.Words.{bare, edit_of, reply_of};
+ghost use Rattle.turn_core.specs.Words.{bare, edit_of};
 ghost use Rattle.turn_core.specs.Turns.{after_turn, jobs, requests};
 ghost use Rattle.turn_core.specs.Merging.{edits_told_in};
 
 use crate::posts::{Jobs, Post, TurnPosts};
-use crate::replies::{Replies, Reply};
-use grid_versions::{EditReply, Edits, MapSpec, Next, Version};
-use nav_types::{NoMemory, Sequence, Steps};
+use grid_versions::{EditReplies, Edits, MapSpec, Next, Version};
+use nav_types::{NoMemory, Sequence, Ticks};
 use obstruction_store::{Store, all_fit_in_empty};
 use std::alloc::Global;
 use std::marker::Brand;
@@ -21,7 +20,7 @@ use std::sync::ledger::{Blank, Ledger};
 #[derive(Drop)]
 pub(crate) struct Advanced {
     pub version: Version,
-    pub edits: Replies,
+    pub edits: EditReplies,
     pub relabelled: u32,
 }
 
@@ -34,7 +33,7 @@ pub fn bare_version(alloc: Global, map: &MapSpec) -> Result<Version, NoMemory>
     bare_version_counted::<Brand>(alloc, map, Blank::new(1))
 }
 
-/// The same version, with the steps counted in a ledger of their own.
+/// The same version, with the ticks counted in a ledger of their own.
 #[tactic(auto, unfolding(crate::specs::Words::bare))]
 fn bare_version_counted<L: Ledger>(
     alloc: Global,
@@ -49,7 +48,7 @@ fn bare_version_counted<L: Ledger>(
 {
     all_fit_in_empty();
     let nothing = Store::new(alloc)?;
-    Version::build(alloc, map, &nothing, &mut Steps::<L>::new(blank))
+    Version::build(alloc, map, &nothing, &mut Ticks::<L>::new(blank))
 }
 
 /// The version after a turn.
@@ -69,15 +68,14 @@ pub(crate) fn after_turn(
         replies,
         relabelled,
     } = next_counted::<Brand>(alloc, version, &edits, Blank::new(1))?;
-    let edits = as_replies(alloc, replies.as_slice())?;
     Ok(Advanced {
         version,
-        edits,
+        edits: replies,
         relabelled,
     })
 }
 
-/// The version after edits, with the steps counted in a ledger of their own.
+/// The version after edits, with the ticks counted in a ledger of their own.
 fn next_counted<L: Ledger>(
     alloc: Global,
     version: &Version,
@@ -88,11 +86,11 @@ fn next_counted<L: Ledger>(
     requires parts { blank.parts ≡ L.parts }
     requires some { 0 < L.parts }
     ensures map { IfOk result (λ next. next.version.map ≡ version.now.map) }
-    ensures standing { IfOk result (λ next. next.version.standing ≡ edited_all version.now.map version.now.standing edits.now) }
+    ensures standing { IfOk result (λ next. next.version.standing ≡ after_edits version.now.map version.now.standing edits.now) }
     ensures replies { IfOk result (λ next. next.replies ≡ edit_replies version.now.map version.now.standing edits.now) }
     ensures relabelled { IfOk result (λ next. HasRelabelled (length version.now.map.classes) (passes_of version.now) (passes_of next.version) next.relabelled) }
 {
-    version.next(alloc, edits, &mut Steps::<L>::new(blank))
+    version.next(alloc, edits, &mut Ticks::<L>::new(blank))
 }
 
 /// The edits of a turn, caller by caller.
@@ -125,17 +123,6 @@ fn push_some<T: Drop>(items: &mut Sequence<T>, item: Option<T>) -> Result<(), No
         Some(item) => Ok(items.push(item)?),
         None => Ok(()),
     }
-}
-
-/// The replies to edits as replies to posts.
-fn as_replies(alloc: Global, replies: &[EditReply]) -> Result<Replies, NoMemory>
-    ensures { IfOk result (λ made. made ≡ map reply_of replies.now) }
-{
-    let mut made = Sequence::new(alloc);
-    for reply in replies {
-        made.push(Reply::from(*reply))?;
-    }
-    Ok(made)
 }
 
 /// The jobs of a turn.

@@ -1,5 +1,5 @@
 //! Journals that one thread answers.
-ghost use Rattle.std.specs.Prelude.{◌≡◌, All, IfOk, length};
+ghost use Rattle.std.specs.Prelude.{◌≡◌, IfOk};
 ghost use Rattle.turn_core.specs.Solving.{AreAnswersTo};
 ghost use Rattle.turn_core.specs.Turns.{after_turn, IsTurnTold, IsOneThread};
 ghost use Rattle.turn_core.specs.Effects.{known};
@@ -14,10 +14,8 @@ use nav_types::{NoMemory, Sequence};
 use std::alloc::Global;
 
 /// The replies of one thread to a journal on a map where nothing stands yet (`IsOneThread`): turn by turn, caller by
-/// caller and post by post, with the numbers of each turn. Each turn has one list of posts for each caller of the map.
-/// It refuses for want of memory alone.
+/// caller and post by post, with the numbers of each turn. It refuses for want of memory alone.
 pub fn one_thread(alloc: Global, map: &MapSpec, journal: &Journal) -> Result<AllReplies, NoMemory>
-    requires { All (λ turn. length turn ≡ map.now.callers) journal.now }
     ensures { IfOk result (IsOneThread map.now journal.now) }
 {
     let mut version = grounds::bare_version(alloc, map)?;

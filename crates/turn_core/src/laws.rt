@@ -1,22 +1,24 @@
 //! Laws of turns, of the machine and of its runs.
-ghost use Rattle.std.specs.Prelude.{◌≡◌, ℕ, ◌++◌, List, Option, None, length, slice_index, take};
+ghost use Rattle.std.specs.Prelude.{◌≡◌, ℕ, ◌++◌, ◌∷◌, [], List, Option, None, Some, length, map, slice_index, take};
 ghost use Rattle.grid_versions.specs.Maps.{Map};
 ghost use Rattle.turn_core.specs.declared.events.Event.{Event};
+ghost use Rattle.turn_core.specs.declared.events.Event.TheVariants.{Stage, Deliver};
 ghost use Rattle.turn_core.specs.declared.posts.Post.{Post};
 ghost use Rattle.turn_core.specs.declared.posts.Request.{Request};
+ghost use Rattle.turn_core.specs.declared.replies.Answer.{Answer};
 ghost use Rattle.turn_core.specs.declared.replies.Reply.{Reply};
 ghost use Rattle.turn_core.specs.declared.replies.TurnReplies.{TurnReplies};
-ghost use Rattle.turn_core.specs.Solving.{IsAnswerTo};
+ghost use Rattle.turn_core.specs.Solving.{IsAnswerTo, AreAnswersTo};
 ghost use Rattle.turn_core.specs.Words.{Standing, bare};
-ghost use Rattle.turn_core.specs.Turns.{IsTurnTold, OneThread, IsOneThread, of_caller};
-ghost use Rattle.turn_core.specs.States.{State, opening, list_of};
-ghost use Rattle.turn_core.specs.Effects.{IsStep, IsRun};
+ghost use Rattle.turn_core.specs.Turns.{after_turn, jobs, standing, AreTurnReplies, IsTurnTold, OneThread, IsOneThread, of_caller};
+ghost use Rattle.turn_core.specs.States.{State, opening, list_of, stands_after_done};
+ghost use Rattle.turn_core.specs.Effects.{IsStep, IsRun, joined_up};
 ghost use Rattle.turn_core.specs.Facts.{Facts};
-ghost use Rattle.turn_core.specs.Arrival.{arrival, CanArrive, HasArrived};
+ghost use Rattle.turn_core.specs.Arrival.{post_events, answering, arrival, CanStage, answered_run, in_stage, in_run, at_end, CanArrive, HasArrived};
 
 /// A law: a request has one answer on a map with what stands on it.
 pub fn one_answer()
-    ensures { (m : Map) (standing : Standing) (request : Request) (a b : Reply)
+    ensures { (m : Map) (standing : Standing) (request : Request) (a b : Answer)
         → IsAnswerTo m standing request a → IsAnswerTo m standing request b → a ≡ b }
 {}
 
@@ -38,6 +40,18 @@ pub fn one_thread_answers_once()
         → IsOneThread m journal a → IsOneThread m journal b → a ≡ b }
 {}
 
+/// A law: the answer to a journal and that to one turn more are the answer to the longer journal.
+pub fn one_turn_more()
+    ensures { (m : Map) (journal : List (List (List Post))) (turn : List (List Post)) (all : List TurnReplies) (told : TurnReplies)
+        → IsOneThread m journal all → IsTurnTold m (standing m bare journal) turn told → IsOneThread m (journal ++ turn ∷ []) (all ++ told ∷ []) }
+{}
+
+/// A law: each caller gets as many replies as it posts.
+pub fn replies_are_as_many_as_posts()
+    ensures { (m : Map) (standing : Standing) (journal : List (List (List Post))) (all : List (List (List Reply))) (caller : ℕ)
+        → OneThread m standing journal all → length (of_caller caller all) ≡ length (of_caller caller journal) }
+{}
+
 /// A law: the answer to the first turns of a journal is the first of the answer to all of it.
 pub fn answer_to_first_turns()
     ensures { (m : Map) (journal rest : List (List (List Post))) (all : List TurnReplies)
@@ -55,10 +69,45 @@ pub fn facts_are_kept()
         → Facts old → IsStep old event handed new → Facts new }
 {}
 
-/// A law: the facts hold after each run from the state in which the machine opens.
+/// A law: the facts hold after each run from a state in which they hold.
 pub fn facts_hold_after_runs()
-    ensures { (m : Map) (events : List Event) (handed : List (Option Reply)) (new : State)
-        → IsRun (opening m) events handed new → Facts new }
+    ensures { (old : State) (events : List Event) (handed : List (Option Reply)) (new : State)
+        → Facts old → IsRun old events handed new → Facts new }
+{}
+
+/// A law: a run and one from the state that it leaves are one run.
+pub fn runs_join()
+    ensures { (old : State) (events : List Event) (handed : List (Option Reply)) (mid : State) (more : List Event) (rest : List (Option Reply)) (new : State)
+        → IsRun old events handed mid → IsRun mid more rest new → IsRun old (events ++ more) (handed ++ rest) new }
+{}
+
+/// A law: each caller can post its list, caller by caller, and then has it behind what it posted before.
+pub fn lists_are_posted()
+    ensures { (s : State) (posted : List (List Post)) → length s.posted ≡ s.map.callers → length posted ≡ s.map.callers
+        → (handed : List (Option Reply)) × IsRun s (post_events 0 posted) handed (record s { posted = joined_up s.posted posted }) }
+{}
+
+/// A law: where no turn is staged, a turn can be staged that holds the next posts of each caller. A turn may run beside
+/// it.
+pub fn posted_turns_are_staged()
+    ensures { (s : State) (turn : List (List Post)) → Facts s → s.staged ≡ None → length turn ≡ s.map.callers → CanStage s turn
+        → IsStep s (Stage (map length turn)) None (in_stage s turn) }
+{}
+
+/// A law: where no turn runs, the staged turn can be started and its jobs claimed and finished, and the answers to them
+/// stand in its run.
+pub fn staged_turns_are_answered()
+    ensures { (s : State) (turn : List (List Post)) (answers : List Answer) → s.staged ≡ Some turn → s.running ≡ None
+        → AreAnswersTo s.map (after_turn s.map (stands_after_done s) turn) (jobs turn) answers
+        → (handed : List (Option Reply)) × IsRun s (answering turn) handed (in_run s (answered_run turn answers)) }
+{}
+
+/// A law: a running turn whose jobs are answered can be delivered, with the replies of one thread to it.
+pub fn answered_turns_are_delivered()
+    ensures { (s : State) (turn : List (List Post)) (answers : List Answer) (replies : List (List Reply)) → s.running ≡ Some (answered_run turn answers)
+        → AreAnswersTo s.map (after_turn s.map (stands_after_done s) turn) (jobs turn) answers
+        → AreTurnReplies s.map (after_turn s.map (stands_after_done s) turn) (stands_after_done s) turn replies
+        → IsStep s Deliver None (at_end s turn replies) }
 {}
 
 /// A law: events lead to one state, and hand out the same replies.
@@ -75,11 +124,11 @@ pub fn one_run()
 pub fn each_journal_is_reached()
     ensures reached { (m : Map) (journal : List (List (List Post))) (posted : List (List Post)) (counts : List ℕ) (all : List (List (List Reply)))
         → CanArrive m journal posted counts → OneThread m bare journal all
-        → (handed : List (Option Reply)) × ((new : State) × (IsRun (opening m) (arrival journal posted counts) handed new × HasArrived new journal posted counts all)) }
+        → (handed : List (Option Reply)) × ((new : State) × (IsRun (opening m) (arrival journal posted counts) handed new × HasArrived m new journal posted counts all)) }
     ensures each { (m : Map) (journal : List (List (List Post))) (posted : List (List Post)) (counts : List ℕ) (all : List (List (List Reply)))
         (handed : List (Option Reply)) (new : State)
         → CanArrive m journal posted counts → OneThread m bare journal all
-        → IsRun (opening m) (arrival journal posted counts) handed new → HasArrived new journal posted counts all }
+        → IsRun (opening m) (arrival journal posted counts) handed new → HasArrived m new journal posted counts all }
 {}
 
 /// A law: where nothing is staged or running and all posts are taken, each post has exactly one reply.

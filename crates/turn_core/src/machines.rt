@@ -41,11 +41,11 @@ impl Model for Machine {
 
     ghost Value = { State };
 
-    ghost use Rattle.turn_core.specs.Machines.{state_of, Holds};
+    ghost use Rattle.turn_core.specs.Machines.{state_of, HoldsState};
 
     ghost view = { state_of };
 
-    ghost invariant = { Holds };
+    ghost invariant = { HoldsState };
 }
 
 impl Machine {

@@ -1,11 +1,11 @@
 //! The replies to a turn, put together from the replies to its edits and the answers to its requests.
-ghost use Rattle.std.specs.Prelude.{◌≡◌, IfOk, drop, is_none, is_some, count_by};
-ghost use Rattle.turn_core.specs.Words.{request_of};
-ghost use Rattle.turn_core.specs.Effects.{known, first_answer, answers_left};
-ghost use Rattle.turn_core.specs.Merging.{picked, edits_left, merged, merged_turn, edit_count, request_count};
+ghost use Rattle.std.specs.Prelude.{◌≡◌, IfOk, drop};
+ghost use Rattle.turn_core.specs.Effects.{known, first_answer};
+ghost use Rattle.turn_core.specs.Merging.{first_edit, picked, edits_left, answers_left, merged, merged_turn, edit_count, request_count};
 
 use crate::posts::{Post, Posts};
 use crate::replies::{Answer, CallerReplies, Replies, Reply};
+use grid_versions::EditReply;
 use nav_types::{NoMemory, Sequence};
 use std::alloc::Global;
 
@@ -14,7 +14,7 @@ use std::alloc::Global;
 pub(crate) fn merged_turn(
     alloc: Global,
     turn: &[Posts],
-    edits: &[Reply],
+    edits: &[EditReply],
     answers: &[Option<Answer>],
 ) -> Result<CallerReplies, NoMemory>
     ensures { IfOk result (λ made. made ≡ merged_turn turn.now edits.now (known answers.now)) }
@@ -35,7 +35,7 @@ pub(crate) fn merged_turn(
 fn merged(
     alloc: Global,
     posts: &[Post],
-    edits: &[Reply],
+    edits: &[EditReply],
     answers: &[Option<Answer>],
 ) -> Result<Replies, NoMemory>
     ensures { IfOk result (λ made. made ≡ merged posts.now edits.now (known answers.now)) }
@@ -55,57 +55,54 @@ fn merged(
 fn reply_to(
     alloc: Global,
     post: &Post,
-    edits: &[Reply],
+    edits: &[EditReply],
     answers: &[Option<Answer>],
 ) -> Result<Reply, NoMemory>
-    ensures { IfOk result (λ reply. reply ≡ picked (request_of post.now) edits.now (known answers.now)) }
+    ensures { IfOk result (λ reply. reply ≡ picked post.now edits.now (known answers.now)) }
 {
-    if post.is_request() {
-        first_of_answers(alloc, answers)
-    } else {
-        first_of_edits(alloc, edits)
+    match post {
+        Post::Edit(_) => Ok(Reply::Edit(first_of_edits(edits))),
+        Post::Ask(_) => Ok(Reply::Answer(first_of_answers(alloc, answers)?)),
     }
 }
 
 /// The first of the answers.
-fn first_of_answers(alloc: Global, answers: &[Option<Answer>]) -> Result<Reply, NoMemory>
-    ensures { IfOk result (λ reply. reply ≡ first_answer (known answers.now)) }
+fn first_of_answers(alloc: Global, answers: &[Option<Answer>]) -> Result<Answer, NoMemory>
+    ensures { IfOk result (λ answer. answer ≡ first_answer (known answers.now)) }
 {
     match answers {
         [Some(answer), ..] => answer.copy(alloc),
-        _ => Ok(Reply::Nowhere),
+        _ => Ok(Answer::Nowhere),
     }
 }
 
 /// The first of the replies to edits.
-fn first_of_edits(alloc: Global, edits: &[Reply]) -> Result<Reply, NoMemory>
-    ensures { IfOk result (λ reply. reply ≡ first_answer edits.now) }
+fn first_of_edits(edits: &[EditReply]) -> EditReply
+    ensures { result ≡ first_edit edits.now }
 {
     match edits {
-        [reply, ..] => reply.copy(alloc),
-        [] => Ok(Reply::Nowhere),
+        [reply, ..] => *reply,
+        [] => EditReply::Removed(0),
     }
 }
 
 /// The replies to edits that are left after a post.
-fn edits_after<'a>(post: &Post, edits: &'a [Reply]) -> &'a [Reply]
-    ensures { result.now ≡ edits_left edits.now (request_of post.now) }
+fn edits_after<'a>(post: &Post, edits: &'a [EditReply]) -> &'a [EditReply]
+    ensures { result.now ≡ edits_left edits.now post.now }
 {
-    if post.is_request() {
-        edits
-    } else {
-        past(edits, 1)
+    match post {
+        Post::Edit(_) => past(edits, 1),
+        Post::Ask(_) => edits,
     }
 }
 
 /// The answers that are left after a post.
 fn answers_after<'a>(post: &Post, answers: &'a [Option<Answer>]) -> &'a [Option<Answer>]
-    ensures { known result.now ≡ answers_left (known answers.now) (request_of post.now) }
+    ensures { known result.now ≡ answers_left (known answers.now) post.now }
 {
-    if post.is_request() {
-        past(answers, 1)
-    } else {
-        answers
+    match post {
+        Post::Edit(_) => answers,
+        Post::Ask(_) => past(answers, 1),
     }
 }
 

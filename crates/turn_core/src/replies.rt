@@ -5,18 +5,21 @@ use crate::copying::Copied;
 use grid_versions::{EditReply, Refusal, Tallies};
 use nav_types::{Cell, Cost, NoMemory, Sequence};
 use std::alloc::Global;
-use walks::Corners;
+use walks::Waypoints;
 
 /// The reply to a post.
 #[derive(Debug, Drop)]
 pub enum Reply {
-    /// The obstruction was added under this number.
-    Added(u32),
-    /// The obstruction of this number was removed.
-    Removed(u32),
-    /// The obstruction of this number was moved.
-    Moved(u32),
-    /// The post was refused, and changed nothing.
+    /// The reply to an edit.
+    Edit(EditReply),
+    /// The answer to a request.
+    Answer(Answer),
+}
+
+/// The answer to a request.
+#[derive(Debug, Drop)]
+pub enum Answer {
+    /// The request was refused.
     Refused(Refusal),
     /// No cell of the map is passable for the class.
     Nowhere,
@@ -26,10 +29,7 @@ pub enum Reply {
     Region(RegionAnswer),
 }
 
-/// A reply to a request.
-pub type Answer = Reply;
-
-/// A path: the chosen walk from `start` to `end` costs `cost` and turns at `corners`. It ends at a goal
+/// A path: the chosen walk from `start` to `end` costs `cost` and turns at `waypoints`. It ends at a goal
 /// cell, or where `near` at the cell of the start's area that is least remote from the goal.
 #[derive(Debug, Drop)]
 pub struct PathAnswer {
@@ -37,7 +37,7 @@ pub struct PathAnswer {
     pub end: Cell,
     pub near: bool,
     pub cost: Cost,
-    pub corners: Corners,
+    pub waypoints: Waypoints,
 }
 
 /// The chunk of a cell by its column and row among the chunks, the number of the cell's region in it, and
@@ -81,8 +81,22 @@ impl PathAnswer {
             end: self.end,
             near: self.near,
             cost: self.cost,
-            corners: self.corners.copy(alloc)?,
+            waypoints: self.waypoints.copy(alloc)?,
         })
+    }
+}
+
+impl Answer {
+    /// The same answer once more.
+    pub fn copy(&self, alloc: Global) -> Result<Answer, NoMemory>
+        ensures { IfOk result (λ made. made ≡ self.now) }
+    {
+        match self {
+            Answer::Refused(refusal) => Ok(Answer::Refused(*refusal)),
+            Answer::Nowhere => Ok(Answer::Nowhere),
+            Answer::Path(path) => Ok(Answer::Path(path.copy(alloc)?)),
+            Answer::Region(region) => Ok(Answer::Region(*region)),
+        }
     }
 }
 
@@ -92,13 +106,8 @@ impl Reply {
         ensures { IfOk result (λ made. made ≡ self.now) }
     {
         match self {
-            Reply::Added(id) => Ok(Reply::Added(*id)),
-            Reply::Removed(id) => Ok(Reply::Removed(*id)),
-            Reply::Moved(id) => Ok(Reply::Moved(*id)),
-            Reply::Refused(refusal) => Ok(Reply::Refused(*refusal)),
-            Reply::Nowhere => Ok(Reply::Nowhere),
-            Reply::Path(path) => Ok(Reply::Path(path.copy(alloc)?)),
-            Reply::Region(region) => Ok(Reply::Region(*region)),
+            Reply::Edit(reply) => Ok(Reply::Edit(*reply)),
+            Reply::Answer(answer) => Ok(Reply::Answer(answer.copy(alloc)?)),
         }
     }
 }
@@ -113,21 +122,6 @@ impl TurnReplies {
             relabelled: self.relabelled,
             replies: self.replies.copy(alloc)?,
         })
-    }
-}
-
-impl From<EditReply> for Reply {
-    ghost use Rattle.turn_core.specs.Words.{reply_of};
-
-    ghost from_gives = { λ edit reply. reply ≡ reply_of edit };
-
-    fn from(reply: EditReply) -> Reply {
-        match reply {
-            EditReply::Added(id) => Reply::Added(id),
-            EditReply::Removed(id) => Reply::Removed(id),
-            EditReply::Moved(id) => Reply::Moved(id),
-            EditReply::Refused(refusal) => Reply::Refused(refusal),
-        }
     }
 }
 

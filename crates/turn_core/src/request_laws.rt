@@ -1,16 +1,16 @@
 //! Laws of requests and of their answers.
-ghost use Rattle.std.specs.Prelude.{◌≡◌, ◌↔◌, ℕ, ℤ, List, IsTrue};
+ghost use Rattle.std.specs.Prelude.{◌≡◌, ◌↔◌, ℕ, ℤ, List, IsTrue, Some, length, slice_get};
 ghost use Rattle.nav_types.specs.declared.cells.Size.{Size};
-ghost use Rattle.fixed_point.specs.Plane.{IsOnAxis};
+ghost use Rattle.fixed_point.specs.Plane.{IsOnAxis, IsUpTo, is_up_to};
 ghost use Rattle.goal_shapes.specs.declared.goals.Goal.{Goal};
-ghost use Rattle.goal_shapes.specs.Limits.{IsUpTo, IsWellFormed};
+ghost use Rattle.goal_shapes.specs.Limits.{IsWellFormed};
 ghost use Rattle.grid_versions.specs.Maps.{Map};
 ghost use Rattle.turn_core.specs.declared.posts.Request.{Request};
-ghost use Rattle.turn_core.specs.declared.replies.Reply.{Reply};
+ghost use Rattle.turn_core.specs.declared.replies.Answer.{Answer};
 ghost use Rattle.turn_core.specs.declared.replies.TurnReplies.{TurnReplies};
 ghost use Rattle.turn_core.specs.Words.{Standing, TellsNumbers};
-ghost use Rattle.turn_core.specs.Finding.{is_on_map, is_up_to, is_well_formed};
-ghost use Rattle.turn_core.specs.Solving.{AreAnswersTo};
+ghost use Rattle.turn_core.specs.Finding.{is_on_map, is_well_formed};
+ghost use Rattle.turn_core.specs.Solving.{IsAnswerTo, AreAnswersTo};
 
 /// A law: the tests of points, lengths and goals hold exactly where what they test does.
 pub fn tests_hold_where_they_should()
@@ -21,8 +21,17 @@ pub fn tests_hold_where_they_should()
 
 /// A law: requests have one list of answers on a map with what stands on it.
 pub fn one_list_of_answers()
-    ensures { (map : Map) (standing : Standing) (requests : List Request) (a b : List Reply)
+    ensures { (map : Map) (standing : Standing) (requests : List Request) (a b : List Answer)
         → AreAnswersTo map standing requests a → AreAnswersTo map standing requests b → a ≡ b }
+{}
+
+/// A law: answers are answers to requests where there are as many, and each is one to the request in its place.
+pub fn answers_by_place()
+    ensures { (map : Map) (standing : Standing) (requests : List Request) (answers : List Answer)
+        → AreAnswersTo map standing requests answers
+        ↔ ((length answers ≡ length requests)
+        × ((place : ℕ) (request : Request) (answer : Answer) → slice_get requests place ≡ Some request → slice_get answers place ≡ Some answer
+        → IsAnswerTo map standing request answer)) }
 {}
 
 /// A law: a turn has one set of numbers.

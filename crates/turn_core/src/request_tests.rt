@@ -1,12 +1,10 @@
 //! Requests and journals on maps of one row, with their answers.
-ghost use Rattle.std.specs.Prelude.{◌≡◌, ◌↔◌, All, IsTrue, length};
-
 use crate::tests::one_class;
 use crate::*;
 use class_config::ClassName;
 use fixed_point::Fixed;
 use goal_shapes::{Goal, GoalSpec};
-use grid_versions::{BaseRects, MapSpec, Refusal, Version};
+use grid_versions::{BaseRects, Edit, EditReply, MapSpec, Refusal, Version};
 use nav_types::{Cell, Cost, NoMemory, Rect, Size};
 use obstruction_shapes::{Obstruction, Shape};
 use std::alloc::Global;
@@ -95,13 +93,13 @@ fn region_asked(alloc: Global, name: &[u8], x: i16) -> Option<Request> {
 /// Adds a path from the first cell of the row.
 fn push_path(alloc: Global, posts: &mut Posts, goal: GoalSpec) -> Option<()> {
     let class = ClassName::new(alloc, b"default").ok()?;
-    let post = Post::Path {
+    let request = Request::Path {
         class,
         x: halves(1),
         z: halves(1),
         goal,
     };
-    posts.push(post).ok()
+    posts.push(Post::Ask(request)).ok()
 }
 
 /// Adds a unit of half side 1/4 at a point of the row in halves.
@@ -111,20 +109,11 @@ fn push_unit(posts: &mut Posts, id: u32, x: i16) -> Option<()> {
         z: halves(1),
         half: Fixed::from_raw(16384),
     };
-    let post = Post::Add {
+    let edit = Edit::Add {
         id,
         obstruction: Obstruction { shape, mask: 65535 },
     };
-    posts.push(post).ok()
-}
-
-/// Whether each turn has a list for each caller.
-fn are_wide(journal: &[TurnPosts], callers: u8) -> bool
-    ensures { IsTrue result ↔ All (λ turn. length turn ≡ callers) journal.now }
-{
-    journal
-        .iter()
-        .all(|turn| turn.len() == usize::from(callers))
+    posts.push(Post::Edit(edit)).ok()
 }
 
 /// The journal of one turn.
@@ -134,14 +123,10 @@ fn journal_of(alloc: Global, turn: TurnPosts) -> Option<Journal> {
     Some(journal)
 }
 
-/// The replies of one thread to one turn; none where the turn lacks a caller.
+/// The replies of one thread to one turn.
 fn replies_of(alloc: Global, map: &MapSpec, turn: TurnPosts) -> Option<AllReplies> {
     let journal = journal_of(alloc, turn)?;
-    if are_wide(journal.as_slice(), map.callers()) {
-        one_thread(alloc, map, &journal).ok()
-    } else {
-        None
-    }
+    one_thread(alloc, map, &journal).ok()
 }
 
 /// A reply of the first turn to a caller.
@@ -151,20 +136,20 @@ fn reply_at(all: &AllReplies, caller: usize, place: usize) -> Option<&Reply> {
 
 /// Whether a path of one row stays in its first cell, near a goal that is out of its reach.
 fn stays(reply: Option<&Reply>) -> bool {
-    let Some(Reply::Path(path)) = reply else {
+    let Some(Reply::Answer(Answer::Path(path))) = reply else {
         return false;
     };
     path.start == Cell::new(0, 0)
         && path.end == Cell::new(0, 0)
         && path.near
         && path.cost == Cost(0)
-        && path.corners.is_empty()
+        && path.waypoints.is_empty()
 }
 
 /// Whether a path ends in the second cell of the row, and near its goal alone as is said.
 fn ends_in_the_second_cell(reply: Option<&Reply>, near: bool) -> bool {
     match reply {
-        Some(Reply::Path(path)) => path.end == Cell::new(1, 0) && path.near == near,
+        Some(Reply::Answer(Answer::Path(path))) => path.end == Cell::new(1, 0) && path.near == near,
         _ => false,
     }
 }
@@ -172,10 +157,10 @@ fn ends_in_the_second_cell(reply: Option<&Reply>, near: bool) -> bool {
 /// Whether a path takes one straight step, to the second cell of the row.
 fn takes_one_step(reply: Option<&Reply>) -> bool {
     match reply {
-        Some(Reply::Path(path)) => {
+        Some(Reply::Answer(Answer::Path(path))) => {
             path.cost == Cost(65536)
-                && path.corners.len() == 1
-                && path.corners.get(0) == Some(&Cell::new(1, 0))
+                && path.waypoints.len() == 1
+                && path.waypoints.get(0) == Some(&Cell::new(1, 0))
         }
         _ => false,
     }
@@ -225,7 +210,26 @@ fn numbers(all: &AllReplies) -> Option<(u64, u64, u64, u32)> {
 fn a_later_caller_blocks_the_path_of_a_turn(rt: HostRuntime) -> Result<(), Fail> {
     let all = replies_to_two(rt.alloc()).ok_or("no replies")?;
     assert!(rt; stays(reply_at(&all, 0, 0)));
-    assert!(rt; matches!(reply_at(&all, 1, 0), Some(Reply::Added(1))));
+    assert!(rt; matches!(reply_at(&all, 1, 0), Some(Reply::Edit(EditReply::Added(1)))));
+    assert_eq!(rt; numbers(&all), Some((2, 0, 2, 1)));
+    Ok(())
+}
+
+/// The same value, which threads may share.
+fn shared<T: Send + Sync>(value: T) -> T {
+    value
+}
+
+/// The replies to the turn of both callers, once more.
+fn copied_replies(alloc: Global) -> Option<AllReplies> {
+    let all = shared(replies_to_two(alloc)?);
+    all.copy(alloc).ok()
+}
+
+#[test]
+fn replies_of_turns_are_copied(rt: HostRuntime) -> Result<(), Fail> {
+    let all = copied_replies(rt.alloc()).ok_or("no replies")?;
+    assert!(rt; stays(reply_at(&all, 0, 0)));
     assert_eq!(rt; numbers(&all), Some((2, 0, 2, 1)));
     Ok(())
 }
@@ -267,7 +271,7 @@ fn is_refused(alloc: Global, version: &Version, request: Option<Request>, cause:
         return false;
     };
     match solve(alloc, version, &request) {
-        Ok(Reply::Refused(refusal)) => refusal == cause,
+        Ok(Answer::Refused(refusal)) => refusal == cause,
         _ => false,
     }
 }
@@ -331,7 +335,7 @@ fn is_answered(alloc: Global, version: &Version, x: i16, goal: GoalSpec) -> bool
         return false;
     };
     match solve(alloc, version, &request) {
-        Ok(Reply::Path(_)) => true,
+        Ok(Answer::Path(_)) => true,
         _ => false,
     }
 }
@@ -364,7 +368,7 @@ fn is_nowhere(alloc: Global, version: &Version) -> bool {
         return false;
     };
     match solve(alloc, version, &request) {
-        Ok(Reply::Nowhere) => true,
+        Ok(Answer::Nowhere) => true,
         _ => false,
     }
 }
@@ -395,7 +399,7 @@ fn is_in_region(alloc: Global, version: &Version, x: i16, expected: RegionAnswer
         return false;
     };
     match solve(alloc, version, &request) {
-        Ok(Reply::Region(answer)) => answer == expected,
+        Ok(Answer::Region(answer)) => answer == expected,
         _ => false,
     }
 }
@@ -451,17 +455,17 @@ fn run_jobs<R: Runner>(
 
 /// The answers to two jobs on a row of three cells.
 fn two_answers(alloc: Global) -> Option<Answers> {
-    let version = row_version(alloc, 3, None)?;
-    let jobs = two_jobs(alloc)?;
-    run_jobs(&Alone, alloc, &version, &jobs)
+    let version = shared(row_version(alloc, 3, None)?);
+    let jobs = shared(two_jobs(alloc)?.copy(alloc).ok()?);
+    run_jobs(&Alone, alloc, &version, &jobs).map(|answers| shared(answers))
 }
 
 #[test]
 fn answers_stand_in_the_places_of_their_jobs(rt: HostRuntime) -> Result<(), Fail> {
     let answers = two_answers(rt.alloc()).ok_or("no answers")?;
     assert_eq!(rt; answers.len(), 2);
-    assert!(rt; matches!(answers.get(0), Some(Reply::Refused(Refusal::UnknownClass))));
-    assert!(rt; matches!(answers.get(1), Some(Reply::Region(_))));
+    assert!(rt; matches!(answers.get(0), Some(Answer::Refused(Refusal::UnknownClass))));
+    assert!(rt; matches!(answers.get(1), Some(Answer::Region(_))));
     Ok(())
 }
 

@@ -2,15 +2,15 @@
 ghost use Rattle.std.specs.Prelude.{◌≡◌, ◌<◌, ℤ, IfOk, length};
 ghost use Rattle.fixed_point.specs.Plane.{IsOnAxis};
 ghost use Rattle.nav_types.specs.Cells.{IsInside};
-ghost use Rattle.goal_shapes.specs.Goals.{Holds};
-ghost use Rattle.goal_shapes.specs.Limits.{IsSound};
+ghost use Rattle.goal_shapes.specs.Goals.{HoldsPoint};
+ghost use Rattle.goal_shapes.specs.Limits.{IsSoundGoal};
 ghost use Rattle.grid_versions.specs.Passing.{passable_at};
 ghost use Rattle.turn_core.specs.Finding.{class_named, is_on_map, goal_found};
 ghost use Rattle.turn_core.specs.Solving.{is_near, IsPathTo, IsPathFound, IsRegionAnswer, IsRegionAt, IsAnswerAt, IsAnswerTo};
 
 use crate::finding::goal_of;
 use crate::posts::Request;
-use crate::replies::{Answer, PathAnswer, RegionAnswer, Reply};
+use crate::replies::{Answer, PathAnswer, RegionAnswer};
 use class_config::ClassName;
 use fixed_point::Fixed;
 use goal_reach::{Target, made_reachable, nearest_passable};
@@ -47,14 +47,14 @@ fn path_asked(
         (λ class. IsPathFound (passable_at version.now.map version.now.standing class) x z (goal_found version.now.map version.now.standing goal.now))) }
 {
     let Some(class) = version.map().classes().find(name) else {
-        return Ok(Reply::Refused(Refusal::UnknownClass));
+        return Ok(Answer::Refused(Refusal::UnknownClass));
     };
     if cell_of_point(x, z, version.map().size()).is_none() {
-        return Ok(Reply::Refused(Refusal::StartOutside));
+        return Ok(Answer::Refused(Refusal::StartOutside));
     }
     match goal_of(version, goal) {
         Ok(goal) => path_to(alloc, version, class, x, z, &goal),
-        Err(refusal) => Ok(Reply::Refused(refusal)),
+        Err(refusal) => Ok(Answer::Refused(refusal)),
     }
 }
 
@@ -71,23 +71,27 @@ fn path_to(
     requires class { class < length version.now.map.classes }
     requires column { IsOnAxis version.now.map.size.w x }
     requires row { IsOnAxis version.now.map.size.h z }
-    requires goal { IsSound version.now.map.size goal.now }
+    requires goal { IsSoundGoal version.now.map.size goal.now }
     ensures { IfOk result (IsPathTo (passable_at version.now.map version.now.standing class) x z goal.now) }
 {
     if version.passable_cells(class) == 0 {
-        return Ok(Reply::Nowhere);
+        return Ok(Answer::Nowhere);
     }
     let Some(start) = nearest_passable(version, class, x, z) else {
-        return Ok(Reply::Nowhere);
+        return Ok(Answer::Nowhere);
     };
     let target = made_reachable(version, class, start, goal);
-    let Found { end, cost, corners } = plain_search(alloc, version, class, start, &target)?;
-    Ok(Reply::Path(PathAnswer {
+    let Found {
+        end,
+        cost,
+        waypoints,
+    } = plain_search(alloc, version, class, start, &target)?;
+    Ok(Answer::Path(PathAnswer {
         start,
         end,
         near: is_near(&target),
         cost,
-        corners,
+        waypoints,
     }))
 }
 
@@ -107,19 +111,19 @@ fn region_asked(version: &Version, name: &ClassName, x: Fixed, z: Fixed) -> Answ
         (λ class. IsRegionAt (passable_at version.now.map version.now.standing class) x z) result }
 {
     let Some(class) = version.map().classes().find(name) else {
-        return Reply::Refused(Refusal::UnknownClass);
+        return Answer::Refused(Refusal::UnknownClass);
     };
     let Some(cell) = cell_of_point(x, z, version.map().size()) else {
-        return Reply::Refused(Refusal::StartOutside);
+        return Answer::Refused(Refusal::StartOutside);
     };
-    Reply::Region(region_at(version, class, cell))
+    Answer::Region(region_at(version, class, cell))
 }
 
 /// The chunk, the region and the area of a cell for a class.
 fn region_at(version: &Version, class: Class, cell: Cell) -> RegionAnswer
     requires class { class < length version.now.map.classes }
     requires inside { IsInside version.now.map.size cell }
-    ensures { (x : ℤ) (z : ℤ) → Holds x z cell → IsRegionAnswer (passable_at version.now.map version.now.standing class) x z result }
+    ensures { (x : ℤ) (z : ℤ) → HoldsPoint x z cell → IsRegionAnswer (passable_at version.now.map version.now.standing class) x z result }
 {
     let chunk = cell.chunk();
     RegionAnswer {

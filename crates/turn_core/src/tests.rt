@@ -1,11 +1,13 @@
 //! Events of small machines, with what they answer.
 ghost use Rattle.std.specs.Prelude.{◌≡◌, pos, ◌≤ℤ◌, IfOk};
 
-use crate::{Copied, Core, Event, PathAnswer, Post, Posts, Reply, StepRefusal, Takes, Why};
+use crate::{
+    Answer, Copied, Core, Event, PathAnswer, Post, Posts, Reply, Request, StepRefusal, Takes, Why,
+};
 use class_config::{ClassName, ClassTable};
 use fixed_point::Fixed;
 use goal_shapes::{Goal, GoalSpec};
-use grid_versions::{BaseRects, MapSpec};
+use grid_versions::{BaseRects, Edit, EditReply, MapSpec};
 use nav_types::{Cell, Cost, NoMemory, Sequence, Size};
 use obstruction_shapes::{Obstruction, Shape};
 use serde_json::Value;
@@ -27,22 +29,27 @@ pub(crate) fn one_class(alloc: Global) -> Option<ClassTable> {
     ClassTable::read(alloc, &value).ok()
 }
 
-/// A map of 3 by 1 navcells with one class of clearance 0.
-fn small_map(alloc: Global, callers: u8) -> Option<MapSpec> {
-    let size = Size::new(3, 1)?;
+/// A map of three columns and so many rows of navcells with one class of clearance 0.
+fn map_of(alloc: Global, rows: u16, callers: u8) -> Option<MapSpec> {
+    let size = Size::new(3, rows)?;
     let classes = one_class(alloc)?;
     MapSpec::new(1, size, callers, classes, BaseRects::new(alloc))
 }
 
 /// The machine of such a map.
-fn small_core(alloc: Global, callers: u8) -> Option<Core> {
-    let map = small_map(alloc, callers)?;
+fn core_of(alloc: Global, rows: u16, callers: u8) -> Option<Core> {
+    let map = map_of(alloc, rows, callers)?;
     Core::new(alloc, &map).ok()
 }
 
-/// A path from the first cell to the last.
+/// The machine of a map of one row.
+fn small_core(alloc: Global, callers: u8) -> Option<Core> {
+    core_of(alloc, 1, callers)
+}
+
+/// A path from the first cell of the first row to its last.
 fn path_post(alloc: Global) -> Option<Post> {
-    Some(Post::Path {
+    Some(Post::Ask(Request::Path {
         class: ClassName::new(alloc, b"default").ok()?,
         x: halves(1),
         z: halves(1),
@@ -50,20 +57,20 @@ fn path_post(alloc: Global) -> Option<Post> {
             x: halves(5),
             z: halves(1),
         }),
-    })
+    }))
 }
 
-/// A small unit in the middle of the map.
+/// A small unit in the middle of the first row.
 fn unit_post() -> Post {
     let shape = Shape::Unit {
         x: halves(3),
         z: halves(1),
         half: Fixed::from_raw(16384),
     };
-    Post::Add {
+    Post::Edit(Edit::Add {
         id: 1,
         obstruction: Obstruction { shape, mask: 65535 },
-    }
+    })
 }
 
 /// A stage that takes so many posts of two callers.
@@ -122,13 +129,13 @@ fn stays(path: &PathAnswer) -> bool {
         && path.end == Cell::new(0, 0)
         && path.near
         && path.cost == Cost(0)
-        && path.corners.is_empty()
+        && path.waypoints.is_empty()
 }
 
 /// Whether the reply is such a path.
 fn is_path_that_stays(reply: Option<Reply>) -> bool {
     match reply {
-        Some(Reply::Path(path)) => stays(&path),
+        Some(Reply::Answer(Answer::Path(path))) => stays(&path),
         _ => false,
     }
 }
@@ -136,7 +143,7 @@ fn is_path_that_stays(reply: Option<Reply>) -> bool {
 /// Whether the obstruction of the number was added.
 fn is_added(reply: Option<Reply>, number: u32) -> bool {
     match reply {
-        Some(Reply::Added(id)) => id == number,
+        Some(Reply::Edit(EditReply::Added(id))) => id == number,
         _ => false,
     }
 }
@@ -241,6 +248,50 @@ fn claimed_jobs_have_their_causes(rt: HostRuntime) -> Result<(), Fail> {
     assert!(rt; is_refused(&mut core, Event::Deliver, Why::Unanswered(0)));
     assert!(rt; go(&mut core, Event::Finish { job: 0 }).is_some());
     assert!(rt; is_refused(&mut core, Event::Finish { job: 0 }, Why::Answered(0)));
+    Ok(())
+}
+
+/// The one caller posts, and its post is staged.
+fn stage_one(alloc: Global, core: &mut Core, post: Post) -> Option<()> {
+    go(core, Event::Post { caller: 0, post })?;
+    let mut takes = Takes::new(alloc);
+    takes.push(1).ok()?;
+    go(core, Event::Stage { takes })
+}
+
+/// The machine of one caller on a map of two rows, where a path along the first row is staged beside a running turn that
+/// adds a unit in its middle.
+fn core_of_two_turns(alloc: Global) -> Option<Core> {
+    let mut core = core_of(alloc, 2, 1)?;
+    stage_one(alloc, &mut core, unit_post())?;
+    go(&mut core, Event::Start)?;
+    let post = path_post(alloc)?;
+    stage_one(alloc, &mut core, post)?;
+    Some(core)
+}
+
+/// Both turns are delivered.
+fn run_both(core: &mut Core) -> Option<()> {
+    go(core, Event::Deliver)?;
+    run_turn(core)
+}
+
+/// Whether a path goes round the middle of the first row by the second.
+fn goes_round(reply: Option<Reply>) -> bool {
+    match reply {
+        Some(Reply::Answer(Answer::Path(path))) => {
+            path.end == Cell::new(2, 0) && path.cost == Cost(4 * 65536) && path.waypoints.len() == 3
+        }
+        _ => false,
+    }
+}
+
+#[test]
+fn a_turn_beside_a_running_one_stands_on_its_edits(rt: HostRuntime) -> Result<(), Fail> {
+    let mut core = core_of_two_turns(rt.alloc()).ok_or("refused")?;
+    assert!(rt; run_both(&mut core).is_some());
+    assert!(rt; is_added(collected(&mut core, 0), 1));
+    assert!(rt; goes_round(collected(&mut core, 0)));
     Ok(())
 }
 

@@ -5,11 +5,9 @@ use Rattle.std.proofs.lemmas.Bool.{cases_order, and_parts, and_from, not-false, 
 use Rattle.std.proofs.lemmas.Nat.{mul-add-lt, div-mul-add, mod-mul-add, div-add-mod', same_from_place, div_below, mod_below}
 use Rattle.nav_types.specs.declared.cells.Cell.{Cell}
 use Rattle.nav_types.specs.declared.cells.Size.{Size}
-use Rattle.nav_types.specs.Cells.{cell_at, IsInside, IsNotAfter}
-use Rattle.walks.specs.Tables.{place_of, cell_of}
-
-pub same_cell : (a b : Cell) → a.j ≡ b.j → a.i ≡ b.i → a ≡ b
-same_cell a b rows columns = ap (λ (j : ℕ). cell_at a.i j) rows ∙ ap (λ (i : ℕ). cell_at i b.j) columns
+use Rattle.nav_types.specs.Cells.{IsInside, IsNotAfter}
+use Rattle.nav_types.proofs.CellOrder.{same_cell}
+use Rattle.walks.specs.inner.Tables.{place_of, cell_of}
 
 pub place_of-lt : (size : Size) (cell : Cell) → IsInside size cell → place_of size cell < size.w * size.h
 place_of-lt size cell inside = mul-add-lt cell.j size.w cell.i size.h inside.row inside.column
@@ -17,7 +15,7 @@ place_of-lt size cell inside = mul-add-lt cell.j size.w cell.i size.h inside.row
 pub place_of-inj : (size : Size) (a b : Cell) → IsInside size a → IsInside size b → place_of size a ≡ place_of size b → a ≡ b
 place_of-inj size a b in_a in_b e =
     let parts = same_from_place a.j a.i b.j b.i size.w in_a.column in_b.column e in
-    same_cell a b parts.0 parts.1
+    same_cell a b parts.1 parts.0
 
 pub cell_of-inside : (size : Size) (place : ℕ) → place < size.w * size.h → IsInside size (cell_of size place)
 cell_of-inside size place below =
@@ -31,7 +29,7 @@ place_of-cell_of size place = div-add-mod' place size.w
 
 pub cell_of-place_of : (size : Size) (cell : Cell) → IsInside size cell → cell_of size (place_of size cell) ≡ cell
 cell_of-place_of size cell inside =
-    same_cell (cell_of size (place_of size cell)) cell (div-mul-add cell.j size.w cell.i inside.column) (mod-mul-add cell.j size.w cell.i inside.column)
+    same_cell (cell_of size (place_of size cell)) cell (mod-mul-add cell.j size.w cell.i inside.column) (div-mul-add cell.j size.w cell.i inside.column)
 
 pub not_after : (size : Size) (a b : Cell) → IsInside size a → IsInside size b → place_of size a ≤ place_of size b → IsNotAfter a b
 not_after size a b in_a in_b below =
@@ -48,7 +46,7 @@ not_after size a b in_a in_b below =
 pub same_tested : (a b : Cell) (test : Bool) → test ≡ not (eqb a.j b.j && eqb a.i b.i) → test ≡ false → a ≡ b
 same_tested a b test is tested =
     let parts = and_parts (eqb a.j b.j) (eqb a.i b.i) (not-false (eqb a.j b.j && eqb a.i b.i) (sym is ∙ tested)) in
-    same_cell a b (eqb-true a.j b.j parts.0) (eqb-true a.i b.i parts.1)
+    same_cell a b (eqb-true a.i b.i parts.1) (eqb-true a.j b.j parts.0)
 
 pub other_tested : (a b : Cell) (test : Bool) → test ≡ not (eqb a.j b.j && eqb a.i b.i) → test ≡ true → b ≡ a → ⊥
 other_tested a b test is tested same =

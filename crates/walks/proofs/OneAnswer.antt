@@ -3,12 +3,11 @@ use Rattle.std.proofs.Common.{◌≡◌, ℕ, ◌≤◌, inl, inr, List, [], ◌
 use Rattle.std.proofs.lemmas.List.{reverse-reverse}
 use Rattle.nav_types.specs.declared.cells.Cell.{Cell}
 use Rattle.nav_types.specs.declared.directions.Dir.{Dir}
-use Rattle.nav_types.specs.Cells.{IsNotAfter}
 use Rattle.nav_types.specs.Directions.{Leads}
 use Rattle.nav_types.specs.Walks.{walk_cost, IsDistance}
 use Rattle.walks.specs.Chosen.{Enters, preference, IsFirstIn, IsPicked, IsChosenBack, IsChosen, IsAnswer}
-use Rattle.walks.proofs.CellPlaces.{same_cell}
-use Rattle.walks.proofs.Walking.{leads_from_same}
+use Rattle.nav_types.proofs.CellOrder.{IsNotAfter-antisym}
+use Rattle.nav_types.proofs.Walking.{leads_from_same}
 use Rattle.walks.proofs.Tracing.{chosen_walk}
 
 -- the first of a list within a set is one
@@ -44,13 +43,6 @@ one_chosen_back passes start next (x ∷ xs) (y ∷ ys) cell p q =
     let rest : xs ≡ ys = one_chosen_back passes start (Some x) xs ys p.1.1.0 p.1.1.1.1 moved in
     cc
 
--- of two cells of which neither is after the other, both are one
-one_place : (a b : Cell) → IsNotAfter a b → IsNotAfter b a → a ≡ b
-one_place a b (inl p) (inl q) = absurd (omega arith)
-one_place a b (inl p) (inr q) = let q0 = q.0 in absurd (omega arith)
-one_place a b (inr p) (inl q) = let p0 = p.0 in absurd (omega arith)
-one_place a b (inr p) (inr q) = let p1 = p.1 in let q1 = q.1 in same_cell a b p.0 (omega arith)
-
 -- the cost of an answer is the distance of its end
 distance_of : (passes : Cell → Bool) (start : Cell) (hit : Cell → Bool) (e : Cell) (c : ℕ) (xs : List Cell) → IsAnswer passes start hit e c xs → IsDistance passes start e c
 distance_of passes start hit e c xs p = record {
@@ -67,7 +59,7 @@ one_answer passes start hit e f c d xs ys p q =
     let above : d ≤ walk_cost at_e.walk.0 = q.nearest e at_e.walk.0 p.is_hit at_e.walk.1.0 in
     let here = at_e.walk.1.1 in let there = at_f.walk.1.1 in
     let cost : c ≡ d = omega arith in
-    let end : e ≡ f = one_place e f
+    let end : e ≡ f = IsNotAfter-antisym e f
     (p.first f q.is_hit (subst (λ (n : ℕ). IsDistance passes start f n) (sym cost) at_f))
     (q.first e p.is_hit (subst (λ (n : ℕ). IsDistance passes start e n) cost at_e)) in
     let chosen : IsChosen passes start q.walk.0 e = subst (λ (z : Cell). IsChosen passes start q.walk.0 z) (sym end) q.walk.1.0 in

@@ -12,9 +12,9 @@ use Rattle.nav_types.specs.declared.directions.Dir.TheVariants.{N, E, S, W, NE, 
 use Rattle.nav_types.specs.Cells.{IsInside}
 use Rattle.nav_types.specs.Directions.{step_cost}
 use Rattle.nav_types.specs.Walks.{Step, IsWalk, walk_cost}
-use Rattle.walks.specs.Tables.{place_of, cell_of, entry, unreached, Covers, IsSound, IsTable, IsSettledAlong, IsSettledAt, IsSettled, Relaxes, IsExact}
+use Rattle.walks.specs.inner.Tables.{place_of, cell_of, entry, unreached, CoversMap, IsSoundTable, IsSoundForSome, IsSettledAlong, IsSettledAt, IsSettled, Relaxes, HasDistances}
 use Rattle.walks.proofs.CellPlaces.{place_of-lt, place_of-inj, cell_of-place_of}
-use Rattle.walks.proofs.Walking.{walk_push, walk_cost_push, leads_to_same}
+use Rattle.nav_types.proofs.Walking.{IsWalk-push, walk_cost-push, leads_to_same}
 
 pub step_cost_most : (dir : Dir) → step_cost dir ≤ 92682
 step_cost_most N = omega arith
@@ -55,7 +55,7 @@ blank_at n p k below =
           ]
     ]
 
-pub sound_blank : (passes : Cell → Bool) (start : Cell) (size : Size) → IsInside size start → IsSound passes start size (set (replicate (size.w * size.h) unreached) (place_of size start) 0)
+pub sound_blank : (passes : Cell → Bool) (start : Cell) (size : Size) → IsInside size start → IsSoundTable passes start size (set (replicate (size.w * size.h) unreached) (place_of size start) 0)
 sound_blank passes start size inside =
     let n = size.w * size.h in
     let p = place_of size start in
@@ -108,7 +108,7 @@ unfolding weight
 counted costs p cost below = sum_by-set (λ (x : ℕ). cond (ltb x unreached) 1 0) costs p cost 0 below
 
 few_lowered : (passes : Cell → Bool) (start : Cell) (size : Size) (costs : List ℕ) (cell next : Cell) (dir : Dir) (cost : ℕ)
-    → IsLowered passes size costs cell next dir cost → IsSound passes start size costs
+    → IsLowered passes size costs cell next dir cost → IsSoundTable passes start size costs
     → (k : ℕ) → get_or (set costs (place_of size next) cost) k 0 < unreached
     → get_or (set costs (place_of size next) cost) k 0 ≤ 92682 * count_by (λ x. ltb x unreached) (set costs (place_of size next) cost)
 few_lowered passes start size costs cell next dir cost low sound k below =
@@ -134,7 +134,7 @@ few_lowered passes start size costs cell next dir cost low sound k below =
     ]
 
 walks_lowered : (passes : Cell → Bool) (start : Cell) (size : Size) (costs : List ℕ) (cell next : Cell) (dir : Dir) (cost : ℕ)
-    → IsLowered passes size costs cell next dir cost → IsSound passes start size costs
+    → IsLowered passes size costs cell next dir cost → IsSoundTable passes start size costs
     → (at : Cell) → IsInside size at → entry size (set costs (place_of size next) cost) at < unreached
     → (dirs : List Dir) × (IsWalk passes start dirs at × (walk_cost dirs ≡ entry size (set costs (place_of size next) cost) at))
 walks_lowered passes start size costs cell next dir cost low sound at in_at below =
@@ -147,9 +147,9 @@ walks_lowered passes start size costs cell next dir cost low sound at in_at belo
           let walk = sound.walks cell low.in_cell known in
           let P = λ (c : Cell). IsWalk passes start (walk.0 ++ dir ∷ []) c in
           let value : entry size (set costs p cost) at ≡ cost = ap (λ (i : ℕ). get_or (set costs p cost) i 0) same ∙ get_or-set_same costs p cost 0 within in
-          let sums = walk_cost_push walk.0 dir in
+          let sums = walk_cost-push walk.0 dir in
           let was = walk.1.1 in
-          (walk.0 ++ dir ∷ [], (subst P is_next (walk_push passes walk.0 start cell next dir walk.1.0 low.step), omega (arith, low.is)))
+          (walk.0 ++ dir ∷ [], (subst P is_next (IsWalk-push passes walk.0 start cell next dir walk.1.0 low.step), omega (arith, low.is)))
       | inr other ↦
           let off : entry size (set costs p cost) at ≡ entry size costs at = get_or-set_other costs p (place_of size at) cost 0 other in
           let walk = sound.walks at in_at (omega arith) in
@@ -157,7 +157,7 @@ walks_lowered passes start size costs cell next dir cost low sound at in_at belo
     ]
 
 sound_lowered : (passes : Cell → Bool) (start : Cell) (size : Size) (costs : List ℕ) (cell next : Cell) (dir : Dir) (cost : ℕ)
-    → IsLowered passes size costs cell next dir cost → IsSound passes start size costs → IsSound passes start size (set costs (place_of size next) cost)
+    → IsLowered passes size costs cell next dir cost → IsSoundTable passes start size costs → IsSoundTable passes start size (set costs (place_of size next) cost)
 sound_lowered passes start size costs cell next dir cost low sound =
     let p = place_of size next in
     let within : p < length costs = omega (arith, place_of-lt size next low.in_next, sound.covers) in
@@ -177,14 +177,14 @@ sound_lowered passes start size costs cell next dir cost low sound =
 
 -- what a step along one direction leaves, by whether the cost fell
 pub relaxes_along : (passes : Cell → Bool) (size : Size) (costs news : List ℕ) (cell next : Cell) (dir : Dir) (cost : ℕ) (fell : Bool)
-    → Covers size costs → IsInside size cell → IsInside size next → Step passes dir cell next → cost ≡ entry size costs cell + step_cost dir
+    → CoversMap size costs → IsInside size cell → IsInside size next → Step passes dir cell next → cost ≡ entry size costs cell + step_cost dir
     → fell ≡ ltb cost (entry size costs next) → news ≡ cond fell (set costs (place_of size next) cost) costs
     → Relaxes passes size (IsSettledAlong passes size cell dir) costs news fell
 relaxes_along passes size costs news cell next dir cost true covers in_cell in_next step is tested lowered =
     let low : IsLowered passes size costs cell next dir cost = record { in_cell = in_cell; in_next = in_next; step = step; is = is; less = ltb-true cost (entry size costs next) (sym tested) } in
     let within : place_of size next < length costs = omega (arith, place_of-lt size next in_next, covers) in
     record {
-      sound = λ start sound. let P = λ (table : List ℕ). IsSound passes start size table in subst P (sym lowered) (sound_lowered passes start size costs cell next dir cost low sound);
+      sound = λ start sound. let P = λ (table : List ℕ). IsSoundTable passes start size table in subst P (sym lowered) (sound_lowered passes start size costs cell next dir cost low sound);
       less = λ _. omega (arith, ap sum lowered, sum_by-set (λ (x : ℕ). x) costs (place_of size next) cost 0 within, low.less);
       same = λ e. absurd (both_ways true e refl);
       settled = λ e. absurd (both_ways true e refl);
@@ -192,7 +192,7 @@ relaxes_along passes size costs news cell next dir cost true covers in_cell in_n
 relaxes_along passes size costs news cell next dir cost false covers in_cell in_next step is tested kept =
     let no_less : entry size costs next ≤ cost = ltb-false cost (entry size costs next) (sym tested) in
     record {
-      sound = λ start sound. let P = λ (table : List ℕ). IsSound passes start size table in subst P (sym kept) sound;
+      sound = λ start sound. let P = λ (table : List ℕ). IsSoundTable passes start size table in subst P (sym kept) sound;
       less = λ e. absurd (both_ways false refl e);
       same = λ _. kept;
       settled = λ _. λ other taken.
@@ -209,7 +209,7 @@ relaxes_none passes size Settled costs settled = record {
   settled = λ _. settled;
 }
 
--- one turn more of a loop
+-- one round more of a loop
 pub relaxes_more : (passes : Cell → Bool) (size : Size) (Settled : ℕ → List ℕ → Type 0) (i : ℕ) (a b c : List ℕ) (f g : Bool)
     → Relaxes passes size (λ table. (k : ℕ) → k < i → Settled k table) a b f → Relaxes passes size (Settled i) b c g
     → Relaxes passes size (λ table. (k : ℕ) → k < i + 1 → Settled k table) a c (f || g)
@@ -241,16 +241,16 @@ relaxes_as passes size Settled Wanted a b f turn relaxes = record {
   settled = λ e. turn b (relaxes.settled e);
 }
 
-pub table_kept : (passes : Cell → Bool) (size : Size) (Settled : List ℕ → Type 0) (a b : List ℕ) (f : Bool) → Relaxes passes size Settled a b f → IsTable passes size a → IsTable passes size b
+pub table_kept : (passes : Cell → Bool) (size : Size) (Settled : List ℕ → Type 0) (a b : List ℕ) (f : Bool) → Relaxes passes size Settled a b f → IsSoundForSome passes size a → IsSoundForSome passes size b
 table_kept passes size Settled a b f relaxes table = (table.0, relaxes.sound table.0 table.1)
 
-pub settled_in_turn : (passes : Cell → Bool) (size : Size) (costs : List ℕ) (forward : Bool) (count turn : ℕ) → count ≡ size.w * size.h → count ≤ turn
-    → ((k : ℕ) → k < turn → IsSettledAt passes size (cell_of size (cond forward k (count - 1 - k))) costs) → IsSettled passes size costs
-settled_in_turn passes size costs true count turn whole past each = λ cell inside.
+pub settled_throughout : (passes : Cell → Bool) (size : Size) (costs : List ℕ) (forward : Bool) (count passed : ℕ) → count ≡ size.w * size.h → count ≤ passed
+    → ((k : ℕ) → k < passed → IsSettledAt passes size (cell_of size (cond forward k (count - 1 - k))) costs) → IsSettled passes size costs
+settled_throughout passes size costs true count passed whole past each = λ cell inside.
     let below = place_of-lt size cell inside in
     let P = λ (c : Cell). IsSettledAt passes size c costs in
     subst P (cell_of-place_of size cell inside) (each (place_of size cell) (omega arith))
-settled_in_turn passes size costs false count turn whole past each = λ cell inside.
+settled_throughout passes size costs false count passed whole past each = λ cell inside.
     let below = place_of-lt size cell inside in
     let P = λ (c : Cell). IsSettledAt passes size c costs in
     let back : count - 1 - (count - 1 - place_of size cell) ≡ place_of size cell = omega arith in
@@ -275,7 +275,7 @@ walk_most passes size costs within settled (dir ∷ dirs) from to walk =
     let step = walk.1.0 in
     omega (arith, settled from (within from step.start) dir walk.0 step, walk_most passes size costs within settled dirs walk.0 to walk.1.1, sum_by-cons step_cost dir dirs)
 
-walk_reached : (passes : Cell → Bool) (start : Cell) (size : Size) (costs : List ℕ) → ((cell : Cell) → IsTrue (passes cell) → IsInside size cell) → IsSettled passes size costs → IsSound passes start size costs
+walk_reached : (passes : Cell → Bool) (start : Cell) (size : Size) (costs : List ℕ) → ((cell : Cell) → IsTrue (passes cell) → IsInside size cell) → IsSettled passes size costs → IsSoundTable passes start size costs
     → (dirs : List Dir) (from to : Cell) → entry size costs from < unreached → IsWalk passes from dirs to → entry size costs to < unreached
 walk_reached passes start size costs within settled sound [] from to below walk = omega (arith, ap (entry size costs) walk)
 walk_reached passes start size costs within settled sound (dir ∷ dirs) from to below walk =
@@ -285,8 +285,8 @@ walk_reached passes start size costs within settled sound (dir ∷ dirs) from to
     let next : entry size costs walk.0 < unreached = omega (arith, settled from (within from step.start) dir walk.0 step, step_cost_most dir) in
     walk_reached passes start size costs within settled sound dirs walk.0 to next walk.1.1
 
-pub exact_settled : (passes : Cell → Bool) (start : Cell) (size : Size) (costs : List ℕ) → ((cell : Cell) → IsTrue (passes cell) → IsInside size cell) → IsSettled passes size costs → IsSound passes start size costs
-    → IsExact passes start size costs
+pub exact_settled : (passes : Cell → Bool) (start : Cell) (size : Size) (costs : List ℕ) → ((cell : Cell) → IsTrue (passes cell) → IsInside size cell) → IsSettled passes size costs → IsSoundTable passes start size costs
+    → HasDistances passes start size costs
 exact_settled passes start size costs within settled sound = record {
   covers = sound.covers;
   most = sound.most;

@@ -7,13 +7,14 @@ use Rattle.nav_types.specs.declared.cells.Cell.{Cell}
 use Rattle.nav_types.specs.declared.cells.Size.{Size}
 use Rattle.nav_types.specs.declared.directions.Dir.{Dir}
 use Rattle.nav_types.specs.Cells.{IsInside, IsNotAfter}
-use Rattle.nav_types.specs.Directions.{step_cost, Leads}
+use Rattle.nav_types.specs.Directions.{opposite, step_cost, Leads}
 use Rattle.nav_types.specs.Walks.{Step, IsWalk, walk_cost, IsDistance}
 use Rattle.walks.specs.Waypoints.{IsInGrid, StaysInGrid, waypoints}
-use Rattle.walks.specs.Chosen.{CanReach, Enters, preference, IsFirstIn, CanGoStraight, IsPicked, IsChosenBack, IsChosen, IsAnswer}
-use Rattle.walks.specs.Tables.{place_of, cell_of, entry, unreached, IsExact, IsReached, Arrives}
+use Rattle.walks.specs.Chosen.{Enters, preference, IsFirstIn, CanGoStraight, IsPicked, IsChosenBack, IsChosen, IsAnswer}
+use Rattle.nav_types.specs.Walks.{CanReach}
+use Rattle.walks.specs.inner.Tables.{place_of, cell_of, entry, unreached, HasDistances, IsReachedCell, Arrives}
 use Rattle.walks.proofs.CellPlaces.{place_of-lt, place_of-cell_of, cell_of-place_of, cell_of-inside, not_after}
-use Rattle.walks.proofs.Walking.{walk_push, walk_cost_push, walk_passes, distance_unique, leads_from_same, IsBack, leads_back, step_back, turned_back}
+use Rattle.nav_types.proofs.Walking.{IsWalk-push, walk_cost-push, IsWalk-passes, IsDistance-unique, leads_from_same, Leads-from_opposite, Step-opposite, Step-from_opposite}
 use Rattle.walks.proofs.Sweeping.{step_cost_some}
 
 -- the least cost of a hit cell among the first places, and the first place that has it
@@ -74,14 +75,14 @@ nearest_lower size costs hit count least best near whole target inside target_hi
     near.lower (place_of size target) (omega (arith, place_of-lt size target inside)) (hit_at size hit target inside target_hit)
 
 pub nearest_some : (size : Size) (costs : List ℕ) (hit : Cell → Bool) (count least best : ℕ) → IsNearest costs (λ k. hit (cell_of size k)) count least best
-    → size.w * size.h ≤ count → (cell : Cell) × (IsTrue (hit cell) × IsReached size costs cell) → least < unreached
+    → size.w * size.h ≤ count → (cell : Cell) × (IsTrue (hit cell) × IsReachedCell size costs cell) → least < unreached
 nearest_some size costs hit count least best near whole some =
     let reached = some.1.1 in
     omega (arith, nearest_lower size costs hit count least best near whole some.0 reached.inside some.1.0, reached.walked)
 
 -- what the cell at the best place is
 pub record IsNearestCell (size : Size) (costs : List ℕ) (hit : Cell → Bool) (cell : Cell) : Type 0 where
-  pub reached : IsReached size costs cell
+  pub reached : IsReachedCell size costs cell
   pub is_hit : IsTrue (hit cell)
   pub nearest : (target : Cell) → IsInside size target → IsTrue (hit target) → entry size costs cell ≤ entry size costs target
   pub first : (target : Cell) → IsInside size target → IsTrue (hit target) → entry size costs target ≡ entry size costs cell → IsNotAfter cell target
@@ -110,20 +111,20 @@ nearest_all size costs hit count least best cell near whole some is =
 
 -- arrivals
 
-pub arrives : (passes : Cell → Bool) (start : Cell) (size : Size) (costs : List ℕ) (cell before : Cell) (dir back : Dir)
-    → ((cell : Cell) → IsTrue (passes cell) → IsInside size cell) → IsExact passes start size costs → IsReached size costs cell
-    → IsBack dir back → Step passes back cell before → entry size costs before + step_cost dir ≡ entry size costs cell
+pub arrives : (passes : Cell → Bool) (start : Cell) (size : Size) (costs : List ℕ) (cell before : Cell) (dir : Dir)
+    → ((cell : Cell) → IsTrue (passes cell) → IsInside size cell) → HasDistances passes start size costs → IsReachedCell size costs cell
+    → Step passes (opposite dir) cell before → entry size costs before + step_cost dir ≡ entry size costs cell
     → Arrives passes start size costs cell dir before
-arrives passes start size costs cell before dir back within exact reached turn step same =
+arrives passes start size costs cell before dir within exact reached step same =
     let here = reached.walked in
     let inside = within before step.next in
     let walked : entry size costs before < unreached = omega arith in
     let P = λ (cost : ℕ). IsDistance passes start cell cost in
     record {
-      leads = leads_back dir back cell before turn step.leads;
+      leads = Leads-from_opposite dir cell before step.leads;
       enters = record {
         before = before;
-        step = step_back passes dir back cell before turn step;
+        step = Step-from_opposite passes dir cell before step;
         cost = entry size costs before;
         near = exact.distance before inside walked;
         far = subst P (sym same) (exact.distance cell reached.inside here);
@@ -132,21 +133,21 @@ arrives passes start size costs cell before dir back within exact reached turn s
       less = omega (arith, step_cost_some dir);
     }
 
-pub no_step_enters : (passes : Cell → Bool) (start cell : Cell) (dir back : Dir) → IsBack dir back → ((next : Cell) → Step passes back cell next → ⊥) → Enters passes start cell dir → ⊥
-no_step_enters passes start cell dir back turn none enters =
-    none enters.before (step_back passes back dir enters.before cell (turned_back dir back turn) enters.step)
+pub no_step_enters : (passes : Cell → Bool) (start cell : Cell) (dir : Dir) → ((next : Cell) → Step passes (opposite dir) cell next → ⊥) → Enters passes start cell dir → ⊥
+no_step_enters passes start cell dir none enters =
+    none enters.before (Step-opposite passes dir enters.before cell enters.step)
 
-pub other_cost_enters : (passes : Cell → Bool) (start : Cell) (size : Size) (costs : List ℕ) (cell before : Cell) (dir back : Dir)
-    → ((cell : Cell) → IsTrue (passes cell) → IsInside size cell) → IsExact passes start size costs → IsReached size costs cell
-    → IsBack dir back → Step passes back cell before → (entry size costs before + step_cost dir ≡ entry size costs cell → ⊥)
+pub other_cost_enters : (passes : Cell → Bool) (start : Cell) (size : Size) (costs : List ℕ) (cell before : Cell) (dir : Dir)
+    → ((cell : Cell) → IsTrue (passes cell) → IsInside size cell) → HasDistances passes start size costs → IsReachedCell size costs cell
+    → Step passes (opposite dir) cell before → (entry size costs before + step_cost dir ≡ entry size costs cell → ⊥)
     → Enters passes start cell dir → ⊥
-other_cost_enters passes start size costs cell before dir back within exact reached turn step other enters =
+other_cost_enters passes start size costs cell before dir within exact reached step other enters =
     let inside = within enters.before enters.step.start in
     let walk = enters.near.walk in
     let walked = exact.reached enters.before walk.0 inside walk.1.0 in
-    let near : enters.cost ≡ entry size costs enters.before = distance_unique passes start enters.before _ _ enters.near (exact.distance enters.before inside walked) in
-    let far : enters.cost + step_cost dir ≡ entry size costs cell = distance_unique passes start cell _ _ enters.far (exact.distance cell reached.inside reached.walked) in
-    let same : enters.before ≡ before = leads_from_same dir enters.before before cell enters.step.leads (leads_back dir back cell before turn step.leads) in
+    let near : enters.cost ≡ entry size costs enters.before = IsDistance-unique passes start enters.before _ _ enters.near (exact.distance enters.before inside walked) in
+    let far : enters.cost + step_cost dir ≡ entry size costs cell = IsDistance-unique passes start cell _ _ enters.far (exact.distance cell reached.inside reached.walked) in
+    let same : enters.before ≡ before = leads_from_same dir enters.before before cell enters.step.leads (Leads-from_opposite dir cell before step.leads) in
     let moved = ap (entry size costs) same in
     other (omega arith)
 
@@ -191,7 +192,7 @@ chosen_back_walk passes start (dir ∷ dirs) next cell chosen =
     let same : enters.before ≡ after.0 = leads_from_same dir enters.before after.0 cell enters.step.leads after.1.0 in
     let P = λ (c : Cell). Step passes dir c cell in
     let Q = λ (walk : List Dir). IsWalk passes start walk cell in
-    subst Q (turned dir dirs) (walk_push passes (reverse dirs) start after.0 cell dir (chosen_back_walk passes start dirs (Some dir) after.0 after.1.1) (subst P same enters.step))
+    subst Q (turned dir dirs) (IsWalk-push passes (reverse dirs) start after.0 cell dir (chosen_back_walk passes start dirs (Some dir) after.0 after.1.1) (subst P same enters.step))
 
 chosen_back_cost : (passes : Cell → Bool) (start : Cell) (back : List Dir) (next : Option Dir) (cell : Cell) (cost : ℕ) → IsChosenBack passes start next back cell → IsDistance passes start cell cost → walk_cost (reverse back) ≡ cost
 chosen_back_cost passes start [] next cell cost chosen distance = let least = distance.least [] chosen in omega arith
@@ -201,8 +202,8 @@ chosen_back_cost passes start (dir ∷ dirs) next cell cost chosen distance =
     let same : enters.before ≡ after.0 = leads_from_same dir enters.before after.0 cell enters.step.leads after.1.0 in
     let P = λ (c : Cell). IsDistance passes start c enters.cost in
     let rest : walk_cost (reverse dirs) ≡ enters.cost = chosen_back_cost passes start dirs (Some dir) after.0 enters.cost after.1.1 (subst P same enters.near) in
-    let all : cost ≡ enters.cost + step_cost dir = distance_unique passes start cell cost (enters.cost + step_cost dir) distance enters.far in
-    let sums : walk_cost (reverse dirs ++ dir ∷ []) ≡ walk_cost (reverse dirs) + step_cost dir = walk_cost_push (reverse dirs) dir in
+    let all : cost ≡ enters.cost + step_cost dir = IsDistance-unique passes start cell cost (enters.cost + step_cost dir) distance enters.far in
+    let sums : walk_cost (reverse dirs ++ dir ∷ []) ≡ walk_cost (reverse dirs) + step_cost dir = walk_cost-push (reverse dirs) dir in
     ap walk_cost (sym (turned dir dirs)) ∙ omega arith
 
 pub chosen_turned : (passes : Cell → Bool) (start end : Cell) (back dirs : List Dir) → dirs ≡ reverse back → IsChosenBack passes start None back end → IsChosen passes start dirs end
@@ -233,32 +234,32 @@ stays_in_grid passes size within (dir ∷ dirs) from to passing walk =
     let step = walk.1.0 in
     (in_grid size from (within from passing), (walk.0, (step.leads, stays_in_grid passes size within dirs walk.0 to step.next walk.1.1)))
 
-pub can_reach : (passes : Cell → Bool) (start : Cell) (hit : Cell → Bool) (size : Size) (costs : List ℕ) → ((cell : Cell) → IsTrue (passes cell) → IsInside size cell) → IsExact passes start size costs
-    → IsTrue (passes start) → CanReach passes start hit → (cell : Cell) × (IsTrue (hit cell) × IsReached size costs cell)
+pub can_reach : (passes : Cell → Bool) (start : Cell) (hit : Cell → Bool) (size : Size) (costs : List ℕ) → ((cell : Cell) → IsTrue (passes cell) → IsInside size cell) → HasDistances passes start size costs
+    → IsTrue (passes start) → CanReach passes start hit → (cell : Cell) × (IsTrue (hit cell) × IsReachedCell size costs cell)
 can_reach passes start hit size costs within exact passing reach =
     let target = reach.0 in
     let walk = reach.1.1 in
-    let inside = within target (walk_passes passes walk.0 start target passing walk.1) in
+    let inside = within target (IsWalk-passes passes walk.0 start target passing walk.1) in
     (target, (reach.1.0, record { inside = inside; walked = exact.reached target walk.0 inside walk.1 }))
 
 -- the answer
 
-pub answered : (passes : Cell → Bool) (start : Cell) (hit : Cell → Bool) (size : Size) (costs : List ℕ) (end : Cell) (cost : ℕ) (dirs : List Dir) (corners : List Cell)
-    → ((cell : Cell) → IsTrue (passes cell) → IsInside size cell) → IsExact passes start size costs → IsTrue (passes start)
-    → IsNearestCell size costs hit end → cost ≡ entry size costs end → IsChosen passes start dirs end → corners ≡ waypoints start dirs
-    → IsAnswer passes start hit end cost corners
-answered passes start hit size costs end cost dirs corners within exact passing near is chosen turns =
+pub answered : (passes : Cell → Bool) (start : Cell) (hit : Cell → Bool) (size : Size) (costs : List ℕ) (end : Cell) (cost : ℕ) (dirs : List Dir) (points : List Cell)
+    → ((cell : Cell) → IsTrue (passes cell) → IsInside size cell) → HasDistances passes start size costs → IsTrue (passes start)
+    → IsNearestCell size costs hit end → cost ≡ entry size costs end → IsChosen passes start dirs end → points ≡ waypoints start dirs
+    → IsAnswer passes start hit end cost points
+answered passes start hit size costs end cost dirs points within exact passing near is chosen turns =
     let distance = exact.distance end near.reached.inside near.reached.walked in
     record {
       is_hit = near.is_hit;
       walk = (dirs, (chosen, (chosen_cost passes start end dirs (entry size costs end) chosen distance ∙ sym is, turns)));
       nearest = λ target others target_hit walk.
-          (let inside = within target (walk_passes passes others start target passing walk) in
+          (let inside = within target (IsWalk-passes passes others start target passing walk) in
           let there = exact.distance target inside (exact.reached target others inside walk) in
           omega (arith, near.nearest target inside target_hit, there.least others walk));
       first = λ target target_hit there.
           (let walk = there.walk in
-          let inside = within target (walk_passes passes walk.0 start target passing walk.1.0) in
-          let same = distance_unique passes start target cost (entry size costs target) there (exact.distance target inside (exact.reached target walk.0 inside walk.1.0)) in
+          let inside = within target (IsWalk-passes passes walk.0 start target passing walk.1.0) in
+          let same = IsDistance-unique passes start target cost (entry size costs target) there (exact.distance target inside (exact.reached target walk.0 inside walk.1.0)) in
           near.first target inside target_hit (sym same ∙ is));
     }

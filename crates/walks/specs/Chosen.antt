@@ -5,12 +5,8 @@ use Rattle.nav_types.specs.declared.directions.Dir.{Dir}
 use Rattle.nav_types.specs.declared.directions.Dir.TheVariants.{N, E, S, W, NE, SE, SW, NW}
 use Rattle.nav_types.specs.Cells.{IsNotAfter}
 use Rattle.nav_types.specs.Directions.{is_straight, step_cost, Leads}
-use Rattle.nav_types.specs.Walks.{Step, IsWalk, walk_cost, Joined, IsDistance}
+use Rattle.nav_types.specs.Walks.{Step, IsWalk, walk_cost, IsDistance}
 use Rattle.walks.specs.Waypoints.{waypoints}
-
--- some cell that is hit is joined to the start
-abbrev pub CanReach : (Cell → Bool) → Cell → (Cell → Bool) → Type 0
-CanReach passes start hit = (target : Cell) × (IsTrue (hit target) × Joined passes start target)
 
 -- a legal step in the direction enters the cell at the end of a walk of least cost from the start
 pub record Enters (passes : Cell → Bool) (start cell : Cell) (dir : Dir) : Type 0 where
@@ -49,8 +45,8 @@ abbrev pub IsChosen : (Cell → Bool) → Cell → List Dir → Cell → Type 0
 IsChosen passes start dirs end = IsChosenBack passes start None (reverse dirs) end
 
 -- the first in cell order of the nearest hit cells, with the cost and the waypoints of the chosen walk to it
-pub record IsAnswer (passes : Cell → Bool) (start : Cell) (hit : Cell → Bool) (end : Cell) (cost : ℕ) (corners : List Cell) : Type 0 where
+pub record IsAnswer (passes : Cell → Bool) (start : Cell) (hit : Cell → Bool) (end : Cell) (cost : ℕ) (points : List Cell) : Type 0 where
   pub is_hit : IsTrue (hit end)
-  pub walk : (dirs : List Dir) × (IsChosen passes start dirs end × ((walk_cost dirs ≡ cost) × (corners ≡ waypoints start dirs)))
+  pub walk : (dirs : List Dir) × (IsChosen passes start dirs end × ((walk_cost dirs ≡ cost) × (points ≡ waypoints start dirs)))
   pub nearest : (target : Cell) (dirs : List Dir) → IsTrue (hit target) → IsWalk passes start dirs target → cost ≤ walk_cost dirs
   pub first : (target : Cell) → IsTrue (hit target) → IsDistance passes start target cost → IsNotAfter end target

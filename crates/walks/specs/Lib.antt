@@ -1,3 +1,3 @@
 pub mod Waypoints
 pub mod Chosen
-pub mod Tables
+pub mod inner

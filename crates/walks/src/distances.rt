@@ -3,11 +3,10 @@
 ghost use Rattle.std.specs.Prelude.{◌≡◌, ◌≢◌, ◌<◌, ◌≤◌, IsTrue, IfOk, IfSome, IfNone, reverse};
 ghost use Rattle.nav_types.specs.declared.cells.Cell.{Cell};
 ghost use Rattle.nav_types.specs.Cells.{IsInside, IsNotAfter};
-ghost use Rattle.nav_types.specs.Directions.{east, west, north, south};
 ghost use Rattle.walks.specs.Chosen.{Enters, preference, IsFirstIn, CanGoStraight, IsPicked, IsChosenBack, IsChosen};
-ghost use Rattle.walks.specs.Tables.{entry, Covers, IsExact, IsReached, Arrives};
+ghost use Rattle.walks.specs.inner.Tables.{entry, CoversMap, HasDistances, IsReachedCell, Arrives};
 
-use crate::lists::Walk;
+use crate::found_walk::Walk;
 use crate::places::{cell_at_place, cell_count};
 use crate::sweeps::{UNREACHED, cost_at};
 use nav_types::{Aim, Cell, Class, Dir, NoMemory, View, step};
@@ -27,25 +26,6 @@ pub struct Arrival {
     pub before: Cell,
 }
 
-/// The direction that leads back.
-fn opposite(dir: Dir) -> Dir
-    ensures east { east result ≡ west dir }
-    ensures west { west result ≡ east dir }
-    ensures north { north result ≡ south dir }
-    ensures south { south result ≡ north dir }
-{
-    match dir {
-        Dir::N => Dir::S,
-        Dir::E => Dir::W,
-        Dir::S => Dir::N,
-        Dir::W => Dir::E,
-        Dir::NE => Dir::SW,
-        Dir::SE => Dir::NW,
-        Dir::SW => Dir::NE,
-        Dir::NW => Dir::SE,
-    }
-}
-
 /// Whether the aim hits the cell.
 pub fn is_hit<V: View, A: Aim>(view: &V, aim: &A, cell: Cell) -> bool
     requires sound { A.sound aim.now (V.extent view.now) }
@@ -58,7 +38,7 @@ pub fn is_hit<V: View, A: Aim>(view: &V, aim: &A, cell: Cell) -> bool
 impl Distances {
     /// The distance of a cell from the start.
     pub fn cost<V: View>(&self, view: &V, cell: Cell) -> u64
-        requires covers { Covers (V.extent view.now) self.now.costs.items }
+        requires covers { CoversMap (V.extent view.now) self.now.costs.items }
         requires inside { IsInside (V.extent view.now) cell }
         ensures { result ≡ entry (V.extent view.now) self.now.costs.items cell }
     {
@@ -67,16 +47,17 @@ impl Distances {
 
     /// The first in cell order of the nearest cells that the aim hits.
     pub fn nearest<V: View, A: Aim>(&self, view: &V, aim: &A) -> Cell
-        requires covers { Covers (V.extent view.now) self.now.costs.items }
+        requires covers { CoversMap (V.extent view.now) self.now.costs.items }
         requires sound { A.sound aim.now (V.extent view.now) }
-        requires some { (cell : Cell) × (IsTrue (A.hit aim.now (V.extent view.now) cell) × IsReached (V.extent view.now) self.now.costs.items cell) }
-        ensures reached { IsReached (V.extent view.now) self.now.costs.items result }
+        requires some { (cell : Cell) × (IsTrue (A.hit aim.now (V.extent view.now) cell) × IsReachedCell (V.extent view.now) self.now.costs.items cell) }
+        ensures reached { IsReachedCell (V.extent view.now) self.now.costs.items result }
         ensures hit { IsTrue (A.hit aim.now (V.extent view.now) result) }
         ensures nearest { (target : Cell) → IsInside (V.extent view.now) target → IsTrue (A.hit aim.now (V.extent view.now) target)
             → entry (V.extent view.now) self.now.costs.items result ≤ entry (V.extent view.now) self.now.costs.items target }
         ensures first { (target : Cell) → IsInside (V.extent view.now) target → IsTrue (A.hit aim.now (V.extent view.now) target)
             → entry (V.extent view.now) self.now.costs.items target ≡ entry (V.extent view.now) self.now.costs.items result → IsNotAfter result target }
     {
+        // places stand in cell order, so a later cell counts only where it is nearer
         let mut least = UNREACHED;
         let mut best = 0;
         for place in 0..cell_count(view) {
@@ -93,13 +74,13 @@ impl Distances {
     /// The arrival at the cell in the direction. None exactly where no walk of least cost enters the cell so.
     fn arrival<V: View>(&self, view: &V, class: Class, cell: Cell, dir: Dir) -> Option<Arrival>
         requires class { class < V.class_count view.now }
-        requires exact { IsExact (V.passes view.now class) self.now.start (V.extent view.now) self.now.costs.items }
-        requires reached { IsReached (V.extent view.now) self.now.costs.items cell }
+        requires exact { HasDistances (V.passes view.now class) self.now.start (V.extent view.now) self.now.costs.items }
+        requires reached { IsReachedCell (V.extent view.now) self.now.costs.items cell }
         ensures dir { IfSome result (λ arrival. arrival.dir ≡ dir) }
         ensures some { IfSome result (λ arrival. Arrives (V.passes view.now class) self.now.start (V.extent view.now) self.now.costs.items cell arrival.dir arrival.before) }
         ensures none { IfNone result (Enters (V.passes view.now class) self.now.start cell dir → ⊥) }
     {
-        let Some(before) = step(view, class, cell, opposite(dir)) else {
+        let Some(before) = step(view, class, cell, dir.opposite()) else {
             return None;
         };
         if self.cost(view, before) + dir.cost() == self.cost(view, cell) {
@@ -118,8 +99,8 @@ impl Distances {
         next: Option<Dir>,
     ) -> Option<Arrival>
         requires class { class < V.class_count view.now }
-        requires exact { IsExact (V.passes view.now class) self.now.start (V.extent view.now) self.now.costs.items }
-        requires reached { IsReached (V.extent view.now) self.now.costs.items cell }
+        requires exact { HasDistances (V.passes view.now class) self.now.start (V.extent view.now) self.now.costs.items }
+        requires reached { IsReachedCell (V.extent view.now) self.now.costs.items cell }
         ensures dir { IfSome result (λ arrival. next ≡ Some arrival.dir) }
         ensures straight { IfSome result (λ arrival. CanGoStraight (Enters (V.passes view.now class) self.now.start cell) next) }
         ensures some { IfSome result (λ arrival. Arrives (V.passes view.now class) self.now.start (V.extent view.now) self.now.costs.items cell arrival.dir arrival.before) }
@@ -138,8 +119,8 @@ impl Distances {
     /// The arrival in the direction that is preferred.
     fn preferred<V: View>(&self, view: &V, class: Class, cell: Cell) -> Arrival
         requires class { class < V.class_count view.now }
-        requires exact { IsExact (V.passes view.now class) self.now.start (V.extent view.now) self.now.costs.items }
-        requires reached { IsReached (V.extent view.now) self.now.costs.items cell }
+        requires exact { HasDistances (V.passes view.now class) self.now.start (V.extent view.now) self.now.costs.items }
+        requires reached { IsReachedCell (V.extent view.now) self.now.costs.items cell }
         requires away { self.now.start ≢ cell }
         ensures first { IsFirstIn (Enters (V.passes view.now class) self.now.start cell) preference result.dir }
         ensures arrives { Arrives (V.passes view.now class) self.now.start (V.extent view.now) self.now.costs.items cell result.dir result.before }
@@ -155,8 +136,8 @@ impl Distances {
     /// The arrival of the chosen walk, by the step that follows: straight on where it can, else as is preferred.
     fn picked<V: View>(&self, view: &V, class: Class, cell: Cell, next: Option<Dir>) -> Arrival
         requires class { class < V.class_count view.now }
-        requires exact { IsExact (V.passes view.now class) self.now.start (V.extent view.now) self.now.costs.items }
-        requires reached { IsReached (V.extent view.now) self.now.costs.items cell }
+        requires exact { HasDistances (V.passes view.now class) self.now.start (V.extent view.now) self.now.costs.items }
+        requires reached { IsReachedCell (V.extent view.now) self.now.costs.items cell }
         requires away { self.now.start ≢ cell }
         ensures picked { IsPicked (Enters (V.passes view.now class) self.now.start cell) next result.dir }
         ensures arrives { Arrives (V.passes view.now class) self.now.start (V.extent view.now) self.now.costs.items cell result.dir result.before }
@@ -176,8 +157,8 @@ impl Distances {
         end: Cell,
     ) -> Result<Walk, NoMemory>
         requires class { class < V.class_count view.now }
-        requires exact { IsExact (V.passes view.now class) self.now.start (V.extent view.now) self.now.costs.items }
-        requires reached { IsReached (V.extent view.now) self.now.costs.items end }
+        requires exact { HasDistances (V.passes view.now class) self.now.start (V.extent view.now) self.now.costs.items }
+        requires reached { IsReachedCell (V.extent view.now) self.now.costs.items end }
         ensures { IfOk result (λ back. IsChosenBack (V.passes view.now class) self.now.start None back end) }
     {
         let mut back = Walk::new(alloc);
@@ -201,8 +182,8 @@ impl Distances {
         end: Cell,
     ) -> Result<Walk, NoMemory>
         requires class { class < V.class_count view.now }
-        requires exact { IsExact (V.passes view.now class) self.now.start (V.extent view.now) self.now.costs.items }
-        requires reached { IsReached (V.extent view.now) self.now.costs.items end }
+        requires exact { HasDistances (V.passes view.now class) self.now.start (V.extent view.now) self.now.costs.items }
+        requires reached { IsReachedCell (V.extent view.now) self.now.costs.items end }
         ensures { IfOk result (λ walk. IsChosen (V.passes view.now class) self.now.start walk end) }
     {
         let back = self.trace_back(alloc, view, class, end)?;

@@ -3,11 +3,11 @@ ghost use Rattle.nav_types.specs.Walks.{walk_cost};
 ghost use Rattle.walks.specs.Waypoints.{StaysInGrid, IsInGrid, cell_after, is_corner, waypoints};
 ghost use Rattle.nav_types.specs.Directions.{west, south};
 
-use crate::lists::{Corners, Walk};
+use crate::found_walk::{Walk, Waypoints};
 use nav_types::{Cell, Cost, Dir, NoMemory};
 use std::alloc::Global;
 
-/// The cost of a walk, in units of 65536 for each straight step and 92682 for each diagonal one.
+/// The cost of a walk: 65536 for each straight step and 92682 for each diagonal one.
 pub fn cost(walk: &Walk) -> Cost
     requires { length walk.now ≤ 2 ^ 32 }
     ensures { result.0 ≡ walk_cost walk.now }
@@ -21,21 +21,21 @@ pub fn cost(walk: &Walk) -> Cost
 
 /// The waypoints of a walk from the start: the cells where the direction changes, then the last cell.
 /// An empty walk has none.
-pub fn corners(alloc: Global, start: Cell, walk: &Walk) -> Result<Corners, NoMemory>
+pub fn waypoints(alloc: Global, start: Cell, walk: &Walk) -> Result<Waypoints, NoMemory>
     requires { StaysInGrid start walk.now }
-    ensures { IfOk result (λ corners. corners ≡ waypoints start walk.now) }
+    ensures { IfOk result (λ made. made ≡ waypoints start walk.now) }
 {
-    let mut corners = Corners::new(alloc);
+    let mut waypoints = Waypoints::new(alloc);
     let mut cell = start;
     let mut rest = walk.as_slice();
     while let Some((dir, tail)) = rest.split_first() {
         cell = moved(cell, *dir);
         if is_corner(*dir, tail) {
-            corners.push(cell)?;
+            waypoints.push(cell)?;
         }
         rest = tail;
     }
-    Ok(corners)
+    Ok(waypoints)
 }
 
 /// The cell that a step leads to.

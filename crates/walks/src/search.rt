@@ -1,10 +1,11 @@
 ghost use Rattle.std.specs.Prelude.{ℕ, Bool, List, ◌≡◌, ◌<◌, IsTrue, IfOk};
 ghost use Rattle.nav_types.specs.declared.cells.Cell.{Cell};
-ghost use Rattle.walks.specs.Chosen.{CanReach, IsAnswer};
+ghost use Rattle.walks.specs.Chosen.{IsAnswer};
+ghost use Rattle.nav_types.specs.Walks.{CanReach};
 
 use crate::distances::Distances;
-use crate::lists::Found;
-use crate::measures::corners;
+use crate::found_walk::Found;
+use crate::measures::waypoints;
 use crate::sweeps::settled;
 use nav_types::{Aim, Cell, Class, Cost, NoMemory, View};
 use std::alloc::Global;
@@ -25,18 +26,18 @@ pub fn plain_search<V: View, A: Aim>(
     requires start { IsTrue (V.passes view.now class start) }
     requires aim { A.sound aim.now (V.extent view.now) }
     requires reach { CanReach (V.passes view.now class) start (A.hit aim.now (V.extent view.now)) }
-    ensures { IfOk result (λ found. IsAnswer (V.passes view.now class) start (A.hit aim.now (V.extent view.now)) found.end found.cost.0 found.corners) }
+    ensures { IfOk result (λ found. IsAnswer (V.passes view.now class) start (A.hit aim.now (V.extent view.now)) found.end found.cost.0 found.waypoints) }
 {
     let costs = settled(alloc, view, class, start)?;
     let distances = Distances { start, costs };
     let end = distances.nearest(view, aim);
     let cost = distances.cost(view, end);
     let walk = distances.chosen(alloc, view, class, end)?;
-    let corners = corners(alloc, start, &walk)?;
+    let waypoints = waypoints(alloc, start, &walk)?;
     Ok(Found {
         end,
         cost: Cost(cost),
-        corners,
+        waypoints,
     })
 }
 

@@ -3,7 +3,7 @@
 ghost use Rattle.std.specs.Prelude.{Bool, ◌≡◌, ◌-◌, ◌<◌, slice_set, nat_lt, if◌then◌else◌, IfOk, IsTrue};
 ghost use Rattle.nav_types.specs.declared.cells.Cell.{Cell};
 ghost use Rattle.nav_types.specs.Cells.{IsInside};
-ghost use Rattle.walks.specs.Tables.{place_of, entry, Covers, IsSound, IsTable, IsSettledAlong, IsSettledAt, IsSettled, Relaxes, IsExact};
+ghost use Rattle.walks.specs.inner.Tables.{place_of, entry, CoversMap, IsSoundTable, IsSoundForSome, IsSettledAlong, IsSettledAt, IsSettled, Relaxes, HasDistances};
 
 use crate::places::{cell_at_place, cell_count, place};
 use nav_types::{Cell, Class, Dir, NoMemory, View, step};
@@ -15,7 +15,7 @@ pub const UNREACHED: u64 = 1_099_511_627_776;
 /// The table where a walk has reached the start alone.
 fn blank<V: View>(alloc: Global, view: &V, start: Cell) -> Result<Vec<u64>, NoMemory>
     requires { IsInside (V.extent view.now) start }
-    ensures { IfOk result (λ costs. (passes : Cell → Bool) → IsSound passes start (V.extent view.now) costs.items) }
+    ensures { IfOk result (λ costs. (passes : Cell → Bool) → IsSoundTable passes start (V.extent view.now) costs.items) }
 {
     let mut costs = vec![in alloc; UNREACHED; cell_count(view)]?;
     costs[place(view, start)] = 0;
@@ -24,7 +24,7 @@ fn blank<V: View>(alloc: Global, view: &V, start: Cell) -> Result<Vec<u64>, NoMe
 
 /// The table's cost for a cell.
 pub fn cost_at<V: View>(view: &V, costs: &Vec<u64>, cell: Cell) -> u64
-    requires covers { Covers (V.extent view.now) costs.now.items }
+    requires covers { CoversMap (V.extent view.now) costs.now.items }
     requires inside { IsInside (V.extent view.now) cell }
     ensures { result ≡ entry (V.extent view.now) costs.now.items cell }
 {
@@ -33,7 +33,7 @@ pub fn cost_at<V: View>(view: &V, costs: &Vec<u64>, cell: Cell) -> u64
 
 /// Lowers the table's cost for a cell to a cost that is less. Whether it is less.
 fn lower<V: View>(view: &V, costs: &mut Vec<u64>, cell: Cell, cost: u64) -> bool
-    requires covers { Covers (V.extent view.now) costs.old.items }
+    requires covers { CoversMap (V.extent view.now) costs.old.items }
     requires inside { IsInside (V.extent view.now) cell }
     ensures fell { result ≡ nat_lt cost (entry (V.extent view.now) costs.old.items cell) }
     ensures table { costs.new.items ≡ (if result then slice_set costs.old.items (place_of (V.extent view.now) cell) cost else costs.old.items) }
@@ -51,7 +51,7 @@ fn lower<V: View>(view: &V, costs: &mut Vec<u64>, cell: Cell, cost: u64) -> bool
 fn relax_along<V: View>(view: &V, class: Class, costs: &mut Vec<u64>, cell: Cell, dir: Dir) -> bool
     requires class { class < V.class_count view.now }
     requires inside { IsInside (V.extent view.now) cell }
-    requires table { IsTable (V.passes view.now class) (V.extent view.now) costs.old.items }
+    requires table { IsSoundForSome (V.passes view.now class) (V.extent view.now) costs.old.items }
     ensures { Relaxes (V.passes view.now class) (V.extent view.now) (IsSettledAlong (V.passes view.now class) (V.extent view.now) cell dir) costs.old.items costs.new.items result }
 {
     let Some(next) = step(view, class, cell, dir) else {
@@ -65,7 +65,7 @@ fn relax_along<V: View>(view: &V, class: Class, costs: &mut Vec<u64>, cell: Cell
 fn relax<V: View>(view: &V, class: Class, costs: &mut Vec<u64>, cell: Cell) -> bool
     requires class { class < V.class_count view.now }
     requires inside { IsInside (V.extent view.now) cell }
-    requires table { IsTable (V.passes view.now class) (V.extent view.now) costs.old.items }
+    requires table { IsSoundForSome (V.passes view.now class) (V.extent view.now) costs.old.items }
     ensures { Relaxes (V.passes view.now class) (V.extent view.now) (IsSettledAt (V.passes view.now class) (V.extent view.now) cell) costs.old.items costs.new.items result }
 {
     let mut fell = false;
@@ -78,34 +78,35 @@ fn relax<V: View>(view: &V, class: Class, costs: &mut Vec<u64>, cell: Cell) -> b
 /// Relaxes each cell of the map, from the first to the last or the other way. Whether a cost fell.
 fn sweep<V: View>(view: &V, class: Class, costs: &mut Vec<u64>, forward: bool) -> bool
     requires class { class < V.class_count view.now }
-    requires table { IsTable (V.passes view.now class) (V.extent view.now) costs.old.items }
+    requires table { IsSoundForSome (V.passes view.now class) (V.extent view.now) costs.old.items }
     ensures { Relaxes (V.passes view.now class) (V.extent view.now) (IsSettled (V.passes view.now class) (V.extent view.now)) costs.old.items costs.new.items result }
 {
     let count = cell_count(view);
     let mut fell = false;
-    for turn in 0..count {
-        let place = place_in_turn(count, turn, forward);
+    for passed in 0..count {
+        let place = place_after(count, passed, forward);
         fell |= relax(view, class, costs, cell_at_place(view, place));
     }
     fell
 }
 
-/// The place that comes at this turn, from the first to the last or the other way.
-fn place_in_turn(count: usize, turn: usize, forward: bool) -> usize
-    requires { turn < count }
-    ensures place { result ≡ (if forward then turn else count - 1 - turn) }
+/// The place that comes after so many others, from the first to the last or the other way.
+fn place_after(count: usize, passed: usize, forward: bool) -> usize
+    requires { passed < count }
+    ensures place { result ≡ (if forward then passed else count - 1 - passed) }
     ensures within { result < count }
 {
-    if forward { turn } else { count - 1 - turn }
+    if forward { passed } else { count - 1 - passed }
 }
 
 /// Sweeps in both directions in turn until no cost falls.
 fn settle<V: View>(view: &V, class: Class, costs: &mut Vec<u64>)
     requires class { class < V.class_count view.now }
-    requires table { IsTable (V.passes view.now class) (V.extent view.now) costs.old.items }
-    ensures sound { (start : Cell) → IsSound (V.passes view.now class) start (V.extent view.now) costs.old.items → IsSound (V.passes view.now class) start (V.extent view.now) costs.new.items }
+    requires table { IsSoundForSome (V.passes view.now class) (V.extent view.now) costs.old.items }
+    ensures sound { (start : Cell) → IsSoundTable (V.passes view.now class) start (V.extent view.now) costs.old.items → IsSoundTable (V.passes view.now class) start (V.extent view.now) costs.new.items }
     ensures settled { IsSettled (V.passes view.now class) (V.extent view.now) costs.new.items }
 {
+    // costs spread along the way of a sweep at once, so that sweeps both ways need few rounds
     let mut forward = true;
     'sweeps: while sweep(view, class, costs, forward) {
         forward = !forward;
@@ -121,7 +122,7 @@ pub fn settled<V: View>(
 ) -> Result<Vec<u64>, NoMemory>
     requires class { class < V.class_count view.now }
     requires start { IsTrue (V.passes view.now class start) }
-    ensures { IfOk result (λ costs. IsExact (V.passes view.now class) start (V.extent view.now) costs.items) }
+    ensures { IfOk result (λ costs. HasDistances (V.passes view.now class) start (V.extent view.now) costs.items) }
 {
     let mut costs = blank(alloc, view, start)?;
     settle(view, class, &mut costs);

@@ -4,11 +4,11 @@ ghost use Rattle.std.specs.Prelude.{true, false, ◌<◌, ◌&&◌, nat_lt, nat_
 ghost use Rattle.std.specs.List.{list_any};
 ghost use Rattle.std.proofs.lemmas.Bool.{and_parts, ltb-true};
 ghost use Rattle.nav_types.specs.declared.cells.Cell.{Cell};
-ghost use Rattle.walks.specs.Chosen.{CanReach};
-ghost use Rattle.walks.specs.Tables.{place_of};
+ghost use Rattle.nav_types.specs.Walks.{CanReach};
+ghost use Rattle.walks.specs.inner.Tables.{place_of};
 
 use crate::distances::is_hit;
-use crate::lists::Found;
+use crate::found_walk::Found;
 use crate::places::{cell_at_place, cell_count};
 use crate::search::plain_search;
 use crate::sweeps::{UNREACHED, cost_at, settled};
@@ -208,11 +208,11 @@ fn answers_as_the_line_says(rt: &HostRuntime, line: &str) -> Result<bool, Fail> 
         .parse::<u64>()
         .ok()
         .ok_or("a cost")?;
-    let corners = parsed_cells(rt.alloc(), fields.next().ok_or("waypoints")?)?;
+    let waypoints = parsed_cells(rt.alloc(), fields.next().ok_or("waypoints")?)?;
     Ok(
         found.end == end
             && found.cost == Cost(cost)
-            && found.corners.as_slice() == corners.as_slice(),
+            && found.waypoints.as_slice() == waypoints.as_slice(),
     )
 }
 

@@ -2,12 +2,13 @@ ghost use Rattle.std.specs.Prelude.{Bool, ◌≡◌, ◌++◌, ◌<◌, ◌≤�
 ghost use Rattle.nav_types.specs.declared.cells.Cell.{Cell};
 ghost use Rattle.reach_sets.specs.declared.regions.RegionId.{RegionId};
 ghost use Rattle.region_edges.specs.Edges.{AreEdges, PassesInside};
-ghost use Rattle.grid_versions.specs.Chunks.{chunk_count, chunk_numbered, beyond};
-ghost use Rattle.grid_versions.specs.Tables.{AreAllLabels, AreAllEdges};
-ghost use Rattle.grid_versions.specs.Building.{IsLaidOut, IsSideLink, link_between};
+ghost use Rattle.grid_versions.specs.Chunks.{chunk_count};
+ghost use Rattle.grid_versions.specs.inner.ChunkLists.{chunk_numbered, neighbour_on};
+ghost use Rattle.grid_versions.specs.inner.Tables.{AreAllLabels, AreAllEdges};
+ghost use Rattle.grid_versions.specs.inner.Building.{IsLaidOut, IsSideLink, link_between};
 
 use crate::chunks;
-use crate::sharing::SharedList;
+use crate::shared_list::SharedList;
 use chunk_regions::Labels;
 use nav_types::{NoMemory, Size};
 use reach_sets::{Links, RegionId};
@@ -26,7 +27,7 @@ fn edges_at(
     requires within { place < chunk_count size }
     ensures { IfOk result (λ edges. (passes : Cell → Bool) → PassesInside passes size
         → AreAllLabels passes size labels.now
-        → AreEdges passes (chunk_numbered size place) (beyond side (chunk_numbered size place)) edges) }
+        → AreEdges passes (chunk_numbered size place) (neighbour_on side (chunk_numbered size place)) edges) }
 {
     let here = chunks::numbered(size, place);
     match chunks::neighbour(size, here, side) {
@@ -55,8 +56,9 @@ pub fn all_edges(
         → AreAllLabels passes size labels.now
         → AreAllEdges side passes size all) }
 {
-    let mut all = SharedList::new(alloc);
-    for place in 0..chunks::count(size) {
+    let count = chunks::count(size);
+    let mut all = SharedList::with_capacity(alloc, count as usize)?;
+    for place in 0..count {
         let edges = edges_at(alloc, size, labels, place, side)?;
         all.push(alloc, edges)?;
     }

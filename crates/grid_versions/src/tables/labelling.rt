@@ -1,11 +1,11 @@
 ghost use Rattle.std.specs.Prelude.{◌≡◌, ◌+◌, ◌<◌, ◌≤◌, OnOk, IfOk};
 ghost use Rattle.grid_versions.specs.Chunks.{chunk_count};
-ghost use Rattle.grid_versions.specs.Tables.{AreAllLabels};
+ghost use Rattle.grid_versions.specs.inner.Tables.{AreAllLabels};
 
 use crate::chunks;
-use crate::sharing::SharedList;
+use crate::shared_list::SharedList;
 use chunk_regions::{Labels, label};
-use nav_types::{Class, NoMemory, Steps, View};
+use nav_types::{Class, NoMemory, Ticks, View};
 use std::alloc::Global;
 use std::sync::ledger::Ledger;
 
@@ -14,17 +14,18 @@ pub fn all_labels<V: View, L: Ledger>(
     alloc: Global,
     view: &V,
     class: Class,
-    steps: &mut Steps<L>,
+    ticks: &mut Ticks<L>,
 ) -> Result<SharedList<Labels>, NoMemory>
     requires { class < V.class_count view.now }
     ensures labels { IfOk result (AreAllLabels (V.passes view.now class) (V.extent view.now)) }
-    ensures ticks { OnOk result (steps.new ≡ steps.old + chunk_count (V.extent view.now)) }
-    ensures most { steps.new ≤ steps.old + chunk_count (V.extent view.now) }
+    ensures ticks { OnOk result (ticks.new ≡ ticks.old + chunk_count (V.extent view.now)) }
+    ensures most { ticks.new ≤ ticks.old + chunk_count (V.extent view.now) }
 {
     let size = view.size();
-    let mut all = SharedList::new(alloc);
-    for place in 0..chunks::count(size) {
-        let labels = label(alloc, view, class, chunks::numbered(size, place), steps)?;
+    let count = chunks::count(size);
+    let mut all = SharedList::with_capacity(alloc, count as usize)?;
+    for place in 0..count {
+        let labels = label(alloc, view, class, chunks::numbered(size, place), ticks)?;
         all.push(alloc, labels)?;
     }
     Ok(all)

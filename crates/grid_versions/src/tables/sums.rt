@@ -1,6 +1,6 @@
 ghost use Rattle.std.specs.Prelude.{◌≡◌, ◌^◌, ◌<◌, ◌≤◌, length, map, sum_by, IfOk, All};
 
-use crate::sharing::SharedList;
+use crate::shared_list::SharedList;
 use chunk_regions::Labels;
 use nav_types::NoMemory;
 use region_edges::Edges;
@@ -11,7 +11,7 @@ pub fn region_counts(alloc: Global, labels: &SharedList<Labels>) -> Result<Vec<u
     ensures value { IfOk result (λ counts. counts.items ≡ map (λ l. length l.firsts) labels.now) }
     ensures most { IfOk result (λ counts. All (λ count. count ≤ 9216) counts.items) }
 {
-    let mut counts = Vec::new(alloc);
+    let mut counts = Vec::with_capacity(alloc, labels.len())?;
     for at in 0..labels.len() {
         counts.push(labels.at(at).count())?;
     }

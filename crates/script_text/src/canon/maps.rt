@@ -4,7 +4,7 @@ ghost use Rattle.serde_json.specs.Written.{compact_text};
 ghost use Rattle.class_config.specs.Classes.{is_table};
 ghost use Rattle.script_text.specs.Canon as canon;
 
-use crate::canon::pieces::{push_comma, push_decimal, push_number, push_numbers};
+use crate::canon::pieces::{push_comma, push_fixed, push_numbers};
 use crate::canon::posts::push_name;
 use class_config::{ClassName, ClassTable};
 use fixed_point::Fixed;
@@ -21,11 +21,11 @@ pub(crate) fn push_map(text: &mut Bytes, map: &MapSpec) -> Result<(), NoMemory>
 {
     let size = map.size();
     text.extend(b"{\"version\":")?;
-    push_number(text, u64::from(map.version()))?;
+    text.push_decimal(u64::from(map.version()))?;
     text.extend(b",\"size\":")?;
     push_numbers(text, &[u64::from(size.w), u64::from(size.h)])?;
     text.extend(b",\"callers\":")?;
-    push_number(text, u64::from(map.callers()))?;
+    text.push_decimal(u64::from(map.callers()))?;
     text.extend(b",\"classes\":")?;
     push_classes(text, map.classes())?;
     text.push(b'}')?;
@@ -56,7 +56,7 @@ fn push_class(text: &mut Bytes, name: &ClassName, clearance: Fixed) -> Result<()
     text.extend(b"{\"name\":")?;
     push_name(text, name)?;
     text.extend(b",\"clearance\":")?;
-    push_decimal(text, clearance)?;
+    push_fixed(text, clearance)?;
     text.push(b'}')?;
     Ok(())
 }

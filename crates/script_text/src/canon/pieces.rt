@@ -1,28 +1,15 @@
 //! The values in canonical lines. Each call appends a text; where there is no memory, what stands is a beginning of it.
-ghost use Rattle.std.specs.Prelude.{◌≡◌, ◌++◌, ◌∷◌, [], decimal, map, OnOk, IsTrue, FitsSigned};
+ghost use Rattle.std.specs.Prelude.{◌≡◌, ◌++◌, ◌∷◌, [], map, OnOk, IsTrue, FitsSigned};
 ghost use Rattle.std.specs.Int.{w32};
 ghost use Rattle.std.specs.List.{list_all};
 ghost use Rattle.serde_json.specs.Data.{string};
 ghost use Rattle.serde_json.specs.Written.{comma_if, compact_text};
 ghost use Rattle.script_text.specs.Canon as canon;
-ghost use Rattle.script_text.specs.Plain.{is_plain};
+ghost use Rattle.script_text.specs.inner.Plain.{is_plain};
 ghost use Rattle.script_text.specs.ReadsBack.{AreFixed};
 
 use fixed_point::Fixed;
 use nav_types::{Bytes, NoMemory};
-
-/// Appends a number's decimal digits.
-pub(crate) fn push_number(text: &mut Bytes, number: u64) -> Result<(), NoMemory>
-    ensures { OnOk result (text.new ≡ text.old ++ decimal number) }
-{
-    if number < 10 {
-        text.push(b'0' + number as u8)?;
-        return Ok(());
-    }
-    push_number(text, number / 10)?;
-    text.push(b'0' + (number % 10) as u8)?;
-    Ok(())
-}
 
 /// Appends a comma, where something stands before.
 pub(crate) fn push_comma(text: &mut Bytes, later: bool) -> Result<(), NoMemory>
@@ -42,7 +29,7 @@ pub(crate) fn push_numbers(text: &mut Bytes, numbers: &[u64]) -> Result<(), NoMe
     let mut later = false;
     for number in numbers {
         push_comma(text, later)?;
-        push_number(text, *number)?;
+        text.push_decimal(*number)?;
         later = true;
     }
     text.push(b']')?;
@@ -61,7 +48,7 @@ pub(crate) fn push_quoted(text: &mut Bytes, bytes: &[u8]) -> Result<(), NoMemory
 }
 
 /// Appends a fixed-point number's canonical text as a string.
-pub(crate) fn push_decimal(text: &mut Bytes, number: Fixed) -> Result<(), NoMemory>
+pub(crate) fn push_fixed(text: &mut Bytes, number: Fixed) -> Result<(), NoMemory>
     ensures text { OnOk result (text.new ≡ text.old ++ compact_text (canon.decimal_json number)) }
     ensures values { OnOk result (FitsSigned w32 number) }
 {
@@ -77,7 +64,7 @@ pub(crate) fn push_decimals(text: &mut Bytes, numbers: &[Fixed]) -> Result<(), N
     let mut later = false;
     for number in numbers {
         push_comma(text, later)?;
-        push_decimal(text, *number)?;
+        push_fixed(text, *number)?;
         later = true;
     }
     text.push(b']')?;

@@ -5,19 +5,22 @@ ghost use Rattle.serde_json.specs.Data.{string};
 ghost use Rattle.serde_json.specs.Written.{compact_text, members_text};
 ghost use Rattle.class_config.specs.Forms.{is_class_name};
 ghost use Rattle.goal_shapes.specs.declared.goals.GoalSpec.TheVariants as goal_spec;
-ghost use Rattle.turn_core.specs.declared.posts.Post.TheVariants as post;
+ghost use Rattle.grid_versions.specs.declared.edits.Edit.TheVariants as edit;
+ghost use Rattle.turn_core.specs.declared.posts.Post.TheVariants as kind;
+ghost use Rattle.turn_core.specs.declared.posts.Request.TheVariants as request;
 ghost use Rattle.script_text.specs.Canon as canon;
-ghost use Rattle.script_text.specs.Grammar.{shape_key, shape_decimals};
+ghost use Rattle.script_text.specs.Grammar.{rectangle_decimals, shape_key, shape_decimals};
 ghost use Rattle.script_text.specs.ReadsBack.{AreFixed, IsGoalValue, IsPostValue};
 
-use crate::canon::pieces::{push_decimal, push_decimals, push_number, push_quoted};
+use crate::canon::pieces::{push_decimals, push_fixed, push_quoted};
 use crate::versions::FIRST_WITH_MASKS;
 use class_config::ClassName;
-use fixed_point::Fixed;
+use fixed_point::{Fixed, Rectangle};
 use goal_shapes::{Goal, GoalSpec};
+use grid_versions::Edit;
 use nav_types::{Bytes, NoMemory};
 use obstruction_shapes::{Obstruction, Shape};
-use turn_core::Post;
+use turn_core::{Post, Request};
 
 /// Appends the line of a post, without its newline.
 pub(crate) fn push_post(
@@ -30,13 +33,38 @@ pub(crate) fn push_post(
     ensures values { OnOk result (IsPostValue post.now) }
 {
     match post {
-        Post::Add { id, obstruction } => push_add(text, version, caller, *id, *obstruction),
-        Post::Remove { id } => push_remove(text, version, caller, *id),
-        Post::Move { id, x, z } => push_move(text, version, caller, *id, (*x, *z)),
-        Post::Path { class, x, z, goal } => {
+        Post::Edit(edit) => push_edit(text, version, caller, *edit),
+        Post::Ask(request) => push_request(text, version, caller, request),
+    }
+}
+
+/// Appends the line of an edit, without its newline.
+fn push_edit(text: &mut Bytes, version: u8, caller: u64, edit: Edit) -> Result<(), NoMemory>
+    ensures text { OnOk result (text.new ≡ text.old ++ compact_text (canon.post_json version caller (kind.Edit edit))) }
+    ensures values { OnOk result (IsPostValue (kind.Edit edit)) }
+{
+    match edit {
+        Edit::Add { id, obstruction } => push_add(text, version, caller, id, obstruction),
+        Edit::Remove { id } => push_remove(text, version, caller, id),
+        Edit::Move { id, x, z } => push_move(text, version, caller, id, (x, z)),
+    }
+}
+
+/// Appends the line of a request, without its newline.
+fn push_request(
+    text: &mut Bytes,
+    version: u8,
+    caller: u64,
+    request: &Request,
+) -> Result<(), NoMemory>
+    ensures text { OnOk result (text.new ≡ text.old ++ compact_text (canon.post_json version caller (kind.Ask request.now))) }
+    ensures values { OnOk result (IsPostValue (kind.Ask request.now)) }
+{
+    match request {
+        Request::Path { class, x, z, goal } => {
             push_path(text, version, caller, class, (*x, *z), *goal)
         }
-        Post::Region { class, x, z } => push_region(text, version, caller, class, (*x, *z)),
+        Request::Region { class, x, z } => { push_region(text, version, caller, class, (*x, *z)) }
     }
 }
 
@@ -48,13 +76,13 @@ fn push_add(
     id: u32,
     obstruction: Obstruction,
 ) -> Result<(), NoMemory>
-    ensures text { OnOk result (text.new ≡ text.old ++ compact_text (canon.post_json version caller (post.Add id obstruction))) }
-    ensures values { OnOk result (IsPostValue (post.Add id obstruction)) }
+    ensures text { OnOk result (text.new ≡ text.old ++ compact_text (canon.post_json version caller (kind.Edit (edit.Add id obstruction)))) }
+    ensures values { OnOk result (IsPostValue (kind.Edit (edit.Add id obstruction))) }
 {
     text.extend(b"{\"caller\":")?;
-    push_number(text, caller)?;
+    text.push_decimal(caller)?;
     text.extend(b",\"add\":")?;
-    push_number(text, u64::from(id))?;
+    text.push_decimal(u64::from(id))?;
     push_shape(text, obstruction.shape)?;
     push_mask(text, version, obstruction.mask)?;
     Ok(())
@@ -72,19 +100,28 @@ fn push_shape(text: &mut Bytes, shape: Shape) -> Result<(), NoMemory>
             push_decimals(text, &[x, z, half])?;
             Ok(())
         }
-        Shape::Square {
-            x,
-            z,
-            ux,
-            uz,
-            hw,
-            hh,
-        } => {
+        Shape::Square(rectangle) => {
             text.extend(b",\"square\":")?;
-            push_decimals(text, &[x, z, ux, uz, hw, hh])?;
+            push_rectangle(text, rectangle)?;
             Ok(())
         }
     }
+}
+
+/// Appends the array of a rectangle.
+fn push_rectangle(text: &mut Bytes, rectangle: Rectangle) -> Result<(), NoMemory>
+    ensures text { OnOk result (text.new ≡ text.old ++ compact_text (canon.decimals_json (rectangle_decimals rectangle))) }
+    ensures values { OnOk result (AreFixed (rectangle_decimals rectangle)) }
+{
+    let numbers = [
+        rectangle.x,
+        rectangle.z,
+        rectangle.ux,
+        rectangle.uz,
+        rectangle.hw,
+        rectangle.hh,
+    ];
+    push_decimals(text, &numbers)
 }
 
 /// Appends the member of a mask, where the version has one, and ends the object.
@@ -96,20 +133,20 @@ fn push_mask(text: &mut Bytes, version: u8, mask: u16) -> Result<(), NoMemory>
         return Ok(());
     }
     text.extend(b",\"mask\":")?;
-    push_number(text, u64::from(mask))?;
+    text.push_decimal(u64::from(mask))?;
     text.push(b'}')?;
     Ok(())
 }
 
 /// Appends the text of a remove line.
 fn push_remove(text: &mut Bytes, version: u8, caller: u64, id: u32) -> Result<(), NoMemory>
-    ensures text { OnOk result (text.new ≡ text.old ++ compact_text (canon.post_json version caller (post.Remove id))) }
-    ensures values { OnOk result (IsPostValue (post.Remove id)) }
+    ensures text { OnOk result (text.new ≡ text.old ++ compact_text (canon.post_json version caller (kind.Edit (edit.Remove id)))) }
+    ensures values { OnOk result (IsPostValue (kind.Edit (edit.Remove id))) }
 {
     text.extend(b"{\"caller\":")?;
-    push_number(text, caller)?;
+    text.push_decimal(caller)?;
     text.extend(b",\"remove\":")?;
-    push_number(text, u64::from(id))?;
+    text.push_decimal(u64::from(id))?;
     text.push(b'}')?;
     Ok(())
 }
@@ -122,13 +159,13 @@ fn push_move(
     id: u32,
     to: (Fixed, Fixed),
 ) -> Result<(), NoMemory>
-    ensures text { OnOk result (text.new ≡ text.old ++ compact_text (canon.post_json version caller (post.Move id to.0 to.1))) }
-    ensures values { OnOk result (IsPostValue (post.Move id to.0 to.1)) }
+    ensures text { OnOk result (text.new ≡ text.old ++ compact_text (canon.post_json version caller (kind.Edit (edit.Move id to.0 to.1)))) }
+    ensures values { OnOk result (IsPostValue (kind.Edit (edit.Move id to.0 to.1))) }
 {
     text.extend(b"{\"caller\":")?;
-    push_number(text, caller)?;
+    text.push_decimal(caller)?;
     text.extend(b",\"move\":")?;
-    push_number(text, u64::from(id))?;
+    text.push_decimal(u64::from(id))?;
     text.extend(b",\"to\":")?;
     push_decimals(text, &[to.0, to.1])?;
     text.push(b'}')?;
@@ -144,11 +181,11 @@ fn push_path(
     from: (Fixed, Fixed),
     goal: GoalSpec,
 ) -> Result<(), NoMemory>
-    ensures text { OnOk result (text.new ≡ text.old ++ compact_text (canon.post_json version caller (post.Path class.now from.0 from.1 goal))) }
-    ensures values { OnOk result (IsPostValue (post.Path class.now from.0 from.1 goal)) }
+    ensures text { OnOk result (text.new ≡ text.old ++ compact_text (canon.post_json version caller (kind.Ask (request.Path class.now from.0 from.1 goal)))) }
+    ensures values { OnOk result (IsPostValue (kind.Ask (request.Path class.now from.0 from.1 goal))) }
 {
     text.extend(b"{\"caller\":")?;
-    push_number(text, caller)?;
+    text.push_decimal(caller)?;
     text.extend(b",\"path\":")?;
     push_name(text, class)?;
     text.extend(b",\"from\":")?;
@@ -167,11 +204,11 @@ fn push_region(
     class: &ClassName,
     place: (Fixed, Fixed),
 ) -> Result<(), NoMemory>
-    ensures text { OnOk result (text.new ≡ text.old ++ compact_text (canon.post_json version caller (post.Region class.now place.0 place.1))) }
-    ensures values { OnOk result (IsPostValue (post.Region class.now place.0 place.1)) }
+    ensures text { OnOk result (text.new ≡ text.old ++ compact_text (canon.post_json version caller (kind.Ask (request.Region class.now place.0 place.1)))) }
+    ensures values { OnOk result (IsPostValue (kind.Ask (request.Region class.now place.0 place.1))) }
 {
     text.extend(b"{\"caller\":")?;
-    push_number(text, caller)?;
+    text.push_decimal(caller)?;
     text.extend(b",\"region\":")?;
     push_name(text, class)?;
     text.extend(b",\"at\":")?;
@@ -210,9 +247,9 @@ fn push_grown(text: &mut Bytes, id: u32, grow: Fixed) -> Result<(), NoMemory>
     ensures values { OnOk result (IsGoalValue (goal_spec.Obstruction id grow)) }
 {
     text.push(b'[')?;
-    push_number(text, u64::from(id))?;
+    text.push_decimal(u64::from(id))?;
     text.push(b',')?;
-    push_decimal(text, grow)?;
+    push_fixed(text, grow)?;
     text.push(b']')?;
     Ok(())
 }
@@ -226,23 +263,26 @@ fn push_plain_goal(text: &mut Bytes, goal: Goal) -> Result<(), NoMemory>
         Goal::Point { x, z } => push_object(text, b"{\"point\":", &[x, z]),
         Goal::Circle { x, z, r } => push_object(text, b"{\"circle\":", &[x, z, r]),
         Goal::NotCircle { x, z, r } => { push_object(text, b"{\"not-circle\":", &[x, z, r]) }
-        Goal::Square {
-            x,
-            z,
-            ux,
-            uz,
-            hw,
-            hh,
-        } => push_object(text, b"{\"square\":", &[x, z, ux, uz, hw, hh]),
-        Goal::NotSquare {
-            x,
-            z,
-            ux,
-            uz,
-            hw,
-            hh,
-        } => push_object(text, b"{\"not-square\":", &[x, z, ux, uz, hw, hh]),
+        Goal::Square(rectangle) => push_square(text, b"{\"square\":", rectangle),
+        Goal::NotSquare(rectangle) => push_square(text, b"{\"not-square\":", rectangle),
     }
+}
+
+/// Appends an object of one key, which is opened already, and of a rectangle.
+fn push_square(text: &mut Bytes, opening: &[u8], rectangle: Rectangle) -> Result<(), NoMemory>
+    ensures text { OnOk result (text.new ≡ text.old
+        ++ (opening.now ++ (compact_text (canon.decimals_json (rectangle_decimals rectangle)) ++ 125 ∷ []))) }
+    ensures values { OnOk result (AreFixed (rectangle_decimals rectangle)) }
+{
+    let numbers = [
+        rectangle.x,
+        rectangle.z,
+        rectangle.ux,
+        rectangle.uz,
+        rectangle.hw,
+        rectangle.hh,
+    ];
+    push_object(text, opening, &numbers)
 }
 
 /// Appends an object of one key, which is opened already, and of fixed-point numbers.
@@ -262,7 +302,7 @@ pub(crate) fn push_end(text: &mut Bytes, turn: u64) -> Result<(), NoMemory>
     ensures { OnOk result (text.new ≡ text.old ++ compact_text (canon.end_json turn)) }
 {
     text.extend(b"{\"end\":")?;
-    push_number(text, turn)?;
+    text.push_decimal(turn)?;
     text.push(b'}')?;
     Ok(())
 }

@@ -5,7 +5,7 @@ ghost use Rattle.script_text.specs.Values.{under};
 ghost use Rattle.script_text.specs.Forms as form;
 
 use crate::forms::values::{
-    Rectangle, decimal_at, has_items, number_at, point_under, rectangle_under, round_under,
+    decimal_at, has_items, number_at, point_under, rectangle_under, round_under,
 };
 use crate::versions::FIRST_WITH_MOVES;
 use class_config::has_keys;
@@ -45,55 +45,11 @@ fn plain_goal(value: &Value) -> Option<Goal>
     } else if has_keys(value, &["not-circle"]) {
         round_under(value, "not-circle").map(|(x, z, r)| Goal::NotCircle { x, z, r })
     } else if has_keys(value, &["square"]) {
-        rectangle_under(value, "square").map(square)
+        rectangle_under(value, "square").map(|rectangle| Goal::Square(rectangle))
     } else if has_keys(value, &["not-square"]) {
-        rectangle_under(value, "not-square").map(not_square)
+        rectangle_under(value, "not-square").map(|rectangle| Goal::NotSquare(rectangle))
     } else {
         None
-    }
-}
-
-/// The rectangle as a goal.
-fn square(rectangle: Rectangle) -> Goal
-    ensures { result ≡ form.square_with rectangle }
-{
-    let Rectangle {
-        x,
-        z,
-        ux,
-        uz,
-        hw,
-        hh,
-    } = rectangle;
-    Goal::Square {
-        x,
-        z,
-        ux,
-        uz,
-        hw,
-        hh,
-    }
-}
-
-/// The rectangle turned inside out as a goal.
-fn not_square(rectangle: Rectangle) -> Goal
-    ensures { result ≡ form.not_square_with rectangle }
-{
-    let Rectangle {
-        x,
-        z,
-        ux,
-        uz,
-        hw,
-        hh,
-    } = rectangle;
-    Goal::NotSquare {
-        x,
-        z,
-        ux,
-        uz,
-        hw,
-        hh,
     }
 }
 

@@ -6,19 +6,20 @@ ghost use Rattle.script_text.specs.Forms as form;
 
 use crate::forms::goals::goal_under;
 use crate::forms::values::{
-    Rectangle, name_under, number_under, point_under, rectangle_under, round_under, whole_under,
+    name_under, number_under, point_under, rectangle_under, round_under, whole_under,
 };
 use crate::versions::{FIRST_WITH_MASKS, FIRST_WITH_MOVES};
 use class_config::has_keys;
+use grid_versions::Edit;
 use nav_types::NoMemory;
 use obstruction_shapes::{Obstruction, Shape};
 use serde_json::Value;
 use std::alloc::Global;
-use turn_core::Post;
+use turn_core::Request;
 
 /// The edit of a line that edits.
 #[tactic(auto, unfolding(crate::specs::Forms::edit_of))]
-pub(crate) fn edit_of(version: u8, value: &Value) -> Option<Post>
+pub(crate) fn edit_of(version: u8, value: &Value) -> Option<Edit>
     ensures { result ≡ form.edit_of version (view value.now) }
 {
     if let Some(add) = add_of(version, value) {
@@ -36,7 +37,7 @@ pub(crate) fn request_of(
     alloc: Global,
     version: u8,
     value: &Value,
-) -> Result<Option<Post>, NoMemory>
+) -> Result<Option<Request>, NoMemory>
     ensures { IfOk result (λ made. made ≡ form.request_of version (view value.now)) }
 {
     if let Some(path) = path_of(alloc, version, value)? {
@@ -45,16 +46,16 @@ pub(crate) fn request_of(
     region_of(alloc, value)
 }
 
-/// The post of an add line.
+/// The edit of an add line.
 #[tactic(auto, unfolding(crate::specs::Forms::add_of))]
-fn add_of(version: u8, value: &Value) -> Option<Post>
+fn add_of(version: u8, value: &Value) -> Option<Edit>
     ensures { result ≡ form.add_of version (view value.now) }
 {
     let Some(id) = number_under(value, "add") else {
         return None;
     };
     match (shape_of(version, value), mask_of(version, value)) {
-        (Some(shape), Some(mask)) => Some(Post::Add {
+        (Some(shape), Some(mask)) => Some(Edit::Add {
             id,
             obstruction: Obstruction { shape, mask },
         }),
@@ -70,31 +71,9 @@ fn shape_of(version: u8, value: &Value) -> Option<Shape>
     if has_add_keys(version, value, "unit") {
         round_under(value, "unit").map(|(x, z, half)| Shape::Unit { x, z, half })
     } else if has_add_keys(version, value, "square") {
-        rectangle_under(value, "square").map(square)
+        rectangle_under(value, "square").map(|rectangle| Shape::Square(rectangle))
     } else {
         None
-    }
-}
-
-/// The rectangle as a shape.
-fn square(rectangle: Rectangle) -> Shape
-    ensures { result ≡ form.shape_with rectangle }
-{
-    let Rectangle {
-        x,
-        z,
-        ux,
-        uz,
-        hw,
-        hh,
-    } = rectangle;
-    Shape::Square {
-        x,
-        z,
-        ux,
-        uz,
-        hw,
-        hh,
     }
 }
 
@@ -123,37 +102,37 @@ fn mask_of(version: u8, value: &Value) -> Option<u16>
     }
 }
 
-/// The post of a remove line.
+/// The edit of a remove line.
 #[tactic(auto, unfolding(crate::specs::Forms::remove_of))]
-fn remove_of(value: &Value) -> Option<Post>
+fn remove_of(value: &Value) -> Option<Edit>
     ensures { result ≡ form.remove_of (view value.now) }
 {
     if !has_keys(value, &["caller", "remove"]) {
         return None;
     }
     match number_under(value, "remove") {
-        Some(id) => Some(Post::Remove { id }),
+        Some(id) => Some(Edit::Remove { id }),
         None => None,
     }
 }
 
-/// The post of a move line, which stands under version 3 only.
+/// The edit of a move line, which stands under version 3 only.
 #[tactic(auto, unfolding(crate::specs::Forms::move_of))]
-fn move_of(version: u8, value: &Value) -> Option<Post>
+fn move_of(version: u8, value: &Value) -> Option<Edit>
     ensures { result ≡ form.move_of version (view value.now) }
 {
     if version < FIRST_WITH_MOVES || !has_keys(value, &["caller", "move", "to"]) {
         return None;
     }
     match (number_under(value, "move"), point_under(value, "to")) {
-        (Some(id), Some((x, z))) => Some(Post::Move { id, x, z }),
+        (Some(id), Some((x, z))) => Some(Edit::Move { id, x, z }),
         _ => None,
     }
 }
 
-/// The post of a path line.
+/// The request of a path line.
 #[tactic(auto, unfolding(crate::specs::Forms::path_of))]
-fn path_of(alloc: Global, version: u8, value: &Value) -> Result<Option<Post>, NoMemory>
+fn path_of(alloc: Global, version: u8, value: &Value) -> Result<Option<Request>, NoMemory>
     ensures { IfOk result (λ made. made ≡ form.path_of version (view value.now)) }
 {
     if !has_keys(value, &["caller", "path", "from", "goal"]) {
@@ -166,14 +145,14 @@ fn path_of(alloc: Global, version: u8, value: &Value) -> Result<Option<Post>, No
         return Ok(None);
     };
     match name_under(alloc, value, "path")? {
-        Some(class) => Ok(Some(Post::Path { class, x, z, goal })),
+        Some(class) => Ok(Some(Request::Path { class, x, z, goal })),
         None => Ok(None),
     }
 }
 
-/// The post of a region line.
+/// The request of a region line.
 #[tactic(auto, unfolding(crate::specs::Forms::region_of))]
-fn region_of(alloc: Global, value: &Value) -> Result<Option<Post>, NoMemory>
+fn region_of(alloc: Global, value: &Value) -> Result<Option<Request>, NoMemory>
     ensures { IfOk result (λ made. made ≡ form.region_of (view value.now)) }
 {
     if !has_keys(value, &["caller", "region", "at"]) {
@@ -183,7 +162,7 @@ fn region_of(alloc: Global, value: &Value) -> Result<Option<Post>, NoMemory>
         return Ok(None);
     };
     match name_under(alloc, value, "region")? {
-        Some(class) => Ok(Some(Post::Region { class, x, z })),
+        Some(class) => Ok(Some(Request::Region { class, x, z })),
         None => Ok(None),
     }
 }

@@ -7,22 +7,11 @@ ghost use Rattle.class_config.specs.Classes.{list_of};
 ghost use Rattle.script_text.specs.Values as value_form;
 
 use class_config::{ClassName, NameRefusal};
-use fixed_point::Fixed;
+use fixed_point::{Fixed, Rectangle};
 use nav_types::limits::MAX_SIDE;
 use nav_types::{NoMemory, Size};
 use serde_json::Value;
 use std::alloc::Global;
-
-/// A rectangle with its middle at (`x`, `z`), `hw` to each side along the vector (`ux`, `uz`) and `hh` across it.
-#[derive(Clone, Copy)]
-pub(crate) struct Rectangle {
-    pub x: Fixed,
-    pub z: Fixed,
-    pub ux: Fixed,
-    pub uz: Fixed,
-    pub hw: Fixed,
-    pub hh: Fixed,
-}
 
 /// A whole number from `least` to `most`.
 #[tactic(auto, unfolding(crate::specs::Values::whole_in))]

@@ -7,9 +7,9 @@ ghost use Rattle.turn_core.specs.Runs.{run_of, base_of, with_claim, IsHeldOn, Ha
 
 use crate::grounds::{self, Advanced};
 use crate::posts::{Jobs, TurnPosts};
-use crate::replies::{Answer, Replies};
+use crate::replies::Answer;
 use crate::solving::solve;
-use grid_versions::Version;
+use grid_versions::{EditReplies, Version};
 use nav_types::NoMemory;
 use std::alloc::Global;
 
@@ -18,7 +18,7 @@ use std::alloc::Global;
 #[derive(Drop)]
 pub(crate) struct RunningTurn {
     pub posts: TurnPosts,
-    pub edits: Replies,
+    pub edits: EditReplies,
     pub version: Version,
     pub jobs: Jobs,
     pub claimed: u64,

@@ -1,8 +1,9 @@
-use Rattle.std.proofs.Common.{◌∷◌, ◌++◌, length, map}
+use Rattle.std.proofs.Common.{◌∷◌, length, map}
 use Rattle.std.specs.Prelude.{codes, decimal}
 use Rattle.std.proofs.lemmas.Result.{IfOk-equal, on_err_weaker}
 use Rattle.answer_text.specs.Answers.{end_word, waypoint_text}
-use Rattle.answer_text.specs.Writing.{spaced, GrewFrom}
+use Rattle.answer_text.specs.Writing.{GrewFrom}
+use Rattle.answer_text.specs.inner.Spacing.{spaced}
 use Rattle.answer_text.proofs.Growing.{grew_after}
 use Rattle.answer_text.proofs.LineTexts.{path_pieces}
 use Rattle.answer_text.proofs.lines.write_path.Goals as goal
@@ -23,8 +24,8 @@ returns-clause-ok c =
       c.in_ok-extend.ensures.ok,
     )
     (path_pieces c.args.text.now (codes " path") (32 ∷ decimal path.start.i) (32 ∷ decimal path.start.j) (32 ∷ decimal path.end.i)
-    (32 ∷ decimal path.end.j) (32 ∷ end_word path.near) (32 ∷ decimal path.cost.0) (32 ∷ decimal (length path.corners))
-    (spaced (map waypoint_text path.corners))))
+    (32 ∷ decimal path.end.j) (32 ∷ end_word path.near) (32 ∷ decimal path.cost.0) (32 ∷ decimal (length path.waypoints))
+    (spaced (map waypoint_text path.waypoints))))
 
 pub returns-clause-err : goal.returns-clause-err
 returns-clause-err c = on_err_weaker c.write_waypoints.result

@@ -7,5 +7,5 @@ use Rattle.answer_text.proofs.lines.write_reply.Goals as goal
 pub returns-clause-ok : goal.returns-clause-ok
 unfolding reply_line
 returns-clause-ok c = IfOk-equal _ _ _ _ c.extend.ensures.ok
-    (rw (c.in_ok-write_words.ensures.ok, c.in_ok-write_after.ensures.ok, c.in_ok-write_number.ensures.ok)
+    (rw (c.in_ok-write_words.ensures.ok, c.in_ok-write_after.ensures.ok, c.in_ok-push_decimal.ensures.ok)
     (reply_pieces c.args.text.now (decimal c.args.caller) (decimal c.args.post) (reply_words c.args.reply.now)))

@@ -2,7 +2,7 @@ use Rattle.std.proofs.Common.{◌≡◌, ◌+◌, ◌∷◌, [], ◌++◌, ◌�
 use Rattle.std.proofs.lemmas.Result.{on_ok_weaker}
 use Rattle.nav_types.specs.declared.cells.Cell.{Cell}
 use Rattle.nav_types.specs.Cells.{cell_at}
-use Rattle.chunk_regions.specs.Flooding.{Floods}
+use Rattle.chunk_regions.specs.inner.Flooding.{Floods}
 use Rattle.chunk_regions.proofs.FloodLemmas.{Gives, Floods-begin}
 use Rattle.chunk_regions.proofs.flood.begin.Goals as goal
 

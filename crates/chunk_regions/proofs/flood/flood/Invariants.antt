@@ -2,8 +2,8 @@ use Rattle.std.proofs.Common.{Bool, ◌≡◌, ◌+◌, List, length}
 use Rattle.std.specs.List.{All}
 use Rattle.nav_types.specs.Cells.{IsInRect}
 use Rattle.nav_types.specs.declared.cells.Cell.{Cell}
-use Rattle.chunk_regions.specs.Numbering.{waiting}
-use Rattle.chunk_regions.specs.Flooding.{Floods}
+use Rattle.chunk_regions.specs.inner.Marks.{waiting}
+use Rattle.chunk_regions.specs.inner.Flooding.{Floods}
 use Rattle.chunk_regions.proofs.flood.flood.Given as goal
 
 abbrev pub invariant-loop-cell : goal.invariant-loop-cell

@@ -1,7 +1,7 @@
 use Rattle.std.proofs.Common.{Bool, ◌≡◌, ◌*◌, ◌-◌, ◌≤◌, [], length}
 use Rattle.nav_types.specs.Cells.{cell_at}
 use Rattle.nav_types.specs.declared.cells.Cell.{Cell}
-use Rattle.chunk_regions.specs.Flooding.{Floods}
+use Rattle.chunk_regions.specs.inner.Flooding.{Floods}
 use Rattle.chunk_regions.proofs.flood.number_all.Given as goal
 
 abbrev pub invariant-loop-j : goal.invariant-loop-j

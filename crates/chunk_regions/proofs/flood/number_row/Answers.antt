@@ -2,7 +2,7 @@ use Rattle.std.proofs.Common.{◌<◌, ◌+◌, ◌∙◌, [], ap, sym, subst, a
 use Rattle.nav_types.specs.declared.cells.Cell.{Cell}
 use Rattle.nav_types.specs.declared.cells.Rect.{Rect}
 use Rattle.nav_types.specs.Cells.{cell_at}
-use Rattle.chunk_regions.specs.Flooding.{Floods}
+use Rattle.chunk_regions.specs.inner.Flooding.{Floods}
 use Rattle.chunk_regions.proofs.FloodLemmas.{Floods-row}
 use Rattle.chunk_regions.proofs.flood.number_row.Goals as goal
 

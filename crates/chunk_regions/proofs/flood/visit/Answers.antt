@@ -2,7 +2,7 @@ use Rattle.std.proofs.Common.{◌∙◌, ◌∷◌, [], ◌++◌, List, length, 
 use Rattle.nav_types.specs.declared.cells.Cell.{Cell}
 use Rattle.nav_types.specs.declared.cells.Rect.{Rect}
 use Rattle.nav_types.specs.Cells.{IsInRect}
-use Rattle.chunk_regions.specs.Flooding.{Floods}
+use Rattle.chunk_regions.specs.inner.Flooding.{Floods}
 use Rattle.chunk_regions.proofs.FloodLemmas.{Gives, Floods-give}
 use Rattle.chunk_regions.proofs.flood.visit.Goals as goal
 

@@ -1,8 +1,8 @@
 use Rattle.nav_types.specs.Walks.{Joined}
 use Rattle.nav_types.specs.Regions.{IsAreaBefore}
-use Rattle.chunk_regions.proofs.CellLemmas.{IsAreaBefore-asym, IsAreaBefore-cases}
-use Rattle.chunk_regions.proofs.StepLemmas.{Joined-sym, Joined-trans}
-use Rattle.chunk_regions.proofs.NumberLemmas.{HasNumber-unique}
+use Rattle.nav_types.proofs.CellOrder.{IsAreaBefore-asym, IsAreaBefore-cases}
+use Rattle.nav_types.proofs.Walking.{Joined-sym, Joined-trans}
+use Rattle.nav_types.proofs.FirstCells.{HasNumber-unique}
 use Rattle.chunk_regions.proofs.laws.one_area.Goals as goal
 
 pub returns : goal.returns

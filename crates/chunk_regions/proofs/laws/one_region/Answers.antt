@@ -1,8 +1,8 @@
 use Rattle.nav_types.specs.Cells.{IsBefore}
 use Rattle.nav_types.specs.Regions.{passes_in, InOneRegion}
-use Rattle.chunk_regions.proofs.CellLemmas.{IsBefore-asym, IsBefore-cases}
-use Rattle.chunk_regions.proofs.StepLemmas.{JoinedStraight-sym, JoinedStraight-trans}
-use Rattle.chunk_regions.proofs.NumberLemmas.{HasNumber-unique}
+use Rattle.nav_types.proofs.CellOrder.{IsBefore-asym, IsBefore-cases}
+use Rattle.nav_types.proofs.Walking.{JoinedStraight-sym, JoinedStraight-trans}
+use Rattle.nav_types.proofs.FirstCells.{HasNumber-unique}
 use Rattle.chunk_regions.proofs.laws.one_region.Goals as goal
 
 pub returns : goal.returns

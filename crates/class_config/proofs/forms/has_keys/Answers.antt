@@ -1,6 +1,15 @@
+use Rattle.std.proofs.Common.{◌∙◌, sym, true, false, refl}
 use Rattle.serde_json.specs.View.{view}
-use Rattle.class_config.proofs.FormKeys.{has_keys-count}
+use Rattle.class_config.proofs.FormKeys.{has_keys-entries}
 use Rattle.class_config.proofs.forms.has_keys.Goals as goal
 
-pub returns-then-count-keys : goal.returns-then-count-keys
-returns-then-count-keys c = has_keys-count (view c.args.value.now) c.args.keys.now _ _ c.in-Some.ensures c.if-count-keys.true c.has_each.ensures
+pub returns-then-has_no_other : goal.returns-then-has_no_other
+returns-then-has_no_other c =
+    has_keys-entries (view c.args.value.now) c.args.keys.now c.in-Some.members.now.entries true c.has_each.result c.in-Some.ensures
+    c.has_no_other.ensures.ordered (sym c.if-has_no_other.true ∙ c.has_no_other.ensures.others) c.has_each.ensures
+
+pub returns-else-has_no_other : goal.returns-else-has_no_other
+returns-else-has_no_other c =
+    c.if-has_no_other.false
+    ∙ has_keys-entries (view c.args.value.now) c.args.keys.now c.in-Some.members.now.entries false _ c.in-Some.ensures
+    c.has_no_other.ensures.ordered (sym c.if-has_no_other.false ∙ c.has_no_other.ensures.others) refl

@@ -2,7 +2,7 @@ use Rattle.std.proofs.Common.{◌+◌, Option, ◌≡◌, arith, sym, ap, subst}
 use Rattle.nav_types.specs.declared.cells.Size.{Size}
 use Rattle.nav_types.specs.Cells.{cell_at}
 use Rattle.goal_reach.specs.declared.choices.Ranked.{Ranked}
-use Rattle.goal_reach.specs.Choices.{IsBest}
+use Rattle.goal_reach.specs.inner.Ranking.{IsBest}
 use Rattle.goal_reach.proofs.Choosing.{Before, row_adds, row_skips, row_done}
 use Rattle.goal_reach.proofs.choices.best_in_row.Goals as goal
 use Rattle.goal_reach.proofs.choices.best_in_row.Goals.{in-Some, in_default}

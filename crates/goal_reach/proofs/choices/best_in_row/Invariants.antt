@@ -1,5 +1,5 @@
 use Rattle.nav_types.specs.Cells.{IsBefore, cell_at}
-use Rattle.goal_reach.specs.Choices.{IsBest}
+use Rattle.goal_reach.specs.inner.Ranking.{IsBest}
 use Rattle.goal_reach.proofs.choices.best_in_row.Given as goal
 
 -- the best of the cells before the one of column i

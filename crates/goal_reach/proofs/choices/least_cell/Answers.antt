@@ -1,7 +1,7 @@
 use Rattle.std.proofs.Common.{Option, ◌≡◌, arith, ap, subst}
 use Rattle.nav_types.specs.declared.cells.Size.{Size}
 use Rattle.goal_reach.specs.declared.choices.Ranked.{Ranked}
-use Rattle.goal_reach.specs.Choices.{IsBest}
+use Rattle.goal_reach.specs.inner.Ranking.{IsBest}
 use Rattle.goal_reach.proofs.Choosing.{none_yet, all_seen}
 use Rattle.goal_reach.proofs.choices.least_cell.Goals as goal
 

@@ -1,5 +1,5 @@
 use Rattle.nav_types.specs.Cells.{IsBefore, cell_at}
-use Rattle.goal_reach.specs.Choices.{IsBest}
+use Rattle.goal_reach.specs.inner.Ranking.{IsBest}
 use Rattle.goal_reach.proofs.choices.least_cell.Given as goal
 
 -- the best of the cells before row j

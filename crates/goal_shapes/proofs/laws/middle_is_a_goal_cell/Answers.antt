@@ -12,4 +12,4 @@ returns-clause-circle c = λ x z r cell well held. circle_met x z r cell held
 
 pub returns-clause-square : goal.returns-clause-square
 unfolding contains
-returns-clause-square c = λ x z ux uz hw hh cell well held. square_met x z ux uz hw hh cell held
+returns-clause-square c = λ rectangle cell well held. square_met rectangle cell held

@@ -1,6 +1,6 @@
 use Rattle.std.proofs.Common.{◌≡◌, ℕ, ◌<◌, length}
 use Rattle.std.specs.Prelude.{slice_index}
-use Rattle.grid_versions.specs.Painting.{free_count}
+use Rattle.grid_versions.specs.inner.Painting.{free_count}
 use Rattle.grid_versions.proofs.chunk_cells.free_counts.Given as goal
 
 abbrev pub invariant-loop-number : goal.invariant-loop-number

@@ -1,8 +1,8 @@
 use Rattle.std.proofs.Common.{◌≡◌, ◌+◌, ◌*◌, ℕ, List, sym, subst, arith}
 use Rattle.navcell_grid.specs.Grids.{is_passable}
 use Rattle.grid_versions.specs.Chunks.{chunk_count}
-use Rattle.grid_versions.specs.Tables.{Tables, AreTables}
-use Rattle.grid_versions.specs.Tallying.{AreTablesOf}
+use Rattle.grid_versions.specs.inner.Tables.{Tables, AreTables}
+use Rattle.grid_versions.specs.inner.Tallying.{AreTablesOf}
 use Rattle.grid_versions.proofs.VersionLemmas.{AreTablesOf-push}
 use Rattle.grid_versions.proofs.class_tables.class_tables.Goals as goal
 

@@ -1,12 +1,12 @@
 use Rattle.std.proofs.Common.{◌≡◌, ◌+◌, ◌*◌}
 use Rattle.navcell_grid.specs.Grids.{is_passable}
 use Rattle.grid_versions.specs.Chunks.{chunk_count}
-use Rattle.grid_versions.specs.Tallying.{AreTablesOf}
+use Rattle.grid_versions.specs.inner.Tallying.{AreTablesOf}
 use Rattle.grid_versions.proofs.class_tables.class_tables.Given as goal
 
 -- the classes below `number` have their tables
 abbrev pub invariant-loop-number : goal.invariant-loop-number
 invariant-loop-number g l = record {
   tables : AreTablesOf l.number (is_passable l.grid) l.grid.size l.all.items;
-  ticks : l.steps ≡ l.initial.steps + l.number * chunk_count l.grid.size;
+  ticks : l.ticks ≡ l.initial.ticks + l.number * chunk_count l.grid.size;
 }

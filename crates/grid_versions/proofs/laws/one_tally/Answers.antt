@@ -2,7 +2,7 @@ use Rattle.std.proofs.Common.{ℕ, ◌<◌}
 use Rattle.nav_types.specs.declared.cells.Cell.{Cell}
 use Rattle.nav_types.specs.declared.cells.Chunk.{Chunk}
 use Rattle.nav_types.specs.Regions.{IsRegionFirst, IsNextChunk, IsEdge, IsAreaFirst}
-use Rattle.grid_versions.proofs.Counting.{Counts-unique}
+use Rattle.nav_types.proofs.Counting.{Counts-unique}
 use Rattle.grid_versions.proofs.laws.one_tally.Goals as goal
 
 pub returns : goal.returns

@@ -3,10 +3,11 @@ use Rattle.nav_types.specs.declared.cells.Chunk.{Chunk}
 use Rattle.nav_types.specs.declared.cells.Rect.{Rect}
 use Rattle.nav_types.specs.declared.cells.Size.{Size}
 use Rattle.nav_types.specs.Cells.{IsInRect}
-use Rattle.chunk_regions.specs.Numbering.{Numbering, columns, rows}
+use Rattle.nav_types.specs.Numbering.{Numbering, columns, rows}
 use Rattle.chunk_regions.specs.Labelling.{chunk_rect}
-use Rattle.grid_versions.specs.Chunks.{chunk_count, chunk_numbered, AreOfChunks}
-use Rattle.grid_versions.specs.Painting.{IsReadFrom}
+use Rattle.grid_versions.specs.Chunks.{chunk_count}
+use Rattle.grid_versions.specs.inner.ChunkLists.{chunk_numbered, AreOfChunks}
+use Rattle.grid_versions.specs.inner.Painting.{IsReadFrom}
 use Rattle.grid_versions.proofs.ChunkLemmas.{AreOfChunks-push}
 use Rattle.grid_versions.proofs.painting.chunk_cells.Goals as goal
 

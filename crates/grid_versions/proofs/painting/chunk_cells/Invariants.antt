@@ -1,5 +1,5 @@
-use Rattle.grid_versions.specs.Chunks.{AreOfChunks}
-use Rattle.grid_versions.specs.Painting.{IsReadFrom}
+use Rattle.grid_versions.specs.inner.ChunkLists.{AreOfChunks}
+use Rattle.grid_versions.specs.inner.Painting.{IsReadFrom}
 use Rattle.grid_versions.proofs.painting.chunk_cells.Given as goal
 
 abbrev pub invariant-loop-place : goal.invariant-loop-place

@@ -4,11 +4,11 @@ use Rattle.std.specs.FinMap as fin_map
 use Rattle.nav_types.specs.declared.cells.Cell.{Cell}
 use Rattle.nav_types.specs.declared.cells.Size.{Size}
 use Rattle.obstruction_shapes.specs.declared.shapes.Obstruction.{Obstruction}
-use Rattle.obstruction_shapes.specs.Shapes.{Fits}
+use Rattle.obstruction_shapes.specs.Shapes.{FitsMap}
 use Rattle.class_config.specs.declared.table.PassabilityClass.{PassabilityClass}
 use Rattle.clearance_raster.specs.Rasters.{blocks_class, IsRaster}
 use Rattle.obstruction_store.proofs.Listing.{Contains-entries}
-use Rattle.grid_versions.proofs.Counting.{Contains-head, Contains-tail}
+use Rattle.nav_types.proofs.Items.{Contains-head, Contains-tail}
 use Rattle.grid_versions.proofs.PaintLemmas.{Ends, Ends-none, Ends-more, Ends-all}
 use Rattle.grid_versions.proofs.painting.paint_shapes.Goals as goal
 
@@ -32,7 +32,7 @@ raster-requires c =
     let entry : ℕ × Obstruction = (c.in-Some.field-0-0, c.in-Some.obstruction.now) in
     let steps : c.shapes.obstruction-iterator ≡ entry ∷ c.next.new.self = c.in-Some.ensures.steps in
     let fit = c.shapes.invariant.3 entry (subst (λ (xs : List (ℕ × Obstruction)). Contains xs entry) (sym steps) (Contains-head entry c.next.new.self)) in
-    subst (λ (size : Size). Fits size c.in-Some.obstruction.now.shape) (sym (c.shapes.invariant.2.size ∙ c.requires.size)) fit
+    subst (λ (size : Size). FitsMap size c.in-Some.obstruction.now.shape) (sym (c.shapes.invariant.2.size ∙ c.requires.size)) fit
 
 pub shapes-preserved : goal.shapes-preserved
 shapes-preserved c =

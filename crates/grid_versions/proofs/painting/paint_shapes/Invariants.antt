@@ -2,7 +2,7 @@ use Rattle.std.proofs.Common.{ℕ}
 use Rattle.std.specs.List.{Contains}
 use Rattle.std.specs.FinMap as fin_map
 use Rattle.obstruction_shapes.specs.declared.shapes.Obstruction.{Obstruction}
-use Rattle.obstruction_shapes.specs.Shapes.{Fits}
+use Rattle.obstruction_shapes.specs.Shapes.{FitsMap}
 use Rattle.clearance_raster.specs.Rasters.{blocks_class}
 use Rattle.grid_versions.proofs.PaintLemmas.{Ends}
 use Rattle.grid_versions.proofs.painting.paint_shapes.Given as goal
@@ -12,4 +12,4 @@ invariant-shapes l =
     (goal.iterator-shapes).can_next l.obstruction-iterator ×
     (goal.iterator-shapes).is_finite l.obstruction-iterator ×
     Ends (λ k cell (entry : ℕ × Obstruction). blocks_class entry.1 l.map.classes k cell) (fin_map.entries l.fn.shapes) l.obstruction-iterator l.fn.grid l.grid ×
-    ((entry : ℕ × Obstruction) → Contains l.obstruction-iterator entry → Fits l.map.size entry.1.shape)
+    ((entry : ℕ × Obstruction) → Contains l.obstruction-iterator entry → FitsMap l.map.size entry.1.shape)

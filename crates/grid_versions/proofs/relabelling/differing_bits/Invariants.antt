@@ -1,8 +1,8 @@
 use Rattle.std.proofs.Common.{◌≡◌, ℕ, ◌↔◌, length, Some}
 use Rattle.std.specs.Prelude.{slice_get}
 use Rattle.std.specs.Int.{bit_at}
-use Rattle.chunk_regions.specs.Numbering.{Numbering}
-use Rattle.grid_versions.specs.Painting.{DiffersIn}
+use Rattle.nav_types.specs.Numbering.{Numbering}
+use Rattle.grid_versions.specs.inner.Painting.{DiffersIn}
 use Rattle.grid_versions.proofs.relabelling.differing_bits.Given as goal
 
 -- the chunks before `place` are compared

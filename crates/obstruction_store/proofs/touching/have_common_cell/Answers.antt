@@ -1,5 +1,5 @@
 use Rattle.std.proofs.Common.{arith, leb-true, le-leb}
-use Rattle.obstruction_store.proofs.Picking.{common_cell}
+use Rattle.obstruction_store.proofs.TouchingNumbers.{common_cell}
 use Rattle.obstruction_store.proofs.touching.have_common_cell.Goals as goal
 
 pub returns-then-max-min : goal.returns-then-max-min

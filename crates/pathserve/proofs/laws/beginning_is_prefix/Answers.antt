@@ -1,4 +1,4 @@
-use Rattle.pathserve.proofs.TopTexts as law
+use Rattle.pathserve.proofs.OneText as law
 use Rattle.pathserve.proofs.laws.beginning_is_prefix.Goals as goal
 
 pub returns : goal.returns

@@ -1,4 +1,4 @@
-use Rattle.pathserve.proofs.TopStops as law
+use Rattle.pathserve.proofs.Stops as law
 use Rattle.pathserve.proofs.laws.stop_is_not_taken.Goals as goal
 
 pub returns-clause-no_stop : goal.returns-clause-no_stop

@@ -1,4 +1,4 @@
-use Rattle.pathserve.proofs.TopTexts as law
+use Rattle.pathserve.proofs.OneText as law
 use Rattle.pathserve.proofs.laws.taken_text.Goals as goal
 
 pub returns-clause-one : goal.returns-clause-one

@@ -1,4 +1,4 @@
-use Rattle.pathserve.proofs.TopThreads as law
+use Rattle.pathserve.proofs.OneThread as law
 use Rattle.pathserve.proofs.laws.text_is_one_thread.Goals as goal
 
 pub returns-clause-told : goal.returns-clause-told

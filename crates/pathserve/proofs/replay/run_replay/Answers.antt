@@ -6,8 +6,39 @@ use Rattle.turn_core.specs.declared.posts.Post.{Post}
 use Rattle.script_text.specs.declared.faults.ScriptFault.{ScriptFault}
 use Rattle.script_text.specs.Reader.{unread, TurnAnswers}
 use Rattle.pathserve.specs.Output.{Said, unsaid, with_turn}
-use Rattle.pathserve.proofs.TopStands.{Stands, stands_unread, stands_map, stands_turn, told_turn, told_done, told_no_memory, tells_nothing, told_fault, map_refusal, turn_refusal, stop_done, stop_fault, stop_refused, rose_since}
+use Rattle.pathserve.proofs.Replaying.{Stands, stands_unread, stands_map, stands_turn, told_turn, told_done, told_no_memory, tells_nothing, told_fault, map_refusal, turn_refusal, stop_done, stop_fault, stop_refused, rose_since}
+use Rattle.io_edges.proofs.Passed.{taken_none, taken_more}
+use Rattle.pathserve.proofs.Passes.{stands_taken, piece_taken, stop_taken}
 use Rattle.pathserve.proofs.replay.run_replay.Goals as goal
+
+-- ---- what the sink took, at each exit
+
+pub returns-in-Err-clause-taken : goal.returns-in-Err-clause-taken
+returns-in-Err-clause-taken g c = taken_none _
+
+pub returns-in-Err-read_map-clause-taken : goal.returns-in-Err-read_map-clause-taken
+returns-in-Err-read_map-clause-taken g c = stop_taken _ _ _ _ c.write_stop.ensures.stops
+
+pub returns-in-Err-bare_version-clause-taken : goal.returns-in-Err-bare_version-clause-taken
+returns-in-Err-bare_version-clause-taken g c = taken_none _
+
+pub returns-in-Err-answered-clause-taken : goal.returns-in-Err-answered-clause-taken
+returns-in-Err-answered-clause-taken g c = stands_taken _ _ _ _ _ _ c.turns.invariant.stands
+
+pub returns-in-Err-write_all-clause-taken : goal.returns-in-Err-write_all-clause-taken
+returns-in-Err-write_all-clause-taken g c =
+    let refused : Result (Unit {0}) WriteRefusal = Err c.in-Err-write_all.refusal in
+    taken_more _ _ _ (stands_taken _ _ _ _ _ _ c.turns.invariant.stands)
+    (piece_taken _ _ c.in-Ok-answered.told.text refused (rw c.as_slice.ensures at c.in-Err-write_all.ensures.written))
+
+pub returns-in-Ok-None-clause-taken : goal.returns-in-Ok-None-clause-taken
+returns-in-Ok-None-clause-taken g c = stands_taken _ _ _ _ _ _ c.turns.invariant.stands
+
+pub returns-in-Err-next_turn-clause-taken : goal.returns-in-Err-next_turn-clause-taken
+returns-in-Err-next_turn-clause-taken g c =
+    taken_more _ _ _ (stands_taken _ _ _ _ _ _ c.turns.invariant.stands) (stop_taken _ _ _ _ c.write_stop-in-Err-next_turn.ensures.stops)
+
+-- ---- what was written, and the status
 
 pub returns-in-Err-clause-told : goal.returns-in-Err-clause-told
 returns-in-Err-clause-told g c =

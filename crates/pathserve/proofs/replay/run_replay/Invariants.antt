@@ -2,7 +2,7 @@
 use Rattle.std.proofs.Common.{◌≤◌, ◌-◌, Some}
 use Rattle.std.specs.Prelude.{IsFalse, IsSome}
 use Rattle.script_text.specs.Reader.{rules_at}
-use Rattle.pathserve.proofs.TopStands.{Stands}
+use Rattle.pathserve.proofs.Replaying.{Stands}
 use Rattle.pathserve.proofs.replay.run_replay.Given as goal
 
 abbrev pub invariant-turns : goal.invariant-turns

@@ -1,5 +1,5 @@
 use Rattle.std.proofs.Common.{arith}
-use Rattle.pathserve.proofs.TopWrites.{more_written, part_written, appends_kept}
+use Rattle.pathserve.proofs.Writes.{more_written, part_written, appends_kept}
 use Rattle.pathserve.proofs.writing.write_all.Goals as goal
 
 pub returns-in-Ok-eq0-clause-written : goal.returns-in-Ok-eq0-clause-written

@@ -1,6 +1,6 @@
 -- What was written is the piece without what is left of it.
 use Rattle.std.proofs.Common.{◌≤◌, length}
-use Rattle.pathserve.proofs.TopWrites.{HasWritten}
+use Rattle.pathserve.proofs.Writes.{HasWritten}
 use Rattle.pathserve.proofs.writing.write_all.Given as goal
 
 abbrev pub invariant-loop-rest : goal.invariant-loop-rest

@@ -1,5 +1,5 @@
 use Rattle.std.proofs.Common.{take}
-use Rattle.reach_sets.specs.Forests.{IsForest}
+use Rattle.reach_sets.specs.inner.Forests.{IsForest}
 use Rattle.reach_sets.proofs.LinkLemmas.{ByLinks, HoldLinks}
 use Rattle.reach_sets.proofs.forests.join_links.Given as goal
 

@@ -1,5 +1,5 @@
 use Rattle.std.proofs.Common.{◌<◌, ℕ, List, length, sym, ap, ◌∙◌, subst, arith}
-use Rattle.reach_sets.specs.Forests.{AreRootNumbers}
+use Rattle.reach_sets.specs.inner.Forests.{AreRootNumbers}
 use Rattle.reach_sets.proofs.NumberLemmas.{none_numbered, root_turn, child_turn}
 use Rattle.reach_sets.proofs.forests.number_trees.Goals as goal
 use Rattle.reach_sets.proofs.forests.number_trees.Goals.{then-parent-place+in_ok-push, else-parent-place+in_ok-push-2}

@@ -1,5 +1,5 @@
 use Rattle.std.proofs.Common.{◌≡◌, ◌≤◌, length}
-use Rattle.reach_sets.specs.Forests.{AreRootNumbers}
+use Rattle.reach_sets.specs.inner.Forests.{AreRootNumbers}
 use Rattle.reach_sets.proofs.forests.number_trees.Given as goal
 
 abbrev pub invariant-loop-place : goal.invariant-loop-place

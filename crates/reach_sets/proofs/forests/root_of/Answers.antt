@@ -1,5 +1,5 @@
 use Rattle.std.proofs.Common.{◌<◌, length, get_or, refl, arith}
-use Rattle.reach_sets.specs.Forests.{HasParent}
+use Rattle.reach_sets.specs.inner.Forests.{HasParent}
 use Rattle.reach_sets.proofs.ForestLemmas.{keeps_self, climbed}
 use Rattle.reach_sets.proofs.ChainLemmas.{chained_self}
 use Rattle.reach_sets.proofs.forests.root_of.Goals as goal

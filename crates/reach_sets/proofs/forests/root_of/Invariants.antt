@@ -1,5 +1,5 @@
 use Rattle.std.proofs.Common.{◌≤◌}
-use Rattle.reach_sets.specs.Forests.{AreInOneTree, KeepsTrees}
+use Rattle.reach_sets.specs.inner.Forests.{AreInOneTree, KeepsTrees}
 use Rattle.reach_sets.proofs.forests.root_of.Given as goal
 
 abbrev pub invariant-climb : goal.invariant-climb

@@ -1,5 +1,5 @@
 use Rattle.std.proofs.Common.{All}
-use Rattle.reach_sets.specs.Rows.{IsRegion}
+use Rattle.reach_sets.specs.RegionOrder.{IsRegion}
 use Rattle.reach_sets.proofs.tests.linked.Given as goal
 
 abbrev pub invariant-loop-pair : goal.invariant-loop-pair

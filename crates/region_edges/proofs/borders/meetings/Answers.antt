@@ -1,6 +1,6 @@
 use Rattle.std.proofs.Common.{ℕ, ◌+◌, ◌≡◌, ◌∙◌, List, ap, subst, sym, arith}
 use Rattle.nav_types.specs.declared.cells.Rect.{Rect}
-use Rattle.region_edges.specs.Borders.{border_length}
+use Rattle.region_edges.specs.inner.Borders.{border_length}
 use Rattle.region_edges.proofs.MeetLemmas.{AreMeetings, AreMeetings-push, AreMeetings-skip}
 use Rattle.region_edges.proofs.borders.meetings.Goals as goal
 use Rattle.region_edges.proofs.borders.meetings.Goals.{then-pair-ne0+then-pair-ne0-2+in_ok-push, else-pair-ne0, else-pair-ne0-via-then-pair-ne0+else-pair-ne0-2, else-pair-ne0-via-else-pair-ne0}

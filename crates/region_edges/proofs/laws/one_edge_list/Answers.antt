@@ -1,5 +1,5 @@
 use Rattle.region_edges.specs.Edges.{IsPairBefore}
-use Rattle.region_edges.proofs.OrderLemmas.{same_ordered}
+use Rattle.nav_types.proofs.Items.{same_ordered}
 use Rattle.region_edges.proofs.PairLemmas.{IsPairBefore-asym}
 use Rattle.region_edges.proofs.laws.one_edge_list.Goals as goal
 

@@ -1,7 +1,7 @@
 use Rattle.std.proofs.Common.{ℕ, ◌≡◌, ◌++◌, ◌∙◌, ◌↔◌, List, ap, subst, sym}
 use Rattle.std.specs.List.{Contains}
 use Rattle.region_edges.specs.Edges.{AreEdges}
-use Rattle.region_edges.specs.Borders.{border_length, Meets}
+use Rattle.region_edges.specs.inner.Borders.{border_length, Meets}
 use Rattle.region_edges.proofs.EdgeLemmas.{AreEdges-from_meetings}
 use Rattle.region_edges.proofs.neighbours.between.Goals as goal
 

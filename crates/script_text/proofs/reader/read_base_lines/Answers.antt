@@ -1,9 +1,9 @@
 use Rattle.std.proofs.Common.{◌∙◌, ℕ, Bool, Option, Ok, IsTrue, ap, sym, subst, arith}
 use Rattle.script_text.specs.Script.{rules_of}
 use Rattle.script_text.specs.Reader.{post_count}
-use Rattle.script_text.specs.Taking.{Taken, FindsLine, NextTold}
-use Rattle.script_text.specs.Judging.{TakesBase, held_at}
-use Rattle.script_text.proofs.ReadCalls.{adds_nowhere, adds_line, adds_end, adds_kept, adds_refused, adds_fault, used_up_ready}
+use Rattle.script_text.specs.inner.Taking.{Taken, FindsLine, NextTold}
+use Rattle.script_text.specs.inner.Judging.{TakesBase, held_at}
+use Rattle.script_text.proofs.ReadCalls.{adds_nowhere, adds_line, adds_end, adds_kept, adds_refused, adds_fault, used_up_ready, no_base_ready, whole_between}
 use Rattle.script_text.proofs.reader.read_base_lines.Goals as goal
 
 pub lines-init : goal.lines-init
@@ -83,3 +83,14 @@ returns-in-Err-clause-told g c =
     let left = g.S.Source.left in
     adds_fault (held_at c.args.progress.now c.args.lines.now) c.lines.progress c.lines.lines c.next_line.new.self c.args.map.now c.lines.map c.room-room.result c.in-Err.fault
     (left c.args.source.now) (left c.lines.source) (left c.next_line.new.source) c.room-room.ensures.room c.lines.invariant.stays c.in-Err.ensures.plain c.lines.invariant.told c.in-Err.ensures.told
+
+pub returns-in-Ok-false-clause-ready : goal.returns-in-Ok-false-clause-ready
+returns-in-Ok-false-clause-ready g c =
+    let now = c.next_line.new.self in
+    let after = c.take_base_line.new.lines in
+    let Found : Option ℕ → Type 0 = λ found. FindsLine now found in
+    let Base : Bool → Type 0 = λ taken. TakesBase c.lines.progress c.take_base_line.new.progress c.lines.map c.take_base_line.new.map now after c.in-Ok-Some.size (Ok taken) in
+    let kept = subst Base c.in-Ok-false.field-0-test c.in-Ok-false.ensures.takes in
+    let whole = subst Found c.in-Ok-Some.field-0-is c.in-Ok-Some.ensures.finds in
+    no_base_ready c.lines.progress c.take_base_line.new.progress now after c.in-Ok-Some.size (rules_of c.lines.map) c.lines.invariant.part c.lines.invariant.posts whole
+    c.in-Ok-Some.ensures.plain kept.line.same kept.same kept.line.no_base (whole_between now c.in-Ok-Some.size whole)

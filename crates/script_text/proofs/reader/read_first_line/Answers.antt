@@ -1,5 +1,5 @@
 use Rattle.std.proofs.Common.{ℕ, Option, Ok, subst}
-use Rattle.script_text.specs.Taking.{FindsLine, NextTold}
+use Rattle.script_text.specs.inner.Taking.{FindsLine, NextTold}
 use Rattle.script_text.proofs.ReadCalls.{first_told, first_fault}
 use Rattle.script_text.proofs.reader.read_first_line.Goals as goal
 

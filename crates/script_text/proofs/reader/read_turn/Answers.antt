@@ -2,15 +2,17 @@ use Rattle.std.proofs.Common.{[], ◌≡◌, ◌∙◌, ℕ, ◌+◌, ◌≤◌,
 use Rattle.turn_core.specs.declared.posts.Post.{Post}
 use Rattle.script_text.specs.Script.{accept}
 use Rattle.script_text.specs.Reader.{UsesLines, post_count}
-use Rattle.script_text.specs.Taking.{Taken, HeldLine, FindsLine, NextTold}
-use Rattle.script_text.specs.Judging.{CountsPosts, GivesTurn, held_at}
+use Rattle.script_text.specs.inner.Taking.{Taken, HeldLine, FindsLine, NextTold}
+use Rattle.script_text.specs.inner.Judging.{CountsPosts, GivesTurn, held_at}
 use Rattle.script_text.proofs.ReadCalls.{goes_begun, goes_post, turn_told, turn_refused, turn_fault, turn_none, turn_missing, in_turns_next}
+use Rattle.script_text.proofs.ReadNeed.{ahead-none, ahead_on}
 use Rattle.script_text.proofs.ReadStill.{holds_line, still_unread, uses_held, uses_none}
 use Rattle.script_text.proofs.reader.read_turn.Goals as goal
 
 pub lines-init : goal.lines-init
 lines-init g c = record {
   told = goes_begun (held_at c.args.progress.now c.args.lines.now) (g.S.Source.left c.args.source.now);
+  ahead = ahead-none (held_at c.args.progress.now c.args.lines.now) (g.S.Source.left c.args.source.now);
   rules = refl;
   between = c.requires.ready.between;
   no_base = c.requires.ready.no_base;
@@ -42,6 +44,8 @@ lines-preserved g c =
           (subst Found c.in-Ok-Some.field-0-is c.in-Ok-Some.ensures.finds) c.in-Ok-Some.ensures.plain
           (subst Given c.in-Ok-None-take_turn_line.field-0-is c.in-Ok-None-take_turn_line.ensures.gives) c.in-Ok-None-take_turn_line.ensures.line c.lines.invariant.told
           (subst Next c.in-Ok-Some.field-0-is c.in-Ok-Some.ensures.told);
+      ahead = ahead_on (held_at c.args.progress.now c.args.lines.now) c.lines.progress c.lines.lines (left c.args.source.now) (left c.lines.source) (left c.next_line.new.source)
+          c.lines.invariant.stays c.lines.invariant.told c.lines.invariant.ahead c.next_line.ensures.reads;
       rules = c.take_turn_line.ensures.rules ∙ c.lines.invariant.rules;
       between = λ none. ap (λ h. h.line) c.in-Ok-None-take_turn_line.ensures.line;
       no_base = in_turns_next new.part after c.in-Ok-None-take_turn_line.ensures.part;
@@ -135,3 +139,34 @@ returns-in-Err-finish-clause-told g c =
     turn_missing first (held_at c.lines.progress now) c.lines.progress c.lines.lines now c.room-room.result c.in-Err-finish.fault (left c.args.source.now) (left c.lines.source)
     (left c.next_line.new.source) c.in-Ok-None.ensures.stays (subst Found c.in-Ok-None.field-0-is c.in-Ok-None.ensures.finds) c.in-Err-finish.ensures.stops c.lines.invariant.told
     (subst Next c.in-Ok-None.field-0-is c.in-Ok-None.ensures.told)
+
+-- nothing was read ahead
+pub returns-in-Ok-Some-take_turn_line-clause-ahead : goal.returns-in-Ok-Some-take_turn_line-clause-ahead
+returns-in-Ok-Some-take_turn_line-clause-ahead g c =
+    let left = g.S.Source.left in
+    ahead_on (held_at c.args.progress.now c.args.lines.now) c.lines.progress c.lines.lines (left c.args.source.now) (left c.lines.source) (left c.next_line.new.source)
+    c.lines.invariant.stays c.lines.invariant.told c.lines.invariant.ahead c.next_line.ensures.reads
+
+pub returns-in-Err-take_turn_line-clause-ahead : goal.returns-in-Err-take_turn_line-clause-ahead
+returns-in-Err-take_turn_line-clause-ahead g c =
+    let left = g.S.Source.left in
+    ahead_on (held_at c.args.progress.now c.args.lines.now) c.lines.progress c.lines.lines (left c.args.source.now) (left c.lines.source) (left c.next_line.new.source)
+    c.lines.invariant.stays c.lines.invariant.told c.lines.invariant.ahead c.next_line.ensures.reads
+
+pub returns-in-Ok-clause-ahead : goal.returns-in-Ok-clause-ahead
+returns-in-Ok-clause-ahead g c =
+    let left = g.S.Source.left in
+    ahead_on (held_at c.args.progress.now c.args.lines.now) c.lines.progress c.lines.lines (left c.args.source.now) (left c.lines.source) (left c.next_line.new.source)
+    c.lines.invariant.stays c.lines.invariant.told c.lines.invariant.ahead c.next_line.ensures.reads
+
+pub returns-in-Err-finish-clause-ahead : goal.returns-in-Err-finish-clause-ahead
+returns-in-Err-finish-clause-ahead g c =
+    let left = g.S.Source.left in
+    ahead_on (held_at c.args.progress.now c.args.lines.now) c.lines.progress c.lines.lines (left c.args.source.now) (left c.lines.source) (left c.next_line.new.source)
+    c.lines.invariant.stays c.lines.invariant.told c.lines.invariant.ahead c.next_line.ensures.reads
+
+pub returns-in-Err-clause-ahead : goal.returns-in-Err-clause-ahead
+returns-in-Err-clause-ahead g c =
+    let left = g.S.Source.left in
+    ahead_on (held_at c.args.progress.now c.args.lines.now) c.lines.progress c.lines.lines (left c.args.source.now) (left c.lines.source) (left c.next_line.new.source)
+    c.lines.invariant.stays c.lines.invariant.told c.lines.invariant.ahead c.next_line.ensures.reads

@@ -1,13 +1,14 @@
 -- The lines used so far ended no turn, and each post took at least two bytes. Where a turn was held, they were held too.
 use Rattle.std.proofs.Common.{◌≡◌, ◌+◌, ◌*◌, ◌≤◌, ◌-◌, [], None, IsTrue}
-use Rattle.script_text.specs.Reader.{HoldsTurn, UsesLines, post_count, rules_at}
-use Rattle.script_text.specs.Judging.{IsNoBaseNext, held_at}
+use Rattle.script_text.specs.Reader.{HoldsTurn, TakesNoneAhead, UsesLines, post_count, rules_at}
+use Rattle.script_text.specs.inner.Judging.{IsNoBaseNext, held_at}
 use Rattle.script_text.proofs.ReadCalls.{GoesTold}
 use Rattle.script_text.proofs.reader.read_turn.Given as goal
 
 abbrev pub invariant-lines : goal.invariant-lines
 invariant-lines g l = record {
   told : GoesTold (held_at l.initial.progress l.initial.lines) (held_at l.progress l.lines) (g.S.Source.left l.initial.source) (g.S.Source.left l.source);
+  ahead : TakesNoneAhead (held_at l.initial.progress l.initial.lines) (g.S.Source.left l.initial.source) (g.S.Source.left l.source);
   rules : rules_at l.progress.part ≡ rules_at l.initial.progress.part;
   between : l.lines.line_end ≡ None → l.lines.line ≡ [];
   no_base : IsNoBaseNext l.progress.part l.lines;

@@ -1,12 +1,13 @@
 use Rattle.std.proofs.Common.{◌≡◌, ◌∙◌, sym, ap, subst, Option, Some, None, Ok, true, false}
 use Rattle.std.specs.FinMap as fin_map
 use Rattle.obstruction_shapes.specs.declared.shapes.Obstruction.{Obstruction}
-use Rattle.obstruction_shapes.specs.Shapes.{turned_of, Fits}
+use Rattle.obstruction_shapes.specs.Shapes.{turned_of, FitsMap}
 use Rattle.goal_shapes.specs.declared.goals.Goal.{Goal}
-use Rattle.goal_shapes.specs.Limits.{IsSound}
+use Rattle.goal_shapes.specs.Limits.{IsSoundGoal}
 use Rattle.turn_core.specs.Words.{Standing}
-use Rattle.turn_core.specs.Finding.{is_up_to}
-use Rattle.turn_core.proofs.FoundGoals.{about_far, about_near, half_side_up_to, up_to_decides}
+use Rattle.fixed_point.specs.Plane.{is_up_to}
+use Rattle.fixed_point.proofs.PlaneTests.{Decides-is_up_to}
+use Rattle.turn_core.proofs.FoundGoals.{about_far, about_near}
 use Rattle.turn_core.proofs.finding.goal_about.Goals as goal
 
 pub returns-then-not-is_growth-clause-found : goal.returns-then-not-is_growth-clause-found
@@ -24,16 +25,16 @@ returns-in_default-clause-found c =
 
 pub square_about-requires-clause-width : goal.square_about-requires-clause-width
 square_about-requires-clause-width c =
-    half_side_up_to _ (c.shapes.ensures.fit.each c.args.id c.in-Some.obstruction.now (sym c.in-Some.ensures)).width
+    (c.shapes.ensures.fit.each c.args.id c.in-Some.obstruction.now (sym c.in-Some.ensures)).width
 
 pub square_about-requires-clause-height : goal.square_about-requires-clause-height
 square_about-requires-clause-height c =
-    half_side_up_to _ (c.shapes.ensures.fit.each c.args.id c.in-Some.obstruction.now (sym c.in-Some.ensures)).height
+    (c.shapes.ensures.fit.each c.args.id c.in-Some.obstruction.now (sym c.in-Some.ensures)).height
 
 pub square_about-requires-clause-grow : goal.square_about-requires-clause-grow
 square_about-requires-clause-grow c =
     let near : is_up_to 3840 c.args.grow ≡ true = cc in
-    (up_to_decides 3840 c.args.grow).0 near
+    (Decides-is_up_to 3840 c.args.grow).0 near
 
 pub returns-clause-found : goal.returns-clause-found
 returns-clause-found c =
@@ -47,9 +48,9 @@ pub returns-clause-sound : goal.returns-clause-sound
 returns-clause-sound c =
     let near : is_up_to 3840 c.args.grow ≡ true = cc in
     let found = c.in-Some.obstruction.now in
-    let s = turned_of found.shape in
+    let square = turned_of found.shape in
     let size = c.args.version.now.map.size in
-    let fits : Fits size found.shape = c.shapes.ensures.fit.each c.args.id found (sym c.in-Some.ensures) in
-    subst (λ (g : Goal). IsSound size g) (sym c.square_about.ensures)
-    (c.grown_goals_are_sound.ensures size s.x s.z s.ux s.uz s.hw s.hh c.args.grow fits.column fits.row fits.unit_vector
-    (half_side_up_to s.hw fits.width) (half_side_up_to s.hh fits.height) ((up_to_decides 3840 c.args.grow).0 near))
+    let fits : FitsMap size found.shape = c.shapes.ensures.fit.each c.args.id found (sym c.in-Some.ensures) in
+    subst (λ (g : Goal). IsSoundGoal size g) (sym c.square_about.ensures)
+    (c.grown_goals_are_sound.ensures size square c.args.grow fits.column fits.row fits.unit_vector
+    fits.width fits.height ((Decides-is_up_to 3840 c.args.grow).0 near))

@@ -1,5 +1,7 @@
 use Rattle.std.proofs.Common.{◌≡◌, ◌∙◌, List, Option, refl, sym, ap, subst}
 use Rattle.turn_core.specs.declared.posts.Post.{Post}
+use Rattle.grid_versions.specs.declared.edits.EditReply.{EditReply}
+use Rattle.turn_core.specs.declared.replies.Answer.{Answer}
 use Rattle.turn_core.specs.declared.replies.Reply.{Reply}
 use Rattle.turn_core.specs.Turns.{after_turn, jobs, AreTurnReplies}
 use Rattle.turn_core.specs.Effects.{known}
@@ -19,8 +21,8 @@ returns-clause-told c =
     let merged : c.in_ok-replies.replies ≡ merged_turn turn made.edits (known answers) =
     c.in_ok-replies.ensures
     ∙ ap (λ (t : List (List Post)). merged_turn t c.as_slice-3.result.now (known c.as_slice-4.result.now)) c.as_slice-2.ensures
-    ∙ ap (λ (es : List Reply). merged_turn turn es (known c.as_slice-4.result.now)) c.as_slice-3.ensures
-    ∙ ap (λ (rs : List (Option Reply)). merged_turn turn made.edits (known rs)) c.as_slice-4.ensures in
+    ∙ ap (λ (es : List EditReply). merged_turn turn es (known c.as_slice-4.result.now)) c.as_slice-3.ensures
+    ∙ ap (λ (rs : List (Option Answer)). merged_turn turn made.edits (known rs)) c.as_slice-4.ensures in
     record {
       replies = subst (λ (rs : List (List Reply)). AreTurnReplies v.map final v.standing turn rs) (sym merged)
           (merged_are v.map v.standing turn made.edits (known answers) c.in_ok-after.ensures.edits are);

@@ -18,7 +18,7 @@ loop-turn-preserved c =
     let pushed : c.push.new.self ≡ c.loop-turn.all ++ made.replies ∷ [] = c.in_ok-push.ensures.ok in
     subst (λ (all : List TurnReplies). HasAnswered c.args.map.now (take (c.loop-turn.turn-index + 1) journal) made.after all) (sym pushed)
     (answered_more c.args.map.now journal c.loop-turn.turn-index c.turn-item.result c.loop-turn.version made.after c.loop-turn.all made.replies
-    c.loop-turn-test.true c.turn-item.is c.loop-turn.invariant c.in_ok-replies.ensures.map c.in_ok-replies.ensures.standing c.in_ok-replies.ensures.told.replies c.in_ok-replies.ensures.told.numbers)
+    c.loop-turn-test.true c.turn-item.is c.loop-turn.invariant c.in_ok-replies.ensures.map c.in_ok-replies.ensures.standing c.in_ok-replies.ensures.told)
 
 pub returns : goal.returns
 returns c =

@@ -1,4 +1,6 @@
 use Rattle.std.proofs.Common.{◌≡◌, ℕ, ◌+◌, List, [], ◌∷◌, ◌++◌, drop, ap, ◌∙◌}
+use Rattle.grid_versions.specs.declared.edits.EditReply.{EditReply}
+use Rattle.turn_core.specs.declared.replies.Answer.{Answer}
 use Rattle.turn_core.specs.declared.replies.Reply.{Reply}
 use Rattle.turn_core.specs.Effects.{known}
 use Rattle.turn_core.specs.Merging.{merged, merged_turn, edit_count, request_count}
@@ -19,6 +21,6 @@ loop-posts-preserved c =
     ap known (c.past-answers.ensures ∙ ap (λ (n : ℕ). drop n c.loop-posts.answers.now) (c.request_count.ensures ∙ ap request_count c.as_slice-posts.ensures))
     ∙ known_drop (request_count ps) c.loop-posts.answers.now in
     ap (λ (l : List (List Reply)). l ++ merged_turn (drop (i + 1) turn) c.past-edits.result.now (known c.past-answers.result.now)) c.in_ok-push.ensures.ok
-    ∙ ap (λ (l : List Reply). (c.loop-posts.made ++ c.in_ok-merged.field-0 ∷ []) ++ merged_turn (drop (i + 1) turn) l (known c.past-answers.result.now)) edits
-    ∙ ap (λ (l : List Reply). (c.loop-posts.made ++ c.in_ok-merged.field-0 ∷ []) ++ merged_turn (drop (i + 1) turn) (drop (edit_count ps) es) l) answers
+    ∙ ap (λ (l : List EditReply). (c.loop-posts.made ++ c.in_ok-merged.field-0 ∷ []) ++ merged_turn (drop (i + 1) turn) l (known c.past-answers.result.now)) edits
+    ∙ ap (λ (l : List Answer). (c.loop-posts.made ++ c.in_ok-merged.field-0 ∷ []) ++ merged_turn (drop (i + 1) turn) (drop (edit_count ps) es) l) answers
     ∙ merged_more turn i ps es rs c.loop-posts.made (merged_turn turn c.args.edits.now (known c.args.answers.now)) c.in_ok-merged.field-0 c.loop-posts-test.true c.posts-item.is one c.loop-posts.invariant

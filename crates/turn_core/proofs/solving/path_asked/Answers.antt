@@ -2,8 +2,8 @@ use Rattle.std.proofs.Common.{◌≡◌, ◌∙◌, sym, ap, ℕ, Some, false, t
 use Rattle.nav_types.specs.declared.cells.Size.{Size}
 use Rattle.grid_versions.specs.Maps.{Map}
 use Rattle.grid_versions.specs.Passing.{passable_at}
-use Rattle.turn_core.specs.declared.replies.Reply.{Reply}
-use Rattle.turn_core.specs.declared.replies.Reply.TheVariants.{Refused}
+use Rattle.turn_core.specs.declared.replies.Answer.{Answer}
+use Rattle.turn_core.specs.declared.replies.Answer.TheVariants.{Refused}
 use Rattle.turn_core.specs.Finding.{class_named, is_on_map, goal_found}
 use Rattle.turn_core.specs.Solving.{IsPathFound}
 use Rattle.turn_core.proofs.Answered.{on_map_held, answered_at, answered_ok, outside_at, found_ok, found_err}
@@ -12,7 +12,7 @@ use Rattle.turn_core.proofs.solving.path_asked.Goals as goal
 pub returns-then-is_none : goal.returns-then-is_none
 returns-then-is_none c =
     let map = c.args.version.now.map in
-    let Answers : ℕ → Reply → Type 0 =
+    let Answers : ℕ → Answer → Type 0 =
     λ class. IsPathFound (passable_at map c.args.version.now.standing class) c.args.x c.args.z (goal_found map c.args.version.now.standing c.args.goal.now) in
     let has : class_named map c.args.name.now ≡ Some c.in-Some.class = cc in
     let size : map.size ≡ c.size.result = sym (c.size.ensures ∙ ap (λ (m : Map). m.size) c.map-2.ensures) in
@@ -25,7 +25,7 @@ returns-then-is_none c =
 pub returns-in-Ok : goal.returns-in-Ok
 returns-in-Ok c =
     let map = c.args.version.now.map in
-    let Answers : ℕ → Reply → Type 0 =
+    let Answers : ℕ → Answer → Type 0 =
     λ class. IsPathFound (passable_at map c.args.version.now.standing class) c.args.x c.args.z (goal_found map c.args.version.now.standing c.args.goal.now) in
     let has : class_named map c.args.name.now ≡ Some c.in-Some.class = cc in
     let size : map.size ≡ c.size.result = sym (c.size.ensures ∙ ap (λ (m : Map). m.size) c.map-2.ensures) in
@@ -40,7 +40,7 @@ returns-in-Ok c =
 pub returns-in-Err : goal.returns-in-Err
 returns-in-Err c =
     let map = c.args.version.now.map in
-    let Answers : ℕ → Reply → Type 0 =
+    let Answers : ℕ → Answer → Type 0 =
     λ class. IsPathFound (passable_at map c.args.version.now.standing class) c.args.x c.args.z (goal_found map c.args.version.now.standing c.args.goal.now) in
     let has : class_named map c.args.name.now ≡ Some c.in-Some.class = cc in
     let size : map.size ≡ c.size.result = sym (c.size.ensures ∙ ap (λ (m : Map). m.size) c.map-2.ensures) in

@@ -2,8 +2,8 @@ use Rattle.std.proofs.Common.{◌≡◌, ◌∙◌, sym, ap, ℕ, Some, is_some,
 use Rattle.nav_types.specs.declared.cells.Size.{Size}
 use Rattle.grid_versions.specs.Maps.{Map}
 use Rattle.grid_versions.specs.Passing.{passable_at}
-use Rattle.turn_core.specs.declared.replies.Reply.{Reply}
-use Rattle.turn_core.specs.declared.replies.Reply.TheVariants.{Region}
+use Rattle.turn_core.specs.declared.replies.Answer.{Answer}
+use Rattle.turn_core.specs.declared.replies.Answer.TheVariants.{Region}
 use Rattle.turn_core.specs.Finding.{class_named, is_on_map}
 use Rattle.turn_core.specs.Solving.{IsRegionAt}
 use Rattle.turn_core.proofs.Answered.{on_map_held, answered_at, outside_at}
@@ -12,7 +12,7 @@ use Rattle.turn_core.proofs.solving.region_asked.Goals as goal
 pub returns-in_default-cell_of_point : goal.returns-in_default-cell_of_point
 returns-in_default-cell_of_point c =
     let map = c.args.version.now.map in
-    let Answers : ℕ → Reply → Type 0 = λ class. IsRegionAt (passable_at map c.args.version.now.standing class) c.args.x c.args.z in
+    let Answers : ℕ → Answer → Type 0 = λ class. IsRegionAt (passable_at map c.args.version.now.standing class) c.args.x c.args.z in
     let has : class_named map c.args.name.now ≡ Some c.in-Some.class = cc in
     let size : map.size ≡ c.size.result = sym (c.size.ensures ∙ ap (λ (m : Map). m.size) c.map-2.ensures) in
     let off : is_on_map map.size c.args.x c.args.z ≡ false =
@@ -24,7 +24,7 @@ returns-in_default-cell_of_point c =
 pub returns : goal.returns
 returns c =
     let map = c.args.version.now.map in
-    let Answers : ℕ → Reply → Type 0 = λ class. IsRegionAt (passable_at map c.args.version.now.standing class) c.args.x c.args.z in
+    let Answers : ℕ → Answer → Type 0 = λ class. IsRegionAt (passable_at map c.args.version.now.standing class) c.args.x c.args.z in
     let has : class_named map c.args.name.now ≡ Some c.in-Some.class = cc in
     let size : map.size ≡ c.size.result = sym (c.size.ensures ∙ ap (λ (m : Map). m.size) c.map-2.ensures) in
     let on : is_on_map map.size c.args.x c.args.z ≡ true =

@@ -1,7 +1,7 @@
 use Rattle.std.proofs.Common.{ℕ, ◌<◌, List, get_or, arith}
 use Rattle.nav_types.specs.declared.directions.Dir.TheVariants.{N}
 use Rattle.walks.specs.Chosen.{preference}
-use Rattle.walks.specs.Tables.{IsSettledAlong, IsSettledAt}
+use Rattle.walks.specs.inner.Tables.{IsSettledAlong, IsSettledAt}
 use Rattle.walks.proofs.Sweeping.{relaxes_none, relaxes_more, relaxes_as, table_kept, each_dir}
 use Rattle.walks.proofs.sweeps.relax.Goals as goal
 

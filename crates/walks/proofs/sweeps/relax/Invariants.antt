@@ -1,7 +1,7 @@
 use Rattle.std.proofs.Common.{ℕ, ◌<◌, List, get_or}
 use Rattle.nav_types.specs.declared.directions.Dir.TheVariants.{N}
 use Rattle.walks.specs.Chosen.{preference}
-use Rattle.walks.specs.Tables.{IsSettledAlong, Relaxes}
+use Rattle.walks.specs.inner.Tables.{IsSettledAlong, Relaxes}
 use Rattle.walks.proofs.sweeps.relax.Given as goal
 
 abbrev pub invariant-loop-dir : goal.invariant-loop-dir

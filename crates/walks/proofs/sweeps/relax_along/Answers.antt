@@ -1,6 +1,6 @@
 use Rattle.std.proofs.Common.{◌≡◌, ◌+◌, arith}
 use Rattle.nav_types.specs.Directions.{step_cost}
-use Rattle.walks.specs.Tables.{entry}
+use Rattle.walks.specs.inner.Tables.{entry}
 use Rattle.walks.proofs.Sweeping.{relaxes_along, relaxes_none}
 use Rattle.walks.proofs.sweeps.relax_along.Goals as goal
 

@@ -1,5 +1,5 @@
 use Rattle.std.proofs.Common.{◌≡◌, drop}
-use Rattle.answer_text.specs.Counting.{counts_of, together}
+use Rattle.answer_text.specs.inner.Counting.{counts_of, together}
 use Rattle.answer_text.specs.Summaries.{all_replies}
 use Rattle.answer_text.proofs.counting.ReplyCounts.all.Given as goal
 

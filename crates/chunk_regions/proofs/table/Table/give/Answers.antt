@@ -1,5 +1,6 @@
 use Rattle.std.proofs.Common.{◌≡◌, ◌+◌, sym, subst}
-use Rattle.chunk_regions.specs.Numbering.{Numbering, number_of, waiting}
+use Rattle.nav_types.specs.Numbering.{Numbering, number_of}
+use Rattle.chunk_regions.specs.inner.Marks.{waiting}
 use Rattle.chunk_regions.proofs.TableLemmas.{set_at, number_of-set_same, number_of-set_other, waiting-set}
 use Rattle.chunk_regions.proofs.table.Table.give.Goals as goal
 

@@ -1,5 +1,5 @@
 use Rattle.std.proofs.Common.{rules}
-use Rattle.chunk_regions.specs.Numbering.{place_in}
+use Rattle.nav_types.specs.Numbering.{place_in}
 use Rattle.chunk_regions.proofs.table.Table.place.Goals as goal
 
 pub returns-clause-value : goal.returns-clause-value

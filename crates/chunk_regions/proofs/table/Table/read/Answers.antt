@@ -1,6 +1,6 @@
 use Rattle.std.proofs.Common.{◌+◌, ◌∙◌, ℕ, List, ap, sym, subst}
 use Rattle.nav_types.specs.declared.cells.Cell.{Cell}
-use Rattle.chunk_regions.specs.Numbering.{mark}
+use Rattle.chunk_regions.specs.inner.Marks.{mark}
 use Rattle.chunk_regions.proofs.TableLemmas.{IsReadTo, IsReadTo-push}
 use Rattle.chunk_regions.proofs.table.Table.read.Goals as goal
 

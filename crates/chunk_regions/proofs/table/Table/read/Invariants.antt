@@ -1,4 +1,4 @@
-use Rattle.chunk_regions.specs.Numbering.{mark}
+use Rattle.chunk_regions.specs.inner.Marks.{mark}
 use Rattle.chunk_regions.proofs.TableLemmas.{IsReadTo}
 use Rattle.chunk_regions.proofs.table.Table.read.Given as goal
 

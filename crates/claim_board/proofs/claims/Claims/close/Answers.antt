@@ -1,6 +1,6 @@
 use Rattle.std.proofs.Common.{◌≡◌, ℕ, ◌<◌, List, sym, ap, ◌∙◌, subst}
 use Rattle.nav_types.specs.Counting.{Lists}
-use Rattle.claim_board.specs.ClaimWord.{jobs_among}
+use Rattle.claim_board.specs.inner.ClaimWord.{jobs_among}
 use Rattle.claim_board.proofs.Whole.{closes}
 use Rattle.claim_board.proofs.claims.Claims.close.Goals as goal
 

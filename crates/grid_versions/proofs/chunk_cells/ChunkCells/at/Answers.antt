@@ -1,5 +1,5 @@
 use Rattle.std.proofs.Common.{ap}
-use Rattle.chunk_regions.specs.Numbering.{Numbering}
+use Rattle.nav_types.specs.Numbering.{Numbering}
 use Rattle.chunk_regions.proofs.TableLemmas.{number_of-read}
 use Rattle.grid_versions.proofs.chunk_cells.ChunkCells.at.Goals as goal
 

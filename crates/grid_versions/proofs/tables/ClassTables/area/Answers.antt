@@ -3,7 +3,7 @@ use Rattle.nav_types.specs.Cells.{chunk_of}
 use Rattle.reach_sets.specs.declared.regions.RegionId.{RegionId}
 use Rattle.reach_sets.specs.AreaNumbers.{AreaNumbers}
 use Rattle.grid_versions.specs.Chunks.{chunk_place}
-use Rattle.grid_versions.specs.Tables.{Tables, region_of}
+use Rattle.grid_versions.specs.inner.Tables.{Tables, region_in}
 use Rattle.grid_versions.proofs.RegionLemmas.{region_at_most}
 use Rattle.grid_versions.proofs.tables.ClassTables.area.Goals as goal
 
@@ -13,5 +13,5 @@ area-requires-clause-region c =
     let tables = c.args.self.now in
     let most = region_at_most c.requires.tables.0 size tables c.requires.tables.1 c.args.cell c.requires.inside in
     subst (λ (id : RegionId). id.region ≤ get_or c.self.inside.areas.regions id.chunk 0) (sym c.region.ensures)
-    (subst (λ (areas : AreaNumbers). (region_of size tables c.args.cell).region ≤ get_or areas.regions (chunk_place size (chunk_of c.args.cell)) 0)
+    (subst (λ (areas : AreaNumbers). (region_in size tables c.args.cell).region ≤ get_or areas.regions (chunk_place size (chunk_of c.args.cell)) 0)
     (sym (ap (λ (t : Tables). t.areas) c.self.view_is)) most)

@@ -6,9 +6,9 @@ use Rattle.nav_types.specs.Cells.{IsInside}
 use Rattle.chunk_regions.specs.Labelling.{Labelling}
 use Rattle.region_edges.specs.Edges.{PassesInside}
 use Rattle.reach_sets.specs.declared.regions.RegionId.{RegionId}
-use Rattle.reach_sets.specs.Rows.{IsRegion}
+use Rattle.reach_sets.specs.RegionOrder.{IsRegion}
 use Rattle.reach_sets.specs.AreaNumbers.{AreAreas}
-use Rattle.grid_versions.specs.Tables.{Tables, AreTables, AreAllLabels}
+use Rattle.grid_versions.specs.inner.Tables.{Tables, AreTables, AreAllLabels}
 use Rattle.grid_versions.proofs.BuildLemmas.{counts_of, links_are, links_exist, regions_few, tables_few}
 use Rattle.grid_versions.proofs.tables.ClassTables.build.Goals as goal
 

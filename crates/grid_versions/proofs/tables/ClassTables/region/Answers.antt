@@ -4,7 +4,7 @@ use Rattle.nav_types.specs.declared.cells.Chunk.{Chunk}
 use Rattle.nav_types.specs.Cells.{chunk_of}
 use Rattle.chunk_regions.specs.Labelling.{Labelling}
 use Rattle.grid_versions.specs.Chunks.{chunk_place}
-use Rattle.grid_versions.specs.Tables.{Tables}
+use Rattle.grid_versions.specs.inner.Tables.{Tables}
 use Rattle.grid_versions.proofs.RegionLemmas.{labels_have}
 use Rattle.grid_versions.proofs.tables.ClassTables.region.Goals as goal
 

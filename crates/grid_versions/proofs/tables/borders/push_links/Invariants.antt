@@ -1,5 +1,5 @@
 use Rattle.std.proofs.Common.{◌≡◌, ◌++◌, map, take}
-use Rattle.grid_versions.specs.Building.{link_between}
+use Rattle.grid_versions.specs.inner.Building.{link_between}
 use Rattle.grid_versions.proofs.tables.borders.push_links.Given as goal
 
 abbrev pub invariant-loop-edge : goal.invariant-loop-edge

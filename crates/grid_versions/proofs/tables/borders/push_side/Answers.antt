@@ -1,5 +1,5 @@
 use Rattle.std.proofs.Common.{ℕ, List, ◌++◌, ◌+◌, map, ap, ◌∙◌, arith}
-use Rattle.grid_versions.specs.Building.{link_between}
+use Rattle.grid_versions.specs.inner.Building.{link_between}
 use Rattle.grid_versions.proofs.BuildLemmas.{side_links_more, side_links_all}
 use Rattle.grid_versions.proofs.tables.borders.push_side.Goals as goal
 

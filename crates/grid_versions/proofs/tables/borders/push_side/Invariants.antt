@@ -1,7 +1,7 @@
 use Rattle.std.proofs.Common.{◌<◌, ◌⊎◌, ◌↔◌}
 use Rattle.std.specs.Prelude.{Contains}
 use Rattle.reach_sets.specs.declared.regions.RegionId.{RegionId}
-use Rattle.grid_versions.specs.Building.{IsSideLink}
+use Rattle.grid_versions.specs.inner.Building.{IsSideLink}
 use Rattle.grid_versions.proofs.tables.borders.push_side.Given as goal
 
 abbrev pub invariant-loop-place : goal.invariant-loop-place

@@ -2,7 +2,8 @@ use Rattle.std.proofs.Common.{ℕ, List, ◌+◌, ◌≡◌, sym, subst, arith}
 use Rattle.nav_types.specs.declared.cells.Chunk.{Chunk}
 use Rattle.nav_types.specs.declared.cells.Size.{Size}
 use Rattle.chunk_regions.specs.Labelling.{Labelling, AreLabels}
-use Rattle.grid_versions.specs.Chunks.{chunk_count, chunk_numbered, AreOfChunks}
+use Rattle.grid_versions.specs.Chunks.{chunk_count}
+use Rattle.grid_versions.specs.inner.ChunkLists.{chunk_numbered, AreOfChunks}
 use Rattle.grid_versions.proofs.ChunkLemmas.{AreOfChunks-push}
 use Rattle.grid_versions.proofs.tables.labelling.all_labels.Goals as goal
 

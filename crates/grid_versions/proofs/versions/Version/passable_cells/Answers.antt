@@ -1,12 +1,13 @@
 use Rattle.std.proofs.Common.{◌≡◌, ◌+◌, ◌<◌, ◌∙◌, ℕ, length, take, IsTrue, ap, sym, subst, arith}
+use Rattle.std.specs.Arc.{arc_value}
 use Rattle.std.specs.List.{sum_by}
 use Rattle.std.proofs.lemmas.List.{take_all}
 use Rattle.std.proofs.lemmas.List.Sums.{sum_by_more}
 use Rattle.std.proofs.lemmas.Option.{get_or_from_slice_get, slice_get_within}
 use Rattle.nav_types.specs.declared.cells.Cell.{Cell}
 use Rattle.nav_types.specs.Counting.{Counts}
-use Rattle.chunk_regions.specs.Numbering.{Numbering}
-use Rattle.grid_versions.specs.Painting.{free_count}
+use Rattle.nav_types.specs.Numbering.{Numbering}
+use Rattle.grid_versions.specs.inner.Painting.{free_count}
 use Rattle.grid_versions.specs.Passing.{passable_at}
 use Rattle.grid_versions.specs.Versions.{MapState, passes_of}
 use Rattle.grid_versions.proofs.VersionLemmas.{passable_counted}
@@ -29,7 +30,7 @@ loop-place-preserved c =
 
 pub returns : goal.returns
 returns c =
-    let map = c.self.inside.map in
+    let map = arc_value c.self.inside.map in
     let standing = c.self.inside.shapes in
     let cells = c.self.inside.cells in
     let f : Numbering → ℕ = λ one. free_count c.args.class one.numbers in

@@ -1,9 +1,10 @@
 use Rattle.std.proofs.Common.{◌≡◌, ◌∙◌, ℕ, length, ap, sym, subst, arith}
+use Rattle.std.specs.Arc.{arc_value}
 use Rattle.std.specs.List.{sum_by}
 use Rattle.std.proofs.lemmas.List.{take_all}
 use Rattle.nav_types.specs.Regions.{HasTallies}
 use Rattle.grid_versions.specs.Passing.{passable_at}
-use Rattle.grid_versions.specs.Tables.{Tables, region_total, edge_total}
+use Rattle.grid_versions.specs.inner.Tables.{Tables, region_total, edge_total}
 use Rattle.grid_versions.specs.Versions.{MapState, passes_of}
 use Rattle.grid_versions.proofs.TallyLemmas.{all_tallies}
 use Rattle.grid_versions.proofs.VersionLemmas.{passable_within}
@@ -11,7 +12,7 @@ use Rattle.grid_versions.proofs.versions.Version.tallies.Goals as goal
 
 pub returns : goal.returns
 returns c =
-    let map = c.self.inside.map in
+    let map = arc_value c.self.inside.map in
     let passes = passable_at map c.self.inside.shapes in
     let tables = c.deref-tables-items.result.now in
     let tallies = c.loop-tables.tallies in

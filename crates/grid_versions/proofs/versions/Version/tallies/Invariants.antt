@@ -1,6 +1,6 @@
 use Rattle.std.proofs.Common.{◌≡◌, ◌*◌, ◌^◌, ◌≤◌, take}
 use Rattle.std.specs.List.{sum_by}
-use Rattle.grid_versions.specs.Tables.{region_total, edge_total}
+use Rattle.grid_versions.specs.inner.Tables.{region_total, edge_total}
 use Rattle.grid_versions.proofs.versions.Version.tallies.Given as goal
 
 abbrev pub invariant-loop-tables : goal.invariant-loop-tables

@@ -2,7 +2,7 @@ use Rattle.std.proofs.Common.{◌≡◌, ◌≤◌, Some, is_some, refl, ap, sym
 use Rattle.std.specs.FinMap as map
 use Rattle.obstruction_shapes.specs.declared.shapes.Obstruction.{Obstruction}
 use Rattle.slab.specs.Slab.{Slab, Updates}
-use Rattle.obstruction_store.specs.Held.{held_standing, IsHeld}
+use Rattle.obstruction_store.specs.inner.Held.{held_standing, IsHeld}
 use Rattle.obstruction_store.proofs.Holding.{stands_with_key, none_without_key, len-stands, is_full, IsHeld-add, held-add}
 use Rattle.obstruction_store.proofs.Refusing.{at_most_one, some_not_none}
 use Rattle.obstruction_store.proofs.stores.Store.add.Goals as goal

@@ -1,12 +1,12 @@
 use Rattle.std.proofs.Common.{ap, sym, subst, ◌∙◌}
 use Rattle.std.specs.FinMap as map
-use Rattle.obstruction_store.specs.Held.{held_entries, AreFull}
+use Rattle.obstruction_store.specs.inner.Held.{held_entries, HaveFullSlots}
 use Rattle.obstruction_store.proofs.Holding.{all_full, entries-held}
 use Rattle.obstruction_store.proofs.stores.Store.entries.Goals as goal
 
 pub new-requires : goal.new-requires
 new-requires c = let at = c.self.inside in
-    subst (AreFull at.obstructions.slots) (sym c.iter.ensures.rest) (all_full at.keys at.obstructions.slots c.self.invariant)
+    subst (HaveFullSlots at.obstructions.slots) (sym c.iter.ensures.rest) (all_full at.keys at.obstructions.slots c.self.invariant)
 
 pub returns : goal.returns
 returns c = let at = c.self.inside in

@@ -4,7 +4,7 @@ use Rattle.std.specs.FinMap as map
 use Rattle.std.specs.Ordering.{nat_cmp}
 use Rattle.obstruction_shapes.specs.declared.shapes.Obstruction.{Obstruction}
 use Rattle.obstruction_shapes.specs.declared.shapes.Shape.{Shape}
-use Rattle.obstruction_shapes.specs.Shapes.{Fits, moved_to}
+use Rattle.obstruction_shapes.specs.Shapes.{FitsMap, moved_to}
 use Rattle.slab.specs.Slab.{with_value}
 use Rattle.slab.proofs.SlabLemmas.{Updates-with_value}
 use Rattle.obstruction_store.specs.Standing.{with_placed}
@@ -22,7 +22,7 @@ pub returns-in_default-clause-bad_shape : goal.returns-in_default-clause-bad_sha
 returns-in_default-clause-bad_shape c = let at = c.self.inside in
     let none = none_stands at.keys at.obstructions.slots c.self.invariant c.args.self.now c.self.view_is c.args.id (sym c.in_default.ensures.value) in (
       λ other. absurd (cc),
-      λ bad. absurd (none_holds (λ (o : Obstruction). ¬ Fits c.args.size (moved_to o.shape c.args.x c.args.z)) (map.get c.args.self.now c.args.id) none bad),
+      λ bad. absurd (none_holds (λ (o : Obstruction). ¬ FitsMap c.args.size (moved_to o.shape c.args.x c.args.z)) (map.get c.args.self.now c.args.id) none bad),
     )
 
 -- where the moved shape does not fit
@@ -37,8 +37,8 @@ returns-in_default-check-clause-unknown c =
 
 pub returns-in_default-check-clause-bad_shape : goal.returns-in_default-check-clause-bad_shape
 returns-in_default-check-clause-bad_shape c = (
-  λ _. subst (λ o. IsSomeAnd o (λ (o : Obstruction). ¬ Fits c.args.size (moved_to o.shape c.args.x c.args.z))) (sym (stands_unfit c))
-      (λ fits. c.in_default-check.ensures (subst (λ (s : Shape). Fits c.args.size s) (sym c.moved.ensures) fits)),
+  λ _. subst (λ o. IsSomeAnd o (λ (o : Obstruction). ¬ FitsMap c.args.size (moved_to o.shape c.args.x c.args.z))) (sym (stands_unfit c))
+      (λ fits. c.in_default-check.ensures (subst (λ (s : Shape). FitsMap c.args.size s) (sym c.moved.ensures) fits)),
   λ _. refl,
 )
 
@@ -54,8 +54,8 @@ stands c = let at = c.self.inside in
 shape_is : (c : goal.After-self-1) → c.in-Ok.shape ≡ moved_to c.index-obstruction.result.now.shape c.args.x c.args.z
 shape_is c = c.in-Ok.ensures.1 ∙ c.moved.ensures
 
-moved_fits : (c : goal.After-self-1) → Fits c.args.size (moved_to c.index-obstruction.result.now.shape c.args.x c.args.z)
-moved_fits c = subst (λ (s : Shape). Fits c.args.size s) c.moved.ensures c.in-Ok.ensures.0
+moved_fits : (c : goal.After-self-1) → FitsMap c.args.size (moved_to c.index-obstruction.result.now.shape c.args.x c.args.z)
+moved_fits c = subst (λ (s : Shape). FitsMap c.args.size s) c.moved.ensures c.in-Ok.ensures.0
 
 -- the obstruction with the moved shape and its old mask
 abbrev reshaped : (c : goal.After-self-1) → Shape → Obstruction
@@ -73,7 +73,7 @@ returns-clause-moves c = let at = c.self.inside in
     ∙ sym (ap (with_placed c.args.self.now c.args.id c.args.x c.args.z) (stands c))
 
 pub returns-clause-fits : goal.returns-clause-fits
-returns-clause-fits c = subst (λ o. IsSomeAnd o (λ (o : Obstruction). Fits c.args.size (moved_to o.shape c.args.x c.args.z))) (sym (stands c)) (moved_fits c)
+returns-clause-fits c = subst (λ o. IsSomeAnd o (λ (o : Obstruction). FitsMap c.args.size (moved_to o.shape c.args.x c.args.z))) (sym (stands c)) (moved_fits c)
 
 pub returns-clause-unknown : goal.returns-clause-unknown
 returns-clause-unknown c = (λ other. absurd (cc), λ none. absurd (value_not_none _ _ (stands c) none))
@@ -81,6 +81,6 @@ returns-clause-unknown c = (λ other. absurd (cc), λ none. absurd (value_not_no
 pub returns-clause-bad_shape : goal.returns-clause-bad_shape
 returns-clause-bad_shape c = (
   λ other. absurd (cc),
-  λ bad. absurd (holds_at (λ (o : Obstruction). ¬ Fits c.args.size (moved_to o.shape c.args.x c.args.z))
+  λ bad. absurd (holds_at (λ (o : Obstruction). ¬ FitsMap c.args.size (moved_to o.shape c.args.x c.args.z))
       (map.get c.args.self.now c.args.id) c.index-obstruction.result.now (stands c) bad (moved_fits c)),
 )

@@ -1,6 +1,6 @@
 use Rattle.std.proofs.Common.{◌≡◌, sym, subst, ◌∙◌}
 use Rattle.std.specs.FinMap as map
-use Rattle.obstruction_store.proofs.Picking.{FitEach, FitEach-entries, PicksSoFar, PicksSoFar-first, PicksSoFar-touches, PicksSoFar-far, AreTouching-picked}
+use Rattle.obstruction_store.proofs.TouchingNumbers.{FitEach, FitEach-entries, PicksSoFar, PicksSoFar-first, PicksSoFar-touches, PicksSoFar-far, AreTouching-picked}
 use Rattle.obstruction_store.proofs.Refusing.{one_answer}
 use Rattle.obstruction_store.proofs.stores.Store.touching.Goals as goal
 

@@ -1,4 +1,4 @@
-use Rattle.obstruction_store.proofs.Picking.{FitEach, PicksSoFar}
+use Rattle.obstruction_store.proofs.TouchingNumbers.{FitEach, PicksSoFar}
 use Rattle.obstruction_store.proofs.stores.Store.touching.Given as goal
 
 -- the entries left fit, and whatever they come to completes the list

@@ -1,6 +1,6 @@
 use Rattle.std.proofs.Common.{◌≡◌, ◌++◌, [], drop, sym, ap, ◌∙◌, arith}
 use Rattle.std.proofs.lemmas.List.{drop_all}
-use Rattle.reach_sets.specs.Rows.{starts_from}
+use Rattle.reach_sets.specs.inner.RowStarts.{starts_from}
 use Rattle.reach_sets.proofs.RowLemmas.{row_made}
 use Rattle.reach_sets.proofs.offsets.Offsets.new.Goals as goal
 

@@ -1,5 +1,5 @@
 use Rattle.std.proofs.Common.{◌≡◌, ◌++◌, sum, take, drop}
-use Rattle.reach_sets.specs.Rows.{starts_from}
+use Rattle.reach_sets.specs.inner.RowStarts.{starts_from}
 use Rattle.reach_sets.proofs.offsets.Offsets.new.Given as goal
 
 abbrev pub invariant-loop-count : goal.invariant-loop-count

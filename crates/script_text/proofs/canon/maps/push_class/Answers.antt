@@ -9,5 +9,5 @@ use Rattle.script_text.proofs.canon.maps.push_class.Goals as goal
 
 pub returns : goal.returns
 unfolding serde_json_on_literals
-returns c = rw (c.in_ok-push.ensures.ok, c.in_ok-push_decimal.ensures.text, c.in_ok-extend-2.ensures.ok, c.in_ok-push_name.ensures.text, c.in_ok-extend.ensures.ok)
+returns c = rw (c.in_ok-push.ensures.ok, c.in_ok-push_fixed.ensures.text, c.in_ok-extend-2.ensures.ok, c.in_ok-push_name.ensures.text, c.in_ok-extend.ensures.ok)
     (four_pieces c.args.text.now (123 ∷ key_text (codes "name")) (compact_text (string c.args.name.now)) (44 ∷ key_text (codes "clearance")) (compact_text (decimal_json c.args.clearance)) (125 ∷ []))

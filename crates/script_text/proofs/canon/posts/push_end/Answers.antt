@@ -5,4 +5,4 @@ use Rattle.script_text.proofs.canon.posts.push_end.Goals as goal
 
 pub returns : goal.returns
 unfolding serde_json_on_literals end_json
-returns c = rw (c.in_ok-push.ensures.ok, c.in_ok-push_number.ensures, c.in_ok-extend.ensures.ok) (simp append_assoc)
+returns c = rw (c.in_ok-push.ensures.ok, c.in_ok-push_decimal.ensures.ok, c.in_ok-extend.ensures.ok) (simp append_assoc)

@@ -6,4 +6,4 @@ pub returns : goal.returns
 unfolding serde_json_on_literals
 returns c =
     let masked : nat_le 2 c.args.version ≡ true = le-leb 2 c.args.version c.if-version-lt-FIRST_WITH_MASKS.false in
-    rw (masked, c.in_ok-push-2.ensures.ok, c.in_ok-push_number.ensures, c.from.ensures, c.in_ok-extend.ensures.ok) (simp append_assoc)
+    rw (masked, c.in_ok-push-2.ensures.ok, c.in_ok-push_decimal.ensures.ok, c.from.ensures, c.in_ok-extend.ensures.ok) (simp append_assoc)

@@ -1,6 +1,6 @@
 use Rattle.std.proofs.Common.{◌∙◌, ap}
 use Rattle.std.specs.List.{list_all}
-use Rattle.script_text.specs.Plain.{is_plain}
+use Rattle.script_text.specs.inner.Plain.{is_plain}
 use Rattle.script_text.proofs.CanonTexts.{plain-name}
 use Rattle.script_text.proofs.canon.posts.push_name.Goals as goal
 

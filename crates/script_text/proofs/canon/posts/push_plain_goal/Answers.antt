@@ -16,8 +16,8 @@ returns-in-NotCircle-clause-text c = rw c.in-NotCircle.is c.push_object-in-NotCi
 
 pub returns-in-Square-clause-text : goal.returns-in-Square-clause-text
 unfolding serde_json_on_literals goal_json
-returns-in-Square-clause-text c = rw c.in-Square.is c.push_object-in-Square.ensures.text
+returns-in-Square-clause-text c = rw c.in-Square.is c.push_square.ensures.text
 
 pub returns-in-NotSquare-clause-text : goal.returns-in-NotSquare-clause-text
 unfolding serde_json_on_literals goal_json
-returns-in-NotSquare-clause-text c = rw c.in-NotSquare.is c.push_object-in-NotSquare.ensures.text
+returns-in-NotSquare-clause-text c = rw c.in-NotSquare.is c.push_square-in-NotSquare.ensures.text

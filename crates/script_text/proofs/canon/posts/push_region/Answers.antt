@@ -9,5 +9,5 @@ use Rattle.script_text.proofs.canon.posts.push_region.Goals as goal
 
 pub returns-clause-text : goal.returns-clause-text
 unfolding serde_json_on_literals post_json
-returns-clause-text c = rw (c.in_ok-push.ensures.ok, c.in_ok-push_decimals.ensures.text, c.in_ok-extend-3.ensures.ok, c.in_ok-push_name.ensures.text, c.in_ok-extend-2.ensures.ok, c.in_ok-push_number.ensures, c.in_ok-extend.ensures.ok)
+returns-clause-text c = rw (c.in_ok-push.ensures.ok, c.in_ok-push_decimals.ensures.text, c.in_ok-extend-3.ensures.ok, c.in_ok-push_name.ensures.text, c.in_ok-extend-2.ensures.ok, c.in_ok-push_decimal.ensures.ok, c.in_ok-extend.ensures.ok)
     (six_pieces c.args.text.now (123 ∷ key_text (codes "caller")) (decimal c.args.caller) (44 ∷ key_text (codes "region")) (compact_text (string c.args.class.now)) (44 ∷ key_text (codes "at")) (compact_text (decimals_json (c.args.place.0 ∷ c.args.place.1 ∷ []))) (125 ∷ []))

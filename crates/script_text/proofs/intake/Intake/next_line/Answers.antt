@@ -1,6 +1,7 @@
 use Rattle.std.proofs.Common.{◌≡◌, ◌<◌, ◌⊎◌, ◌∙◌, length, Bool, sym, subst, inl, inr, arith}
-use Rattle.script_text.specs.Taking.{Taken, HasLine, MovesLine}
+use Rattle.script_text.specs.inner.Taking.{Taken, HasLine, MovesLine}
 use Rattle.script_text.proofs.ReadTold.{some_held, refilled, tail_told, line_told, longer_told, plain_longer, long_told}
+use Rattle.script_text.proofs.ReadNeed.{reads-none, reads_on}
 use Rattle.script_text.proofs.ReadStill.{some_bytes, moves_no_line}
 use Rattle.script_text.proofs.intake.Intake.next_line.Goals as goal
 
@@ -52,6 +53,8 @@ parts-preserved g c =
     record {
       told = longer_told c.args.self.now c.refill.new.self c.move_line.new.self line longer (left c.args.source.now) (left c.refill.new.source) moved
           (refilled c.args.self.now c.parts.self c.refill.new.self line (left c.args.source.now) (left c.parts.source) (left c.refill.new.source) c.parts.invariant.ended c.parts.invariant.told c.in-Ok.ensures.told);
+      reads = reads_on c.args.self.now c.parts.self c.parts.line.items (left c.args.source.now) (left c.parts.source) (left c.refill.new.source) c.parts.invariant.ended c.parts.invariant.plain
+          c.parts.invariant.told c.parts.invariant.reads c.refill.ensures.reads;
       plain = plain_longer c.refill.new.self c.move_line.new.self line longer c.parts.invariant.plain moved;
       ended = c.move_line.ensures.ended ∙ c.in-Ok.ensures.going some ∙ c.parts.invariant.ended;
       short = omega arith;
@@ -63,3 +66,34 @@ parts-preserved g c =
           moves_no_line c.refill.new.self c.move_line.new.self line longer moved same;
       later = omega arith;
     }
+
+-- each read was made where no newline was held
+pub returns-in-Ok-true-clause-reads : goal.returns-in-Ok-true-clause-reads
+returns-in-Ok-true-clause-reads g c =
+    let left = g.S.Source.left in
+    reads_on c.args.self.now c.parts.self c.parts.line.items (left c.args.source.now) (left c.parts.source) (left c.refill.new.source) c.parts.invariant.ended c.parts.invariant.plain
+    c.parts.invariant.told c.parts.invariant.reads c.refill.ensures.reads
+
+pub returns-then-is_used_up-clause-reads : goal.returns-then-is_used_up-clause-reads
+returns-then-is_used_up-clause-reads g c =
+    let left = g.S.Source.left in
+    reads_on c.args.self.now c.parts.self c.parts.line.items (left c.args.source.now) (left c.parts.source) (left c.refill.new.source) c.parts.invariant.ended c.parts.invariant.plain
+    c.parts.invariant.told c.parts.invariant.reads c.refill.ensures.reads
+
+pub returns-then-size-gt-MAX_LINE_BYTES-clause-reads : goal.returns-then-size-gt-MAX_LINE_BYTES-clause-reads
+returns-then-size-gt-MAX_LINE_BYTES-clause-reads g c =
+    let left = g.S.Source.left in
+    reads_on c.args.self.now c.parts.self c.parts.line.items (left c.args.source.now) (left c.parts.source) (left c.refill.new.source) c.parts.invariant.ended c.parts.invariant.plain
+    c.parts.invariant.told c.parts.invariant.reads c.refill.ensures.reads
+
+pub returns-in-Err-clause-reads : goal.returns-in-Err-clause-reads
+returns-in-Err-clause-reads g c =
+    let left = g.S.Source.left in
+    reads_on c.args.self.now c.parts.self c.parts.line.items (left c.args.source.now) (left c.parts.source) (left c.refill.new.source) c.parts.invariant.ended c.parts.invariant.plain
+    c.parts.invariant.told c.parts.invariant.reads c.refill.ensures.reads
+
+pub returns-in-Err-move_line-clause-reads : goal.returns-in-Err-move_line-clause-reads
+returns-in-Err-move_line-clause-reads g c =
+    let left = g.S.Source.left in
+    reads_on c.args.self.now c.parts.self c.parts.line.items (left c.args.source.now) (left c.parts.source) (left c.refill.new.source) c.parts.invariant.ended c.parts.invariant.plain
+    c.parts.invariant.told c.parts.invariant.reads c.refill.ensures.reads

@@ -1,13 +1,15 @@
 -- All bytes taken so far are those of the line and those held, and the line has no newline and is not too long. Where a
--- whole line was held, nothing was done yet.
+-- whole line was held, nothing was done yet. Each read was made where no newline was held.
 use Rattle.std.proofs.Common.{◌≡◌, ◌≤◌, ◌-◌, [], length}
-use Rattle.script_text.specs.Taking.{HasLine, IsPlain}
+use Rattle.script_text.specs.Lines.{IsPlain}
+use Rattle.script_text.specs.inner.Taking.{HasLine, ReadsByNeedTold}
 use Rattle.script_text.proofs.ReadTold.{InLineTold}
 use Rattle.script_text.proofs.intake.Intake.next_line.Given as goal
 
 abbrev pub invariant-parts : goal.invariant-parts
 invariant-parts g l = record {
   told : InLineTold l.initial.self l.self l.line.items (g.S.Source.left l.initial.source) (g.S.Source.left l.source);
+  reads : ReadsByNeedTold l.initial.self.bytes l.initial.self.ended (g.S.Source.left l.initial.source) (g.S.Source.left l.source);
   plain : IsPlain l.line.items;
   ended : l.self.ended ≡ l.initial.self.ended;
   short : length l.line.items ≤ 8388608;

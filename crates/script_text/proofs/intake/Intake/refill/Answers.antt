@@ -1,5 +1,6 @@
 use Rattle.std.proofs.Common.{◌≡◌, ◌∙◌, sym, ap, arith}
-use Rattle.script_text.proofs.ReadBytes.{nil-held}
+use Rattle.script_text.proofs.ReadBytes.{held-nil, nil-held}
+use Rattle.script_text.proofs.ReadNeed.{reads-none, reads-kept, reads-piece}
 use Rattle.script_text.proofs.ReadTold.{refills-none}
 use Rattle.script_text.proofs.intake.Intake.refill.Goals as goal
 
@@ -22,3 +23,23 @@ returns-then-self-2-clause-ended g c =
     λ none.
     let used : i.from ≡ i.to = nil-held i.buffer.items i.from i.to (omega arith) (omega (arith, i.buffer.ok.0)) (ap (λ t. t.bytes) c.self.view_is ∙ none) in
     absurd (omega arith)
+
+-- nothing is read where bytes are held, or at the end of the input
+pub returns-then-self-clause-reads : goal.returns-then-self-clause-reads
+returns-then-self-clause-reads g c = reads-none c.args.self.now.bytes c.args.self.now.ended (g.S.Source.left c.args.source.now)
+
+pub returns-then-self-2-clause-reads : goal.returns-then-self-2-clause-reads
+returns-then-self-2-clause-reads g c = reads-none c.args.self.now.bytes c.args.self.now.ended (g.S.Source.left c.args.source.now)
+
+-- one read
+pub returns-in-Ok-clause-reads : goal.returns-in-Ok-clause-reads
+returns-in-Ok-clause-reads g c =
+    let i = c.self.inside in
+    let left = g.S.Source.left in
+    let none = sym (ap (λ t. t.bytes) c.self.view_is) ∙ held-nil i.buffer.items i.from i.to (omega (arith, i.buffer.ok.0)) (omega arith) in
+    reads-piece c.args.self.now.bytes c.args.self.now.ended (left c.args.source.now) (left c.read_into.new.source) c.in-Ok.count c.read_into.new.buffer.items
+    (sym (ap (λ t. t.ended) c.self.view_is) ∙ c.if-self.false) none (omega arith) c.in-Ok.ensures.bytes.0
+
+pub returns-in-Err-clause-reads : goal.returns-in-Err-clause-reads
+returns-in-Err-clause-reads g c =
+    reads-kept c.args.self.now.bytes c.args.self.now.ended (g.S.Source.left c.args.source.now) (g.S.Source.left c.read_into.new.source) c.in-Err.ensures.bytes

@@ -1,7 +1,7 @@
 use Rattle.std.proofs.Common.{◌≡◌, subst}
-use Rattle.script_text.specs.Reader.{Held, HoldsTurn, TurnTold}
-use Rattle.script_text.specs.Judging.{held_at}
-use Rattle.script_text.proofs.ReadStill.{turn_flags, with_flags}
+use Rattle.script_text.specs.Reader.{Held, HoldsTurn, TakesNoneAhead, TurnTold}
+use Rattle.script_text.specs.inner.Judging.{held_at}
+use Rattle.script_text.proofs.ReadStill.{turn_flags, ahead_flags, with_flags}
 use Rattle.script_text.proofs.reader.ScriptReader.next_turn.Goals as goal
 
 pub returns-clause-told : goal.returns-clause-told
@@ -19,3 +19,11 @@ pub returns-clause-still : goal.returns-clause-still
 returns-clause-still g c =
     let Said : Held → Type 0 = λ h. HoldsTurn h → c.read_turn-answer.new.source ≡ c.args.source.now in
     subst Said c.self.view_is c.read_turn-answer.ensures.still
+
+-- nothing was read ahead
+pub returns-clause-ahead : goal.returns-clause-ahead
+returns-clause-ahead g c =
+    let left = g.S.Source.left in
+    let turn = c.read_turn-answer in
+    let Said : Held → Type 0 = λ h. TakesNoneAhead h (left c.args.source.now) (left turn.new.source) in
+    subst Said c.self.view_is (ahead_flags (held_at c.self.inside.progress c.self.inside.lines) c.self.inside.over c.self.inside.failed (left c.args.source.now) (left turn.new.source) turn.ensures.ahead)

@@ -4,7 +4,7 @@ use Rattle.turn_core.specs.declared.machines.running.RunningTurn.{RunningTurn}
 use Rattle.turn_core.specs.States.{State}
 use Rattle.turn_core.specs.Table.{why_not, last_turn}
 use Rattle.turn_core.specs.Effects.{claimed}
-use Rattle.turn_core.specs.Machines.{state_of, Holds}
+use Rattle.turn_core.specs.Machines.{state_of, HoldsState}
 use Rattle.turn_core.proofs.MachineSteps.{unclaimed_held, claimed_holds, claimed_is}
 use Rattle.turn_core.proofs.machines.Machine.claim.Goals as goal
 
@@ -17,7 +17,7 @@ claim-requires c =
 pub invariant_of-self : goal.invariant_of-self
 invariant_of-self c =
     let a = c.self.inside in
-    subst (λ (o : Option RunningTurn). Holds (record a { running = o })) (sym c.claim.ensures) (claimed_holds a c.self.invariant)
+    subst (λ (o : Option RunningTurn). HoldsState (record a { running = o })) (sym c.claim.ensures) (claimed_holds a c.self.invariant)
 
 pub returns : goal.returns
 returns c =

@@ -1,6 +1,7 @@
 use Rattle.std.proofs.Common.{◌≡◌, List, [], ◌∷◌, ◌++◌, Option, Some, refl, sym, ap, ◌∙◌, subst}
 use Rattle.turn_core.specs.declared.posts.Post.{Post}
-use Rattle.turn_core.specs.declared.replies.Reply.{Reply}
+use Rattle.grid_versions.specs.declared.edits.EditReply.{EditReply}
+use Rattle.turn_core.specs.declared.replies.Answer.{Answer}
 use Rattle.turn_core.specs.declared.machines.running.RunningTurn.{RunningTurn}
 use Rattle.turn_core.specs.declared.machines.delivered.DeliveredTurn.{DeliveredTurn}
 use Rattle.turn_core.specs.States.{State}
@@ -37,8 +38,8 @@ returns-clause-ok c =
     let merged : c.in-Ok.replies ≡ merged_turn run.posts run.edits (known run.answers.items) =
     c.in-Ok.ensures
     ∙ ap (λ (t : List (List Post)). merged_turn t c.as_slice-2.result.now (known c.as_slice-3.result.now)) c.as_slice.ensures
-    ∙ ap (λ (es : List Reply). merged_turn run.posts es (known c.as_slice-3.result.now)) c.as_slice-2.ensures
-    ∙ ap (λ (rs : List (Option Reply)). merged_turn run.posts run.edits (known rs)) c.as_slice-3.ensures.value in (
+    ∙ ap (λ (es : List EditReply). merged_turn run.posts es (known c.as_slice-3.result.now)) c.as_slice-2.ensures
+    ∙ ap (λ (rs : List (Option Answer)). merged_turn run.posts run.edits (known rs)) c.as_slice-3.ensures.value in (
       refl,
       delivered_is a (record a { version = run.version; running = c.take.new.self; delivered = c.push_turn.new.delivered }) run turn c.self.invariant
           (subst (HoldsRun a.version) is c.self.invariant.running) is refl refl refl refl c.in-Some.ensures.after refl pushed refl merged

@@ -1,6 +1,6 @@
 use Rattle.std.proofs.Common.{◌≡◌, None, refl, sym, ap, ◌∙◌, subst}
 use Rattle.turn_core.specs.declared.events.Event.TheVariants.{Finish}
-use Rattle.turn_core.specs.declared.replies.Reply.{Reply}
+use Rattle.turn_core.specs.declared.replies.Answer.{Answer}
 use Rattle.turn_core.specs.States.{State}
 use Rattle.turn_core.specs.Table.{why_not, last_turn}
 use Rattle.turn_core.specs.Effects.{finished, AnswersJob}
@@ -29,7 +29,7 @@ invariant_of-self c = finished_holds c.self.inside c.put_answer.new.running c.ar
 pub returns-clause-ok : goal.returns-clause-ok
 returns-clause-ok c =
     let a = c.self.inside in
-    let answer : Reply = c.in_ok-answer.answer in (
+    let answer : Answer = c.in_ok-answer.answer in (
       refl,
       (
         answer,

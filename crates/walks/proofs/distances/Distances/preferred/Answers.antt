@@ -2,7 +2,7 @@ use Rattle.std.proofs.Common.{ℕ, ◌<◌, get_or, below_more, arith}
 use Rattle.nav_types.specs.declared.directions.Dir.{Dir}
 use Rattle.nav_types.specs.declared.directions.Dir.TheVariants.{N}
 use Rattle.walks.specs.Chosen.{Enters, preference}
-use Rattle.walks.specs.Tables.{entry}
+use Rattle.walks.specs.inner.Tables.{entry}
 use Rattle.walks.proofs.Walking.{some_enters}
 use Rattle.walks.proofs.Sweeping.{each_dir}
 use Rattle.walks.proofs.Tracing.{first_at}

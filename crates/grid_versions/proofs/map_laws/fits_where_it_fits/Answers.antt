@@ -1,5 +1,0 @@
-use Rattle.grid_versions.proofs.FittingLemmas.{fits_decides}
-use Rattle.grid_versions.proofs.map_laws.fits_where_it_fits.Goals as goal
-
-pub returns : goal.returns
-returns c = fits_decides

@@ -1,7 +1,0 @@
-use Rattle.std.proofs.Common.{IsTrue}
-use Rattle.nav_types.specs.declared.cells.Cell.{Cell}
-use Rattle.grid_versions.proofs.Counting.{Counts-unique}
-use Rattle.grid_versions.proofs.map_laws.one_number_of_cells.Goals as goal
-
-pub returns : goal.returns
-returns c = λ passes m n one two. Counts-unique (λ (cell : Cell). IsTrue (passes cell)) m n one two

@@ -1,0 +1,7 @@
+-- Definitions that only private contracts cite.
+pub mod ChunkLists
+pub mod Tables
+pub mod Building
+pub mod Tallying
+pub mod Painting
+pub mod Parts

@@ -1,0 +1,6 @@
+pub mod Items
+pub mod Counting
+pub mod FirstCells
+pub mod CellOrder
+pub mod Walking
+pub mod DirSetLemmas

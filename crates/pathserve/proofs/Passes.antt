@@ -1,0 +1,29 @@
+-- What a sink took in the writes of a replay.
+use Rattle.std.proofs.Common.{ℕ, List, [], take, Option, Result, Ok, Err}
+use Rattle.io_edges.specs.Passing.{HasTaken}
+use Rattle.io_edges.specs.declared.edges.WriteRefusal.{WriteRefusal}
+use Rattle.script_text.specs.declared.faults.ScriptFault.{ScriptFault}
+use Rattle.script_text.specs.declared.faults.ScriptFault.TheVariants as fault
+use Rattle.script_text.specs.Script.{bad_line}
+use Rattle.pathserve.specs.declared.status.Status.{Status}
+use Rattle.pathserve.specs.inner.Writing.{WritesPiece, StopsWith}
+use Rattle.pathserve.specs.Output.{Said, stop_text}
+use Rattle.script_text.specs.Reader.{Held}
+use Rattle.pathserve.proofs.Replaying.{Stands}
+
+-- the texts of the turns so far
+pub stands_taken : (start now kept keeps : Option (List ℕ)) (held : Held) (state : Said) → Stands start now kept keeps held state → HasTaken kept keeps
+stands_taken start now kept keeps held state s = record { taken = s.text; behind = s.wrote }
+
+-- a piece, or a part of it
+
+pub piece_taken : (kept now : Option (List ℕ)) (piece : List ℕ) (result : Result (Unit {0}) WriteRefusal) → WritesPiece kept now piece result → HasTaken kept now
+piece_taken kept now piece (Ok done) wrote = record { taken = piece; behind = wrote }
+piece_taken kept now piece (Err refused) wrote = record { taken = take wrote.0 piece; behind = wrote.1 }
+
+-- what a stop of the input leaves
+pub stop_taken : (kept now : Option (List ℕ)) (met : ScriptFault) (status : Status) → StopsWith met kept now status → HasTaken kept now
+stop_taken kept now (fault.BadLine n) status (written, (wrote, is)) = piece_taken kept now (stop_text (bad_line n)) written wrote
+stop_taken kept now fault.TooLong status (is, wrote) = record { taken = []; behind = wrote }
+stop_taken kept now fault.ReadFault status (is, wrote) = record { taken = []; behind = wrote }
+stop_taken kept now fault.NoMemory status (is, wrote) = record { taken = []; behind = wrote }

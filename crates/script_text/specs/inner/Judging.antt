@@ -1,0 +1,172 @@
+-- What a line gives in its place, as the answers to it say.
+use Rattle.std.specs.Prelude.{ℕ, ◌≡◌, ◌+◌, ◌≤◌, List, [], ◌∷◌, length, Bool, true, false, All, IsFalse, IsSome, IsTrue, Option, Some, None, option_and_then, Result, Ok, Err, ⊤}
+use Rattle.script_text.specs.declared.faults.ScriptFault.{ScriptFault}
+use Rattle.script_text.specs.declared.faults.ScriptFault.TheVariants.{BadLine, TooLong, ReadFault, NoMemory}
+use Rattle.nav_types.specs.declared.cells.Rect.{Rect}
+use Rattle.nav_types.specs.declared.cells.Size.{Size}
+use Rattle.nav_types.specs.Cells.{IsRectInside}
+use Rattle.serde_json.specs.Data.{Data, null, boolean, number, string, array, object}
+use Rattle.grid_versions.specs.Maps.{Map, with_base}
+use Rattle.turn_core.specs.declared.posts.Post.{Post}
+use Rattle.script_text.specs.Forms.{base_of}
+use Rattle.script_text.specs.declared.parts.Rules.{Rules}
+use Rattle.script_text.specs.declared.parts.Part.{Part}
+use Rattle.script_text.specs.declared.parts.Part.TheVariants.{BeforeMap, InBase, InTurns}
+use Rattle.script_text.specs.Script.{Place, Item, Walk, begins, adds_base, ends_turn, whole_input, too_long, bad_line, arrived, stuck, map_after, turns_of, reading_of, is_long, accept}
+use Rattle.script_text.specs.Reader.{Held, GoesOn, RefusesMap, callers_of, post_count, WhereTold}
+use Rattle.script_text.specs.Lines.{IsPlain}
+use Rattle.script_text.specs.inner.Taking.{HeldLine, HasEnd, bytes_of}
+
+-- base lines may stand here
+abbrev pub IsBase : Part → Type 0
+IsBase BeforeMap = ⊥
+IsBase (InBase rules) = ⊤
+IsBase (InTurns rules) = ⊥
+
+-- among the lines of turns, where no base line may stand
+abbrev pub IsInTurns : Part → Type 0
+IsInTurns BeforeMap = ⊥
+IsInTurns (InBase rules) = ⊥
+IsInTurns (InTurns rules) = ⊤
+
+-- the rectangles lie inside the map
+abbrev pub IsInsideAt : Part → List (Rect × ℕ) → Type 0
+IsInsideAt BeforeMap rects = ⊥
+IsInsideAt (InBase rules) rects = All (λ (entry : Rect × ℕ). IsRectInside rules.size entry.0) rects
+IsInsideAt (InTurns rules) rects = ⊥
+
+-- the counts of a place keep within the input's limit, and there is one list of posts for each caller
+pub record IsReadTo (p : Place) : Type 0 where
+  pub few_bytes : p.bytes ≤ 4294967296
+  pub few_lines : p.lines ≤ p.bytes
+  pub few_turns : p.turns ≤ p.lines
+  pub lists : length p.posts ≡ callers_of p.part
+
+-- the walk is stuck as the refusal says
+abbrev pub IsStuckBy : Walk → ScriptFault → Type 0
+IsStuckBy w (BadLine n) = w ≡ stuck (bad_line n)
+IsStuckBy w TooLong = w ≡ stuck too_long
+IsStuckBy w ReadFault = ⊥
+IsStuckBy w NoMemory = ⊤
+
+-- the input is whole, or the walk is stuck as the refusal says
+abbrev pub Stops : Walk → Result ⊤ ScriptFault → Type 0
+Stops w (Ok u) = w ≡ stuck whole_input
+Stops w (Err fault) = IsStuckBy w fault
+
+-- the walk gives the turn of the answer, or none, and arrives; or it is stuck as the refusal says
+abbrev pub GivesTurn : Walk → Place → Result (Option (List (List Post))) ScriptFault → Type 0
+GivesTurn w place (Ok (Some posts)) = w ≡ arrived (ends_turn posts ∷ []) place
+GivesTurn w place (Ok None) = w ≡ arrived [] place
+GivesTurn w place (Err fault) = IsStuckBy w fault
+
+-- the walk begins the map of the answer and arrives; or it is stuck as the refusal says
+abbrev pub BeginsMap : Walk → Place → Result Map ScriptFault → Type 0
+BeginsMap w place (Ok m) = w ≡ arrived (begins m ∷ []) place
+BeginsMap w place (Err fault) = IsStuckBy w fault
+
+-- the line has no reading that is a base line on a map of this size
+abbrev pub IsNoBaseLine : Size → List ℕ → Type 0
+IsNoBaseLine size line = option_and_then (base_of size) (reading_of line) ≡ None
+
+-- the same, where base lines may stand
+abbrev pub IsNoBaseAt : Part → List ℕ → Type 0
+IsNoBaseAt BeforeMap line = ⊤
+IsNoBaseAt (InBase rules) line = IsNoBaseLine rules.size line
+IsNoBaseAt (InTurns rules) line = ⊤
+
+-- the line is within the limits and no base line, and nothing changed
+pub record LeavesLine (old new : Place) (size : ℕ) (line : List ℕ) : Type 0 where
+  pub same : new ≡ old
+  pub short : IsFalse (is_long old size line)
+  pub no_base : IsNoBaseAt old.part line
+
+-- the walk adds the rectangles of a base line to the map and arrives; or the line is none; or the walk is stuck
+abbrev pub AddsBase : Place → Place → ℕ → List ℕ → Result (Option (List (Rect × ℕ))) ScriptFault → Type 0
+AddsBase old new size line (Ok (Some rects)) = accept size line old ≡ arrived (adds_base rects ∷ []) new
+AddsBase old new size line (Ok None) = LeavesLine old new size line
+AddsBase old new size line (Err TooLong) = accept size line old ≡ stuck too_long
+AddsBase old new size line (Err NoMemory) = ⊤
+AddsBase old new size line (Err ReadFault) = ⊥
+AddsBase old new size line (Err (BadLine n)) = ⊥
+
+-- the line that is held was used, with its newline
+abbrev pub after_line : HeldLine → HeldLine
+after_line h = record { line = []; line_end = None; rest = h.rest }
+
+-- the line that is held was used as a base line
+pub record UsesBase (old new : Place) (m now : Map) (h after : HeldLine) (size : ℕ) : Type 0 where
+  pub rects : List (Rect × ℕ)
+  pub adds : accept size h.line old ≡ arrived (adds_base rects ∷ []) new
+  pub map : now ≡ with_base m rects
+  pub line : after ≡ after_line h
+
+-- the line that is held is no base line, and nothing changed
+pub record KeepsLine (old new : Place) (m now : Map) (h after : HeldLine) (size : ℕ) : Type 0 where
+  pub line : LeavesLine old new size h.line
+  pub map : now ≡ m
+  pub same : after ≡ h
+
+-- whether the line that is held was used as a base line
+abbrev pub TakesBase : Place → Place → Map → Map → HeldLine → HeldLine → ℕ → Result Bool ScriptFault → Type 0
+TakesBase old new m now h after size (Ok true) = UsesBase old new m now h after size
+TakesBase old new m now h after size (Ok false) = KeepsLine old new m now h after size
+TakesBase old new m now h after size (Err TooLong) = accept size h.line old ≡ stuck too_long
+TakesBase old new m now h after size (Err NoMemory) = ⊤
+TakesBase old new m now h after size (Err ReadFault) = ⊥
+TakesBase old new m now h after size (Err (BadLine n)) = ⊥
+
+-- the lines used add base rectangles to the map
+pub record AddsToMap (old new : Held) (before after : List ℕ) (m now : Map) : Type 0 where
+  pub items : List Item
+  pub on : GoesOn old new before after items
+  pub map : map_after (Some m) items ≡ Some now
+  pub no_turn : turns_of items ≡ []
+
+-- what an answer to base lines says of an input that tells its bytes
+abbrev pub BaseAnswers : Held → Held → Map → Map → Result ⊤ ScriptFault → List ℕ → List ℕ → Type 0
+BaseAnswers old new m now (Ok u) before after = AddsToMap old new before after m now
+BaseAnswers old new m now (Err TooLong) before after = RefusesMap old new before after TooLong
+BaseAnswers old new m now (Err ReadFault) before after = RefusesMap old new before after ReadFault
+BaseAnswers old new m now (Err NoMemory) before after = ⊤
+BaseAnswers old new m now (Err (BadLine n)) before after = ⊥
+
+abbrev pub BaseTold : Held → Held → Map → Map → Option (List ℕ) → Option (List ℕ) → Result ⊤ ScriptFault → Type 0
+BaseTold old new m now left later result = WhereTold left later (λ before after. (IsTrue old.ended → before ≡ []) → BaseAnswers old new m now result before after)
+
+-- the reading is an object
+abbrev pub IsObject : Data → Type 0
+IsObject null = ⊥
+IsObject (boolean b) = ⊥
+IsObject (number n) = ⊥
+IsObject (string s) = ⊥
+IsObject (array ds) = ⊥
+IsObject (object ms) = ⊤
+
+-- a post came to the posts of the turn; or the turn has them all, and none is left
+abbrev pub CountsPosts : List (List Post) → List (List Post) → Option (List (List Post)) → Type 0
+CountsPosts old new None = post_count new ≡ post_count old + 1
+CountsPosts old new (Some posts) = (posts ≡ old) × (post_count new ≡ 0)
+
+-- the line that is held is whole, and no base line on a map of this size
+pub record HoldsNoBase (size : Size) (h : HeldLine) : Type 0 where
+  pub ends : HasEnd h.line_end h.rest
+  pub plain : IsPlain h.line
+  pub no_base : IsNoBaseLine size h.line
+
+-- the same, where base lines may stand
+abbrev pub IsNoBaseNext : Part → HeldLine → Type 0
+IsNoBaseNext BeforeMap h = ⊤
+IsNoBaseNext (InBase rules) h = HoldsNoBase rules.size h
+IsNoBaseNext (InTurns rules) h = ⊤
+
+-- A reader that may be called: no turn has begun, and either nothing of a line is held or the line is whole. Where base
+-- lines may stand, the line that is held is none.
+pub record IsBetweenTurns (p : Place) (h : HeldLine) : Type 0 where
+  pub no_post : post_count p.posts ≡ 0
+  pub between : h.line_end ≡ None → h.line ≡ []
+  pub no_base : IsNoBaseNext p.part h
+
+-- what a reader holds at a place, with the line that it holds
+abbrev pub held_at : Place → HeldLine → Held
+held_at place h = record { place = place; bytes = bytes_of h; ended = h.rest.ended; over = false; failed = false }

@@ -1,0 +1,3 @@
+//! Tests: lines and their forms, and scripts that are read.
+mod lines;
+mod reading;

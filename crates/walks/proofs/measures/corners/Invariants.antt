@@ -1,9 +1,0 @@
-use Rattle.std.proofs.Common.{◌≡◌, ◌++◌, length}
-use Rattle.walks.specs.Waypoints.{StaysInGrid, waypoints}
-use Rattle.walks.proofs.measures.corners.Given as goal
-
-abbrev pub invariant-loop-dir : goal.invariant-loop-dir
-invariant-loop-dir l = (l.corners ++ waypoints l.cell l.rest ≡ waypoints l.fn.start l.fn.walk) × StaysInGrid l.cell l.rest
-
-abbrev pub decreases-loop-dir : goal.decreases-loop-dir
-decreases-loop-dir l = length l.rest

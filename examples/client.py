@@ -1,0 +1,29 @@
+#!/usr/bin/env python3
+"""A game that asks the service turn by turn, over a pipe: client.py ./pathserve (or the built program)."""
+import json
+import subprocess
+import sys
+
+service = subprocess.Popen([sys.argv[1], "replay"], stdin=subprocess.PIPE, stdout=subprocess.PIPE, text=True)
+
+
+def send(line):
+    service.stdin.write(json.dumps(line) + "\n")
+
+
+def play(turn, posts):
+    """Sends the posts of a turn, and gives its answers: the turn line, and one line for each post."""
+    for line in [*posts, {"end": turn}]:
+        send(line)
+    service.stdin.flush()
+    return [service.stdout.readline().rstrip() for _ in range(1 + len(posts))]
+
+
+send({"version": 3, "size": [12, 8], "callers": 1, "classes": [{"name": "infantry", "clearance": "0.5"}]})
+ask = {"caller": 0, "path": "infantry", "from": ["1.5", "1.5"], "goal": {"point": ["10.5", "1.5"]}}
+print(*play(1, [ask]), sep="\n")
+# what comes next may depend on those answers
+wall = {"caller": 0, "add": 1, "unit": ["6", "1.5", "1"], "mask": 1}
+print(*play(2, [wall, ask]), sep="\n")
+service.stdin.close()
+sys.exit(service.wait())
