@@ -1,18 +1,15 @@
--- The cells of a chunk in the map, and the marks of a chunk's rectangle.
-use Rattle.std.proofs.Common.{ℕ, ◌≡◌, ◌≤◌, ◌+◌, ◌/◌, ◌==◌, ◌&&◌, Bool, IsTrue, ap, inl, inr, sym, subst, ◌∙◌, arith, Some, length}
-use Rattle.std.proofs.lemmas.Bool.{and_parts, and_from, eqb-true, eq-eqb, cases_Bool, both_ways}
+-- The cells of a chunk in the map, and what its labels say of a cell.
+use Rattle.std.proofs.Common.{ℕ, ◌≡◌, ◌≤◌, ◌+◌, ◌/◌, Bool, IsTrue, ap, inl, inr, sym, ◌∙◌, arith, Some, length}
+use Rattle.std.proofs.lemmas.Bool.{cases_Bool}
 use Rattle.nav_types.specs.declared.cells.Cell.{Cell}
 use Rattle.nav_types.specs.declared.cells.Chunk.{Chunk}
-use Rattle.nav_types.specs.declared.cells.Rect.{Rect}
 use Rattle.nav_types.specs.declared.cells.Size.{Size}
 use Rattle.std.specs.List.{slice_get}
 use Rattle.std.proofs.lemmas.Option.{slice_get_within}
 use Rattle.nav_types.specs.Cells.{IsInside, IsInRect, IsBefore}
 use Rattle.nav_types.specs.Regions.{passes_in, InOneRegion}
-use Rattle.nav_types.specs.Numbering.{Numbering, number_of}
-use Rattle.chunk_regions.specs.inner.Marks.{mark}
+use Rattle.nav_types.specs.Numbering.{number_of}
 use Rattle.chunk_regions.specs.Labelling.{Labelling, AreLabels, chunk_rect}
-use Rattle.chunk_regions.specs.inner.Flooding.{IsUnnumbered}
 use Rattle.nav_types.proofs.CellOrder.{IsBefore-asym}
 use Rattle.nav_types.proofs.FirstCells.{AreFirsts-unique}
 
@@ -30,31 +27,6 @@ pub in_chunk : (size : Size) (chunk : Chunk) (cell : Cell) → IsInRect (chunk_r
 in_chunk size chunk cell inside =
     let w = inside.west in let e = inside.east in let s = inside.south in let n = inside.north in
     (omega arith, omega arith)
-
--- the marks of a chunk's rectangle are those of the passable cells in the chunk
-pub IsUnnumbered-from_marks : (passes : Cell → Bool) (size : Size) (chunk : Chunk) (cells : Numbering) → cells.rect ≡ chunk_rect size chunk
-    → ((cell : Cell) → IsTrue (passes cell) → IsInside size cell)
-    → ((cell : Cell) → IsInRect cells.rect cell → number_of cells cell ≡ mark (passes cell))
-    → IsUnnumbered (passes_in passes chunk) cells
-IsUnnumbered-from_marks passes size chunk cells extent within marks =
-    let parts = λ (cell : Cell) (here : IsTrue (passes_in passes chunk cell)).
-    and_parts ((cell.i / 96 == chunk.ci) && (cell.j / 96 == chunk.cj)) (passes cell) here in
-    let inside : (cell : Cell) → IsTrue (passes_in passes chunk cell) → IsInRect cells.rect cell = λ cell here.
-    let both = and_parts (cell.i / 96 == chunk.ci) (cell.j / 96 == chunk.cj) (parts cell here).0 in
-    subst (λ (rect : Rect). IsInRect rect cell) (sym extent)
-    (in_rect size chunk cell (within cell (parts cell here).1) (eqb-true (cell.i / 96) chunk.ci both.0) (eqb-true (cell.j / 96) chunk.cj both.1)) in
-    record {
-      inside = inside;
-      waits = λ cell here. marks cell (inside cell here) ∙ ap mark (parts cell here).1;
-      blocked = λ cell in_cells shut.
-          let place = in_chunk size chunk cell (subst (λ (rect : Rect). IsInRect rect cell) extent in_cells) in
-          let chunk_is = and_from (cell.i / 96 == chunk.ci) (cell.j / 96 == chunk.cj) (eq-eqb (cell.i / 96) chunk.ci place.0) (eq-eqb (cell.j / 96) chunk.cj place.1) in
-          elim (cases_Bool (passes cell)) [
-            | inl passable ↦ absurd (both_ways (passes_in passes chunk cell) shut
-                (and_from ((cell.i / 96 == chunk.ci) && (cell.j / 96 == chunk.cj)) (passes cell) chunk_is passable))
-            | inr impassable ↦ marks cell in_cells ∙ ap mark impassable
-          ];
-    }
 
 -- a passable cell of the chunk has 1 plus the place of its region's first cell among the labels' first cells
 pub AreLabels-placed : (passes : Cell → Bool) (size : Size) (chunk : Chunk) (labels : Labelling) → AreLabels passes size chunk labels

@@ -1,3 +1,7 @@
-pub mod FloodLemmas
 pub mod TableLemmas
 pub mod LabelLemmas
+pub mod FloodLemmas
+pub mod SpanLemmas
+pub mod BitLemmas
+pub mod RowLemmas
+pub mod ChunkLemmas

@@ -1,15 +1,13 @@
--- Places of cells in a rectangle, and what a write and a read of all rows leave.
-use Rattle.std.proofs.Common.{ℕ, ◌≡◌, ◌≢◌, ◌<◌, ◌≤◌, ◌+◌, ◌-◌, ◌*◌, ◌==◌, cond, List, [], ◌∷◌, ◌++◌, length, get_or, set, ap, inl, inr, sym, subst, ◌∙◌, arith}
-use Rattle.std.proofs.lemmas.Bool.{cases_lt, ne_eqb}
-use Rattle.std.proofs.lemmas.Nat.{same_from_place, mul-add-lt}
-use Rattle.std.proofs.lemmas.List.{get_or_read, get_or-set_same, get_or-set_other, get_or_append_left, get_or_push, length_push}
-use Rattle.std.proofs.lemmas.List.Sums.{sum_by-set}
+-- What a read of all rows of a rectangle leaves, and what stands at a cell's place.
+use Rattle.std.proofs.Common.{ℕ, ◌≡◌, ◌<◌, ◌≤◌, ◌+◌, ◌-◌, ◌*◌, List, [], ◌∷◌, ◌++◌, length, get_or, ap, inl, inr, sym, subst, ◌∙◌, arith}
+use Rattle.std.proofs.lemmas.Bool.{cases_lt}
+use Rattle.std.proofs.lemmas.Nat.{mul-add-lt}
+use Rattle.std.proofs.lemmas.List.{get_or_read, get_or_append_left, get_or_push, length_push}
 use Rattle.nav_types.specs.declared.cells.Cell.{Cell}
 use Rattle.nav_types.specs.declared.cells.Rect.{Rect}
 use Rattle.nav_types.specs.Cells.{cell_at, IsBefore, IsInRect}
 use Rattle.nav_types.specs.Numbering.{Numbering, columns, rows, place_in, number_of}
-use Rattle.chunk_regions.specs.inner.Marks.{waiting}
-use Rattle.nav_types.proofs.CellOrder.{same_cell, before_next}
+use Rattle.nav_types.proofs.CellOrder.{before_next}
 
 -- what a read at a cell's place gives
 pub number_of-read : (t : Numbering) (cell : Cell) (items : List ℕ) (place found : ℕ) → items ≡ t.numbers → place ≡ place_in t.rect cell
@@ -18,43 +16,6 @@ unfolding number_of
 number_of-read t cell items place found same is_place bound read =
     get_or_read t.numbers place found bound (subst (λ xs. found ≡ get_or xs place found) same read) 0
     ∙ ap (λ k. get_or t.numbers k 0) is_place
-
--- the numbers with another one at a place
-abbrev pub set_at : Numbering → ℕ → ℕ → Numbering
-set_at t place number = record { rect = t.rect; numbers = set t.numbers place number }
-
-place_in-inj : (rect : Rect) (a b : Cell) → IsInRect rect a → IsInRect rect b → place_in rect a ≡ place_in rect b → a ≡ b
-unfolding place_in
-place_in-inj rect a b in_a in_b same =
-    let west_a = in_a.west in let east_a = in_a.east in let south_a = in_a.south in
-    let west_b = in_b.west in let east_b = in_b.east in let south_b = in_b.south in
-    let parts = same_from_place (a.j - rect.j0) (a.i - rect.i0) (b.j - rect.j0) (b.i - rect.i0) (columns rect) (omega arith) (omega arith) same in
-    let one_row = parts.0 in
-    let one_column = parts.1 in
-    same_cell a b (omega arith) (omega arith)
-
-pub number_of-set_same : (t : Numbering) (cell : Cell) (place number : ℕ) → place ≡ place_in t.rect cell → place < length t.numbers
-    → number_of (set_at t place number) cell ≡ number
-unfolding number_of
-number_of-set_same t cell place number is_place bound =
-    ap (λ k. get_or (set t.numbers place number) k 0) (sym is_place) ∙ get_or-set_same t.numbers place number 0 bound
-
-pub number_of-set_other : (t : Numbering) (cell other : Cell) (place number : ℕ) → place ≡ place_in t.rect cell
-    → IsInRect t.rect cell → IsInRect t.rect other → other ≢ cell → number_of (set_at t place number) other ≡ number_of t other
-unfolding number_of
-number_of-set_other t cell other place number is_place in_cell in_other apart =
-    get_or-set_other t.numbers place (place_in t.rect other) number 0
-    (λ same. apart (place_in-inj t.rect other cell in_other in_cell (same ∙ is_place)))
-
-pub waiting-set : (t : Numbering) (cell : Cell) (place number : ℕ) → place ≡ place_in t.rect cell → place < length t.numbers
-    → number_of t cell ≡ 65535 → number < 65535 → waiting (set_at t place number) + 1 ≡ waiting t
-unfolding number_of
-waiting-set t cell place number is_place bound waits real =
-    let f : ℕ → ℕ = λ n. cond (n == 65535) 1 0 in
-    let was : f (get_or t.numbers place 0) ≡ 1 = ap f (ap (λ k. get_or t.numbers k 0) is_place ∙ waits) in
-    let is : f number ≡ 0 = ap (λ b. cond b 1 0) (ne_eqb number 65535 (λ same. omega arith)) in
-    let e = sum_by-set f t.numbers place number 0 bound in
-    omega arith
 
 -- the cells before a cell have their mark, and no other cell has one yet
 pub record IsReadTo (mark_of : Cell → ℕ) (rect : Rect) (numbers : List ℕ) (i j : ℕ) : Type 0 where

@@ -1,10 +1,11 @@
 -- The regions of one chunk and class.
-use Rattle.std.specs.Prelude.{Bool, ◌≡◌, ◌+◌, ◌-◌, ◌*◌, List, min}
+use Rattle.std.specs.Prelude.{ℕ, Bool, ◌≡◌, ◌+◌, ◌-◌, ◌*◌, ◌<◌, ◌==◌, List, min, slice_index}
+use Rattle.std.specs.Int.{bit_at}
 use Rattle.nav_types.specs.declared.cells.Cell.{Cell}
 use Rattle.nav_types.specs.declared.cells.Chunk.{Chunk}
 use Rattle.nav_types.specs.declared.cells.Rect.{Rect}
 use Rattle.nav_types.specs.declared.cells.Size.{Size}
-use Rattle.nav_types.specs.Cells.{IsBefore, IsInRect}
+use Rattle.nav_types.specs.Cells.{cell_at, IsBefore, IsInRect}
 use Rattle.nav_types.specs.Counting.{AreFirsts}
 use Rattle.nav_types.specs.Regions.{passes_in, InOneRegion, HasRegion}
 use Rattle.nav_types.specs.Numbering.{Numbering, number_of}
@@ -30,3 +31,8 @@ pub record AreLabels (passes : Cell → Bool) (size : Size) (chunk : Chunk) (lab
   pub extent : labels.cells.rect ≡ chunk_rect size chunk
   pub numbers : (cell : Cell) → IsInRect labels.cells.rect cell → HasRegion passes chunk cell (number_of labels.cells cell)
   pub first_cells : AreFirsts (passes_in passes chunk) (InOneRegion passes chunk) IsBefore labels.firsts
+
+-- the numbers of a chunk's 96 rows have a bit for each of its 96 columns, which is set exactly where the cell is passable
+pub record AreBitsOf (passes : Cell → Bool) (chunk : Chunk) (bits : List ℕ) : Type 0 where
+  pub set : (row column : ℕ) → row < 96 → column < 96
+      → (bit_at (slice_index bits row) column == 1) ≡ passes (cell_at (96 * chunk.ci + column) (96 * chunk.cj + row))

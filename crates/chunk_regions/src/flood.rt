@@ -1,151 +1,302 @@
-ghost use Rattle.std.specs.Prelude.{ℕ, Bool, ◌≡◌, ◌≢◌, ◌+◌, ◌*◌, ◌<◌, ◌≤◌, List, [], ◌∷◌, ◌++◌, length, IsTrue, All, OnOk, IfOk};
-ghost use Rattle.nav_types.specs.Cells.{IsInRect, cell_at};
+ghost use Rattle.std.specs.Prelude.{ℕ, Bool, ◌≡◌, ◌≢◌, ◌+◌, ◌<◌, ◌≤◌, ◌↔◌, [], ◌∷◌, ◌++◌, length, IsTrue, All, OnOk, OnErr, IfOk, Some, slice_get, slice_index, slice_set};
 ghost use Rattle.nav_types.specs.declared.cells.Cell.{Cell};
-ghost use Rattle.nav_types.specs.Directions.{Leads, is_straight};
-ghost use Rattle.nav_types.specs.Numbering.{number_of};
-ghost use Rattle.chunk_regions.specs.inner.Marks.{waiting};
-ghost use Rattle.chunk_regions.specs.inner.Flooding.{Floods, IsUnnumbered, IsNumbered};
+ghost use Rattle.chunk_regions.specs.declared.spans.Span.{Span};
+ghost use Rattle.chunk_regions.specs.inner.Spans.{IsPlace, HasCell, IsCut, AreBeside, waiting, region_of};
+ghost use Rattle.chunk_regions.specs.inner.Flooding.{Floods, IsNumbered, KeepsFlood, Meets};
 
-use crate::extent::neighbour_in;
-use crate::table::{Table, WAITING};
-use nav_types::{Cell, Dir, NoMemory};
+use crate::spans::{RowSpans, Span};
+use nav_types::limits::CHUNK_SIDE;
+use nav_types::{Cell, Chunk, NoMemory};
 use std::alloc::Global;
 
-/// Numbers the cell one step on, if it waits, and puts it into the frontier.
-fn visit(
-    table: &mut Table,
-    frontier: &mut Vec<Cell>,
-    from: Cell,
-    dir: Dir,
-    number: u16,
-) -> Result<(), NoMemory>
-    requires straight { IsTrue (is_straight dir) }
-    requires inside { IsInRect table.old.rect from }
-    requires real { number < 65535 }
-    requires places { All (IsInRect table.old.rect) frontier.old.items }
-    ensures rect { table.new.rect ≡ table.old.rect }
-    ensures places { All (IsInRect table.old.rect) frontier.new.items }
-    ensures kept { (cell : Cell) → IsInRect table.old.rect cell → number_of table.old cell ≢ 65535 → number_of table.new cell ≢ 65535 }
-    ensures met { OnOk result ((cell : Cell) → IsInRect table.old.rect cell → Leads dir from cell → number_of table.new cell ≢ 65535) }
-    ensures work { OnOk result (waiting table.new + length frontier.new.items ≡ waiting table.old + length frontier.old.items) }
-    ensures floods { OnOk result ((passes : Cell → Bool) (firsts : List Cell) (here : Cell) → length firsts ≡ number
-        → Floods passes table.old firsts (frontier.old.items ++ from ∷ []) here
-        → Floods passes table.new firsts (frontier.new.items ++ from ∷ []) here) }
+/// The number of a span that waits for its region's number.
+const WAITING: u16 = 0;
+
+/// A span of a chunk: its row, and its place among the spans of all rows.
+#[derive(Debug, Clone, Copy)]
+pub struct Place {
+    pub row: u16,
+    pub at: u16,
+}
+
+/// The spans' regions as far as they are known, and the numbered spans whose neighbours may still wait.
+#[derive(Debug, Drop)]
+struct Flood {
+    regions: Vec<u16>,
+    frontier: Vec<Place>,
+}
+
+/// The regions of the spans, and the first cells of all regions in order.
+#[derive(Debug, Drop)]
+pub struct Numbered {
+    pub regions: Vec<u16>,
+    pub firsts: Vec<Cell>,
+}
+
+/// Whether a column holds cells of both spans.
+fn overlap(a: Span, b: Span) -> bool
+    ensures { IsTrue result ↔ ((a.first ≤ b.last) × (b.first ≤ a.last)) }
 {
-    let Some(cell) = neighbour_in(table.rect(), from, dir) else {
-        return Ok(());
-    };
-    if table.at(cell) != WAITING {
-        return Ok(());
-    }
-    frontier.push(cell)?;
-    table.give(cell, number);
+    a.first <= b.last && b.first <= a.last
+}
+
+/// Gives a waiting span its number, and puts it into the frontier.
+fn give(flood: &mut Flood, place: Place, number: u16) -> Result<(), NoMemory>
+    requires place { place.at < length flood.old.regions.items }
+    ensures length { length flood.new.regions.items ≡ length flood.old.regions.items }
+    ensures given { OnOk result (flood.new.regions.items ≡ slice_set flood.old.regions.items place.at number) }
+    ensures frontier { OnOk result (flood.new.frontier.items ≡ flood.old.frontier.items ++ place ∷ []) }
+    ensures err { OnErr result (flood.new.regions.items ≡ flood.old.regions.items) }
+    ensures err_frontier { OnErr result (flood.new.frontier.items ≡ flood.old.frontier.items) }
+{
+    flood.frontier.push(place)?;
+    flood.regions[place.at as usize] = number;
     Ok(())
 }
 
-/// Numbers the waiting cells beside a cell of the frontier, which leaves it.
-fn spread(
-    table: &mut Table,
-    frontier: &mut Vec<Cell>,
-    from: Cell,
+/// Numbers a span of a row beside, if it waits and overlaps.
+fn visit(
+    rows: &RowSpans,
+    flood: &mut Flood,
+    from: Place,
+    place: Place,
     number: u16,
 ) -> Result<(), NoMemory>
-    requires inside { IsInRect table.old.rect from }
-    requires real { number < 65535 }
-    requires places { All (IsInRect table.old.rect) frontier.old.items }
-    ensures rect { table.new.rect ≡ table.old.rect }
-    ensures places { All (IsInRect table.old.rect) frontier.new.items }
-    ensures work { OnOk result (waiting table.new + length frontier.new.items ≡ waiting table.old + length frontier.old.items) }
-    ensures floods { OnOk result ((passes : Cell → Bool) (firsts : List Cell) (here : Cell) → length firsts ≡ number
-        → Floods passes table.old firsts (frontier.old.items ++ from ∷ []) here
-        → Floods passes table.new firsts frontier.new.items here) }
+    requires from { IsPlace rows.now from }
+    requires place { IsPlace rows.now place }
+    requires beside { AreBeside from.row place.row }
+    requires regions { length flood.old.regions.items ≡ length rows.now.spans }
+    requires frontier { All (IsPlace rows.now) flood.old.frontier.items }
+    requires real { 0 < number }
+    ensures regions { length flood.new.regions.items ≡ length rows.now.spans }
+    ensures frontier { All (IsPlace rows.now) flood.new.frontier.items }
+    ensures kept { (k : ℕ) → slice_index flood.old.regions.items k ≢ 0 → slice_index flood.new.regions.items k ≢ 0 }
+    ensures met { OnOk result ((a b : Span) → slice_get rows.now.spans from.at ≡ Some a
+        → slice_get rows.now.spans place.at ≡ Some b → a.first ≤ b.last → b.first ≤ a.last → slice_index flood.new.regions.items place.at ≢ 0) }
+    ensures work { OnOk result (waiting flood.new.regions.items + length flood.new.frontier.items
+        ≡ waiting flood.old.regions.items + length flood.old.frontier.items) }
+    ensures floods { OnOk result (KeepsFlood rows.now flood.old.regions.items (flood.old.frontier.items ++ from ∷ [])
+        flood.new.regions.items (flood.new.frontier.items ++ from ∷ []) number) }
 {
-    visit(table, frontier, from, Dir::N, number)?;
-    visit(table, frontier, from, Dir::E, number)?;
-    visit(table, frontier, from, Dir::S, number)?;
-    visit(table, frontier, from, Dir::W, number)?;
+    if flood.regions[place.at as usize] != WAITING {
+        return Ok(());
+    }
+    if !overlap(rows.span(from.at), rows.span(place.at)) {
+        return Ok(());
+    }
+    give(flood, place, number)?;
+    Ok(())
+}
+
+/// Numbers the waiting spans of a row beside that overlap the span.
+fn spread_to(
+    rows: &RowSpans,
+    flood: &mut Flood,
+    from: Place,
+    row: u16,
+    number: u16,
+) -> Result<(), NoMemory>
+    requires from { IsPlace rows.now from }
+    requires row { row < 96 }
+    requires beside { AreBeside from.row row }
+    requires regions { length flood.old.regions.items ≡ length rows.now.spans }
+    requires frontier { All (IsPlace rows.now) flood.old.frontier.items }
+    requires real { 0 < number }
+    ensures regions { length flood.new.regions.items ≡ length rows.now.spans }
+    ensures frontier { All (IsPlace rows.now) flood.new.frontier.items }
+    ensures kept { (k : ℕ) → slice_index flood.old.regions.items k ≢ 0 → slice_index flood.new.regions.items k ≢ 0 }
+    ensures met { OnOk result (Meets rows.now flood.new.regions.items from row) }
+    ensures work { OnOk result (waiting flood.new.regions.items + length flood.new.frontier.items
+        ≡ waiting flood.old.regions.items + length flood.old.frontier.items) }
+    ensures floods { OnOk result (KeepsFlood rows.now flood.old.regions.items (flood.old.frontier.items ++ from ∷ [])
+        flood.new.regions.items (flood.new.frontier.items ++ from ∷ []) number) }
+{
+    let (start, end) = rows.row(row);
+    for at in start..end {
+        visit(rows, flood, from, Place { row, at }, number)?;
+    }
+    Ok(())
+}
+
+/// Numbers the waiting spans of the row to the south that overlap the span.
+fn spread_south(
+    rows: &RowSpans,
+    flood: &mut Flood,
+    from: Place,
+    number: u16,
+) -> Result<(), NoMemory>
+    requires from { IsPlace rows.now from }
+    requires regions { length flood.old.regions.items ≡ length rows.now.spans }
+    requires frontier { All (IsPlace rows.now) flood.old.frontier.items }
+    requires real { 0 < number }
+    ensures regions { length flood.new.regions.items ≡ length rows.now.spans }
+    ensures frontier { All (IsPlace rows.now) flood.new.frontier.items }
+    ensures kept { (k : ℕ) → slice_index flood.old.regions.items k ≢ 0 → slice_index flood.new.regions.items k ≢ 0 }
+    ensures met { OnOk result ((row : ℕ) → from.row ≡ row + 1 → Meets rows.now flood.new.regions.items from row) }
+    ensures work { OnOk result (waiting flood.new.regions.items + length flood.new.frontier.items
+        ≡ waiting flood.old.regions.items + length flood.old.frontier.items) }
+    ensures floods { OnOk result (KeepsFlood rows.now flood.old.regions.items (flood.old.frontier.items ++ from ∷ [])
+        flood.new.regions.items (flood.new.frontier.items ++ from ∷ []) number) }
+{
+    if from.row == 0 {
+        return Ok(());
+    }
+    spread_to(rows, flood, from, from.row - 1, number)?;
+    Ok(())
+}
+
+/// Numbers the waiting spans of the row to the north that overlap the span.
+fn spread_north(
+    rows: &RowSpans,
+    flood: &mut Flood,
+    from: Place,
+    number: u16,
+) -> Result<(), NoMemory>
+    requires from { IsPlace rows.now from }
+    requires regions { length flood.old.regions.items ≡ length rows.now.spans }
+    requires frontier { All (IsPlace rows.now) flood.old.frontier.items }
+    requires real { 0 < number }
+    ensures regions { length flood.new.regions.items ≡ length rows.now.spans }
+    ensures frontier { All (IsPlace rows.now) flood.new.frontier.items }
+    ensures kept { (k : ℕ) → slice_index flood.old.regions.items k ≢ 0 → slice_index flood.new.regions.items k ≢ 0 }
+    ensures met { OnOk result (from.row + 1 < 96 → Meets rows.now flood.new.regions.items from (from.row + 1)) }
+    ensures work { OnOk result (waiting flood.new.regions.items + length flood.new.frontier.items
+        ≡ waiting flood.old.regions.items + length flood.old.frontier.items) }
+    ensures floods { OnOk result (KeepsFlood rows.now flood.old.regions.items (flood.old.frontier.items ++ from ∷ [])
+        flood.new.regions.items (flood.new.frontier.items ++ from ∷ []) number) }
+{
+    if from.row + 1 == CHUNK_SIDE {
+        return Ok(());
+    }
+    spread_to(rows, flood, from, from.row + 1, number)?;
+    Ok(())
+}
+
+/// Numbers the waiting spans beside a span of the frontier, which leaves it.
+fn spread(rows: &RowSpans, flood: &mut Flood, from: Place, number: u16) -> Result<(), NoMemory>
+    requires from { IsPlace rows.now from }
+    requires regions { length flood.old.regions.items ≡ length rows.now.spans }
+    requires frontier { All (IsPlace rows.now) flood.old.frontier.items }
+    requires real { 0 < number }
+    ensures regions { length flood.new.regions.items ≡ length rows.now.spans }
+    ensures frontier { All (IsPlace rows.now) flood.new.frontier.items }
+    ensures work { OnOk result (waiting flood.new.regions.items + length flood.new.frontier.items
+        ≡ waiting flood.old.regions.items + length flood.old.frontier.items) }
+    ensures floods { OnOk result (KeepsFlood rows.now flood.old.regions.items (flood.old.frontier.items ++ from ∷ [])
+        flood.new.regions.items flood.new.frontier.items number) }
+{
+    spread_south(rows, flood, from, number)?;
+    spread_north(rows, flood, from, number)?;
     Ok(())
 }
 
 /// Numbers all that straight steps join to the frontier, until it is empty.
-fn flood(table: &mut Table, frontier: &mut Vec<Cell>, number: u16) -> Result<(), NoMemory>
-    requires real { number < 65535 }
-    requires places { All (IsInRect table.old.rect) frontier.old.items }
-    ensures rect { table.new.rect ≡ table.old.rect }
-    ensures emptied { OnOk result (frontier.new.items ≡ []) }
-    ensures floods { OnOk result ((passes : Cell → Bool) (firsts : List Cell) (here : Cell) → length firsts ≡ number
-        → Floods passes table.old firsts frontier.old.items here
-        → Floods passes table.new firsts [] here) }
+fn spread_all(rows: &RowSpans, flood: &mut Flood, number: u16) -> Result<(), NoMemory>
+    requires regions { length flood.old.regions.items ≡ length rows.now.spans }
+    requires frontier { All (IsPlace rows.now) flood.old.frontier.items }
+    requires real { 0 < number }
+    ensures regions { length flood.new.regions.items ≡ length rows.now.spans }
+    ensures frontier { All (IsPlace rows.now) flood.new.frontier.items }
+    ensures emptied { OnOk result (flood.new.frontier.items ≡ []) }
+    ensures floods { OnOk result (KeepsFlood rows.now flood.old.regions.items flood.old.frontier.items
+        flood.new.regions.items [] number) }
 {
-    // in which order the frontier's cells are taken makes no difference: all of them get one number
-    while let Some(cell) = frontier.pop() {
-        spread(table, frontier, cell, number)?;
+    // in which order the frontier's spans are taken makes no difference: all of them get one number
+    while let Some(place) = flood.frontier.pop() {
+        spread(rows, flood, place, number)?;
     }
     Ok(())
 }
 
-/// Numbers the group of a cell, if the cell waits: it is then the group's first.
+/// Numbers the region of a span, if the span waits: its first cell is then the region's first.
 fn begin(
-    table: &mut Table,
+    rows: &RowSpans,
+    flood: &mut Flood,
     firsts: &mut Vec<Cell>,
-    frontier: &mut Vec<Cell>,
-    cell: Cell,
+    chunk: Chunk,
+    place: Place,
 ) -> Result<(), NoMemory>
-    requires inside { IsInRect table.old.rect cell }
-    requires emptied { frontier.old.items ≡ [] }
-    requires few { length firsts.old.items < 9216 }
-    ensures rect { table.new.rect ≡ table.old.rect }
-    ensures emptied { OnOk result (frontier.new.items ≡ []) }
-    ensures few { OnOk result (length firsts.new.items ≤ length firsts.old.items + 1) }
-    ensures floods { OnOk result ((passes : Cell → Bool) → Floods passes table.old firsts.old.items [] cell
-        → Floods passes table.new firsts.new.items [] (cell_at (cell.i + 1) cell.j)) }
+    requires place { IsPlace rows.now place }
+    requires regions { length flood.old.regions.items ≡ length rows.now.spans }
+    requires emptied { flood.old.frontier.items ≡ [] }
+    requires column { chunk.ci < 22 }
+    requires row { chunk.cj < 22 }
+    requires few { length firsts.old.items ≤ place.at }
+    ensures regions { length flood.new.regions.items ≡ length rows.now.spans }
+    ensures emptied { OnOk result (flood.new.frontier.items ≡ []) }
+    ensures few { OnOk result (length firsts.new.items ≤ place.at + 1) }
+    ensures floods { OnOk result ((passes : Cell → Bool) → IsCut passes chunk rows.now
+        → Floods passes (HasCell chunk rows.now) (region_of chunk rows.now flood.old.regions.items) firsts.old.items []
+        place.at
+        → Floods passes (HasCell chunk rows.now) (region_of chunk rows.now flood.new.regions.items) firsts.new.items []
+        (place.at + 1)) }
 {
-    if table.at(cell) != WAITING {
+    if flood.regions[place.at as usize] != WAITING {
         return Ok(());
     }
-    firsts.push(cell)?;
-    frontier.push(cell)?;
+    let span = rows.span(place.at);
+    firsts.push(Cell::new(
+        chunk.ci * CHUNK_SIDE + u16::from(span.first),
+        chunk.cj * CHUNK_SIDE + place.row,
+    ))?;
     let number = firsts.len() as u16;
-    table.give(cell, number);
-    flood(table, frontier, number)
+    give(flood, place, number)?;
+    spread_all(rows, flood, number)
 }
 
-/// Numbers the groups that begin in one row.
+/// Numbers the regions that begin in one row.
 fn number_row(
-    table: &mut Table,
+    rows: &RowSpans,
+    flood: &mut Flood,
     firsts: &mut Vec<Cell>,
-    frontier: &mut Vec<Cell>,
-    j: u16,
+    chunk: Chunk,
+    row: u16,
 ) -> Result<(), NoMemory>
-    requires south { table.old.rect.j0 ≤ j }
-    requires north { j ≤ table.old.rect.j1 }
-    requires emptied { frontier.old.items ≡ [] }
-    requires few { length firsts.old.items + 96 ≤ 9216 }
-    ensures rect { table.new.rect ≡ table.old.rect }
-    ensures emptied { OnOk result (frontier.new.items ≡ []) }
-    ensures few { OnOk result (length firsts.new.items ≤ length firsts.old.items + 96) }
-    ensures floods { OnOk result ((passes : Cell → Bool) → Floods passes table.old firsts.old.items [] (cell_at table.old.rect.i0 j)
-        → Floods passes table.new firsts.new.items [] (cell_at table.old.rect.i0 (j + 1))) }
+    requires here { row < 96 }
+    requires regions { length flood.old.regions.items ≡ length rows.now.spans }
+    requires emptied { flood.old.frontier.items ≡ [] }
+    requires column { chunk.ci < 22 }
+    requires row { chunk.cj < 22 }
+    requires few { length firsts.old.items ≤ slice_index rows.now.starts row }
+    ensures regions { length flood.new.regions.items ≡ length rows.now.spans }
+    ensures emptied { OnOk result (flood.new.frontier.items ≡ []) }
+    ensures few { OnOk result (length firsts.new.items ≤ slice_index rows.now.starts (row + 1)) }
+    ensures floods { OnOk result ((passes : Cell → Bool) → IsCut passes chunk rows.now
+        → Floods passes (HasCell chunk rows.now) (region_of chunk rows.now flood.old.regions.items) firsts.old.items []
+        (slice_index rows.now.starts row)
+        → Floods passes (HasCell chunk rows.now) (region_of chunk rows.now flood.new.regions.items) firsts.new.items []
+        (slice_index rows.now.starts (row + 1))) }
 {
-    let rect = table.rect();
-    for i in rect.i0..rect.i1 + 1 {
-        begin(table, firsts, frontier, Cell::new(i, j))?;
+    let (start, end) = rows.row(row);
+    for at in start..end {
+        begin(rows, flood, firsts, chunk, Place { row, at })?;
     }
     Ok(())
 }
 
-/// Numbers all groups of cells, and gives their first cells in order.
-pub fn number_all(alloc: Global, table: &mut Table) -> Result<Vec<Cell>, NoMemory>
-    ensures rect { table.new.rect ≡ table.old.rect }
-    ensures few { IfOk result (λ firsts. length firsts.items ≤ 9216) }
-    ensures numbered { IfOk result (λ firsts. (passes : Cell → Bool) → IsUnnumbered passes table.old → IsNumbered passes table.new firsts.items) }
+/// Numbers the regions of all spans.
+pub fn number_all(alloc: Global, chunk: Chunk, rows: &RowSpans) -> Result<Numbered, NoMemory>
+    requires column { chunk.ci < 22 }
+    requires row { chunk.cj < 22 }
+    ensures regions { IfOk result (λ all. length all.regions.items ≡ length rows.now.spans) }
+    ensures few { IfOk result (λ all. length all.firsts.items ≤ 4608) }
+    ensures numbered { IfOk result (λ all. (passes : Cell → Bool) → IsCut passes chunk rows.now
+        → IsNumbered passes (region_of chunk rows.now all.regions.items) all.firsts.items) }
 {
-    let rect = table.rect();
+    let regions = vec![in alloc; WAITING; rows.len()]?;
+    let mut flood = Flood {
+        regions,
+        frontier: Vec::new(alloc),
+    };
     let mut firsts = Vec::new(alloc);
-    let mut frontier = Vec::new(alloc);
-    // in the order of cells, so that the first waiting cell is the first of its group
-    for j in rect.j0..rect.j1 + 1 {
-        number_row(table, &mut firsts, &mut frontier, j)?;
+    // in the order of spans, so that a waiting span's first cell is the first of its region
+    for row in 0..CHUNK_SIDE {
+        number_row(rows, &mut flood, &mut firsts, chunk, row)?;
     }
-    Ok(firsts)
+    // the first cells are kept in no more room than they fill
+    let firsts = Vec::from_slice(alloc, &firsts)?;
+    Ok(Numbered {
+        regions: flood.regions,
+        firsts,
+    })
 }

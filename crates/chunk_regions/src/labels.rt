@@ -1,33 +1,48 @@
-ghost use Rattle.std.specs.Prelude.{◌≡◌, ◌+◌, ◌-◌, ◌*◌, ◌<◌, ◌≤◌, IfOk, Some, slice_get, length};
+ghost use Rattle.std.specs.Prelude.{Bool, ◌≡◌, ◌+◌, ◌-◌, ◌*◌, ◌<◌, ◌≤◌, IfOk, Some, slice_get, length};
+ghost use Rattle.nav_types.specs.declared.cells.Cell.{Cell};
 ghost use Rattle.nav_types.specs.Cells.{IsInRect};
-ghost use Rattle.chunk_regions.specs.Labelling.{AreLabels};
+ghost use Rattle.chunk_regions.specs.Labelling.{AreLabels, AreBitsOf};
 
+use crate::bits::{ChunkBits, read};
 use crate::extent::cells_of;
-use crate::flood::number_all;
-use crate::table::Table;
-use nav_types::{Cell, Chunk, Class, NoMemory, Rect, Ticks, View};
+use crate::flood::{Numbered, number_all};
+use crate::spans::{RowSpans, cut};
+use nav_types::{Cell, Chunk, Class, NoMemory, Rect, Size, Ticks, View};
 use std::alloc::Global;
 use std::marker::Model;
 use std::sync::ledger::Ledger;
 
-/// The regions of one chunk and class. Contracts see the chunk, the numbers of its cells in the map, and the
-/// first cells of its regions in order (`Labelling`).
+/// The regions of one chunk and class, kept as the spans of its rows and a region for each of them. Contracts see the
+/// chunk, the numbers of its cells in the map, and the first cells of its regions in order (`Labelling`).
 #[derive(Debug, Drop)]
 pub struct Labels {
     chunk: Chunk,
-    table: Table,
+    rect: Rect,
+    spans: RowSpans,
+    regions: Vec<u16>,
     firsts: Vec<Cell>,
 }
 
 impl Model for Labels {
-    ghost use Rattle.std.specs.Prelude.{◌≤◌, length};
+    ghost use Rattle.std.specs.Prelude.{◌≡◌, ◌≤◌, ◌*◌, length, map};
+    ghost use Rattle.std.specs.List.{range_with_len};
+    ghost use Rattle.nav_types.specs.Numbering.{IsPatch, columns, rows};
     ghost use Rattle.chunk_regions.specs.Labelling.{Labelling};
+    ghost use Rattle.chunk_regions.specs.inner.Spans.{number_by};
 
     ghost Value = { Labelling };
 
-    ghost view = { λ l. record { chunk = l.chunk; cells = l.table; firsts = l.firsts.items } };
+    ghost view = { λ l. record {
+      chunk = l.chunk;
+      cells = record {
+        rect = l.rect;
+        numbers = map (number_by l.spans l.regions.items (columns l.rect)) (range_with_len 0 (columns l.rect * rows l.rect));
+      };
+      firsts = l.firsts.items;
+    } };
 
-    ghost invariant = { λ l. length l.firsts.items ≤ 9216 };
+    ghost invariant = { λ l. IsPatch l.rect × (length l.regions.items ≡ length l.spans.spans)
+        × (length l.firsts.items ≤ 9216) };
 }
 
 impl Labels {
@@ -44,7 +59,7 @@ impl Labels {
     pub fn rect(&self) -> Rect
         ensures { result ≡ self.now.cells.rect }
     {
-        self.table.rect()
+        self.rect
     }
 
     /// The number of the cell's region, from 1; 0 exactly for an impassable cell (`HasRegion`).
@@ -52,7 +67,14 @@ impl Labels {
         requires { IsInRect self.now.cells.rect cell }
         ensures { result ≡ number_of self.now.cells cell }
     {
-        self.table.at(cell)
+        let column = (cell.i - self.rect.i0) as u8;
+        let (start, end) = self.spans.row(cell.j - self.rect.j0);
+        for at in start..end {
+            if self.spans.span(at).holds(column) {
+                return self.regions[at as usize];
+            }
+        }
+        0
     }
 
     /// How many regions there are, at most 9216.
@@ -75,7 +97,7 @@ impl Labels {
 
 /// The regions of one chunk and class: passable cells are of one region where straight steps join them inside the
 /// chunk, and regions are numbered from 1 in the order of their first cells (`HasRegion`). It is one tick of work.
-/// The work grows with the chunk's cells: each is read once and stands in the flood's frontier at most once. It
+/// Each cell is asked for once; the rest of the work grows with the spans of passable cells in the chunk's rows. It
 /// refuses for want of memory alone.
 pub fn label<V: View, L: Ledger>(
     alloc: Global,
@@ -90,12 +112,34 @@ pub fn label<V: View, L: Ledger>(
     ensures labels { IfOk result (AreLabels (V.passes view.now class) (V.extent view.now) chunk) }
     ensures ticks { ticks.new ≡ ticks.old + 1 }
 {
+    let bits = read(view, class, chunk);
+    label_bits(alloc, view.size(), chunk, &bits, ticks)
+}
+
+/// The regions of one chunk and class as [`label`] gives them, where the bits say which cells of the chunk are
+/// passable (`AreBitsOf`). It is one tick of work. It refuses for want of memory alone.
+pub fn label_bits<L: Ledger>(
+    alloc: Global,
+    size: Size,
+    chunk: Chunk,
+    bits: &ChunkBits,
+    ticks: &mut Ticks<L>,
+) -> Result<Labels, NoMemory>
+    requires columns { 96 * chunk.ci < size.w }
+    requires rows { 96 * chunk.cj < size.h }
+    ensures labels { IfOk result (λ labels. (passes : Cell → Bool) → AreBitsOf passes chunk bits.now
+        → AreLabels passes size chunk labels) }
+    ensures ticks { ticks.new ≡ ticks.old + 1 }
+{
     ticks.tick();
-    let mut table = Table::read(alloc, view, class, cells_of(view.size(), chunk))?;
-    let firsts = number_all(alloc, &mut table)?;
+    let rect = cells_of(size, chunk);
+    let spans = cut(alloc, bits)?;
+    let Numbered { regions, firsts } = number_all(alloc, chunk, &spans)?;
     Ok(Labels {
         chunk,
-        table,
+        rect,
+        spans,
+        regions,
         firsts,
     })
 }

@@ -1,13 +1,15 @@
 //! The regions of one chunk of a map: the groups of its passable cells that straight steps join inside the chunk.
 #![tactic(auto)]
 
+mod bits;
 mod extent;
 mod flood;
 mod labels;
 mod laws;
-mod table;
+mod spans;
 
-pub use labels::{Labels, label};
+pub use bits::ChunkBits;
+pub use labels::{Labels, label, label_bits};
 pub use laws::{one_area, one_region, same_area, same_region, straight_steps_join};
 
 #[cfg(test)]

@@ -3,15 +3,18 @@ ghost use Rattle.std.specs.Prelude.{◌≡◌, ◌*◌, ◌<◌};
 use super::*;
 use nav_types::{Cell, Chunk, Class, NoMemory, Rect, Size, Ticks, View};
 use std::alloc::{AllocError, Global};
+use std::cell::Cell as Counter;
 use std::marker::Brand;
 use std::sync::ledger::{Blank, Ledger};
 use std::test::Fail;
 
-/// A map of one class: `tiles` says for each cell, in the order of cells, whether it is passable.
+/// A map of one class: `tiles` says for each cell, in the order of cells, whether it is passable. It counts how often
+/// it is asked.
 #[derive(Drop)]
 struct Sketch {
     size: Size,
     tiles: Vec<bool>,
+    asked: Counter<u32>,
 }
 
 impl View for Sketch {
@@ -34,6 +37,7 @@ impl View for Sketch {
     }
 
     fn passable(&self, _class: Class, cell: Cell) -> bool {
+        self.asked.set(self.asked.get().saturating_add(1));
         let place = cell.j as usize * self.size.w as usize + cell.i as usize;
         cell.i < self.size.w
             && (cell.j < self.size.h && self.tiles.get(place).copied().unwrap_or(false))
@@ -87,7 +91,11 @@ fn drawn(alloc: Global, text: &str) -> Result<Option<Sketch>, AllocError> {
     }
     let width = tiles.len() / rows.max(1) as usize;
     let size = Size::new(u16::try_from(width).unwrap_or(0), rows);
-    Ok(size.map(|size| Sketch { size, tiles }))
+    Ok(size.map(|size| Sketch {
+        size,
+        tiles,
+        asked: Counter::new(0),
+    }))
 }
 
 /// The numbers of the labels' cells in the order of cells, with spaces between.
@@ -154,10 +162,12 @@ enum Look {
     Open,
     Comb,
     Random,
+    Chequered,
+    Halves,
 }
 
-/// A map of one whole chunk: open, a comb whose teeth stand on its first row, or five cells of eight
-/// passable at random.
+/// A map of one whole chunk: open, a comb whose teeth stand on its first row, five cells of eight passable at random,
+/// a chequered one, or two halves that a wall parts on even rows west of column 64 and on odd rows east of it.
 fn whole_chunk(alloc: Global, size: Size, look: Look) -> Result<Sketch, AllocError> {
     let mut tiles = Vec::new(alloc);
     let mut noise = 12345u32;
@@ -168,19 +178,27 @@ fn whole_chunk(alloc: Global, size: Size, look: Look) -> Result<Sketch, AllocErr
                 Look::Open => true,
                 Look::Comb => j == 0 || i % 2 == 0,
                 Look::Random => (noise >> 16) % 8 >= 3,
+                Look::Chequered => (i + j) % 2 == 0,
+                Look::Halves => i != 63 + j % 2,
             };
             tiles.push(passable)?;
         }
     }
-    Ok(Sketch { size, tiles })
+    Ok(Sketch {
+        size,
+        tiles,
+        asked: Counter::new(0),
+    })
 }
 
 // How a whole chunk looks, with its number of regions, the first cell of the last one, the number of the last cell
 // and the sum of all numbers.
-const WHOLE: [(Look, u16, (u16, u16), u16, u64); 3] = [
+const WHOLE: [(Look, u16, (u16, u16), u16, u64); 5] = [
     (Look::Open, 1, (0, 0), 1, 9216),
     (Look::Comb, 1, (0, 0), 0, 4656),
     (Look::Random, 183, (90, 95), 0, 84776),
+    (Look::Chequered, 4608, (95, 95), 4608, 10_619_136),
+    (Look::Halves, 2, (64, 0), 2, 12_144),
 ];
 
 #[test]
@@ -189,6 +207,10 @@ fn whole_chunks_have_their_regions(rt: HostRuntime) -> Result<(), Fail> {
     for (look, count, last, corner, sum) in WHOLE {
         let sketch = whole_chunk(rt.alloc(), size, look)?;
         let labels = labelled(rt.alloc(), &sketch, Chunk { cj: 0, ci: 0 }).ok_or("labels")?;
+        assert!(rt;
+            sketch.asked.get() <= 9216,
+            "each cell is asked for once at most"
+        );
         let rect = labels.rect();
         let mut total = 0u64;
         for j in rect.j0..=rect.j1 {
@@ -214,6 +236,75 @@ fn whole_chunks_have_their_regions(rt: HostRuntime) -> Result<(), Fail> {
     Ok(())
 }
 
+/// The number of a cell in labels. None outside their rectangle.
+fn number(labels: &Labels, i: u16, j: u16) -> Option<u16> {
+    let rect = labels.rect();
+    if i < rect.i0 || i > rect.i1 || j < rect.j0 || j > rect.j1 {
+        return None;
+    }
+    Some(labels.at(Cell::new(i, j)))
+}
+
+/// The labels of the first chunk by its bits, where the work is counted in a ledger of its own.
+fn counted_bits<L: Ledger>(
+    alloc: Global,
+    size: Size,
+    bits: &ChunkBits,
+    blank: Blank,
+) -> Result<Labels, NoMemory>
+    requires name { blank.name ≡ L.name }
+    requires parts { blank.parts ≡ L.parts }
+    requires some { 0 < L.parts }
+    requires columns { 0 < size.w }
+    requires rows { 0 < size.h }
+{
+    label_bits(
+        alloc,
+        size,
+        Chunk { cj: 0, ci: 0 },
+        bits,
+        &mut Ticks::<L>::new(blank),
+    )
+}
+
+/// The labels of the first chunk by its bits. None where there is no memory.
+fn labelled_bits(alloc: Global, size: Size, bits: &ChunkBits) -> Option<Labels> {
+    if size.w == 0 || size.h == 0 {
+        return None;
+    }
+    counted_bits::<Brand>(alloc, size, bits, Blank::new(1)).ok()
+}
+
+#[test]
+fn bits_have_their_regions(rt: HostRuntime) -> Result<(), Fail> {
+    let size = Size::new(96, 4).ok_or("a size")?;
+    // columns 60 to 67, column 64 above them, then column 63 beside its corner, and the last column
+    let mut bits = ChunkBits::new();
+    bits.set_row(0, 0xff << 60);
+    bits.set_row(1, 1 << 64);
+    bits.set_row(2, 1 << 63);
+    bits.set_row(3, 1 << 95);
+    assert_eq!(rt; bits.row(2), 1 << 63);
+    let labels = labelled_bits(rt.alloc(), size, &bits).ok_or("labels")?;
+    assert_eq!(rt; labels.count(), 3);
+    for (i, j, region) in [
+        (59, 0, 0),
+        (60, 0, 1),
+        (63, 0, 1),
+        (64, 0, 1),
+        (67, 0, 1),
+        (68, 0, 0),
+        (63, 1, 0),
+        (64, 1, 1),
+        (63, 2, 2),
+        (64, 2, 0),
+        (95, 3, 3),
+    ] {
+        assert_eq!(rt; number(&labels, i, j), Some(region), "at {i} {j}");
+    }
+    Ok(())
+}
+
 /// What threads may share and pass on.
 fn crosses_threads<T: Send + Sync>(_value: &T) {}
 
@@ -223,6 +314,7 @@ fn a_border_chunk_is_smaller(rt: HostRuntime) -> Result<(), Fail> {
     let sketch = Sketch {
         size,
         tiles: vec![in rt.alloc(); true; 9506]?,
+        asked: Counter::new(0),
     };
     let labels = labelled(rt.alloc(), &sketch, Chunk { cj: 1, ci: 1 }).ok_or("labels")?;
     assert_eq!(rt; labels.chunk(), Chunk { cj: 1, ci: 1 });

@@ -1,6 +1,7 @@
 -- The passability classes of a map. A clearance is a raw number: 65536 are one navcell.
 use Rattle.std.specs.Prelude.{ℕ, ◌*◌, ◌&&◌, List, [], ◌∷◌, length, Bool, true, not, nat_le, ℤ, pos, int_le, if◌then◌else◌, Option, Some, None, is_some, option_map, option_and_then, slice_get, codes, bytes_eq}
 use Rattle.std.specs.List.{list_all, list_any, filter_map}
+use Rattle.nav_types.specs.declared.limits.TheConstants.{MAX_CLEARANCE}
 use Rattle.serde_json.specs.Data.{Data, Items, no_items, item}
 use Rattle.serde_json.specs.Find.{as_array}
 use Rattle.fixed_point.specs.Text.{fixed_value}
@@ -11,7 +12,7 @@ use Rattle.class_config.specs.Forms.{has_keys, text_under, some_if, is_class_nam
 
 -- a clearance: from 0 to 64 navcells
 abbrev pub is_clearance : ℤ → Bool
-is_clearance raw = int_le (pos 0) raw && int_le raw (pos (64 * 65536))
+is_clearance raw = int_le (pos 0) raw && int_le raw (pos (MAX_CLEARANCE * 65536))
 
 -- a class that a map may have: its name is a class name and its clearance is one
 abbrev pub is_class : PassabilityClass → Bool

@@ -1,1 +1,3 @@
+pub mod AlikeClasses
+pub mod BlockedColumns
 pub mod Rastering

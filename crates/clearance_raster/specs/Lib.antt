@@ -1,1 +1,2 @@
 pub mod Rasters
+pub mod inner

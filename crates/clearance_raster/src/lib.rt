@@ -1,12 +1,15 @@
 //! The raster: the cells that an obstruction blocks, as bits of the grid.
 //!
 //! A class's bit is set in each cell that the obstruction blocks with the class's clearance, row by row
-//! and each row's cells at once. No bit is cleared, and nothing here takes memory.
+//! and each row's cells at once. Classes of one clearance get their bits together. No bit is cleared, and
+//! nothing here takes memory.
 #![tactic(auto)]
 
+mod masks;
 mod rasters;
 mod runs;
 #[cfg(test)]
 mod tests;
+mod windows;
 
 pub use rasters::raster;

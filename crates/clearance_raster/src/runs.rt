@@ -4,6 +4,7 @@ ghost use Rattle.nav_types.specs.Cells.{cell_at};
 ghost use Rattle.obstruction_shapes.specs.Shapes.{HasUnitVector};
 ghost use Rattle.obstruction_shapes.specs.Blocking.{blocked};
 
+use crate::windows::window;
 use fixed_point::Fixed;
 use nav_types::{Cell, Rect};
 use obstruction_shapes::{Shape, blocks};
@@ -12,24 +13,26 @@ use obstruction_shapes::{Shape, blocks};
 /// A column of the rectangle is blocked exactly where it is one of them or between them. None exactly
 /// where no column of the rectangle is blocked.
 pub fn run_in_row(shape: &Shape, clearance: Fixed, rect: Rect, j: u16) -> Option<(u16, u16)>
-    requires { HasUnitVector shape.now }
+    requires vector { HasUnitVector shape.now }
+    requires ordered { rect.i0 ≤ rect.i1 }
     ensures run { IfSome result (λ run. (i : ℕ) → rect.i0 ≤ i → i ≤ rect.i1 → (IsTrue (blocked shape.now clearance (cell_at i j)) ↔ ((run.0 ≤ i) × (i ≤ run.1)))) }
     ensures within { IfSome result (λ run. (rect.i0 ≤ run.0) × (run.0 ≤ run.1) × (run.1 ≤ rect.i1)) }
     ensures none { IfNone result ((i : ℕ) → rect.i0 ≤ i → i ≤ rect.i1 → IsFalse (blocked shape.now clearance (cell_at i j))) }
 {
-    let first = first_blocked(shape, clearance, rect, j)?;
-    Some((first, last_blocked(shape, clearance, first, rect.i1, j)))
+    let (west, east) = window(shape, clearance, rect, j)?;
+    let first = first_blocked(shape, clearance, west, east, j)?;
+    Some((first, last_blocked(shape, clearance, first, east, j)))
 }
 
-/// The first column of the rectangle that the shape blocks in row `j`. None where there is none.
-fn first_blocked(shape: &Shape, clearance: Fixed, rect: Rect, j: u16) -> Option<u16>
+/// The first column from `start` to `end` that the shape blocks in row `j`. None exactly where there is none.
+fn first_blocked(shape: &Shape, clearance: Fixed, start: u16, end: u16, j: u16) -> Option<u16>
     requires { HasUnitVector shape.now }
-    ensures within { IfSome result (λ first. (rect.i0 ≤ first) × (first ≤ rect.i1)) }
+    ensures within { IfSome result (λ first. (start ≤ first) × (first ≤ end)) }
     ensures blocked { IfSome result (λ first. IsTrue (blocked shape.now clearance (cell_at first j))) }
-    ensures before { IfSome result (λ first. (i : ℕ) → rect.i0 ≤ i → i < first → IsFalse (blocked shape.now clearance (cell_at i j))) }
-    ensures none { IfNone result ((i : ℕ) → rect.i0 ≤ i → i ≤ rect.i1 → IsFalse (blocked shape.now clearance (cell_at i j))) }
+    ensures before { IfSome result (λ first. (i : ℕ) → start ≤ i → i < first → IsFalse (blocked shape.now clearance (cell_at i j))) }
+    ensures none { IfNone result ((i : ℕ) → start ≤ i → i ≤ end → IsFalse (blocked shape.now clearance (cell_at i j))) }
 {
-    for i in rect.i0..=rect.i1 {
+    for i in start..=end {
         if blocks(shape, clearance, Cell::new(i, j)) {
             return Some(i);
         }

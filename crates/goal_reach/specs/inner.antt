@@ -1,2 +1,4 @@
 pub mod Ranking
+pub mod Remote
+pub mod Rings
 pub mod StartAreas

@@ -7,6 +7,8 @@
 mod choices;
 mod laws;
 mod reaching;
+mod remote;
+mod rings;
 mod starts;
 mod targets;
 #[cfg(test)]

@@ -4,16 +4,18 @@ ghost use Rattle.fixed_point.specs.Plane.{IsOnAxis};
 ghost use Rattle.goal_shapes.specs.Goals.{HoldsPoint, squared_distance};
 ghost use Rattle.goal_reach.specs.Starts.{IsStartCell, IsBlockedAt};
 
-use crate::choices::{Choice, least_cell};
-use fixed_point::Fixed;
+use crate::choices::Choice;
+use crate::rings::{least_cell, rect_of};
+use fixed_point::{Fixed, squared};
 use goal_shapes::{cell_of_point, squared_distance};
-use nav_types::{Cell, Class, Size, View};
+use nav_types::{Cell, Class, Rect, Size, View};
 
 /// The start cell of the point (`x`, `z`) for a class (`IsStartCell`): the cell that holds the point, where
 /// that is passable, else the passable cell whose middle is nearest to the point, the first in cell order
 /// among equals. None exactly where no cell is passable for the class.
 ///
-/// The point lies on the map.
+/// It looks at the cells near the point alone: at square rings round the cell that holds it, until none beyond can
+/// be as near as the best. The point lies on the map.
 pub fn nearest_passable<V: View>(view: &V, class: Class, x: Fixed, z: Fixed) -> Option<Cell>
     requires class { class < V.class_count view.now }
     requires column { IsOnAxis (V.extent view.now).w x }
@@ -21,54 +23,53 @@ pub fn nearest_passable<V: View>(view: &V, class: Class, x: Fixed, z: Fixed) -> 
     ensures start { IfSome result (IsStartCell (V.passes view.now class) x z) }
     ensures none { IsNone result ↔ ((cell : Cell) → IsFalse (V.passes view.now class cell)) }
 {
-    if let Some(holder) = passable_holder(view, class, x, z) {
-        return Some(holder);
-    }
-    least_cell(&PassableCells { view, class, x, z })
-}
-
-/// The passable cell that holds the point. None exactly where no passable cell holds it.
-fn passable_holder<V: View>(view: &V, class: Class, x: Fixed, z: Fixed) -> Option<Cell>
-    requires class { class < V.class_count view.now }
-    requires column { IsOnAxis (V.extent view.now).w x }
-    requires row { IsOnAxis (V.extent view.now).h z }
-    ensures passable { IfSome result (λ cell. IsTrue (V.passes view.now class cell)) }
-    ensures holds { IfSome result (HoldsPoint x z) }
-    ensures none { IfNone result (IsBlockedAt (V.passes view.now class) x z) }
-{
-    let Some(cell) = cell_of_point(x, z, view.size()) else {
+    let Some(holder) = cell_of_point(x, z, view.size()) else {
         unreachable!()
     };
-    if view.passable(class, cell) {
-        Some(cell)
-    } else {
-        None
+    if view.passable(class, holder) {
+        return Some(holder);
     }
+    least_cell(&PassableCells {
+        view,
+        class,
+        x,
+        z,
+        holder,
+    })
 }
 
-/// The passable cells of a map, ranked by their distance from a point.
+/// The passable cells of a map, ranked by their distance from a point, which the cell `holder` holds.
 #[derive(Drop)]
 struct PassableCells<'a, V: View> {
     view: &'a V,
     class: Class,
     x: Fixed,
     z: Fixed,
+    holder: Cell,
 }
 
 impl<V: View> Choice for PassableCells<'_, V> {
     ghost use Rattle.std.specs.Prelude.{◌<◌, IsTrue};
-    ghost use Rattle.goal_shapes.specs.Goals.{squared_distance};
+    ghost use Rattle.nav_types.specs.Cells.{IsInside};
+    ghost use Rattle.goal_shapes.specs.Goals.{HoldsPoint, squared_distance};
+    ghost use Rattle.goal_reach.specs.inner.Rings.{rect_of};
 
     ghost extent = { λ c. V.extent c.view.now };
 
-    ghost sound = { λ c. c.class < V.class_count c.view.now };
+    ghost sound = { λ c. (c.class < V.class_count c.view.now) × HoldsPoint c.x c.z c.holder × IsInside (V.extent c.view.now) c.holder };
 
     ghost offered = { λ c cell. IsTrue (V.passes c.view.now c.class cell) };
 
     ghost rank_of = { λ c cell. squared_distance c.x c.z cell };
 
+    ghost core_of = { λ c. rect_of c.holder };
+
     fn size(&self) -> Size {
         self.view.size()
+    }
+
+    fn core(&self) -> Rect {
+        rect_of(self.holder)
     }
 
     fn rank(&self, cell: Cell) -> Option<u128> {
@@ -77,5 +78,11 @@ impl<V: View> Choice for PassableCells<'_, V> {
         } else {
             None
         }
+    }
+
+    // The point is at most half a navcell from the middle of the cell that holds it, so the middle of a cell beyond
+    // is half a navcell further away than the rings are wide, or more.
+    fn least_beyond(&self, rings: u16) -> u128 {
+        squared(65536 * u64::from(rings) + 32768)
     }
 }

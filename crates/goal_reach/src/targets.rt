@@ -1,3 +1,4 @@
+use crate::rings::rect_of;
 use goal_shapes::Goal;
 use nav_types::{Aim, Cell, Rect, Size};
 
@@ -41,12 +42,7 @@ impl Aim for Target {
     fn bounds(&self, size: Size) -> Rect {
         match self {
             Target::Goal(goal) => goal.bounds(size),
-            Target::Near(near) => Rect {
-                i0: near.i,
-                j0: near.j,
-                i1: near.i,
-                j1: near.j,
-            },
+            Target::Near(near) => rect_of(*near),
         }
     }
 }

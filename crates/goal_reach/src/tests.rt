@@ -7,10 +7,11 @@ ghost use Rattle.nav_types.specs.declared.cells.Cell.{Cell};
 ghost use Rattle.nav_types.specs.Walks.{Joined};
 
 use crate::{Target, made_reachable, nearest_passable};
-use fixed_point::{Fixed, is_on_axis};
+use fixed_point::{Fixed, Rectangle, is_on_axis};
 use goal_shapes::{Goal, check};
 use nav_types::{Aim, Areas, Cell, Class, Rect, Size, View};
 use std::alloc::Global;
+use std::cell::Cell as Counter;
 use std::test::Fail;
 
 /// In each line the rows of a map from the first up, `#` impassable, a point in halves of a navcell, and
@@ -265,5 +266,133 @@ fn the_first_of_two_near_cells_is_taken(rt: HostRuntime) -> Result<(), Fail> {
     };
     let made = made(&two_rooms(), start, disc, start)?;
     assert!(rt; made == (Target::Near(Cell::new(4, 0)), None));
+    Ok(())
+}
+
+/// A wide map of which one cell is blocked, (1000, 1000), and how often it was asked.
+#[derive(Drop)]
+struct Boulder {
+    size: Size,
+    asked: Counter<u32>,
+}
+
+impl View for Boulder {
+    ghost extent = { λ map. map.size };
+
+    ghost class_count = { λ _. 1 };
+
+    ghost passes = { λ map _ cell. (nat_lt cell.i map.size.w && nat_lt cell.j map.size.h) && not (cell.i == 1000 && cell.j == 1000) };
+
+    fn size(&self) -> Size {
+        self.size
+    }
+
+    fn classes(&self) -> u8 {
+        1
+    }
+
+    fn passable(&self, _class: Class, cell: Cell) -> bool {
+        self.asked.set(self.asked.get().saturating_add(1));
+        (cell.i < self.size.w && cell.j < self.size.h) && !(cell.i == 1000 && cell.j == 1000)
+    }
+
+    ghost within = { λ map class cell passing.
+        let inside = (and_parts (nat_lt cell.i map.size.w && nat_lt cell.j map.size.h) (not (cell.i == 1000 && cell.j == 1000)) passing).0 in
+        let sides = and_parts (nat_lt cell.i map.size.w) (nat_lt cell.j map.size.h) inside in
+        record { column = ltb-true cell.i map.size.w sides.0; row = ltb-true cell.j map.size.h sides.1 } };
+}
+
+#[test]
+fn a_blocked_start_looks_at_cells_near_by(rt: HostRuntime) -> Result<(), Fail> {
+    let map = Boulder {
+        size: Size { w: 2048, h: 2048 },
+        asked: Counter::new(0),
+    };
+    let start = start_cell(&map, halves(2001), halves(2001))?;
+    assert!(rt; start == Some(Cell::new(1000, 999)));
+    assert!(rt; map.asked.get() < 1000);
+    Ok(())
+}
+
+/// A wide map of which a corner is blocked, 21 columns by 21 rows, and how often it was asked.
+#[derive(Drop)]
+struct Corner {
+    size: Size,
+    asked: Counter<u32>,
+    ghost rows: { 21 < size.h },
+}
+
+impl View for Corner {
+    ghost extent = { λ map. map.size };
+
+    ghost class_count = { λ _. 1 };
+
+    ghost passes = { λ map _ cell. (nat_lt cell.i map.size.w && nat_lt cell.j map.size.h) && (nat_lt 20 cell.i || nat_lt 20 cell.j) };
+
+    fn size(&self) -> Size {
+        self.size
+    }
+
+    fn classes(&self) -> u8 {
+        1
+    }
+
+    fn passable(&self, _class: Class, cell: Cell) -> bool {
+        self.asked.set(self.asked.get().saturating_add(1));
+        (cell.i < self.size.w && cell.j < self.size.h) && (cell.i > 20 || cell.j > 20)
+    }
+
+    ghost within = { λ map class cell passing.
+        let inside = (and_parts (nat_lt cell.i map.size.w && nat_lt cell.j map.size.h) (nat_lt 20 cell.i || nat_lt 20 cell.j) passing).0 in
+        let sides = and_parts (nat_lt cell.i map.size.w) (nat_lt cell.j map.size.h) inside in
+        record { column = ltb-true cell.i map.size.w sides.0; row = ltb-true cell.j map.size.h sides.1 } };
+}
+
+impl Areas for Corner {
+    // 0 for each blocked cell, and 1 for each passable one: all of those are joined.
+    ghost has_area = { λ map class cell number.
+        ((number ≡ 0) ↔ IsFalse (Self.passes map class cell)) × (IsTrue (Self.passes map class cell) → number ≡ 1)
+        × ((a b : Cell) → IsTrue (Self.passes map class a) → IsTrue (Self.passes map class b) → Joined (Self.passes map class) a b) };
+
+    fn area(&self, class: Class, cell: Cell) -> u32 {
+        if self.passable(class, cell) { 1 } else { 0 }
+    }
+
+    ghost blocked = { λ map class cell area numbered. numbered.0 };
+
+    ghost joined = { λ map class a b m n free other here there.
+        ((λ same. here.2 a b free other), (λ walk. here.1 free ∙ sym (there.1 other))) };
+}
+
+/// What is made reachable of a goal in the blocked corner, and how often the map was asked.
+fn made_from_the_corner(goal: Goal) -> Result<(Target, u32), Fail> {
+    let map = Corner {
+        size: Size { w: 2048, h: 2048 },
+        asked: Counter::new(0),
+    };
+    let start = Cell::new(60, 70);
+    let (target, _hit) = made(&map, start, goal, start)?;
+    Ok((target, map.asked.get()))
+}
+
+#[test]
+fn a_goal_out_of_reach_looks_at_cells_near_by(rt: HostRuntime) -> Result<(), Fail> {
+    let (x, z) = (halves(21), halves(21));
+    let two = halves(4);
+    let disc = Goal::Circle { x, z, r: two };
+    let square = Goal::Square(Rectangle {
+        x,
+        z,
+        ux: halves(2),
+        uz: halves(0),
+        hw: two,
+        hh: two,
+    });
+    let (target, asked) = made_from_the_corner(point(21, 21))?;
+    assert!(rt; target == Target::Near(Cell::new(21, 10)) && asked < 5000);
+    let (target, asked) = made_from_the_corner(disc)?;
+    assert!(rt; target == Target::Near(Cell::new(21, 10)) && asked < 5000);
+    let (target, asked) = made_from_the_corner(square)?;
+    assert!(rt; target == Target::Near(Cell::new(21, 8)) && asked < 5000);
     Ok(())
 }

@@ -1,5 +1,6 @@
 -- Which goals are sound for a map. All numbers are raw: the raw number of a navcell's side is 65536.
 use Rattle.std.specs.Prelude.{ℤ, ◌+ℤ◌}
+use Rattle.nav_types.specs.declared.limits.TheConstants.{MAX_GOAL_EXTENT}
 use Rattle.nav_types.specs.declared.cells.Size.{Size}
 use Rattle.fixed_point.specs.declared.plane.Rectangle.{Rectangle}
 use Rattle.fixed_point.specs.Plane.{IsUnitVector, IsOnAxis, IsUpTo}
@@ -24,14 +25,14 @@ middle_z (NotSquare rectangle) = rectangle.z
 -- a square lies along a unit vector, and its half sides are from 0 to 4096 navcells
 pub record IsWellFormedSquare (rectangle : Rectangle) : Type 0 where
   pub unit_vector : IsUnitVector rectangle.ux rectangle.uz
-  pub width : IsUpTo 4096 rectangle.hw
-  pub height : IsUpTo 4096 rectangle.hh
+  pub width : IsUpTo MAX_GOAL_EXTENT rectangle.hw
+  pub height : IsUpTo MAX_GOAL_EXTENT rectangle.hh
 
 -- the goal's radius or sides are in their limits
 abbrev pub IsWellFormed : Goal → Type 0
 IsWellFormed (Point x z) = Unit {0}
-IsWellFormed (Circle x z r) = IsUpTo 4096 r
-IsWellFormed (NotCircle x z r) = IsUpTo 4096 r
+IsWellFormed (Circle x z r) = IsUpTo MAX_GOAL_EXTENT r
+IsWellFormed (NotCircle x z r) = IsUpTo MAX_GOAL_EXTENT r
 IsWellFormed (Square rectangle) = IsWellFormedSquare rectangle
 IsWellFormed (NotSquare rectangle) = IsWellFormedSquare rectangle
 

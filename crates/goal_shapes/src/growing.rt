@@ -1,5 +1,6 @@
 ghost use Rattle.std.specs.Prelude.{◌≡◌, ◌+ℤ◌, Some, codes};
 ghost use Rattle.std.specs.Result.{OkIff};
+ghost use Rattle.nav_types.specs.declared.limits.TheConstants.{MAX_GROWTH, MAX_HALF_SIDE};
 ghost use Rattle.fixed_point.specs.Plane.{IsUpTo};
 ghost use Rattle.goal_shapes.specs.Limits.{grown};
 
@@ -29,9 +30,9 @@ impl Error for BadShape {}
 /// The obstruction's half sides are from 0 to 256 navcells, as those of each shape that fits a map. So
 /// the goal's are in their limits.
 pub fn grown(rectangle: Rectangle, grow: Fixed) -> Result<Goal, BadShape>
-    requires width { IsUpTo 256 rectangle.hw }
-    requires height { IsUpTo 256 rectangle.hh }
-    ensures { OkIff result (IsUpTo 3840 grow) (Goal.Square (grown rectangle grow)) }
+    requires width { IsUpTo MAX_HALF_SIDE rectangle.hw }
+    requires height { IsUpTo MAX_HALF_SIDE rectangle.hh }
+    ensures { OkIff result (IsUpTo MAX_GROWTH grow) (Goal.Square (grown rectangle grow)) }
 {
     if !is_up_to(MAX_GROWTH, grow) {
         return Err(BadShape);
@@ -45,8 +46,8 @@ pub fn grown(rectangle: Rectangle, grow: Fixed) -> Result<Goal, BadShape>
 
 /// A half side of an obstruction that is longer by a distance.
 fn longer(half: Fixed, grow: Fixed) -> Fixed
-    requires half { IsUpTo 256 half }
-    requires grow { IsUpTo 3840 grow }
+    requires half { IsUpTo MAX_HALF_SIDE half }
+    requires grow { IsUpTo MAX_GROWTH grow }
     ensures { result ≡ half +ℤ grow }
 {
     Fixed::from_raw(half.raw() + grow.raw())

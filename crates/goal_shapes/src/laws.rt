@@ -1,4 +1,5 @@
 ghost use Rattle.std.specs.Prelude.{◌≡◌, ℤ, IsTrue};
+ghost use Rattle.nav_types.specs.declared.limits.TheConstants.{MAX_GROWTH, MAX_HALF_SIDE};
 ghost use Rattle.nav_types.specs.declared.cells.Cell.{Cell};
 ghost use Rattle.nav_types.specs.declared.cells.Size.{Size};
 ghost use Rattle.fixed_point.specs.declared.plane.Rectangle.{Rectangle};
@@ -24,6 +25,6 @@ pub fn middle_is_a_goal_cell()
 /// goal where it has grown by a distance from 0 to 3840 navcells.
 pub fn grown_goals_are_sound()
     ensures { (size : Size) (rectangle : Rectangle) (grow : ℤ) → IsOnAxis size.w rectangle.x → IsOnAxis size.h rectangle.z
-        → IsUnitVector rectangle.ux rectangle.uz → IsUpTo 256 rectangle.hw → IsUpTo 256 rectangle.hh → IsUpTo 3840 grow
+        → IsUnitVector rectangle.ux rectangle.uz → IsUpTo MAX_HALF_SIDE rectangle.hw → IsUpTo MAX_HALF_SIDE rectangle.hh → IsUpTo MAX_GROWTH grow
         → IsSoundGoal size (Goal.Square (grown rectangle grow)) }
 {}

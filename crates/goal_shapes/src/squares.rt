@@ -1,5 +1,6 @@
 ghost use Rattle.std.specs.Prelude.{◌≡◌, ◌≤◌, ◌+◌, ◌*◌, ◌^◌, ◌↔◌, ℤ, unsigned_abs, IsTrue};
 ghost use Rattle.std.specs.List.{list_any};
+ghost use Rattle.nav_types.specs.declared.limits.TheConstants.{MAX_GOAL_EXTENT};
 ghost use Rattle.fixed_point.specs.Plane.{IsUnitVector, IsUpTo};
 ghost use Rattle.goal_shapes.specs.Limits.{IsWellFormedSquare};
 ghost use Rattle.goal_shapes.specs.Goals.{corners_of, squared_length, meets_axis, meets_axes, meets_side, meets_sides, meets_square, is_off_square, within, depth};
@@ -87,8 +88,8 @@ pub(crate) fn depth(rectangle: &Rectangle, cell: Cell) -> u64
 fn is_axis_met(p: i64, main: Fixed, other: Fixed, hw: Fixed, hh: Fixed) -> bool
     requires length { unsigned_abs p ≤ 2 ^ 33 }
     requires unit_vector { IsUnitVector main other }
-    requires width { IsUpTo 4096 hw }
-    requires height { IsUpTo 4096 hh }
+    requires width { IsUpTo MAX_GOAL_EXTENT hw }
+    requires height { IsUpTo MAX_GOAL_EXTENT hh }
     ensures { result ≡ meets_axis p main other hw hh }
 {
     times_length(p.unsigned_abs(), main, other) <= axis_extent(main, other, hw, hh)
@@ -98,8 +99,8 @@ fn is_axis_met(p: i64, main: Fixed, other: Fixed, hw: Fixed, hh: Fixed) -> bool
 /// number, where that axis does not separate the two.
 pub(crate) fn axis_reach(main: Fixed, other: Fixed, hw: Fixed, hh: Fixed) -> u64
     requires unit_vector { IsUnitVector main other }
-    requires width { IsUpTo 4096 hw }
-    requires height { IsUpTo 4096 hh }
+    requires width { IsUpTo MAX_GOAL_EXTENT hw }
+    requires height { IsUpTo MAX_GOAL_EXTENT hh }
     ensures met { (p : ℤ) → IsTrue (meets_axis p main other hw hh) ↔ (unsigned_abs p ≤ result) }
     ensures half { 32768 ≤ result }
     ensures bounded { result ≤ 2 ^ 34 }
@@ -121,8 +122,8 @@ fn times_length(length: u64, ux: Fixed, uz: Fixed) -> u128
 /// vector.
 fn axis_extent(main: Fixed, other: Fixed, hw: Fixed, hh: Fixed) -> u128
     requires unit_vector { IsUnitVector main other }
-    requires width { IsUpTo 4096 hw }
-    requires height { IsUpTo 4096 hh }
+    requires width { IsUpTo MAX_GOAL_EXTENT hw }
+    requires height { IsUpTo MAX_GOAL_EXTENT hh }
     ensures value { result ≡ 32768 * squared_length main other + 65536 * (unsigned_abs hw * unsigned_abs main + unsigned_abs hh * unsigned_abs other) }
     ensures bounded { result ≤ 2 ^ 63 }
 {
@@ -132,7 +133,7 @@ fn axis_extent(main: Fixed, other: Fixed, hw: Fixed, hh: Fixed) -> u128
 
 /// A half side times a component of a unit vector.
 fn turned_side(half: Fixed, component: Fixed) -> u64
-    requires half { IsUpTo 4096 half }
+    requires half { IsUpTo MAX_GOAL_EXTENT half }
     requires component { unsigned_abs component ≤ 65792 }
     ensures value { result ≡ unsigned_abs half * unsigned_abs component }
     ensures bounded { result ≤ 2 ^ 28 * 65792 }

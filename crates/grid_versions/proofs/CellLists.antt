@@ -1,11 +1,11 @@
 -- The numbers of a rectangle's cells as a list: how they are read row by row, counted and compared.
-use Rattle.std.proofs.Common.{◌≡◌, ◌≢◌, ℕ, suc, ◌+◌, ◌-◌, ◌*◌, ◌/◌, ◌%◌, ◌<◌, ◌≤◌, ◌==◌, ◌↔◌, Bool, true, false, not, cond, List, [], ◌∷◌, ◌++◌, length, get_or, take, drop, refl, sym, ap, subst, ◌∙◌, inl, inr, ⊎_elim, arith, Some}
-use Rattle.std.specs.Prelude.{IsTrue, IsFalse, slice_range, filter, slice_get}
-use Rattle.std.specs.List.{count_by, sum_by}
+use Rattle.std.proofs.Common.{◌≡◌, ◌≢◌, ℕ, suc, ◌+◌, ◌-◌, ◌*◌, ◌/◌, ◌%◌, ◌<◌, ◌≤◌, ◌==◌, ◌↔◌, Bool, true, false, not, cond, List, [], ◌∷◌, ◌++◌, length, get_or, drop, refl, sym, ap, subst, ◌∙◌, ⊎_elim, arith}
+use Rattle.std.specs.Prelude.{IsFalse, slice_range}
+use Rattle.std.specs.List.{count_by}
 use Rattle.std.specs.Int.{bit_at}
 use Rattle.std.proofs.lemmas.Bool.{not_from_false, not-true, cases_lt}
 use Rattle.std.proofs.lemmas.List.{append_assoc, append-nil, get_or-take, get_or-drop, get_or_push, get_or_append_left, length-take, length-drop}
-use Rattle.std.proofs.lemmas.List.Sums.{length-filter, count_by-le-length}
+use Rattle.std.proofs.lemmas.List.Sums.{length-filter}
 use Rattle.std.proofs.lemmas.List.Filters.{length-filter_both}
 use Rattle.std.proofs.lemmas.Nat.{mul-add-lt, div-mul-add, mod-mul-add, div_below, mod_below, div-add-mod'}
 use Rattle.std.proofs.lemmas.Option.{get_or_from_slice_get}
@@ -14,14 +14,14 @@ use Rattle.nav_types.specs.declared.cells.Rect.{Rect}
 use Rattle.nav_types.specs.Cells.{cell_at, IsInRect}
 use Rattle.nav_types.specs.Counting.{Counts}
 use Rattle.lane_rows.specs.Rows.{has_class, DifferIn}
-use Rattle.clearance_raster.specs.Rasters.{bit_of}
-use Rattle.nav_types.specs.Numbering.{Numbering, IsPatch, columns, rows, place_in, number_of}
+use Rattle.clearance_raster.specs.Rasters.{one_if}
+use Rattle.nav_types.specs.Numbering.{Numbering, columns, rows, place_in, number_of}
 use Rattle.nav_types.proofs.CellOrder.{same_cell}
 use Rattle.chunk_regions.proofs.TableLemmas.{IsReadTo, IsReadTo-push, IsReadTo-row}
-use Rattle.grid_versions.specs.inner.Painting.{free_count, numbering, DiffersIn}
+use Rattle.grid_versions.specs.inner.Painting.{free_count, DiffersIn}
 use Rattle.nav_types.proofs.Items.{same_pair}
 use Rattle.nav_types.proofs.Counting.{Counts-listed, Counts-one, Counts-none, Counts-carried}
-use Rattle.grid_versions.proofs.PaintLemmas.{bit_of-has_class}
+use Rattle.clearance_raster.proofs.Rastering.{one_if-has_class}
 
 -- ---- a row at once
 
@@ -165,7 +165,7 @@ module _ (cells : Numbering) (k : ℕ) (ordered : cells.rect.i0 ≤ cells.rect.i
 -- ---- cells that differ
 
 apart_bits : (k m n : ℕ) → bit_at m k ≢ bit_at n k → has_class k m ≢ has_class k n
-apart_bits k m n apart same = apart (sym (bit_of-has_class k m) ∙ ap bit_of same ∙ bit_of-has_class k n)
+apart_bits k m n apart same = apart (sym (one_if-has_class k m) ∙ ap one_if same ∙ one_if-has_class k n)
 
 apart_classes : (k m n : ℕ) → has_class k m ≢ has_class k n → bit_at m k ≢ bit_at n k
 apart_classes k m n apart same = apart (ap (λ b. b == 1) same)

@@ -1,9 +1,9 @@
 -- Places of chunks, and the items of a list that has one for each chunk.
-use Rattle.std.proofs.Common.{ℕ, zero, suc, [], ◌∷◌, ◌++◌, length-append, ◌≡◌, ◌+◌, ◌*◌, ◌/◌, ◌<◌, ◌≤◌, ◌==◌, ◌&&◌, ◌⊎◌, Bool, List, IsTrue, length, refl, ap, inl, inr, sym, subst, ◌∙◌, arith, Some}
+use Rattle.std.proofs.Common.{ℕ, [], ◌∷◌, ◌++◌, length-append, ◌≡◌, ◌+◌, ◌*◌, ◌/◌, ◌<◌, ◌≤◌, ◌==◌, ◌&&◌, Bool, List, IsTrue, refl, ap, inl, inr, sym, subst, ◌∙◌, arith, Some}
 use Rattle.std.specs.List.{slice_get}
 use Rattle.std.proofs.lemmas.Nat.{mul-le, mul-add-lt, div-mul-add, mod-mul-add, div_below, mod_below, div-add-mod'}
 use Rattle.std.proofs.lemmas.Bool.{and_parts, and_from, eqb-true, eq-eqb}
-use Rattle.std.proofs.lemmas.Option.{slice_get_cases, same_Some}
+use Rattle.std.proofs.lemmas.Option.{slice_get_cases}
 use Rattle.nav_types.specs.declared.cells.Cell.{Cell}
 use Rattle.nav_types.specs.declared.cells.Chunk.{Chunk}
 use Rattle.nav_types.specs.declared.cells.Size.{Size}

@@ -10,7 +10,6 @@ use Rattle.grid_versions.specs.declared.edits.Edit.{Edit}
 use Rattle.grid_versions.specs.declared.edits.Edit.TheVariants.{Add, Remove, Move}
 use Rattle.grid_versions.specs.declared.edits.EditReply.{EditReply}
 use Rattle.grid_versions.specs.declared.edits.EditReply.TheVariants.{Added, Removed, Moved, Refused}
-use Rattle.grid_versions.specs.declared.edits.Refusal.{Refusal}
 use Rattle.grid_versions.specs.declared.edits.Refusal.TheVariants.{BadShape, DuplicateId, StoreFull, UnknownId}
 use Rattle.grid_versions.specs.Maps.{Map}
 use Rattle.grid_versions.specs.Fitting.{fits}

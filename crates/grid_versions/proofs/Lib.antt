@@ -10,3 +10,4 @@ pub mod EditingLemmas
 pub mod PaintLemmas
 pub mod CellLists
 pub mod VersionLemmas
+pub mod ChangeLemmas

@@ -1,65 +1,31 @@
 -- Bits that are set one after another: a rectangle's rows, base rectangles and obstructions.
-use Rattle.std.proofs.Common.{◌≡◌, ℕ, ◌+◌, ◌*◌, ◌<◌, ◌≤◌, ◌==◌, Bool, true, false, ◌&&◌, ◌||◌, not, max, List, [], ◌∷◌, length, get_or, drop, replicate, refl, sym, ap, subst, ◌∙◌, inl, inr, ⊎_elim, arith, All}
-use Rattle.std.specs.Prelude.{nat_le, nat_lt, IsTrue, IsFalse, bit_or}
+use Rattle.std.proofs.Common.{◌≡◌, ℕ, ◌+◌, ◌*◌, ◌<◌, ◌≤◌, ◌==◌, Bool, true, false, ◌&&◌, ◌||◌, max, List, [], ◌∷◌, length, get_or, drop, replicate, refl, sym, ap, subst, ◌∙◌, ⊎_elim, arith}
+use Rattle.std.specs.Prelude.{nat_lt, bit_or}
 use Rattle.std.specs.Int.{bit_at}
 use Rattle.std.specs.List.{list_any}
-use Rattle.std.specs.FinMap as fin_map
-use Rattle.std.proofs.lemmas.Nat.Bits.{bit_at_or, bit_at-lt, bit_at-zero}
-use Rattle.std.proofs.lemmas.Bool.{cases_Bool, cases_lt, cases_eq, both_ways, and_parts, and_from, and_left, and_right, eq-eqb, ne_eqb, eqb-true, lt-ltb, le-ltb, ltb-true, ltb-false, false_from_ne_true}
+use Rattle.std.proofs.lemmas.Nat.Bits.{bit_at_or, bit_at-zero}
+use Rattle.std.proofs.lemmas.Bool.{cases_Bool, cases_lt, cases_eq, both_ways, and_parts, and_from, and_left, and_right, eq-eqb, ne_eqb, eqb-true, lt-ltb, le-ltb, ltb-true, false_from_ne_true}
 use Rattle.std.proofs.lemmas.List.{drop_more, get_or-replicate}
 use Rattle.std.proofs.lemmas.Nat.{mul-add-lt}
 use Rattle.std.proofs.Math.ListN.{drop_of_length-le}
 use Rattle.nav_types.specs.declared.cells.Cell.{Cell}
 use Rattle.nav_types.specs.declared.cells.Rect.{Rect}
 use Rattle.nav_types.specs.declared.cells.Size.{Size}
-use Rattle.nav_types.specs.Cells.{IsInside, IsInRect, IsRectInside}
+use Rattle.nav_types.specs.Cells.{IsInside}
 use Rattle.lane_rows.specs.Rows.{has_class}
-use Rattle.navcell_grid.specs.Grids.{GridCells, place_of, number_at, IsInSpan}
-use Rattle.clearance_raster.specs.Rasters.{IsRaster, bit_of}
-use Rattle.clearance_raster.proofs.Rastering.{Test, raster_none}
+use Rattle.nav_types.specs.Places.{place_of}
+use Rattle.navcell_grid.specs.Grids.{GridCells, number_at, IsInSpan}
+use Rattle.clearance_raster.specs.Rasters.{one_if}
+use Rattle.clearance_raster.specs.inner.TestRasters.{IsRaster}
+use Rattle.clearance_raster.proofs.Rastering.{Test, raster_none, raster_both, raster_alike, one_if-has_class}
 use Rattle.obstruction_store.specs.Standing.{Standing}
 use Rattle.grid_versions.specs.Maps.{Map}
 use Rattle.grid_versions.specs.Passing.{is_in_rect, has_base, is_blocked}
 use Rattle.grid_versions.specs.inner.Painting.{is_covered, IsPainted}
 use Rattle.grid_versions.proofs.PassingLemmas.{in_rect_from, in_rect_to}
 
--- ---- bits
-
--- a bit is 1 or 0 as its test says
-pub bit_of-has_class : (k n : ℕ) → bit_of (has_class k n) ≡ bit_at n k
-bit_of-has_class k n = ⊎_elim
-    (λ (set : bit_at n k ≡ 1). ap bit_of (eq-eqb (bit_at n k) 1 set) ∙ sym set)
-    (λ (clear : bit_at n k ≡ 1 → ⊥).
-    let below = bit_at-lt n k in
-    let zero : bit_at n k ≡ 0 = ⊎_elim (λ (less : bit_at n k < 1). omega arith) (λ (more : 1 ≤ bit_at n k). absurd (clear (omega arith))) (cases_lt (bit_at n k) 1) in
-    ap bit_of (ne_eqb (bit_at n k) 1 clear) ∙ sym zero)
-    (cases_eq (bit_at n k) 1)
-
-max-bits : (n : ℕ) (a b : Bool) → max (max n (bit_of a)) (bit_of b) ≡ max n (bit_of (a || b))
-max-bits n true true = omega arith
-max-bits n true false = omega arith
-max-bits n false true = omega arith
-max-bits n false false = omega arith
-
 max-none : (n : ℕ) → max n 0 ≡ n
 max-none n = omega arith
-
--- ---- rasters one after another
-
-pub raster_both : (s t : Test) (a b c : GridCells) → IsRaster s a b → IsRaster t b c → IsRaster (λ k cell. s k cell || t k cell) a c
-raster_both s t a b c one two = record {
-  size = two.size ∙ one.size;
-  bits = λ cell k inside.
-      two.bits cell k (subst (λ (size : Size). IsInside size cell) (sym one.size) inside)
-      ∙ ap (λ n. max n (bit_of (t k cell))) (one.bits cell k inside)
-      ∙ max-bits (bit_at (number_at a cell) k) (s k cell) (t k cell);
-}
-
-pub raster_alike : (s t : Test) (a b : GridCells) → ((k : ℕ) (cell : Cell) → s k cell ≡ t k cell) → IsRaster s a b → IsRaster t a b
-raster_alike s t a b alike is = record {
-  size = is.size;
-  bits = λ cell k inside. is.bits cell k inside ∙ ap (λ f. max (bit_at (number_at a cell) k) (bit_of f)) (alike k cell);
-}
 
 -- ---- a rectangle, row by row
 
@@ -99,12 +65,12 @@ raster_row now new rect mask j south north size span others = record {
       (λ (here : in_row rect j cell ≡ true).
       ap (λ n. bit_at n k) (span cell (span_from rect j cell here))
       ∙ bit_at_or (number_at now cell) mask k
-      ∙ ap (λ n. max (bit_at (number_at now cell) k) n) (sym (bit_of-has_class k mask))
-      ∙ ap (λ f. max (bit_at (number_at now cell) k) (bit_of f)) (sym (and_is_first (has_class k mask) (in_row rect j cell) here)))
+      ∙ ap (λ n. max (bit_at (number_at now cell) k) n) (sym (one_if-has_class k mask))
+      ∙ ap (λ f. max (bit_at (number_at now cell) k) (one_if f)) (sym (and_is_first (has_class k mask) (in_row rect j cell) here)))
       (λ (out : in_row rect j cell ≡ false).
       ap (λ n. bit_at n k) (others cell inside (λ at. both_ways (in_row rect j cell) out (span_to rect j cell south north at)))
       ∙ sym (max-none (bit_at (number_at now cell) k))
-      ∙ ap (λ f. max (bit_at (number_at now cell) k) (bit_of f)) (sym (and_right (has_class k mask) (in_row rect j cell) out)))
+      ∙ ap (λ f. max (bit_at (number_at now cell) k) (one_if f)) (sym (and_right (has_class k mask) (in_row rect j cell) out)))
       (cases_Bool (in_row rect j cell));
 }
 
@@ -205,7 +171,7 @@ place_low size cell inside =
     let below = mul-add-lt cell.j size.w cell.i size.h inside.row inside.column in
     omega (arith, below)
 
-bit_from_none : (n k : ℕ) (b : Bool) → bit_at n k ≡ max 0 (bit_of b) → has_class k n ≡ b
+bit_from_none : (n k : ℕ) (b : Bool) → bit_at n k ≡ max 0 (one_if b) → has_class k n ≡ b
 bit_from_none n k true is = eq-eqb (bit_at n k) 1 (is ∙ max_zero 1)
 bit_from_none n k false is = ne_eqb (bit_at n k) 1 (λ set. let clear : bit_at n k ≡ 0 = is ∙ max_zero 0 in absurd (omega arith))
 
@@ -227,5 +193,5 @@ module _ (map : Map) (standing : Standing) where
             ∙ ap (λ (s : Size). get_or (replicate (map.size.w * map.size.h) 0) (place_of s cell) 0) size
             ∙ get_or-replicate (map.size.w * map.size.h) (place_of map.size cell) 0 0 low in
             bit_from_none (number_at all cell) k (is_covered map standing k cell)
-            (both.bits cell k here ∙ ap (λ n. max n (bit_of (is_covered map standing k cell))) (none_set (number_at empty cell) k none));
+            (both.bits cell k here ∙ ap (λ n. max n (one_if (is_covered map standing k cell))) (none_set (number_at empty cell) k none));
       }

@@ -1,6 +1,6 @@
 -- A cell is passable exactly where nothing covers it.
-use Rattle.std.proofs.Common.{◌≡◌, ℕ, ◌<◌, ◌≤◌, Bool, true, false, ◌&&◌, ◌||◌, not, List, [], ◌∷◌, length, Some, refl, sym, ap, inl, inr, ⊎_elim, ◌∙◌, arith}
-use Rattle.std.specs.Prelude.{nat_le, nat_lt, ◌↔◌, IsTrue, IsFalse}
+use Rattle.std.proofs.Common.{◌≡◌, ℕ, Bool, true, false, ◌&&◌, ◌||◌, not, List, [], ◌∷◌, length, refl, sym, ap, inl, inr, ⊎_elim, ◌∙◌}
+use Rattle.std.specs.Prelude.{nat_le, nat_lt, ◌↔◌, IsTrue}
 use Rattle.std.specs.List.{list_any, Contains}
 use Rattle.std.specs.FinMap as fin_map
 use Rattle.std.proofs.lemmas.Bool.{and_parts, and_from, and_cases, and_left, and_right, or_parts, or_from, not-true, not_from_false, cases_Bool, ltb-true, lt-ltb, leb-true, le-leb, both_ways}

@@ -1,10 +1,10 @@
 -- What the parts of a version say of its map and its obstructions.
-use Rattle.std.proofs.Common.{◌≡◌, ◌≢◌, ℕ, zero, suc, ◌+◌, ◌-◌, ◌*◌, ◌/◌, ◌<◌, ◌≤◌, ◌==◌, ◌↔◌, ◌⊎◌, Bool, true, false, ◌&&◌, ◌||◌, not, cond, List, [], ◌∷◌, ◌++◌, length, map as each_of, get_or, refl, sym, ap, subst, ◌∙◌, inl, inr, ⊎_elim, arith, Some, option_map, length-append}
+use Rattle.std.proofs.Common.{◌≡◌, ℕ, zero, suc, ◌+◌, ◌-◌, ◌<◌, ◌≤◌, ◌↔◌, Bool, true, false, ◌&&◌, not, cond, List, [], ◌∷◌, ◌++◌, length, map as each_of, get_or, refl, sym, ap, subst, ◌∙◌, inl, inr, ⊎_elim, arith, Some, option_map, length-append}
 use Rattle.std.specs.Prelude.{nat_lt, IsTrue, IsFalse, slice_get}
 use Rattle.std.specs.List.{count_by, sum_by, range_with_len}
 use Rattle.std.specs.Int.{bit_at}
-use Rattle.std.proofs.lemmas.Bool.{and_parts, and_from, and_left, and_right, not-true, not_from_false, not_from_true, cases_Bool, false_from_ne_true, lt-ltb, eqb-true, eq-eqb}
-use Rattle.std.proofs.lemmas.Option.{same_Some, slice_get-map, slice_get_within, slice_get-get_or, get_or_from_slice_get, slice_get_read}
+use Rattle.std.proofs.lemmas.Bool.{and_parts, and_from, and_left, and_right, not-true, not_from_false, cases_Bool, lt-ltb, eqb-true, eq-eqb}
+use Rattle.std.proofs.lemmas.Option.{same_Some, slice_get-map, slice_get_within, slice_get-get_or, get_or_from_slice_get}
 use Rattle.std.proofs.lemmas.List.{length-map}
 use Rattle.std.proofs.lemmas.List.FromFn.{length-map-range_with_len, get_or-map-range_with_len, sum_by-map-range_with_len_more}
 use Rattle.std.proofs.lemmas.List.Sums.{sum_by-cons}
@@ -17,19 +17,20 @@ use Rattle.nav_types.specs.Counting.{Counts}
 use Rattle.nav_types.specs.Regions.{HasRelabelled}
 use Rattle.lane_rows.specs.Rows.{has_class}
 use Rattle.navcell_grid.specs.Grids.{GridCells, number_at, is_passable}
-use Rattle.nav_types.specs.Numbering.{Numbering, columns, rows, number_of}
+use Rattle.nav_types.specs.Numbering.{Numbering, number_of}
 use Rattle.chunk_regions.specs.Labelling.{chunk_rect}
 use Rattle.nav_types.proofs.CellOrder.{same_chunk}
 use Rattle.chunk_regions.proofs.LabelLemmas.{in_rect, in_chunk}
 use Rattle.region_edges.specs.Edges.{PassesInside}
 use Rattle.obstruction_store.specs.Standing.{Standing, AllFit}
 use Rattle.grid_versions.specs.Maps.{Map}
-use Rattle.grid_versions.specs.Passing.{passable_at, is_inside, has_base, is_blocked}
+use Rattle.grid_versions.specs.Passing.{passable_at, is_inside}
 use Rattle.grid_versions.specs.inner.Painting.{is_covered, IsPainted, IsReadFrom, IsPaintedChunk, ArePaintedChunks, free_count, DiffersIn, AreDiffering, SameExtents}
 use Rattle.grid_versions.specs.Chunks.{chunk_count, chunk_place}
 use Rattle.grid_versions.specs.inner.ChunkLists.{chunk_numbered, IsChunkInside, AreOfChunks}
 use Rattle.grid_versions.specs.inner.Tables.{Tables, AreTables}
-use Rattle.grid_versions.specs.inner.Tallying.{AreTablesOf, Differs, AreMarks, AreMarksOf}
+use Rattle.grid_versions.specs.inner.Tallying.{AreTablesOf, Differs, AreMarks}
+use Rattle.grid_versions.specs.inner.Changing.{AreChanges}
 use Rattle.grid_versions.specs.inner.Parts.{AreParts}
 use Rattle.nav_types.proofs.Items.{same_pair, slice_get-push_cases}
 use Rattle.nav_types.proofs.Counting.{Counts-carried}
@@ -202,7 +203,7 @@ not-injective true false same = absurd (cc)
 not-injective false true same = absurd (cc)
 not-injective false false same = refl
 
-sum_each : {X Y : Type 0} (g : Y → ℕ) (f : X → Y) (xs : List X) → sum_by g (each_of f xs) ≡ sum_by (λ x. g (f x)) xs
+pub sum_each : {X Y : Type 0} (g : Y → ℕ) (f : X → Y) (xs : List X) → sum_by g (each_of f xs) ≡ sum_by (λ x. g (f x)) xs
 sum_each g f [] = refl
 sum_each g f (x ∷ xs) =
     sum_by-cons g (f x) (each_of f xs) ∙ ap (λ n. g (f x) + n) (sum_each g f xs) ∙ sym (sum_by-cons (λ y. g (f y)) x xs)
@@ -276,6 +277,22 @@ module _ (map : Map) (old new : Standing) (before now : List Numbering) (were : 
             );
       }
 
+  pub changes_of : (bits : List ℕ) (k : ℕ) → AreDiffering before now bits → k < length map.classes
+      → AreChanges (passable_at map old k) (passable_at map new k) map.size k bits
+  changes_of bits k differing class = record {
+    before_inside = passable_within map old k;
+    now_inside = passable_within map new k;
+    marks = marks_of bits k differing class;
+  }
+
+  -- the bits are those of what differs between the old map and a grid of the new one
+  pub grid_changes : (grid : GridCells) (bits : List ℕ) (k : ℕ) → IsPainted map new grid → AreDiffering before now bits → k < length map.classes
+      → AreChanges (passable_at map old k) (is_passable grid k) grid.size k bits
+  grid_changes grid bits k painted differing class =
+      let same : is_passable grid k ≡ passable_at map new k = λ i cell. painted-passes map new grid k cell painted class i in
+      subst (λ (s : Size). AreChanges (passable_at map old k) (is_passable grid k) s k bits) (sym painted.size)
+      (subst (λ (P : Cell → Bool). AreChanges (passable_at map old k) P map.size k bits) (sym same) (changes_of bits k differing class))
+
   pub relabelled_counted : (bits : List ℕ) (classes : ℕ) → AreDiffering before now bits → classes ≡ length map.classes
       → HasRelabelled (length map.classes) (passable_at map old) (passable_at map new) (sum_by (λ k. count_by (has_class k) bits) (range_with_len 0 classes))
   relabelled_counted bits classes differing count =
@@ -302,6 +319,19 @@ sum_range_more f n =
     sym (sum_each f (λ (k : ℕ). k) (range_with_len 0 (n + 1)))
     ∙ sum_by-map-range_with_len_more f (λ k. k) 0 n n (omega arith)
     ∙ ap (λ m. m + f n) (sum_each f (λ (k : ℕ). k) (range_with_len 0 n))
+
+sum_range_up : (f : ℕ → ℕ) (m d : ℕ) → sum_by f (range_with_len 0 m) ≤ sum_by f (range_with_len 0 (m + d))
+sum_range_up f m zero =
+    let same : m + 0 ≡ m = omega arith in
+    omega (arith, ap (λ (k : ℕ). sum_by f (range_with_len 0 k)) same)
+sum_range_up f m (suc d) =
+    let same : m + suc d ≡ m + d + 1 = omega arith in
+    omega (arith, sum_range_up f m d, sum_range_more f (m + d), ap (λ (k : ℕ). sum_by f (range_with_len 0 k)) same)
+
+pub sum_range_most : (f : ℕ → ℕ) (m n : ℕ) → m ≤ n → sum_by f (range_with_len 0 m) ≤ sum_by f (range_with_len 0 n)
+sum_range_most f m n low =
+    let same : m + (n - m) ≡ n = omega arith in
+    omega (arith, sum_range_up f m (n - m), ap (λ (k : ℕ). sum_by f (range_with_len 0 k)) same)
 
 -- each chunk before place n is compared
 abbrev pub AreCompared : List Numbering → List Numbering → List ℕ → Type 0
@@ -338,11 +368,8 @@ parts_of map standing grid classes cells tables fit painted read count few made 
 
 -- the tables at a class's place are those of the class
 pub class_table : (map : Map) (standing : Standing) (cells : List Numbering) (tables : List Tables) → AreParts map standing cells tables
-    → (class index : ℕ) (found : Tables) → class < length map.classes → index ≡ class → found ≡ get_or tables index found
-    → AreTables (passable_at map standing class) map.size found
-class_table map standing cells tables parts class index found low same read =
-    let each = parts.tables_are.each in
-    let at : slice_get tables index ≡ Some found = slice_get_read tables (length tables) index found refl (omega arith) read in
+    → (class index : ℕ) (found : Tables) → index ≡ class → slice_get tables index ≡ Some found → AreTables (passable_at map standing class) map.size found
+class_table map standing cells tables parts class index found same at =
     parts.tables_are.are class found (ap (λ i. slice_get tables i) (sym same) ∙ at)
 
 -- the numbers at the place of a cell's chunk are the chunk's

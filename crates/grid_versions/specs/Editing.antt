@@ -1,6 +1,7 @@
 -- What an edit of the standing obstructions is answered, and what stands after it.
 use Rattle.std.specs.Prelude.{ℕ, ℤ, ◌==◌, Bool, true, false, not, if◌then◌else◌, List, [], ◌∷◌, Option, None, Some}
 use Rattle.std.specs.FinMap as fin_map
+use Rattle.nav_types.specs.declared.limits.TheConstants.{MAX_OBSTRUCTIONS}
 use Rattle.obstruction_shapes.specs.declared.shapes.Obstruction.{Obstruction}
 use Rattle.obstruction_shapes.specs.Shapes.{moved_to}
 use Rattle.obstruction_store.specs.Standing.{Standing, moved}
@@ -8,7 +9,6 @@ use Rattle.grid_versions.specs.declared.edits.Edit.{Edit}
 use Rattle.grid_versions.specs.declared.edits.Edit.TheVariants.{Add, Remove, Move}
 use Rattle.grid_versions.specs.declared.edits.EditReply.{EditReply}
 use Rattle.grid_versions.specs.declared.edits.EditReply.TheVariants.{Added, Removed, Moved, Refused}
-use Rattle.grid_versions.specs.declared.edits.Refusal.{Refusal}
 use Rattle.grid_versions.specs.declared.edits.Refusal.TheVariants.{BadShape, DuplicateId, StoreFull, UnknownId}
 use Rattle.grid_versions.specs.Maps.{Map}
 use Rattle.grid_versions.specs.Fitting.{fits}
@@ -18,7 +18,7 @@ use Rattle.grid_versions.specs.Fitting.{fits}
 abbrev pub add_reply : Map → Standing → ℕ → Obstruction → EditReply
 add_reply map standing id obstruction = if not (fits map.size obstruction.shape) then Refused BadShape
     else (if fin_map.contains_key standing id then Refused DuplicateId
-    else (if fin_map.len standing == 65536 then Refused StoreFull else Added id))
+    else (if fin_map.len standing == MAX_OBSTRUCTIONS then Refused StoreFull else Added id))
 
 -- a remove is refused where its number does not stand
 abbrev pub remove_reply : Standing → ℕ → EditReply

@@ -1,5 +1,6 @@
 -- A map: its size, its callers, its passability classes and what is impassable from the start.
 use Rattle.std.specs.Prelude.{ℕ, ◌≤◌, ◌++◌, List, All}
+use Rattle.nav_types.specs.declared.limits.TheConstants.{MAX_CALLERS}
 use Rattle.nav_types.specs.declared.cells.Rect.{Rect}
 use Rattle.nav_types.specs.declared.cells.Size.{Size}
 use Rattle.nav_types.specs.Cells.{IsRectInside}
@@ -33,5 +34,5 @@ pub record IsMap (map : Map) : Type 0 where
   pub oldest : 1 ≤ map.version
   pub newest : map.version ≤ 3
   pub some_caller : 1 ≤ map.callers
-  pub few_callers : map.callers ≤ 64
+  pub few_callers : map.callers ≤ MAX_CALLERS
   pub base_inside : All (λ (entry : Rect × ℕ). IsRectInside map.size entry.0) map.base

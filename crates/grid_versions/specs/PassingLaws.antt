@@ -1,7 +1,7 @@
 -- Passable cells lie in the map, and areas are numbered as areas are.
-use Rattle.std.specs.Prelude.{ℕ, ◌≡◌, ◌↔◌, ◌+◌, Bool, true, false, ◌&&◌, IsTrue, IsFalse, nat_lt}
-use Rattle.std.proofs.Common.{arith, rules, refl, inl, inr, ⊎_elim}
-use Rattle.std.proofs.lemmas.Bool.{cases_Bool, both_ways}
+use Rattle.std.specs.Prelude.{ℕ, ◌≡◌, ◌↔◌, ◌+◌, Bool, true, false, IsTrue, IsFalse}
+use Rattle.std.proofs.Common.{arith, rules, ⊎_elim}
+use Rattle.std.proofs.lemmas.Bool.{cases_Bool}
 use Rattle.nav_types.specs.declared.cells.Cell.{Cell}
 use Rattle.nav_types.specs.Cells.{IsInside}
 use Rattle.nav_types.specs.Walks.{Joined}

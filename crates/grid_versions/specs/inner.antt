@@ -5,3 +5,4 @@ pub mod Building
 pub mod Tallying
 pub mod Painting
 pub mod Parts
+pub mod Changing

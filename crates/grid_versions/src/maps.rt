@@ -1,5 +1,6 @@
 //! Maps.
 ghost use Rattle.std.specs.Prelude.{◌≡◌, ◌≤◌, ◌↔◌, All, IsTrue, IsSome, IfSome, IfOk, OnOk, OnErr};
+ghost use Rattle.nav_types.specs.declared.limits.TheConstants.{MAX_CALLERS};
 ghost use Rattle.nav_types.specs.Cells.{IsRectInside};
 
 use class_config::ClassTable;
@@ -95,7 +96,7 @@ impl MapSpec {
     /// How many callers the map has, from 1 to 64.
     pub fn callers(&self) -> u8
         ensures callers { result ≡ self.now.callers }
-        ensures limits { (1 ≤ result) × (result ≤ 64) }
+        ensures limits { (1 ≤ result) × (result ≤ MAX_CALLERS) }
     {
         self.callers
     }
@@ -133,7 +134,7 @@ impl MapSpec {
 
 /// Whether the version is 1 to 3 and there are 1 to 64 callers.
 fn is_in_limits(version: u8, callers: u8) -> bool
-    ensures { IsTrue result ↔ ((1 ≤ version) × (version ≤ 3) × (1 ≤ callers) × (callers ≤ 64)) }
+    ensures { IsTrue result ↔ ((1 ≤ version) × (version ≤ 3) × (1 ≤ callers) × (callers ≤ MAX_CALLERS)) }
 {
     1 <= version && version <= NEWEST_VERSION && 1 <= callers && callers <= MAX_CALLERS
 }

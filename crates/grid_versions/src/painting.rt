@@ -2,7 +2,7 @@
 ghost use Rattle.std.specs.Prelude.{ℕ, ◌≡◌, ◌≤◌, ◌&&◌, Bool, IfOk};
 ghost use Rattle.nav_types.specs.Cells.{IsRectInside};
 ghost use Rattle.lane_rows.specs.Rows.{has_class};
-ghost use Rattle.clearance_raster.specs.Rasters.{IsRaster};
+ghost use Rattle.clearance_raster.specs.inner.TestRasters.{IsRaster};
 ghost use Rattle.obstruction_store.specs.Standing.{AllFit};
 ghost use Rattle.grid_versions.specs.Passing.{is_in_rect, has_base, is_blocked};
 ghost use Rattle.grid_versions.specs.Chunks.{chunk_count};

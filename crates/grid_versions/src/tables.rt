@@ -1,7 +1,11 @@
-ghost use Rattle.std.specs.Prelude.{◌≡◌, ◌+◌, ◌^◌, ◌<◌, ◌≤◌, OnOk, IfOk};
+ghost use Rattle.std.specs.Prelude.{Bool, ◌≡◌, ◌+◌, ◌^◌, ◌<◌, ◌≤◌, count_by, OnOk, IfOk};
+ghost use Rattle.nav_types.specs.declared.cells.Cell.{Cell};
 ghost use Rattle.nav_types.specs.Cells.{IsInside};
+ghost use Rattle.lane_rows.specs.Rows.{has_class};
 ghost use Rattle.reach_sets.specs.AreaNumbers.{area_of};
 ghost use Rattle.grid_versions.specs.Chunks.{chunk_count};
+ghost use Rattle.grid_versions.specs.inner.Building.{AreSides};
+ghost use Rattle.grid_versions.specs.inner.Changing.{AreChanges};
 ghost use Rattle.grid_versions.specs.inner.Tables.{AreTables, AreOfMap, region_in, region_total, edge_total};
 
 mod borders;
@@ -56,6 +60,61 @@ impl ClassTables {
         let labels = labelling::all_labels(alloc, view, class, ticks)?;
         let east = borders::all_edges(alloc, size, &labels, Side::East)?;
         let north = borders::all_edges(alloc, size, &labels, Side::North)?;
+        ClassTables::joined(alloc, size, labels, east, north)
+    }
+
+    /// The tables of a class after a change: these are those of before, and the bits say which chunks have changed.
+    /// Only these are labelled, which is one step of work each; what no change touches is shared with these tables,
+    /// but for the areas.
+    pub fn updated<V: View, L: Ledger>(
+        &self,
+        alloc: Global,
+        view: &V,
+        class: Class,
+        changed: &[u16],
+        ticks: &mut Ticks<L>,
+    ) -> Result<ClassTables, NoMemory>
+        requires class { class < V.class_count view.now }
+        requires before { (old : Cell → Bool) × (AreTables old (V.extent view.now) self.now
+            × AreChanges old (V.passes view.now class) (V.extent view.now) class changed.now) }
+        ensures tables { IfOk result (AreTables (V.passes view.now class) (V.extent view.now)) }
+        ensures most { ticks.new ≤ ticks.old + count_by (has_class class) changed.now }
+    {
+        let size = view.size();
+        let labels = labelling::next_labels(alloc, view, class, &self.labels, changed, ticks)?;
+        let east = borders::next_edges(
+            alloc,
+            size,
+            &labels,
+            &self.east,
+            changed,
+            class,
+            Side::East,
+        )?;
+        let north = borders::next_edges(
+            alloc,
+            size,
+            &labels,
+            &self.north,
+            changed,
+            class,
+            Side::North,
+        )?;
+        ClassTables::joined(alloc, size, labels, east, north)
+    }
+
+    /// The tables of these labels and edges, with the areas that they make.
+    fn joined(
+        alloc: Global,
+        size: Size,
+        labels: SharedList<Labels>,
+        east: SharedList<Edges>,
+        north: SharedList<Edges>,
+    ) -> Result<ClassTables, NoMemory>
+        requires { (passes : Cell → Bool) × AreSides passes size labels east north }
+        ensures { IfOk result (λ tables. (passes : Cell → Bool) → AreSides passes size labels east north
+            → AreTables passes size tables) }
+    {
         let counts = sums::region_counts(alloc, &labels)?;
         let links = borders::all_links(alloc, size, &east, &north)?;
         let areas = AreaTable::build(alloc, counts.as_slice(), &links)?;

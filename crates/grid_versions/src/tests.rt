@@ -283,6 +283,22 @@ fn an_obstruction_blocks_in_both_chunks(rt: HostRuntime) -> Result<(), Fail> {
     Ok(())
 }
 
+/// On 300 by 1 cells of four chunks, an obstruction over the cell (240, 0) parts the third chunk until it is removed.
+#[test]
+fn the_chunks_around_a_change_stay_joined(rt: HostRuntime) -> Result<(), Fail> {
+    let alloc = rt.alloc();
+    let map = open_map(alloc, [300, 1], 1, "0")?;
+    let wall = [add(1, [15_761_408, 32_768, 16_384], 1)];
+    let parted = replayed(alloc, &map, &[], &wall)?;
+    assert_eq!(rt; numbers_of(&parted), [1, 5, 3, 2]);
+    assert_eq!(rt; area_in(&parted.version, 0, 299, 0), Some(2));
+    let joined = after(&parted.version, alloc, &[Edit::Remove { id: 1 }])?;
+    assert_eq!(rt; numbers_of(&joined), [1, 4, 3, 1]);
+    assert_eq!(rt; area_in(&joined.version, 0, 299, 0), Some(1));
+    assert_eq!(rt; area_in(&parted.version, 0, 299, 0), Some(2));
+    Ok(())
+}
+
 /// A mask names the classes that an obstruction blocks; the mask 0 names none.
 #[test]
 fn classes_out_of_the_mask_stay_free(rt: HostRuntime) -> Result<(), Fail> {

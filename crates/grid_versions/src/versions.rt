@@ -1,5 +1,5 @@
 //! Versions of a map.
-ghost use Rattle.std.specs.Prelude.{ℕ, ◌≡◌, ◌+◌, ◌*◌, ◌<◌, ◌≤◌, length, IfOk, OnOk, IsTrue};
+ghost use Rattle.std.specs.Prelude.{ℕ, ◌≡◌, ◌+◌, ◌*◌, ◌<◌, ◌≤◌, [], length, IfOk, OnOk, IsTrue};
 ghost use Rattle.std.specs.Arc.{arc_value};
 ghost use Rattle.nav_types.specs.declared.cells.Cell.{Cell};
 ghost use Rattle.nav_types.specs.Cells.{IsInside, chunk_of};
@@ -10,11 +10,11 @@ ghost use Rattle.grid_versions.specs.Chunks.{chunk_count, chunk_place};
 
 use crate::chunk_cells::ChunkCells;
 use crate::chunks;
-use crate::class_tables::class_tables;
+use crate::class_tables::{class_tables, next_tables};
 use crate::edits::{EditReplies, Edits};
 use crate::maps::MapSpec;
 use crate::painting::{chunk_cells, painted};
-use crate::relabelling::relabelled;
+use crate::relabelling::{differing_bits, marks_below};
 use crate::shared_list::SharedList;
 use crate::standing_edits::apply_all;
 use crate::tables::ClassTables;
@@ -41,9 +41,9 @@ pub struct Tallies {
 #[derive(Drop)]
 pub struct Version {
     map: Arc<MapSpec, Global>,
-    shapes: Store,
+    shapes: Arc<Store, Global>,
     cells: SharedList<ChunkCells>,
-    tables: Vec<ClassTables>,
+    tables: SharedList<ClassTables>,
 }
 
 /// What edits make of a version.
@@ -72,14 +72,14 @@ impl Model for Version {
 
     ghost use Rattle.grid_versions.specs.inner.Parts.{AreParts};
 
-    ghost view = { λ v. map_state (arc_value v.map) v.shapes };
+    ghost view = { λ v. map_state (arc_value v.map) (arc_value v.shapes) };
 
-    ghost invariant = { λ v. AreParts (arc_value v.map) v.shapes v.cells v.tables.items };
+    ghost invariant = { λ v. AreParts (arc_value v.map) (arc_value v.shapes) v.cells v.tables };
 }
 
 impl Version {
     ghost use Rattle.grid_versions.specs.Editing.{after_edits, edit_replies};
-    ghost use Rattle.grid_versions.specs.Versions.{passes_of};
+    ghost use Rattle.grid_versions.specs.Versions.{map_state, passes_of};
     ghost use Rattle.grid_versions.specs.inner.Parts.{AreParts};
 
     /// The version of this map and these obstructions, all of which fit the map. It is made from nothing: each chunk is
@@ -119,6 +119,7 @@ impl Version {
         let grid = painted(alloc, &map, &shapes)?;
         let cells = chunk_cells(alloc, &grid)?;
         let tables = class_tables(alloc, &grid, map.classes().count(), ticks)?;
+        let shapes = Arc::new(alloc, shapes)?;
         Ok(Version {
             map,
             shapes,
@@ -131,7 +132,8 @@ impl Version {
     /// This version stays as it is. It refuses for want of memory alone.
     ///
     /// `relabelled` is the number of pairs of chunk and class in which some cell is passable in one of the two
-    /// versions and not in the other (`HasRelabelled`).
+    /// versions and not in the other (`HasRelabelled`). Each of these pairs is labelled once, which is one tick, and no
+    /// other pair is, also where the call refuses. Without edits both versions share all, and nothing is made.
     pub fn next<L: Ledger>(
         &self,
         alloc: Global,
@@ -145,13 +147,16 @@ impl Version {
             ≡ edit_replies self.now.map self.now.standing edits.now) }
         ensures relabelled { IfOk result (λ next. HasRelabelled (length self.now.map.classes)
             (passes_of self.now) (passes_of next.version) next.relabelled) }
-        ensures most { ticks.new ≤ ticks.old + length self.now.map.classes * chunk_count self.now.map.size }
+        ensures most { (count : ℕ) → HasRelabelled (length self.now.map.classes) (passes_of self.now)
+            (passes_of (map_state self.now.map (after_edits self.now.map self.now.standing edits.now))) count
+            → ticks.new ≤ ticks.old + count }
     {
+        if edits.is_empty() {
+            return self.unchanged(alloc);
+        }
         let mut shapes = self.shapes.copy(alloc)?;
         let replies = apply_all(alloc, &self.map, &mut shapes, edits.as_slice())?;
-        let map = Arc::try_clone(&self.map)?;
-        let version = Version::build_shared(alloc, map, shapes, ticks)?;
-        let relabelled = version.relabelled_from(alloc, self)?;
+        let (version, relabelled) = self.updated(alloc, shapes, ticks)?;
         Ok(Next {
             version,
             replies,
@@ -159,19 +164,51 @@ impl Version {
         })
     }
 
-    /// The number of pairs of chunk and class in which some cell is passable in one of the two versions of a map
-    /// and not in the other.
-    fn relabelled_from(&self, alloc: Global, before: &Version) -> Result<u32, NoMemory>
-        requires { before.now.map ≡ self.now.map }
-        ensures { IfOk result (HasRelabelled (length self.now.map.classes)
-            (passes_of before.now) (passes_of self.now)) }
+    /// The version after no edits, which shares all that this one has.
+    fn unchanged(&self, alloc: Global) -> Result<Next, NoMemory>
+        ensures version { IfOk result (λ next. next.version ≡ self.now) }
+        ensures replies { IfOk result (λ next. next.replies ≡ []) }
+        ensures relabelled { IfOk result (λ next. next.relabelled ≡ 0) }
     {
-        relabelled(
-            alloc,
-            &before.cells,
-            &self.cells,
-            self.map.classes().count(),
-        )
+        Ok(Next {
+            version: Version {
+                map: Arc::try_clone(&self.map)?,
+                shapes: Arc::try_clone(&self.shapes)?,
+                cells: self.cells.share(alloc)?,
+                tables: self.tables.share(alloc)?,
+            },
+            replies: EditReplies::new(alloc),
+            relabelled: 0,
+        })
+    }
+
+    /// The version of this map and other obstructions, all of which fit the map, and in how many pairs of chunk and
+    /// class it differs from this one. Each of these is labelled once; what lies elsewhere is shared.
+    fn updated<L: Ledger>(
+        &self,
+        alloc: Global,
+        shapes: Store,
+        ticks: &mut Ticks<L>,
+    ) -> Result<(Version, u32), NoMemory>
+        requires { AllFit self.now.map.size shapes }
+        ensures version { IfOk result (λ next. next.0 ≡ map_state self.now.map shapes) }
+        ensures relabelled { IfOk result (λ next. HasRelabelled (length self.now.map.classes) (passes_of self.now)
+            (passes_of (map_state self.now.map shapes)) next.1) }
+        ensures most { (count : ℕ) → HasRelabelled (length self.now.map.classes) (passes_of self.now)
+            (passes_of (map_state self.now.map shapes)) count → ticks.new ≤ ticks.old + count }
+    {
+        let grid = painted(alloc, &self.map, &shapes)?;
+        let cells = chunk_cells(alloc, &grid)?;
+        let changed = differing_bits(alloc, &self.cells, &cells)?;
+        let tables = next_tables(alloc, &grid, &self.tables, &changed, ticks)?;
+        let relabelled = marks_below(&changed, self.map.classes().count());
+        let version = Version {
+            map: Arc::try_clone(&self.map)?,
+            shapes: Arc::new(alloc, shapes)?,
+            cells,
+            tables,
+        };
+        Ok((version, relabelled))
     }
 
     /// The region of a cell for a class: its chunk by the place in the order chunk row, chunk column, and its number
@@ -182,7 +219,8 @@ impl Version {
         ensures chunk { result.chunk ≡ chunk_place self.now.map.size (chunk_of cell) }
         ensures region { HasRegion (passes_of self.now class) (chunk_of cell) cell result.region }
     {
-        self.tables[usize::from(class.number())].region(self.map.size(), cell)
+        let tables = self.tables.at(usize::from(class.number()));
+        tables.region(self.map.size(), cell)
     }
 
     /// How many regions, region edges and areas all classes have together (`HasTallies`).
@@ -195,7 +233,8 @@ impl Version {
             edges: 0,
             areas: 0,
         };
-        for tables in &self.tables {
+        for class in 0..self.tables.len() {
+            let tables = self.tables.at(class);
             tallies.regions += tables.regions();
             tallies.edges += tables.edges();
             tallies.areas += u64::from(tables.areas());
@@ -275,6 +314,7 @@ impl Areas for Version {
 
     /// The number of the cell's area for the class; 0 exactly for an impassable cell (`HasArea`).
     fn area(&self, class: Class, cell: Cell) -> u32 {
-        self.tables[usize::from(class.number())].area(self.map.size(), cell)
+        let tables = self.tables.at(usize::from(class.number()));
+        tables.area(self.map.size(), cell)
     }
 }

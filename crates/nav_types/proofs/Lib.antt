@@ -4,3 +4,4 @@ pub mod FirstCells
 pub mod CellOrder
 pub mod Walking
 pub mod DirSetLemmas
+pub mod CellPlaces

@@ -1,5 +1,6 @@
 pub mod Side
 pub mod Cells
+pub mod Places
 pub mod Directions
 pub mod DirSets
 pub mod Walks

@@ -1,35 +1,21 @@
 -- The numbers of all cells are the whole grid.
-use Rattle.std.proofs.Common.{◌≡◌, ℕ, ◌*◌, ◌/◌, ◌%◌, ◌<◌, List, length, get_or, sym, ap, ◌∙◌, arith}
+use Rattle.std.proofs.Common.{◌≡◌, ℕ, ◌*◌, ◌<◌, List, length, get_or, sym, ap, ◌∙◌, arith}
 use Rattle.std.proofs.lemmas.List.{ext_get_or}
-use Rattle.std.proofs.lemmas.Nat.{div-add-mod', div_below, mod_below}
 use Rattle.nav_types.specs.declared.cells.Cell.{Cell}
 use Rattle.nav_types.specs.declared.cells.Size.{Size}
-use Rattle.nav_types.specs.Cells.{cell_at, IsInside}
-use Rattle.navcell_grid.specs.Grids.{GridCells, IsWholeGrid, place_of, number_at}
-
--- the cell at a place
-cell_of : Size → ℕ → Cell
-cell_of size place = cell_at (place % size.w) (place / size.w)
-
-cell_of_inside : (size : Size) (place : ℕ) → place < size.w * size.h → IsInside size (cell_of size place)
-unfolding cell_of
-cell_of_inside size place below =
-    let wide = size.wide.some in
-    let some : 0 < size.w = omega arith in
-    record { column = mod_below place size.w some; row = div_below place size.w size.h some (omega arith) }
-
-place_of_cell_of : (size : Size) (place : ℕ) → place_of size (cell_of size place) ≡ place
-unfolding cell_of
-place_of_cell_of size place = div-add-mod' place size.w
+use Rattle.nav_types.specs.Cells.{IsInside}
+use Rattle.nav_types.specs.Places.{place_of, cell_of}
+use Rattle.nav_types.proofs.CellPlaces.{cell_of-inside, place_of-cell_of}
+use Rattle.navcell_grid.specs.Grids.{GridCells, IsWholeGrid, number_at}
 
 same_cells : (size : Size) (xs ys : List ℕ) → length xs ≡ size.w * size.h → length ys ≡ size.w * size.h
     → ((cell : Cell) → IsInside size cell → get_or xs (place_of size cell) 0 ≡ get_or ys (place_of size cell) 0) → xs ≡ ys
 same_cells size xs ys long_xs long_ys same =
     ext_get_or 0 xs ys (long_xs ∙ sym long_ys) (λ k below.
     let short : k < size.w * size.h = omega (arith, long_xs) in
-    ap (λ p. get_or xs p 0) (sym (place_of_cell_of size k))
-    ∙ same (cell_of size k) (cell_of_inside size k short)
-    ∙ ap (λ p. get_or ys p 0) (place_of_cell_of size k))
+    ap (λ p. get_or xs p 0) (sym (place_of-cell_of size k))
+    ∙ same (cell_of size k) (cell_of-inside size k short)
+    ∙ ap (λ p. get_or ys p 0) (place_of-cell_of size k))
 
 pub same_grid : (a b : GridCells) → IsWholeGrid a → IsWholeGrid b → a.size ≡ b.size
     → ((cell : Cell) → IsInside a.size cell → number_at a cell ≡ number_at b cell) → a ≡ b

@@ -6,7 +6,8 @@ use Rattle.nav_types.specs.declared.cells.Cell.{Cell}
 use Rattle.nav_types.specs.declared.cells.Rect.{Rect}
 use Rattle.nav_types.specs.declared.cells.Size.{Size}
 use Rattle.nav_types.specs.Cells.{cell_at, IsInside, IsInRect}
-use Rattle.navcell_grid.specs.Grids.{GridCells, place_of, number_at, IsInSpan}
+use Rattle.nav_types.specs.Places.{place_of}
+use Rattle.navcell_grid.specs.Grids.{GridCells, number_at, IsInSpan}
 
 -- a cell of a row comes before each cell of the rows after it
 before_next_row : (w j k i : ℕ) → j < k → i < w → j * w + i < k * w

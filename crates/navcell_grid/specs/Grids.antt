@@ -3,6 +3,7 @@
 use Rattle.std.specs.Prelude.{ℕ, ◌≡◌, ◌≤◌, ◌+◌, ◌*◌, Bool, ◌&&◌, not, nat_lt, List, length, slice_index}
 use Rattle.nav_types.specs.declared.cells.Cell.{Cell}
 use Rattle.nav_types.specs.declared.cells.Size.{Size}
+use Rattle.nav_types.specs.Places.{place_of}
 use Rattle.lane_rows.specs.Rows.{has_class}
 
 -- the size in navcells, and the numbers of the cells by row, then by column
@@ -13,10 +14,6 @@ pub record GridCells : Type 0 where
 -- the grid has exactly one number for each cell of its size
 abbrev pub IsWholeGrid : GridCells → Type 0
 IsWholeGrid grid = length grid.cells ≡ grid.size.w * grid.size.h
-
--- how many cells of the map come before the cell
-abbrev pub place_of : Size → Cell → ℕ
-place_of size cell = cell.j * size.w + cell.i
 
 -- the number of a cell
 abbrev pub number_at : GridCells → Cell → ℕ

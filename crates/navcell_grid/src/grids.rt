@@ -1,6 +1,7 @@
 ghost use Rattle.std.specs.Prelude.{◌≡◌, ◌≤◌, ◌<◌, ◌+◌, ◌*◌, ◌⊎◌, ℕ, length, replicate, slice_index, slice_range, bit_or, IfOk};
 ghost use Rattle.nav_types.specs.Cells.{cell_at, IsInside, IsInRect, IsRectInside};
-ghost use Rattle.navcell_grid.specs.Grids.{GridCells, IsWholeGrid, place_of, number_at, IsInSpan, is_passable};
+ghost use Rattle.nav_types.specs.Places.{place_of};
+ghost use Rattle.navcell_grid.specs.Grids.{GridCells, IsWholeGrid, number_at, IsInSpan, is_passable};
 
 use nav_types::limits::MAX_CLASSES;
 use nav_types::{Cell, Class, NoMemory, Rect, Size, View};

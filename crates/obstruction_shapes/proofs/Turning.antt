@@ -67,7 +67,7 @@ near_one p u v d e w h c back long small_u small_v near_d near_e =
     omega arith
 
 -- a length past its half side is no longer than the clearance
-within : (d w c rest : ℕ) → (d - 65536 * w) * (d - 65536 * w) + rest ≤ (65536 * c) * (65536 * c) → d ≤ 65536 * (w + c)
+pub within : (d w c rest : ℕ) → (d - 65536 * w) * (d - 65536 * w) + rest ≤ (65536 * c) * (65536 * c) → d ≤ 65536 * (w + c)
 within d w c rest near = let root = root_le (d - 65536 * w) (65536 * c) (omega arith) in omega arith
 
 -- a point no further than the clearance from the square lies within the extent, a 64th of it and 1, along both axes

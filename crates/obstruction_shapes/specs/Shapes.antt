@@ -1,5 +1,6 @@
 -- Shapes and where they fit. All numbers are raw: the raw number of a navcell's side is 65536.
 use Rattle.std.specs.Prelude.{ℤ, pos}
+use Rattle.nav_types.specs.declared.limits.TheConstants.{MAX_HALF_SIDE}
 use Rattle.nav_types.specs.declared.cells.Size.{Size}
 use Rattle.fixed_point.specs.declared.plane.Rectangle.{Rectangle}
 use Rattle.fixed_point.specs.Plane.{IsUnitVector, IsOnAxis, IsUpTo}
@@ -25,6 +26,6 @@ HasUnitVector shape = IsUnitVector (turned_of shape).ux (turned_of shape).uz
 pub record FitsMap (size : Size) (shape : Shape) : Type 0 where
   pub column : IsOnAxis size.w (turned_of shape).x
   pub row : IsOnAxis size.h (turned_of shape).z
-  pub width : IsUpTo 256 (turned_of shape).hw
-  pub height : IsUpTo 256 (turned_of shape).hh
+  pub width : IsUpTo MAX_HALF_SIDE (turned_of shape).hw
+  pub height : IsUpTo MAX_HALF_SIDE (turned_of shape).hh
   pub unit_vector : HasUnitVector shape

@@ -6,3 +6,4 @@ pub mod OneText
 pub mod Stops
 pub mod OneThread
 pub mod Passes
+pub mod FewJobs

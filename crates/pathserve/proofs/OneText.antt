@@ -8,8 +8,8 @@ use Rattle.turn_core.specs.Words.{Standing}
 use Rattle.turn_core.proofs.Threads.{one_turn_told}
 use Rattle.script_text.specs.Lines.{full_lines, tail_of}
 use Rattle.script_text.specs.Script.{Item, begins, adds_base, ends_turn, Place, beginning, Ends, Walk, arrived, chain, walk, last_line, reading}
-use Rattle.script_text.proofs.ReadWalk.{chain-assoc}
-use Rattle.pathserve.proofs.Lines.{full_lines-append, walk-append}
+use Rattle.script_text.proofs.ReadWalk.{chain-assoc, walk-append}
+use Rattle.pathserve.proofs.Lines.{full_lines-append}
 use Rattle.answer_text.specs.Answers.{turn_text}
 use Rattle.pathserve.specs.Output.{Said, unsaid, IsTurnText, with_turn, Says, Gives, ends_text, IsOut, IsPiece, IsBeginning, IsTakenText}
 

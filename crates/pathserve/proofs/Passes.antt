@@ -1,15 +1,24 @@
--- What a sink took in the writes of a replay.
-use Rattle.std.proofs.Common.{ℕ, List, [], take, Option, Result, Ok, Err}
-use Rattle.io_edges.specs.Passing.{HasTaken}
+-- What a source gave in the reads of a replay, and what a sink took in its writes.
+use Rattle.std.proofs.Common.{ℕ, List, [], take, Option, Some, None, Result, Ok, Err}
+use Rattle.io_edges.specs.Passing.{HasGiven, HasTaken}
 use Rattle.io_edges.specs.declared.edges.WriteRefusal.{WriteRefusal}
 use Rattle.script_text.specs.declared.faults.ScriptFault.{ScriptFault}
 use Rattle.script_text.specs.declared.faults.ScriptFault.TheVariants as fault
-use Rattle.script_text.specs.Script.{bad_line}
+use Rattle.script_text.specs.Script.{Item, bad_line}
 use Rattle.pathserve.specs.declared.status.Status.{Status}
 use Rattle.pathserve.specs.inner.Writing.{WritesPiece, StopsWith}
 use Rattle.pathserve.specs.Output.{Said, stop_text}
 use Rattle.script_text.specs.Reader.{Held}
-use Rattle.pathserve.proofs.Replaying.{Stands}
+use Rattle.pathserve.proofs.Replaying.{Stands, WentTold}
+
+-- what was read for the items so far
+went_given : (start now : Option (List ℕ)) (held : Held) (items : List Item) → WentTold start now held items → HasGiven start now
+went_given None now held items went = record { given = []; rest = tt }
+went_given (Some bytes) None held items went = absurd went
+went_given (Some bytes) (Some left) held items went = record { given = went.taken; rest = went.took }
+
+pub stands_given : (start now kept keeps : Option (List ℕ)) (held : Held) (state : Said) → Stands start now kept keeps held state → HasGiven start now
+stands_given start now kept keeps held state s = went_given start now held s.items s.went
 
 -- the texts of the turns so far
 pub stands_taken : (start now kept keeps : Option (List ℕ)) (held : Held) (state : Said) → Stands start now kept keeps held state → HasTaken kept keeps

@@ -1,65 +1,24 @@
 -- How far a replay has gone through its input, and what it has written until then.
-use Rattle.std.proofs.Common.{◌≡◌, ◌≢◌, ℕ, inl, inr, List, [], ◌∷◌, ◌++◌, take, Bool, true, false, refl, sym, ap, ◌∙◌, subst, append_assoc, append-nil, IsTrue}
-use Rattle.std.specs.Prelude.{All, IsFalse}
+use Rattle.std.proofs.Common.{◌≡◌, ℕ, inl, inr, List, [], ◌∷◌, ◌++◌, take, refl, sym, ap, ◌∙◌, subst, append_assoc, append-nil, IsTrue}
 use Rattle.std.proofs.lemmas.Bool.{true≢false}
-use Rattle.std.proofs.lemmas.List.Elements.{All-append, All-nil}
 use Rattle.turn_core.specs.declared.posts.Post.{Post}
-use Rattle.script_text.specs.Lines.{full_lines, unlines}
-use Rattle.script_text.specs.Script.{Item, begins, adds_base, ends_turn, map_after, turns_of, beginning, Stop, Walk, arrived, chain, walk, reading}
-use Rattle.script_text.specs.Reader.{Held, unread, UsesLines, GoesOn, StopsAtFault, stuck_after}
-use Rattle.pathserve.proofs.Lines.{full_lines-unlines, unlines-append, walk-append}
+use Rattle.script_text.specs.Lines.{full_lines}
+use Rattle.script_text.specs.Script.{Item, begins, adds_base, ends_turn, map_after, turns_of, beginning, Stop, Walk, walk, reading}
+use Rattle.script_text.specs.Reader.{Held, unread, GoesOn, StopsAtFault, stuck_after}
+use Rattle.script_text.proofs.ReadNext.{goes_nowhere}
+use Rattle.script_text.proofs.ReadStill.{full_lines-behind}
+use Rattle.script_text.proofs.ReadCalls.{fault_then}
 use Rattle.pathserve.specs.Output.{Said, unsaid, with_map, Says, Gives, IsText, stop_text, ends_text, IsOut, IsBeginning, IsTakenText}
 
 -- the reading has come, after these items, to what the reader holds and what is left
-pub record Went (bytes left : List ℕ) (held : Held) (items : List Item) : Type 0 where
-  pub taken : List ℕ
-  pub took : bytes ≡ taken ++ left
-  pub same : reading bytes beginning ≡ chain (arrived items held.place) (λ q. reading (held.bytes ++ left) q)
-  pub at_end : IsTrue held.ended → left ≡ []
-  pub used : IsFalse held.ended → UsesLines unread held taken items
+abbrev pub Went : List ℕ → List ℕ → Held → List Item → Type 0
+Went bytes left held items = GoesOn unread held bytes left items
 
--- ---- steps
-
-nothing_used : UsesLines unread unread [] []
-nothing_used = record { lines = []; plain = All-nil (λ (line : List ℕ). All (λ byte. byte ≢ 10) line); bytes = refl; walked = refl }
-
--- lines used, and then more lines
-uses_more : (old mid new : Held) (first more : List ℕ) (items after : List Item)
-    → UsesLines old mid first items → UsesLines mid new more after → UsesLines old new (first ++ more) (items ++ after)
-uses_more old mid new first more items after a b =
-    let both : old.bytes ++ (first ++ more) ≡ (unlines a.lines ++ unlines b.lines) ++ new.bytes =
-    sym (append_assoc old.bytes first more) ∙ (ap (λ (l : List ℕ). l ++ more) a.bytes
-    ∙ (append_assoc (unlines a.lines) mid.bytes more ∙ (ap (λ (l : List ℕ). unlines a.lines ++ l) b.bytes
-    ∙ sym (append_assoc (unlines a.lines) (unlines b.lines) new.bytes)))) in
-    record {
-      lines = a.lines ++ b.lines;
-      plain = All-append (λ (line : List ℕ). All (λ byte. byte ≢ 10) line) a.lines b.lines a.plain b.plain;
-      bytes = both ∙ ap (λ (l : List ℕ). l ++ new.bytes) (sym (unlines-append a.lines b.lines));
-      walked = walk-append a.lines b.lines old.place
-          ∙ (ap (λ (w : Walk). chain w (λ q. walk b.lines q)) a.walked
-          ∙ ap (λ (w : Walk). let joined : Walk = record { items = items ++ w.items; ends = w.ends } in joined) b.walked);
-    }
-
-still_false : (before now : Bool) → (IsTrue before → IsTrue now) → IsFalse now → IsFalse before
-still_false true now stays going = absurd (true≢false (sym (stays refl) ∙ going))
-still_false false now stays going = refl
+going : {A : Type 0} → IsTrue unread.ended → A
+going ended = absurd (true≢false (sym ended))
 
 pub went_nowhere : (bytes : List ℕ) → Went bytes bytes unread []
-went_nowhere bytes = record { taken = []; took = refl; same = refl; at_end = λ e. absurd (true≢false (sym e)); used = λ e. nothing_used }
-
--- the reader gave more items
-pub went_on : (bytes left after : List ℕ) (held new : Held) (items more : List Item)
-    → Went bytes left held items → GoesOn held new left after more → (IsTrue held.ended → IsTrue new.ended) → Went bytes after new (items ++ more)
-went_on bytes left after held new items more w g stays =
-    let rest : Walk = reading (new.bytes ++ after) new.place in
-    record {
-      taken = w.taken ++ g.taken;
-      took = w.took ∙ (ap (λ (l : List ℕ). w.taken ++ l) g.took ∙ sym (append_assoc w.taken g.taken after));
-      same = w.same ∙ (ap (λ (v : Walk). let joined : Walk = record { items = items ++ v.items; ends = v.ends } in joined) g.same
-          ∙ ap (λ (l : List Item). let joined : Walk = record { items = l; ends = rest.ends } in joined) (sym (append_assoc items more rest.items)));
-      at_end = g.at_end;
-      used = λ going. uses_more unread held new w.taken g.taken items more (w.used (still_false held.ended new.ended stays going)) (g.used going);
-    }
+went_nowhere bytes = goes_nowhere unread bytes going
 
 -- what is written for items, and then for more
 pub gives_on : (s mid t : Said) (items more : List Item) (text piece : List ℕ)
@@ -128,12 +87,6 @@ begun_item bytes left after held new items item state next text piece n w g give
   part = inr (piece, (n, ((next, says), refl)));
 }
 
--- the reading of an input that stops after the items so far and these
-pub stops_here : (bytes left : List ℕ) (held : Held) (items more : List Item) (stop : Stop) → Went bytes left held items
-    → reading (held.bytes ++ left) held.place ≡ stuck_after more stop → reading bytes beginning ≡ stuck_after (items ++ more) stop
-stops_here bytes left held items more stop w stopped =
-    w.same ∙ ap (λ (v : Walk). let joined : Walk = record { items = items ++ v.items; ends = v.ends } in joined) stopped
-
 pub out_here : (bytes : List ℕ) (items : List Item) (stop : Stop) (state : Said) (text : List ℕ)
     → reading bytes beginning ≡ stuck_after items stop → Gives unsaid items text state → IsOut bytes (text ++ stop_text stop)
 out_here bytes items stop state text stopped gives =
@@ -158,13 +111,14 @@ begun_stop bytes items stop state text n stopped gives = record {
 pub taken_here : (bytes left after : List ℕ) (held new : Held) (items more : List Item) (state : Said) (text : List ℕ)
     → Went bytes left held items → StopsAtFault held new left after more → Gives unsaid (items ++ more) text state → IsTakenText bytes after text
 taken_here bytes left after held new items more state text w s gives =
-    let used = uses_more unread held new w.taken s.taken items more (w.used s.going) s.used in
-    let lines : full_lines (w.taken ++ s.taken) ≡ used.lines =
-    ap full_lines used.bytes ∙ (full_lines-unlines used.lines new.bytes used.plain
-    ∙ (ap (λ (ls : List (List ℕ)). used.lines ++ ls) s.no_line ∙ append-nil used.lines)) in
+    let stopped = fault_then unread held new bytes left after items more going w s in
+    let used = stopped.used in
+    let lines : full_lines stopped.taken ≡ used.lines =
+    ap full_lines used.bytes ∙ (full_lines-behind used.lines new.bytes used.plain
+    ∙ (ap (λ (ls : List (List ℕ)). used.lines ++ ls) stopped.no_line ∙ append-nil used.lines)) in
     record {
-      taken = w.taken ++ s.taken;
-      took = w.took ∙ (ap (λ (l : List ℕ). w.taken ++ l) s.took ∙ sym (append_assoc w.taken s.taken after));
+      taken = stopped.taken;
+      took = stopped.took;
       items = items ++ more;
       place = new.place;
       walked = ap (λ (ls : List (List ℕ)). walk ls beginning) lines ∙ used.walked;

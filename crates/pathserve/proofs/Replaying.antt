@@ -1,6 +1,6 @@
 -- What a replay keeps from call to call, and what it answers, over a source that may tell its bytes and a sink that may keep them.
 use Rattle.std.proofs.Common.{◌≡◌, ℕ, ◌+◌, ◌≤◌, inl, inr, List, [], ◌∷◌, ◌++◌, take, Option, Some, None, Result, Ok, Err, refl, sym, ap, ◌∙◌, subst, append_assoc, append-nil, IsTrue, arith}
-use Rattle.std.specs.Prelude.{⊤}
+use Rattle.std.specs.Prelude.{IfSome, ⊤}
 use Rattle.std.specs.Io.KnownBytes.{Appends}
 use Rattle.std.proofs.KnownBytes.{Appends-nil, Appends-trans}
 use Rattle.io_edges.specs.Faults.{Rose}
@@ -12,17 +12,20 @@ use Rattle.script_text.specs.declared.faults.ScriptFault.{ScriptFault}
 use Rattle.script_text.specs.declared.faults.ScriptFault.TheVariants as fault
 use Rattle.script_text.specs.Reader.{WhereTold, Held, unread, GoesOn, IsRead, stuck_after, RefusesMap, MapAnswers, MapTold, TurnAnswers, TurnTold}
 use Rattle.script_text.specs.Script.{Item, begins, ends_turn, map_after, beginning, Stop, whole_input, too_long, bad_line, Ends, stuck_by, Walk, reading}
+use Rattle.script_text.proofs.ReadTold.{told-same, told-then}
+use Rattle.script_text.proofs.ReadCalls.{goes_then, stuck_then}
 use Rattle.pathserve.specs.declared.status.Status.{Status}
 use Rattle.pathserve.specs.declared.status.Status.TheVariants.{Done, BadLine, ReadFault, WriteFault, NoMemory, TooLong}
 use Rattle.pathserve.specs.Output.{Said, unsaid, with_map, with_turn, IsTurnText, Says, Gives, stop_text, IsOut, IsBeginning, Replays, ReplaysTold, stop_status, ComesByStop}
+use Rattle.pathserve.specs.declared.bad_lines.BadLine as reason
+use Rattle.pathserve.specs.Reasons.{IsWhyBad}
+use Rattle.pathserve.specs.inner.Stopping.{IsHeldBad}
 use Rattle.pathserve.specs.inner.Writing.{WritesPiece, refused_status, status_after, StopsWith}
-use Rattle.pathserve.proofs.Progress.{Went, went_nowhere, went_on, gives_on, gives_one, gives_map, begun_here, begun_item, stops_here, out_here, begun_stop, taken_here}
+use Rattle.pathserve.proofs.Progress.{Went, went_nowhere, gives_on, gives_one, gives_map, begun_here, begun_item, out_here, begun_stop, taken_here}
 
 -- the same where the source tells its bytes
 abbrev pub WentTold : Option (List ℕ) → Option (List ℕ) → Held → List Item → Type 0
-WentTold None now held items = ⊤
-WentTold (Some bytes) None held items = ⊥
-WentTold (Some bytes) (Some left) held items = Went bytes left held items
+WentTold start now held items = WhereTold start now (λ bytes left. Went bytes left held items)
 
 -- The items so far, and what was written for them: `start` and `now` are what is left in the source at entry and here,
 -- `kept` and `keeps` what the sink keeps.
@@ -37,12 +40,8 @@ pub record Stands (start now kept keeps : Option (List ℕ)) (held : Held) (stat
 abbrev pub Tells : Held → Option (List ℕ) → Option (List ℕ) → (List ℕ → List ℕ → Type 0) → Type 0
 Tells held before now Says = WhereTold before now (λ left after. (IsTrue held.ended → left ≡ []) → Says left after)
 
-went_nowhere_told : (start : Option (List ℕ)) → WentTold start start unread []
-went_nowhere_told None = tt
-went_nowhere_told (Some bytes) = went_nowhere bytes
-
 stands_first : (start kept : Option (List ℕ)) → Stands start start kept kept unread unsaid
-stands_first start kept = record { items = []; text = []; went = went_nowhere_told start; gives = (refl, refl); wrote = Appends-nil kept }
+stands_first start kept = record { items = []; text = []; went = told-same start _ went_nowhere; gives = (refl, refl); wrote = Appends-nil kept }
 
 pub stands_unread : (start kept : Option (List ℕ)) (held : Held) → held ≡ unread → Stands start start kept kept held unsaid
 stands_unread start kept held is = subst (λ (h : Held). Stands start start kept kept h unsaid) (sym is) (stands_first start kept)
@@ -52,11 +51,8 @@ stands_unread start kept held is = subst (λ (h : Held). Stands start start kept
 went_on_told : (start before now : Option (List ℕ)) (held new : Held) (items more : List Item)
     → WentTold start before held items → Tells held before now (λ left after. GoesOn held new left after more) → (IsTrue held.ended → IsTrue new.ended)
     → WentTold start now new (items ++ more)
-went_on_told None before now held new items more w a stays = tt
-went_on_told (Some bytes) None now held new items more w a stays = absurd w
-went_on_told (Some bytes) (Some left) None held new items more w a stays = absurd a
-went_on_told (Some bytes) (Some left) (Some after) held new items more w a stays =
-    went_on bytes left after held new items more w (a w.at_end) stays
+went_on_told start before now held new items more w a stays =
+    told-then start before now _ _ _ (λ bytes left after went said. goes_then unread held new bytes left after items more stays went (said went.at_end)) w a
 
 -- a turn was read, and its text was written whole
 pub stands_turn : (start before now kept keeps final : Option (List ℕ)) (held new : Held) (state : Said) (m : Map) (posts : List (List Post)) (piece : List ℕ)
@@ -94,7 +90,7 @@ stands_map (Some bytes) (Some left) (Some after) kept keeps held new state m s n
     record {
       items = s.items ++ g.items;
       text = s.text ++ [];
-      went = went_on bytes left after held new s.items g.items s.went g.on stays;
+      went = goes_then unread held new bytes left after s.items g.items stays s.went g.on;
       gives = gives_on unsaid state (record state { map = Some m }) s.items g.items s.text [] s.gives read;
       wrote = subst (Appends kept keeps) (sym (append-nil s.text)) s.wrote;
     }
@@ -140,7 +136,7 @@ pub told_done : (start before now kept keeps : Option (List ℕ)) (held new : He
 told_done start before now kept keeps held new state s a =
     replays_told start before now kept keeps keeps held state (λ left after. IsRead held left after) Done [] s a (Appends-nil keeps)
     (λ bytes left after items text w gives said.
-    let end = stops_here bytes left held items [] whole_input w said.whole in
+    let end = stuck_then unread held bytes left items [] whole_input w said.whole in
     let same : stuck_after (items ++ []) whole_input ≡ stuck_after items whole_input = ap (λ (l : List Item). stuck_after l whole_input) (append-nil items) in
     (said.nothing, (ap (λ (v : Walk). v.ends) end, out_here bytes items whole_input state text (end ∙ same) gives)))
 
@@ -178,7 +174,7 @@ stopped_out : (bytes left after : List ℕ) (held new : Held) (items : List Item
     → reading (held.bytes ++ left) held.place ≡ stuck_after r.items stop
     → ((reading bytes beginning).ends ≡ stuck_by stop) × IsOut bytes (text ++ stop_text stop)
 stopped_out bytes left after held new items state text met stop w gives r stopped =
-    let end = stops_here bytes left held items r.items stop w stopped in
+    let end = stuck_then unread held bytes left items r.items stop w stopped in
     let still = gives_still state items text left after held new met gives r in
     (ap (λ (v : Walk). v.ends) end, out_here bytes (items ++ r.items) stop still.0 text end still.1)
 
@@ -187,14 +183,14 @@ told_bad_line : (start before now kept keeps final : Option (List ℕ)) (held ne
     → WritesPiece keeps final (stop_text (bad_line n)) written → ReplaysTold start now kept final (status_after written BadLine)
 told_bad_line start before now kept keeps final held new state n (Ok whole) s a wrote =
     replays_told start before now kept keeps final held state (λ left after. RefusesMap held new left after (fault.BadLine n)) BadLine (stop_text (bad_line n)) s a wrote
-    (λ bytes left after items text w gives r. (n, stopped_out bytes left after held new items state text (fault.BadLine n) (bad_line n) w gives r r.refused))
+    (λ bytes left after items text w gives r. (n, stopped_out bytes left after held new items state text (fault.BadLine n) (bad_line n) w gives r r.refused.stuck))
 told_bad_line start before now kept keeps final held new state n (Err refused) s a wrote =
     replays_told start before now kept keeps final held state (λ left after. RefusesMap held new left after (fault.BadLine n)) (refused_status refused)
     (take wrote.0 (stop_text (bad_line n))) s a wrote.1
     (λ bytes left after items text w gives r.
     let still = gives_still state items text left after held new (fault.BadLine n) gives r in
     refused_begun refused bytes after (text ++ take wrote.0 (stop_text (bad_line n)))
-    (begun_stop bytes (items ++ r.items) (bad_line n) still.0 text wrote.0 (stops_here bytes left held items r.items (bad_line n) w r.refused) still.1))
+    (begun_stop bytes (items ++ r.items) (bad_line n) still.0 text wrote.0 (stuck_then unread held bytes left items r.items (bad_line n) w r.refused.stuck) still.1))
 
 pub told_fault : (start before now kept keeps final : Option (List ℕ)) (held new : Held) (state : Said) (met : ScriptFault) (status : Status)
     → Stands start before kept keeps held state → Tells held before now (λ left after. RefusesMap held new left after met)
@@ -261,7 +257,7 @@ ends_told (Some first) (Some left) (Some after) held items Says stop bytes w a i
     let same : first ≡ bytes = cc in
     let more = stopped left after (a w.at_end) in
     subst (λ (l : List ℕ). (reading l beginning).ends ≡ stuck_by stop) same
-    (ap (λ (v : Walk). v.ends) (stops_here first left held items more.0 stop w more.1))
+    (ap (λ (v : Walk). v.ends) (stuck_then unread held first left items more.0 stop w more.1))
 
 pub stop_done : (start before now kept keeps : Option (List ℕ)) (held new : Held) (state : Said) (reads reading_now writes writing_now : ℕ)
     → Stands start before kept keeps held state → TurnTold held new before now (Ok None)
@@ -289,7 +285,7 @@ pub stop_fault : (start before now kept keeps final : Option (List ℕ)) (held n
     → (met ≡ fault.ReadFault → Rose reads reading_now) → (status ≡ WriteFault → Rose writes writing_now)
     → (bytes : List ℕ) → start ≡ Some bytes → ComesByStop reads reading_now writes writing_now (reading bytes beginning).ends status
 stop_fault start before now kept keeps final held new state (fault.BadLine n) status reads reading_now writes writing_now s a (written, (wrote, is)) rose_read rose bytes told =
-    let ends = ends_told start before now held s.items (λ left after. RefusesMap held new left after (fault.BadLine n)) (bad_line n) bytes s.went a told (λ left after r. (r.items, r.refused)) in
+    let ends = ends_told start before now held s.items (λ left after. RefusesMap held new left after (fault.BadLine n)) (bad_line n) bytes s.went a told (λ left after r. (r.items, r.refused.stuck)) in
     stop_bad_line reads reading_now writes writing_now (reading bytes beginning).ends n written status is ends rose
 stop_fault start before now kept keeps final held new state fault.TooLong status reads reading_now writes writing_now s a (is, wrote) rose_read rose bytes told =
     let ends = ends_told start before now held s.items (λ left after. RefusesMap held new left after fault.TooLong) too_long bytes s.went a told (λ left after r. (r.items, r.refused)) in
@@ -297,3 +293,26 @@ stop_fault start before now kept keeps final held new state fault.TooLong status
 stop_fault start before now kept keeps final held new state fault.ReadFault status reads reading_now writes writing_now s a (is, wrote) rose_read rose bytes told =
     inr (inr (inl (is, rose_read refl)))
 stop_fault start before now kept keeps final held new state fault.NoMemory status reads reading_now writes writing_now s a (is, wrote) rose_read rose bytes told = inr (inl is)
+
+-- ---- why a line is bad
+
+why_by : (bytes left after : List ℕ) (held new : Held) (items : List Item) (met : ScriptFault) (bad : reason.BadLine) → Went bytes left held items → RefusesMap held new left after met
+    → IsHeldBad new met bad → IsWhyBad bytes bad
+why_by bytes left after held new items met bad w refused why =
+    let r = subst (λ (f : ScriptFault). RefusesMap held new left after f) why.line refused in
+    record {
+      stops = ap (λ (v : Walk). v.ends) (stuck_then unread held bytes left items r.items (bad_line bad.number) w r.refused.stuck);
+      cause = w.cause ∙ r.refused.cause ∙ why.cause;
+    }
+
+-- what is held is bad for the cause for which the input stops
+pub why_told : (start before now kept keeps : Option (List ℕ)) (held new : Held) (state : Said) (met : ScriptFault) (why : Option reason.BadLine)
+    → Stands start before kept keeps held state → Tells held before now (λ left after. RefusesMap held new left after met) → IfSome why (IsHeldBad new met)
+    → (bytes : List ℕ) → start ≡ Some bytes → IfSome why (IsWhyBad bytes)
+why_told start before now kept keeps held new state met None s a h bytes is = tt
+why_told None before now kept keeps held new state met (Some bad) s a h bytes is = cc
+why_told (Some first) None now kept keeps held new state met (Some bad) s a h bytes is = absurd s.went
+why_told (Some first) (Some left) None kept keeps held new state met (Some bad) s a h bytes is = absurd a
+why_told (Some first) (Some left) (Some after) kept keeps held new state met (Some bad) s a h bytes is =
+    let same : first ≡ bytes = cc in
+    subst (λ (l : List ℕ). IsWhyBad l bad) same (why_by first left after held new s.items met bad s.went (a s.went.at_end) h)

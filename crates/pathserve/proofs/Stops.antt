@@ -13,7 +13,7 @@ use Rattle.script_text.specs.declared.parts.Part.{Part}
 use Rattle.script_text.specs.declared.parts.Part.TheVariants.{BeforeMap as before_map, InBase as in_base, InTurns as in_turns}
 use Rattle.script_text.specs.Script.{Place, beginning, Item, Stop, whole_input, too_long, bad_line, Ends, at_place, stuck_by, Walk, chain_from, counted, reading_of, map_line, end_line, turn_line, placed_in_turn, base_line, placed_in, is_long, accept, walk, is_empty, finish_in, finish, last_line, reading}
 use Rattle.pathserve.specs.Output.{IsTakenText}
-use Rattle.pathserve.proofs.Lines.{walk-append}
+use Rattle.script_text.proofs.ReadWalk.{walk-append}
 use Rattle.pathserve.proofs.OneText.{taken_reading}
 
 -- ---- one line: the place after it has counted it, and a bad line has its number

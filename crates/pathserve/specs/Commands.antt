@@ -1,10 +1,30 @@
 -- The words of a command line.
-use Rattle.std.specs.Prelude.{ℕ, List, [], ◌∷◌, Option, Some, None, if◌then◌else◌, codes, bytes_eq}
+use Rattle.std.specs.Prelude.{ℕ, ◌+◌, ◌-◌, ◌*◌, ◌&&◌, List, [], ◌∷◌, Option, Some, None, if◌then◌else◌, nat_le, codes, bytes_eq}
+use Rattle.std.specs.Int.{is_in_range}
 use Rattle.pathserve.specs.declared.commands.Command.{Command}
 use Rattle.pathserve.specs.declared.commands.Command.TheVariants.{Replay}
 
--- the command of the words, where they are in the grammar: `replay` alone, for 4 workers
+-- the number of two digits, if it is at most 64
+abbrev pub up_to_64 : ℕ → ℕ → Option ℕ
+up_to_64 tens units = let n = (tens - 48) * 10 + (units - 48) in if nat_le n 64 then Some n else None
+
+-- the number from 1 to 64 that a word is in decimal, without a sign or a leading zero
+abbrev pub workers_of : List ℕ → Option ℕ
+workers_of [] = None
+workers_of (units ∷ []) = if is_in_range 49 57 units then Some (units - 48) else None
+workers_of (tens ∷ (units ∷ [])) = if is_in_range 49 57 tens && is_in_range 48 57 units then up_to_64 tens units else None
+workers_of (first ∷ (second ∷ (third ∷ rest))) = None
+
+-- so many workers replay, if there is a number
+abbrev pub replay_by : Option ℕ → Option Command
+replay_by None = None
+replay_by (Some workers) = Some (Replay workers)
+
+-- the command of the words, where they are in the grammar: `replay` for 4 workers, or `replay --workers N`
 abbrev pub command_of : List (List ℕ) → Option Command
 command_of [] = None
 command_of (word ∷ []) = if bytes_eq word (codes "replay") then Some (Replay 4) else None
-command_of (word ∷ (next ∷ words)) = None
+command_of (word ∷ (option ∷ [])) = None
+command_of (word ∷ (option ∷ (count ∷ []))) =
+    if bytes_eq word (codes "replay") && bytes_eq option (codes "--workers") then replay_by (workers_of count) else None
+command_of (word ∷ (option ∷ (count ∷ (next ∷ words)))) = None

@@ -1,3 +1,5 @@
 pub mod Commands
+pub mod Words
 pub mod Output
+pub mod Reasons
 pub mod inner

@@ -1,6 +1,7 @@
 //! The program as one call: scripts in, answers out.
 #![tactic(auto)]
 
+mod bad_lines;
 mod commands;
 mod laws;
 mod replay;
@@ -9,6 +10,7 @@ mod status;
 mod tests;
 mod writing;
 
+pub use bad_lines::BadLine;
 pub use commands::{Command, NotWords, read_words};
 pub use laws::{beginning_is_prefix, one_out, stop_is_not_taken, taken_text, text_is_one_thread};
 pub use replay::{run, run_replay};

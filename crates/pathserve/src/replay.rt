@@ -1,13 +1,18 @@
 //! The program's work: a script is read and answered turn by turn.
-ghost use Rattle.std.specs.Prelude.{◌≡◌, ◌≢◌, ◌≤◌, ◌⊎◌, ◌↔◌, ℕ, IfOk, List, Option, Some, None};
+ghost use Rattle.std.specs.Prelude.{◌≡◌, ◌≢◌, ◌^◌, ◌<◌, ◌≤◌, ◌⊎◌, ◌↔◌, ℕ, IfOk, IfSome, IsSome, List, Option, Some, None, length};
 ghost use Rattle.io_edges.specs.Faults.{Rose};
-ghost use Rattle.io_edges.specs.Passing.{HasTaken};
+ghost use Rattle.io_edges.specs.Passing.{HasGiven, HasTaken};
 ghost use Rattle.pathserve.specs.declared.commands.Command.TheVariants.{Replay};
 ghost use Rattle.pathserve.specs.Commands.{command_of};
 ghost use Rattle.script_text.specs.Script.{reading, beginning};
-ghost use Rattle.turn_core.specs.Turns.{after_turn};
+ghost use Rattle.script_text.specs.Reader.{HoldsRefused};
+ghost use Rattle.turn_core.specs.Turns.{after_turn, jobs};
 ghost use Rattle.pathserve.specs.Output.{IsTurnText, ReplaysTold, ComesByStop};
+ghost use Rattle.pathserve.specs.Reasons.{IsWhyBad};
+ghost use Rattle.pathserve.specs.inner.Stopping.{IsHeldBad};
+ghost use Rattle.pathserve.specs.inner.Writing.{StopsWith};
 
+use crate::bad_lines::{BadLine, why_bad};
 use crate::commands::{Command, read_words};
 use crate::status::Status;
 use crate::writing::{status_of, write_all, write_stop};
@@ -15,16 +20,21 @@ use answer_text::turn_text;
 use grid_versions::Version;
 use io_edges::{Gate, Sink, Source};
 use nav_types::{Bytes, NoMemory, Words};
-use script_text::ScriptReader;
+use path_workers::run_turn;
+use script_text::{ScriptFault, ScriptReader};
 use std::alloc::Global;
 use std::sync::Wait;
 use std::thread::Threads;
-use turn_core::{AnsweredTurn, TurnPosts, answer_turn, bare_version};
+use turn_core::{AnsweredTurn, ReadyTurn, TurnPosts, bare_version};
 
 /// All that the program does: reads the words, and does what they ask for. Where the words are not in the grammar the
 /// status is Usage, and nothing is read or written.
 ///
-/// At every status the sink keeps what it took behind what it had kept, and neither count of faults has fallen.
+/// At every status what was read and what is left in the source are what was left in it before, the sink keeps what it
+/// took behind what it had kept, and neither count of faults has fallen.
+///
+/// At the status BadLine `why` has the line and its cause, unless there was no memory to find it. At every other status
+/// it has none.
 pub fn run<R: Threads + Wait + Sync, S: Source, K: Sink, G: Gate + Sync>(
     rt: &R,
     alloc: Global,
@@ -32,6 +42,7 @@ pub fn run<R: Threads + Wait + Sync, S: Source, K: Sink, G: Gate + Sync>(
     source: &mut S,
     sink: &mut K,
     gate: &G,
+    why: &mut Option<BadLine>,
 ) -> Status
     ensures usage { (result ≡ Status.Usage) ↔ (command_of words.now ≡ None) }
     ensures untouched { result ≡ Status.Usage → (source.new ≡ source.old) × (sink.new ≡ sink.old) }
@@ -39,21 +50,32 @@ pub fn run<R: Threads + Wait + Sync, S: Source, K: Sink, G: Gate + Sync>(
         → ReplaysTold (S.left source.old) (S.left source.new) (K.kept sink.old) (K.kept sink.new) result }
     ensures stop { (workers : ℕ) (bytes : List ℕ) → command_of words.now ≡ Some (Replay workers) → S.left source.old ≡ Some bytes
         → ComesByStop (S.faults source.old) (S.faults source.new) (K.faults sink.old) (K.faults sink.new) (reading bytes beginning).ends result }
+    ensures given { HasGiven (S.left source.old) (S.left source.new) }
     ensures taken { HasTaken (K.kept sink.old) (K.kept sink.new) }
     ensures source_later { S.faults source.old ≤ S.faults source.new }
     ensures sink_later { K.faults sink.old ≤ K.faults sink.new }
     ensures read { result ≡ Status.ReadFault → Rose (S.faults source.old) (S.faults source.new) }
     ensures write { result ≡ Status.WriteFault → Rose (K.faults sink.old) (K.faults sink.new) }
+    ensures why { (bytes : List ℕ) → S.left source.old ≡ Some bytes → IfSome why.new (IsWhyBad bytes) }
+    ensures only { IsSome why.new → result ≡ Status.BadLine }
 {
     match read_words(words) {
-        Ok(Command::Replay { workers }) => run_replay(rt, alloc, workers, source, sink, gate),
-        Err(_) => Status::Usage,
+        Ok(Command::Replay { workers }) => run_replay(rt, alloc, workers, source, sink, gate, why),
+        Err(_) => {
+            *why = None;
+            Status::Usage
+        }
     }
 }
 
 /// Answers a script turn by turn: the text of a turn is written as one piece when its end line was read. It waits for
 /// nobody. What was written is the output text of the input (`IsOut`) where the reading of it stops, and else a
-/// beginning of that (`IsBeginning`). The workers, 1 to 64, and the gate are not used yet.
+/// beginning of that (`IsBeginning`).
+///
+/// So many workers, 1 to 64, answer the jobs of a turn, and each passes the gate once before it solves a job. The answers
+/// are the same for any number of them. It returns where the gate returns.
+///
+/// `why` has at the end what it has behind `run`.
 pub fn run_replay<R: Threads + Sync, S: Source, K: Sink, G: Gate + Sync>(
     rt: &R,
     alloc: Global,
@@ -61,6 +83,7 @@ pub fn run_replay<R: Threads + Sync, S: Source, K: Sink, G: Gate + Sync>(
     source: &mut S,
     sink: &mut K,
     gate: &G,
+    why: &mut Option<BadLine>,
 ) -> Status
     requires some { 1 ≤ workers }
     requires few { workers ≤ 64 }
@@ -68,19 +91,23 @@ pub fn run_replay<R: Threads + Sync, S: Source, K: Sink, G: Gate + Sync>(
     ensures stop { (bytes : List ℕ) → S.left source.old ≡ Some bytes
         → ComesByStop (S.faults source.old) (S.faults source.new) (K.faults sink.old) (K.faults sink.new) (reading bytes beginning).ends result }
     ensures usage { result ≢ Status.Usage }
+    ensures given { HasGiven (S.left source.old) (S.left source.new) }
     ensures taken { HasTaken (K.kept sink.old) (K.kept sink.new) }
     ensures source_later { S.faults source.old ≤ S.faults source.new }
     ensures sink_later { K.faults sink.old ≤ K.faults sink.new }
     ensures read { result ≡ Status.ReadFault → Rose (S.faults source.old) (S.faults source.new) }
     ensures write { result ≡ Status.WriteFault → Rose (K.faults sink.old) (K.faults sink.new) }
+    ensures why { (bytes : List ℕ) → S.left source.old ≡ Some bytes → IfSome why.new (IsWhyBad bytes) }
+    ensures only { IsSome why.new → result ≡ Status.BadLine }
 {
+    *why = None;
     let mut reader = match ScriptReader::new(alloc) {
         Ok(reader) => reader,
         Err(NoMemory) => return Status::NoMemory,
     };
     let map = match reader.read_map(alloc, source) {
         Ok(map) => map,
-        Err(fault) => return write_stop(alloc, sink, fault),
+        Err(fault) => return stop_at(alloc, sink, &reader, fault, why),
     };
     let mut version = match bare_version(alloc, &map) {
         Ok(version) => version,
@@ -91,7 +118,7 @@ pub fn run_replay<R: Threads + Sync, S: Source, K: Sink, G: Gate + Sync>(
         match reader.next_turn(alloc, source) {
             Ok(Some(posts)) => {
                 turns += 1;
-                let told = match answered(alloc, &version, turns, &posts) {
+                let told = match answered(rt, alloc, &version, turns, posts, workers, gate) {
                     Ok(told) => told,
                     Err(NoMemory) => return Status::NoMemory,
                 };
@@ -101,9 +128,32 @@ pub fn run_replay<R: Threads + Sync, S: Source, K: Sink, G: Gate + Sync>(
                 }
             }
             Ok(None) => return Status::Done,
-            Err(fault) => return write_stop(alloc, sink, fault),
+            Err(fault) => return stop_at(alloc, sink, &reader, fault, why),
         }
     }
+}
+
+/// The status where no part of the script came. A bad line is named, and then it is found why it is bad.
+fn stop_at<K: Sink>(
+    alloc: Global,
+    sink: &mut K,
+    reader: &ScriptReader,
+    fault: ScriptFault,
+    why: &mut Option<BadLine>,
+) -> Status
+    requires held { HoldsRefused reader.now fault }
+    ensures stops { StopsWith fault (K.kept sink.old) (K.kept sink.new) result }
+    ensures later { K.faults sink.old ≤ K.faults sink.new }
+    ensures write { result ≡ Status.WriteFault → Rose (K.faults sink.old) (K.faults sink.new) }
+    ensures why { IfSome why.new (IsHeldBad reader.now fault) }
+    ensures only { IsSome why.new → result ≡ Status.BadLine }
+{
+    let status = write_stop(alloc, sink, fault);
+    *why = match status {
+        Status::BadLine => why_bad(alloc, reader, fault),
+        _ => None,
+    };
+    status
 }
 
 /// The text of a turn's answers, and the version after the turn.
@@ -113,18 +163,30 @@ struct Told {
     after: Version,
 }
 
-/// Answers the turn of a number on the version before it.
-fn answered(
+/// Answers the turn of a number on the version before it, by so many workers, each of whom passes the gate before it
+/// solves a job.
+fn answered<R: Threads + Sync, G: Gate + Sync>(
+    rt: &R,
     alloc: Global,
     version: &Version,
     turn: u64,
-    posts: &TurnPosts,
+    posts: TurnPosts,
+    workers: u8,
+    gate: &G,
 ) -> Result<Told, NoMemory>
-    ensures text { IfOk result (λ told. IsTurnText version.now.map version.now.standing turn posts.now told.text) }
+    requires some { 1 ≤ workers }
+    requires most { workers ≤ 64 }
+    requires few { length (jobs posts) < 2 ^ 32 }
+    ensures text { IfOk result (λ told. IsTurnText version.now.map version.now.standing turn posts told.text) }
     ensures map { IfOk result (λ told. told.after.map ≡ version.now.map) }
-    ensures standing { IfOk result (λ told. told.after.standing ≡ after_turn version.now.map version.now.standing posts.now) }
+    ensures standing { IfOk result (λ told. told.after.standing ≡ after_turn version.now.map version.now.standing posts) }
 {
-    let AnsweredTurn { replies, after } = answer_turn(alloc, version, posts)?;
+    let ready = match ReadyTurn::new(alloc, version, posts) {
+        Ok(ready) => ready,
+        Err((NoMemory, _posts)) => return Err(NoMemory),
+    };
+    let answers = run_turn(rt, alloc, ready.version(), ready.jobs(), workers, gate)?;
+    let (_posts, AnsweredTurn { replies, after }) = ready.answered(answers);
     let text = turn_text(alloc, turn, &replies)?;
     Ok(Told { text, after })
 }

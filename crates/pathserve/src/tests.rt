@@ -3,6 +3,7 @@ use super::*;
 use io_edges::{MemorySink, MemorySource, OpenGate};
 use itoa::Buffer;
 use nav_types::{Bytes, NoMemory, Words};
+use script_text::{Cause, Key, Wanted};
 use std::alloc::Global;
 use std::sync::Wait;
 use std::test::Fail;
@@ -21,10 +22,11 @@ const MAP_LINE: &str =
 const LARGE_MAP: &str =
     "{\"version\":1,\"size\":[256,256],\"callers\":1,\"classes\":[{\"name\":\"default\",\"clearance\":\"0\"}]}\n";
 
-/// How a run ended, and what it wrote.
+/// How a run ended, why a line was bad, and what it wrote.
 #[derive(Drop)]
 struct Ran {
     status: Status,
+    why: Option<BadLine>,
     sink: MemorySink,
 }
 
@@ -51,8 +53,17 @@ fn run_over<R: Threads + Wait + Sync>(
     let words = words_of(alloc, words)?;
     let mut source = MemorySource::new(alloc, bytes, 4096, read_fails)?;
     let mut sink = MemorySink::new(alloc, 4096, write_fails)?;
-    let status = run(rt, alloc, &words, &mut source, &mut sink, &OpenGate);
-    Ok(Ran { status, sink })
+    let mut why = None;
+    let status = run(
+        rt,
+        alloc,
+        &words,
+        &mut source,
+        &mut sink,
+        &OpenGate,
+        &mut why,
+    );
+    Ok(Ran { status, why, sink })
 }
 
 /// The parts of a script, one after another.
@@ -102,6 +113,34 @@ fn scripts_are_answered(rt: HostRuntime) {
     }
 }
 
+/// Whether a replay of a map line and these lines ends at this bad line, for this cause.
+fn is_bad_for<R: Threads + Wait + Sync>(rt: &R, alloc: Global, lines: &str, bad: BadLine) -> bool {
+    let Ok(text) = script(alloc, &[MAP_LINE, lines]) else {
+        return false;
+    };
+    match run_over(rt, alloc, &["replay"], text.as_slice(), &[], &[]) {
+        Ok(ran) => ran.why == Some(bad),
+        Err(NoMemory) => false,
+    }
+}
+
+#[test]
+fn a_bad_line_has_its_cause(rt: HostRuntime) {
+    let second_end = BadLine {
+        number: 2,
+        cause: Cause::WrongValue {
+            key: Key::End,
+            wanted: Wanted::Turn { number: 1 },
+        },
+    };
+    let no_end = BadLine {
+        number: 3,
+        cause: Cause::EndsInsideTurn,
+    };
+    assert!(rt; is_bad_for(&rt, rt.alloc(), "\n{\"end\":2}\n", second_end));
+    assert!(rt; is_bad_for(&rt, rt.alloc(), "\n{\"caller\":0,\"remove\":1}", no_end));
+}
+
 /// Whether a replay over a source and a sink of small pieces is that over large ones.
 fn replays_in_pieces<R: Threads + Wait + Sync>(
     rt: &R,
@@ -112,7 +151,16 @@ fn replays_in_pieces<R: Threads + Wait + Sync>(
     let words = words_of(alloc, &["replay"])?;
     let mut source = MemorySource::new(alloc, script.as_bytes(), 7, &[])?;
     let mut sink = MemorySink::new(alloc, 5, &[])?;
-    let status = run(rt, alloc, &words, &mut source, &mut sink, &OpenGate);
+    let mut why = None;
+    let status = run(
+        rt,
+        alloc,
+        &words,
+        &mut source,
+        &mut sink,
+        &OpenGate,
+        &mut why,
+    );
     Ok(status == Status::Done && sink.kept() == answers.as_bytes())
 }
 
@@ -135,11 +183,64 @@ fn is_usage<R: Threads + Wait + Sync>(rt: &R, alloc: Global, words: &[&str]) -> 
     )
 }
 
+/// Words that are not in the grammar.
+const OTHER_WORDS: [&[&str]; 12] = [
+    &[],
+    &["make", "07"],
+    &["replay", "--workers=4"],
+    &["replay", "--workers"],
+    &["replay", "--workers", ""],
+    &["replay", "--workers", "0"],
+    &["replay", "--workers", "01"],
+    &["replay", "--workers", "+1"],
+    &["replay", "--workers", "65"],
+    &["replay", "--workers", "100"],
+    &["replay", "--workers", "4", "--workers", "4"],
+    &["--workers", "4", "replay"],
+];
+
 #[test]
 fn other_words_read_nothing(rt: HostRuntime) {
-    assert!(rt; is_usage(&rt, rt.alloc(), &[]));
-    assert!(rt; is_usage(&rt, rt.alloc(), &["make", "07"]));
-    assert!(rt; is_usage(&rt, rt.alloc(), &["replay", "--workers=4"]));
+    for words in OTHER_WORDS {
+        assert!(rt; is_usage(&rt, rt.alloc(), words));
+    }
+}
+
+/// Four times the same path, and the answers to it.
+const FOUR_ALIKE: (&str, &str) = (
+    "{\"version\":1,\"size\":[3,3],\"callers\":1,\"classes\":[{\"name\":\"default\",\"clearance\":\"0\"}]}\n\
+{\"caller\":0,\"path\":\"default\",\"from\":[\"0.5\",\"0.5\"],\"goal\":{\"point\":[\"2.5\",\"2.5\"]}}\n\
+{\"caller\":0,\"path\":\"default\",\"from\":[\"0.5\",\"0.5\"],\"goal\":{\"point\":[\"2.5\",\"2.5\"]}}\n\
+{\"caller\":0,\"path\":\"default\",\"from\":[\"0.5\",\"0.5\"],\"goal\":{\"point\":[\"2.5\",\"2.5\"]}}\n\
+{\"caller\":0,\"path\":\"default\",\"from\":[\"0.5\",\"0.5\"],\"goal\":{\"point\":[\"2.5\",\"2.5\"]}}\n\
+{\"end\":1}\n",
+    "turn 1 regions 1 edges 0 areas 1 relabelled 0\n\
+0 0 path 0 0 2 2 goal 185364 1 2.5,2.5\n\
+0 1 path 0 0 2 2 goal 185364 1 2.5,2.5\n\
+0 2 path 0 0 2 2 goal 185364 1 2.5,2.5\n\
+0 3 path 0 0 2 2 goal 185364 1 2.5,2.5\n",
+);
+
+/// Whether so many workers give the answers to the four paths.
+fn answers_four<R: Threads + Wait + Sync>(rt: &R, alloc: Global, workers: &str) -> bool {
+    let (script, answers) = FOUR_ALIKE;
+    runs_to(
+        rt,
+        alloc,
+        &["replay", "--workers", workers],
+        script.as_bytes(),
+        &[],
+        &[],
+        Status::Done,
+        answers,
+    )
+}
+
+#[test]
+fn any_number_of_workers_answers_alike(rt: HostRuntime) {
+    for workers in ["1", "2", "64"] {
+        assert!(rt; answers_four(&rt, rt.alloc(), workers), "{workers} workers");
+    }
 }
 
 /// Whether a replay whose read of this number fails ends with a read fault, and has written the text and nothing more.

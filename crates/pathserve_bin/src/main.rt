@@ -5,7 +5,8 @@ use io_edges::{OpenGate, StdSink, StdSource};
 use nav_types::{Bytes, NoMemory, Words};
 use pathserve::{Status, run};
 use std::env;
-use std::io::{self, ErrorKind};
+use std::fmt::Display;
+use std::io::{self, ErrorKind, Write};
 use std::process::ExitCode;
 
 /// The exit status where the system does not give the words as text.
@@ -46,14 +47,40 @@ fn words_after_name(rt: &HostRuntime) -> Result<Words, WordsRefusal> {
     Ok(words)
 }
 
+/// Writes one line to standard error. Where that takes nothing, the answers and the exit status stay as they are.
+fn say<T: Display>(rt: &HostRuntime, reason: &T) {
+    let mut errors = rt.stderr();
+    let _said = writeln!(errors, "pathserve: {reason}");
+}
+
 fn main(rt: HostRuntime) -> ExitCode {
     let words = match words_after_name(&rt) {
         Ok(words) => words,
-        Err(WordsRefusal::NoText) => return ExitCode::from(NO_TEXT),
-        Err(WordsRefusal::NoMemory) => return ExitCode::from(Status::NoMemory as u8),
+        Err(WordsRefusal::NoText) => {
+            say(&rt, &"the system does not give the words as text");
+            return ExitCode::from(NO_TEXT);
+        }
+        Err(WordsRefusal::NoMemory) => {
+            say(&rt, &Status::NoMemory);
+            return ExitCode::from(Status::NoMemory as u8);
+        }
     };
     let mut source = StdSource::new(rt.stdin());
     let mut sink = StdSink::new(rt.stdout());
-    let status = run(&rt, rt.alloc(), &words, &mut source, &mut sink, &OpenGate);
+    let mut why = None;
+    let status = run(
+        &rt,
+        rt.alloc(),
+        &words,
+        &mut source,
+        &mut sink,
+        &OpenGate,
+        &mut why,
+    );
+    match why {
+        Some(bad) => say(&rt, &bad),
+        None if status == Status::Done => {}
+        None => say(&rt, &status),
+    }
     ExitCode::from(status as u8)
 }

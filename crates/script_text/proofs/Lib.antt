@@ -24,3 +24,8 @@ pub mod BackMaps
 pub mod BackLines
 pub mod BackWalk
 pub mod BackScript
+pub mod CauseLemmas
+pub mod FirstLines
+pub mod HeldCauses
+pub mod StopCauses
+pub mod WrongValues

@@ -1,5 +1,5 @@
 -- The calls of the reader over a source that tells its bytes.
-use Rattle.std.proofs.Common.{◌≡◌, ◌≢◌, ℕ, ◌+◌, List, [], ◌∷◌, ◌++◌, Option, Some, None, Result, Ok, Err, IfErr, OnOk, IsTrue, IsSome, option_and_then, refl, ap, sym, subst, ◌∙◌, append_assoc}
+use Rattle.std.proofs.Common.{◌≡◌, ◌≢◌, ℕ, ◌+◌, List, [], ◌∷◌, ◌++◌, Option, Some, None, Result, Ok, Err, IfErr, OnErr, OnOk, IsTrue, IsSome, option_and_then, refl, ap, sym, subst, ◌∙◌, append_assoc}
 use Rattle.std.proofs.lemmas.List.Elements.{All-nil, All-append}
 use Rattle.script_text.specs.declared.faults.ScriptFault.{ScriptFault}
 use Rattle.script_text.specs.declared.faults.ScriptFault.TheVariants.{BadLine, TooLong, ReadFault, NoMemory}
@@ -12,15 +12,15 @@ use Rattle.script_text.specs.Lines.{unlines, IsPlain}
 use Rattle.script_text.specs.declared.parts.Rules.{Rules}
 use Rattle.script_text.specs.declared.parts.Part.{Part}
 use Rattle.script_text.specs.declared.parts.Part.TheVariants.{BeforeMap, InBase, InTurns}
-use Rattle.script_text.specs.Script.{Place, beginning, Item, begins, adds_base, ends_turn, Stop, whole_input, too_long, bad_line, arrived, stuck, chain, map_after, map_after_item, turns_of, accept, walk, finish, reading}
+use Rattle.script_text.specs.Script.{Place, beginning, Item, begins, adds_base, ends_turn, Stop, whole_input, too_long, bad_line, arrived, stuck, chain, map_after, map_after_item, turns_of, counted, accept, walk, finish, reading}
 use Rattle.script_text.specs.Reader.{Held, UsesLines, GoesOn, StopsAtFault, Refuses, GivesMap, MapAnswers, MapTold, TurnTold, stuck_after, callers_of, post_count, rules_at, WhereTold}
 use Rattle.script_text.specs.inner.Taking.{Taken, HeldLine, newline_of, HasEnd, IsWholeLine, IsUsedUp, TakesNext, NextAnswer, NextTold}
-use Rattle.script_text.specs.inner.Judging.{IsStuckBy, BeginsMap, UsesBase, KeepsLine, TakesBase, AddsToMap, BaseAnswers, BaseTold, IsInTurns, IsBetweenTurns, IsNoBaseAt, IsNoBaseLine, IsNoBaseNext, after_line, held_at}
+use Rattle.script_text.specs.inner.Judging.{IsBadAt, IsStuckBy, BeginsMap, UsesBase, KeepsLine, TakesBase, AddsToMap, BaseAnswers, BaseTold, IsInTurns, IsBetweenTurns, IsNoBaseAt, IsNoBaseLine, IsNoBaseNext, after_line, held_at}
 use Rattle.script_text.specs.Forms.{base_of}
 use Rattle.script_text.proofs.ReadSize.{reading_of-nil}
 use Rattle.script_text.proofs.ReadTold.{told-same, told-weaker, told-then}
-use Rattle.script_text.proofs.ReadWalk.{chain-assoc, chain-same, line_at}
-use Rattle.script_text.proofs.ReadNext.{not_ended, goes_nowhere, goes_next, goes_line, refuses_line, refuses_next, reading-used_up, stuck_line}
+use Rattle.script_text.proofs.ReadWalk.{walk-append}
+use Rattle.script_text.proofs.ReadNext.{not_ended, goes_nowhere, goes_next, goes_line, refuses_line, refuses_next, reading-used_up, stops_at_end, stops_line, stuck_line}
 
 -- ---- items
 
@@ -38,10 +38,6 @@ no_turns : (xs ys : List Item) → turns_of xs ≡ [] → turns_of ys ≡ [] →
 no_turns xs ys first next = turns_of-append xs ys ∙ ap (λ turns. turns ++ turns_of ys) first ∙ next
 
 -- ---- one call behind another
-
-walk-append : (lines more : List (List ℕ)) (p : Place) → walk (lines ++ more) p ≡ chain (walk lines p) (λ q. walk more q)
-walk-append [] more p = refl
-walk-append (line ∷ lines) more p = chain-same (line_at line p) _ _ (λ q. walk-append lines more q) ∙ sym (chain-assoc (line_at line p) (λ q. walk lines q) (λ q. walk more q))
 
 unlines-append : (lines more : List (List ℕ)) (rest : List ℕ) → unlines (lines ++ more) ++ rest ≡ unlines lines ++ (unlines more ++ rest)
 unlines-append [] more rest = refl
@@ -61,20 +57,21 @@ uses_then a b c taken more xs ys u v = record {
 took_then : (x y z taken more : List ℕ) → x ≡ taken ++ y → y ≡ more ++ z → x ≡ (taken ++ more) ++ z
 took_then x y z taken more first next = first ∙ ap (λ l. taken ++ l) next ∙ sym (append_assoc taken more z)
 
-goes_then : (a b c : Held) (x y z : List ℕ) (xs ys : List Item) → (IsTrue b.ended → IsTrue c.ended) → GoesOn a b x y xs → GoesOn b c y z ys → GoesOn a c x z (xs ++ ys)
+pub goes_then : (a b c : Held) (x y z : List ℕ) (xs ys : List Item) → (IsTrue b.ended → IsTrue c.ended) → GoesOn a b x y xs → GoesOn b c y z ys → GoesOn a c x z (xs ++ ys)
 goes_then a b c x y z xs ys stays g h = record {
   taken = g.taken ++ h.taken;
   took = took_then x y z g.taken h.taken g.took h.took;
   same = g.same ∙ ap (λ w. chain (arrived xs b.place) (λ q. w)) h.same
       ∙ ap (λ items. record { items = items; ends = (reading (c.bytes ++ z) c.place).ends }) (sym (append_assoc xs ys (reading (c.bytes ++ z) c.place).items));
+  cause = g.cause ∙ h.cause;
   at_end = h.at_end;
   used = λ going. uses_then a b c g.taken h.taken xs ys (g.used (not_ended b.ended c.ended stays going)) (h.used going);
 }
 
-stuck_then : (a b : Held) (x y : List ℕ) (xs ys : List Item) (s : Stop) → GoesOn a b x y xs → reading (b.bytes ++ y) b.place ≡ stuck_after ys s → reading (a.bytes ++ x) a.place ≡ stuck_after (xs ++ ys) s
+pub stuck_then : (a b : Held) (x y : List ℕ) (xs ys : List Item) (s : Stop) → GoesOn a b x y xs → reading (b.bytes ++ y) b.place ≡ stuck_after ys s → reading (a.bytes ++ x) a.place ≡ stuck_after (xs ++ ys) s
 stuck_then a b x y xs ys s g e = g.same ∙ ap (λ w. chain (arrived xs b.place) (λ q. w)) e
 
-fault_then : (a b c : Held) (x y z : List ℕ) (xs ys : List Item) → (IsTrue a.ended → IsTrue b.ended) → GoesOn a b x y xs → StopsAtFault b c y z ys → StopsAtFault a c x z (xs ++ ys)
+pub fault_then : (a b c : Held) (x y z : List ℕ) (xs ys : List Item) → (IsTrue a.ended → IsTrue b.ended) → GoesOn a b x y xs → StopsAtFault b c y z ys → StopsAtFault a c x z (xs ++ ys)
 fault_then a b c x y z xs ys stays g s = record {
   going = not_ended a.ended b.ended stays s.going;
   taken = g.taken ++ s.taken;
@@ -165,22 +162,25 @@ first_by p q h now size x z m end stays w plain e t = record {
 
 -- a first line that is the map line, or is refused
 pub first_told : (p q : Place) (h now after : HeldLine) (size room : ℕ) (result : Result Map ScriptFault) (a c : Option (List ℕ)) → (IsTrue h.rest.ended → IsTrue now.rest.ended) → IsWholeLine now size → IsPlain now.line
-    → BeginsMap (accept size now.line p) q result → OnOk result (after ≡ after_line now) → IfErr result (λ fault. (n : ℕ) → fault ≡ BadLine n → n ≡ 1) → NextTold h now a c room (Ok (Some size))
+    → BeginsMap (accept size now.line p) q result → OnOk result (after ≡ after_line now) → IfErr result (λ fault. (n : ℕ) → fault ≡ BadLine n → n ≡ 1)
+    → OnErr result (after ≡ now) → IfErr result (IsBadAt q (counted p size)) → NextTold h now a c room (Ok (Some size))
     → MapTold (held_at p h) (held_at q after) a c result
-first_told p q h now after size room (Ok m) a c stays w plain e used number next =
+first_told p q h now after size room (Ok m) a c stays w plain e used number kept at next =
     let Said : HeldLine → Type 0 = λ l. MapTold (held_at p h) (held_at q l) a c (Ok m) in
     subst Said (sym used) (told-weaker a c _ _ (λ x z n end. first_by p q h now size x z m end stays w plain e (n end)) next)
-first_told p q h now after size room (Err (BadLine n)) a c stays w plain e used number next =
-    told-weaker a c _ _ (λ x z t end. (number n refl, stuck_line (held_at p h) p now size x z [] (bad_line n) w plain e (first_on p h now x z end stays (t end)))) next
-first_told p q h now after size room (Err TooLong) a c stays w plain e used number next =
+first_told p q h now after size room (Err (BadLine n)) a c stays w plain e used number kept at next =
+    let Said : HeldLine → Type 0 = λ l. MapTold (held_at p h) (held_at q l) a c (Err (BadLine n)) in
+    subst Said (sym kept) (told-weaker a c _ _ (λ x z t end.
+    (number n refl, stops_line (held_at p h) p q now size x z [] n w plain e at.0 (first_on p h now x z end stays (t end)))) next)
+first_told p q h now after size room (Err TooLong) a c stays w plain e used number kept at next =
     told-weaker a c _ _ (λ x z t end. record { items = []; refused = stuck_line (held_at p h) p now size x z [] too_long w plain e (first_on p h now x z end stays (t end)); no_turn = refl }) next
-first_told p q h now after size room (Err ReadFault) a c stays w plain e used number next = absurd e
-first_told p q h now after size room (Err NoMemory) a c stays w plain e used number next = told-weaker a c _ _ (λ x z t end. tt) next
+first_told p q h now after size room (Err ReadFault) a c stays w plain e used number kept at next = absurd e
+first_told p q h now after size room (Err NoMemory) a c stays w plain e used number kept at next = told-weaker a c _ _ (λ x z t end. tt) next
 
 pub first_missing : (p : Place) (h now : HeldLine) (room : ℕ) (a c : Option (List ℕ)) → p ≡ beginning → (IsTrue h.rest.ended → IsTrue now.rest.ended) → IsUsedUp now → NextTold h now a c room (Ok None)
     → MapTold (held_at p h) (held_at p now) a c (Err (BadLine 1))
 first_missing p h now room a c first stays u next =
-    told-weaker a c _ _ (λ x z t end. (refl, reading-used_up (held_at p h) p now x z [] u (first_on p h now x z end stays (t end)) ∙ ap (λ r. finish r) first)) next
+    told-weaker a c _ _ (λ x z t end. (refl, stops_at_end (held_at p h) p now x z [] 1 u (ap (λ r. finish r) first) (first_on p h now x z end stays (t end)))) next
 
 first_refused : (p : Place) (h now : HeldLine) (room : ℕ) (x z : List ℕ) (fault : ScriptFault) → room + p.bytes ≡ 4294967296 → (IsTrue h.rest.ended → x ≡ []) → IsPlain now.line
     → NextAnswer h now room (Err fault) x z → MapAnswers (held_at p h) (held_at p now) (Err fault) x z
@@ -256,10 +256,13 @@ turn_told old p q h now after size room posts a b c stays w plain e used told ne
     subst Said (sym used) (told-then a b c _ _ _ (λ x y z t n end. turn_on old p q h now size x y z (ends_turn posts ∷ []) stays w plain e (t end) (n (t end).at_end)) told next)
 
 -- a line that is refused
-pub turn_refused : (old new : Held) (p : Place) (h now : HeldLine) (size room : ℕ) (fault : ScriptFault) (a b c : Option (List ℕ)) → (IsTrue h.rest.ended → IsTrue now.rest.ended) → IsWholeLine now size → IsPlain now.line
-    → IsStuckBy (accept size now.line p) fault → GoesTold old (held_at p h) a b → NextTold h now b c room (Ok (Some size)) → TurnTold old new a c (Err fault)
-turn_refused old new p h now size room fault a b c stays w plain e told next =
-    told-then a b c _ _ _ (λ x y z t n end. refuses_line old new p now size x z [] fault w plain e (goes_next old p h now x y z [] stays (t end) (n (t end).at_end))) told next
+pub turn_refused : (old : Held) (p q : Place) (h now after : HeldLine) (size room : ℕ) (fault : ScriptFault) (a b c : Option (List ℕ)) → (IsTrue h.rest.ended → IsTrue now.rest.ended)
+    → IsWholeLine now size → IsPlain now.line → IsStuckBy (accept size now.line p) fault → IsBadAt q (counted p size) fault → after ≡ now
+    → GoesTold old (held_at p h) a b → NextTold h now b c room (Ok (Some size)) → TurnTold old (held_at q after) a c (Err fault)
+turn_refused old p q h now after size room fault a b c stays w plain e at kept told next =
+    let Said : HeldLine → Type 0 = λ l. TurnTold old (held_at q l) a c (Err fault) in
+    subst Said (sym kept) (told-then a b c _ _ _ (λ x y z t n end.
+    refuses_line old p q now size x z [] fault w plain e at (goes_next old p h now x y z [] stays (t end) (n (t end).at_end))) told next)
 
 -- no next line came
 pub turn_fault : (old : Held) (p : Place) (h now : HeldLine) (room : ℕ) (fault : ScriptFault) (a b c : Option (List ℕ)) → room + p.bytes ≡ 4294967296 → (IsTrue old.ended → IsTrue h.rest.ended) → IsPlain now.line
@@ -274,17 +277,17 @@ turn_none old p h now room a b c stays u e told next = told-then a b c _ _ _ (λ
     let g = goes_next old p h now x y z [] stays (t end) (n (t end).at_end) in
     record { whole = reading-used_up old p now x z [] u g ∙ e; nothing = g.at_end u.ended }) told next
 
-end_refused : (old new : Held) (p : Place) (now : HeldLine) (x z : List ℕ) (fault : ScriptFault) → IsUsedUp now → IsStuckBy (finish p) fault → GoesOn old (held_at p now) x z []
-    → Refuses old new x z [] fault
-end_refused old new p now x z (BadLine n) u e g = reading-used_up old p now x z [] u g ∙ e
-end_refused old new p now x z TooLong u e g = reading-used_up old p now x z [] u g ∙ e
-end_refused old new p now x z ReadFault u e g = absurd e
-end_refused old new p now x z NoMemory u e g = tt
+end_refused : (old : Held) (p : Place) (now : HeldLine) (x z : List ℕ) (fault : ScriptFault) → IsUsedUp now → IsStuckBy (finish p) fault → GoesOn old (held_at p now) x z []
+    → Refuses old (held_at p now) x z [] fault
+end_refused old p now x z (BadLine n) u e g = stops_at_end old p now x z [] n u e g
+end_refused old p now x z TooLong u e g = reading-used_up old p now x z [] u g ∙ e
+end_refused old p now x z ReadFault u e g = absurd e
+end_refused old p now x z NoMemory u e g = tt
 
-pub turn_missing : (old new : Held) (p : Place) (h now : HeldLine) (room : ℕ) (fault : ScriptFault) (a b c : Option (List ℕ)) → (IsTrue h.rest.ended → IsTrue now.rest.ended) → IsUsedUp now → IsStuckBy (finish p) fault
-    → GoesTold old (held_at p h) a b → NextTold h now b c room (Ok None) → TurnTold old new a c (Err fault)
-turn_missing old new p h now room fault a b c stays u e told next = told-then a b c _ _ _ (λ x y z t n end.
-    end_refused old new p now x z fault u e (goes_next old p h now x y z [] stays (t end) (n (t end).at_end))) told next
+pub turn_missing : (old : Held) (p : Place) (h now : HeldLine) (room : ℕ) (fault : ScriptFault) (a b c : Option (List ℕ)) → (IsTrue h.rest.ended → IsTrue now.rest.ended) → IsUsedUp now → IsStuckBy (finish p) fault
+    → GoesTold old (held_at p h) a b → NextTold h now b c room (Ok None) → TurnTold old (held_at p now) a c (Err fault)
+turn_missing old p h now room fault a b c stays u e told next = told-then a b c _ _ _ (λ x y z t n end.
+    end_refused old p now x z fault u e (goes_next old p h now x y z [] stays (t end) (n (t end).at_end))) told next
 
 -- ---- what holds of any source
 

@@ -1,13 +1,14 @@
 -- Nothing is read ahead: each read is made where no newline is held, and so where no turn is.
-use Rattle.std.proofs.Common.{◌≡◌, ◌≢◌, ℕ, ◌≤◌, ◌⊎◌, List, [], ◌∷◌, ◌++◌, length, take, Bool, Option, Some, None, IsFalse, IsTrue, refl, ap, sym, subst, inl, inr, ◌∙◌, arith, append_assoc, length-take}
+use Rattle.std.proofs.Common.{◌≡◌, ◌≢◌, ℕ, ◌⊎◌, List, [], ◌++◌, length, take, Bool, Option, Some, None, IsFalse, IsTrue, refl, ap, sym, subst, inl, inr, ◌∙◌, arith, append_assoc, length-take}
 use Rattle.std.specs.Io.KnownBytes.{Consumes, Keeps}
 use Rattle.std.proofs.lemmas.Bool.{false≢true}
 use Rattle.std.proofs.lemmas.List.{append-nil}
 use Rattle.std.proofs.lemmas.List.Elements.{All-nil, All-append}
+use Rattle.io_edges.specs.Passing.{HasGiven}
 use Rattle.script_text.specs.Lines.{full_lines, unlines, IsPlain}
 use Rattle.script_text.specs.Script.{Place, walk}
 use Rattle.script_text.specs.Reader.{Held, GoesOn, ReadsForTurn, TakesNoneAhead}
-use Rattle.script_text.specs.inner.Taking.{Taken, ReadsForLine, ReadsByNeed, ReadsByNeedTold, HeldLine, bytes_of}
+use Rattle.script_text.specs.inner.Taking.{Taken, ReadsByNeed, ReadsByNeedTold, HeldLine, bytes_of}
 use Rattle.script_text.specs.inner.Judging.{held_at}
 use Rattle.script_text.proofs.ReadLines.{full_lines-plain}
 use Rattle.script_text.proofs.ReadTold.{InLine, InLineTold, told-same}
@@ -102,3 +103,19 @@ ahead_on old p h None b c stays told before next = tt
 ahead_on old p h (Some x) None c stays told before next = absurd told
 ahead_on old p h (Some x) (Some y) None stays told before next = absurd next
 ahead_on old p h (Some x) (Some y) (Some z) stays told before next = ahead_by old p h x y z stays told before next
+
+-- ---- what the source gave
+
+pub given_by_need : (held : List ℕ) (ended : Bool) (a b : Option (List ℕ)) → ReadsByNeedTold held ended a b → HasGiven a b
+given_by_need held ended None b reads = record { given = []; rest = tt }
+given_by_need held ended (Some x) None reads = absurd reads
+given_by_need held ended (Some x) (Some y) (inl same) = record { given = []; rest = same }
+given_by_need held ended (Some x) (Some y) (inr r) =
+    record { given = r.earlier ++ r.piece; rest = r.took ∙ sym (append_assoc r.earlier r.piece y) }
+
+pub given_ahead : (old : Held) (a b : Option (List ℕ)) → TakesNoneAhead old a b → HasGiven a b
+given_ahead old None b ahead = record { given = []; rest = tt }
+given_ahead old (Some x) None ahead = absurd ahead
+given_ahead old (Some x) (Some y) (inl same) = record { given = []; rest = same }
+given_ahead old (Some x) (Some y) (inr r) =
+    record { given = r.earlier ++ r.piece; rest = r.took ∙ sym (append_assoc r.earlier r.piece y) }

@@ -8,11 +8,14 @@ use Rattle.script_text.specs.declared.faults.ScriptFault.TheVariants.{BadLine, T
 use Rattle.script_text.specs.declared.intake.LineEnd.{LineEnd}
 use Rattle.script_text.specs.declared.intake.LineEnd.TheVariants.{Newline, Input}
 use Rattle.script_text.specs.Lines.{full_lines, unlines, IsPlain}
-use Rattle.script_text.specs.Script.{Place, Item, Walk, Stop, too_long, arrived, stuck, chain, accept, finish, reading}
-use Rattle.script_text.specs.Reader.{Held, UsesLines, GoesOn, StopsAtFault, Refuses, stuck_after}
+use Rattle.script_text.specs.Script.{Place, Item, Walk, Stop, too_long, bad_line, arrived, stuck, chain, counted, accept, finish, reading}
+use Rattle.script_text.specs.Causes.{next_cause, stop_cause}
+use Rattle.script_text.specs.Reader.{Held, UsesLines, GoesOn, StopsAtFault, StopsAtBad, Refuses, stuck_after}
 use Rattle.script_text.specs.inner.Taking.{Taken, HeldLine, newline_of, bytes_of, HasEnd, IsWholeLine, IsUsedUp, TakesMore, TakesNext, IsPastLimit, BreaksOff, NextAnswer}
-use Rattle.script_text.specs.inner.Judging.{IsStuckBy, after_line, held_at}
+use Rattle.script_text.specs.inner.Judging.{IsBadAt, IsStuckBy, after_line, held_at}
 use Rattle.script_text.proofs.ReadLines.{full_lines-plain, unlines-push}
+use Rattle.script_text.proofs.FirstLines.{next_cause-whole}
+use Rattle.script_text.proofs.StopCauses.{stop_cause-used, stop_cause-stuck}
 use Rattle.script_text.proofs.ReadWalk.{line_at, walk-push, reading-line, reading-tail, reading-long, last_line-some}
 
 -- ---- the next line of an input
@@ -53,6 +56,7 @@ goes_nowhere old left at_end = record {
   taken = [];
   took = refl;
   same = refl;
+  cause = refl;
   at_end = at_end;
   used = λ going. record { lines = []; plain = All-nil IsPlain; bytes = append-nil old.bytes; walked = refl };
 }
@@ -70,11 +74,12 @@ uses_more old p h now taken more items bytes u = record {
   walked = u.walked;
 }
 
+bytes_more : (h now : HeldLine) (y z : List ℕ) → TakesMore h now y z → bytes_of h ++ y ≡ bytes_of now ++ z
+bytes_more h now y z t = ap (λ l. bytes_of h ++ l) t.took ∙ sym (append_assoc (bytes_of h) t.taken z) ∙ ap (λ l. l ++ z) t.bytes
+
 same_more : (old : Held) (p : Place) (h now : HeldLine) (x y z : List ℕ) (items : List Item) → GoesOn old (held_at p h) x y items → TakesMore h now y z
     → reading (old.bytes ++ x) old.place ≡ chain (arrived items p) (reading (bytes_of now ++ z))
-same_more old p h now x y z items g t =
-    let bytes : bytes_of h ++ y ≡ bytes_of now ++ z = ap (λ l. bytes_of h ++ l) t.took ∙ sym (append_assoc (bytes_of h) t.taken z) ∙ ap (λ l. l ++ z) t.bytes in
-    g.same ∙ ap (λ l. chain (arrived items p) (reading l)) bytes
+same_more old p h now x y z items g t = g.same ∙ ap (λ l. chain (arrived items p) (reading l)) (bytes_more h now y z t)
 
 took_more : (x y z taken more : List ℕ) → x ≡ taken ++ y → y ≡ more ++ z → x ≡ (taken ++ more) ++ z
 took_more x y z taken more first next = first ∙ ap (λ l. taken ++ l) next ∙ sym (append_assoc taken more z)
@@ -86,6 +91,7 @@ goes_next old p h now x y z items stays g t = record {
   taken = g.taken ++ t.more.taken;
   took = took_more x y z g.taken t.more.taken g.took t.more.took;
   same = same_more old p h now x y z items g t.more;
+  cause = g.cause ∙ ap (λ l. stop_cause l p) (bytes_more h now y z t.more);
   at_end = t.at_end;
   used = λ going. uses_more old p h now g.taken t.more.taken items t.more.bytes (g.used (not_ended h.rest.ended now.rest.ended stays going));
 }
@@ -113,6 +119,7 @@ goes_line old p q h size x z xs ys w plain e g = record {
   took = g.took;
   same = g.same ∙ ap (λ v. chain (arrived xs p) (λ r. v)) (reading-whole h size z p w plain g.at_end ∙ ap (λ v. chain v (reading (h.rest.bytes ++ z))) e)
       ∙ chain-arrived_arrived xs ys p q (reading (h.rest.bytes ++ z));
+  cause = g.cause ∙ stop_cause-used h size z p q ys w plain g.at_end e;
   at_end = g.at_end;
   used = λ going. uses_line old p q h h.line_end size g.taken xs ys refl w.ends w.counted plain e going (g.used going);
 }
@@ -126,12 +133,21 @@ stuck_line old p h size x z items s w plain e g =
     g.same ∙ ap (λ v. chain (arrived items p) (λ r. v)) (reading-whole h size z p w plain g.at_end ∙ ap (λ v. chain v (reading (h.rest.bytes ++ z))) e)
     ∙ chain-arrived_stuck items p s
 
-pub refuses_line : (old new : Held) (p : Place) (h : HeldLine) (size : ℕ) (x z : List ℕ) (items : List Item) (fault : ScriptFault) → IsWholeLine h size → IsPlain h.line
-    → IsStuckBy (accept size h.line p) fault → GoesOn old (held_at p h) x z items → Refuses old new x z items fault
-refuses_line old new p h size x z items (BadLine n) w plain e g = stuck_line old p h size x z items _ w plain e g
-refuses_line old new p h size x z items TooLong w plain e g = stuck_line old p h size x z items _ w plain e g
-refuses_line old new p h size x z items ReadFault w plain e g = absurd e
-refuses_line old new p h size x z items NoMemory w plain e g = tt
+-- the line that is held is bad, and stays held
+pub stops_line : (old : Held) (p q : Place) (h : HeldLine) (size : ℕ) (x z : List ℕ) (items : List Item) (n : ℕ) → IsWholeLine h size → IsPlain h.line → accept size h.line p ≡ stuck (bad_line n)
+    → q ≡ counted p size → GoesOn old (held_at p h) x z items → StopsAtBad old (held_at q h) x items n
+stops_line old p q h size x z items n w plain e at g = record {
+  stuck = stuck_line old p h size x z items (bad_line n) w plain e g;
+  cause = g.cause ∙ stop_cause-stuck h size z p (bad_line n) w plain g.at_end e ∙ sym (next_cause-whole (counted p size) h size plain w)
+      ∙ ap (λ r. next_cause r (bytes_of h)) (sym at);
+}
+
+pub refuses_line : (old : Held) (p q : Place) (h : HeldLine) (size : ℕ) (x z : List ℕ) (items : List Item) (fault : ScriptFault) → IsWholeLine h size → IsPlain h.line
+    → IsStuckBy (accept size h.line p) fault → IsBadAt q (counted p size) fault → GoesOn old (held_at p h) x z items → Refuses old (held_at q h) x z items fault
+refuses_line old p q h size x z items (BadLine n) w plain e at g = stops_line old p q h size x z items n w plain e at.0 g
+refuses_line old p q h size x z items TooLong w plain e at g = stuck_line old p h size x z items _ w plain e g
+refuses_line old p q h size x z items ReadFault w plain e at g = absurd e
+refuses_line old p q h size x z items NoMemory w plain e at g = tt
 
 -- the beginning of a line passes a limit
 past_limit : (p : Place) (h : HeldLine) (room : ℕ) → room + p.bytes ≡ 4294967296 → IsPastLimit h room → (8388608 < length h.line) ⊎ (4294967296 < p.bytes + length h.line)
@@ -171,3 +187,11 @@ pub reading-used_up : (old : Held) (p : Place) (h : HeldLine) (x z : List ℕ) (
 reading-used_up old p h x z items u g =
     let nothing : bytes_of h ++ z ≡ [] = ap (λ l. l ++ z) u.nothing ∙ g.at_end u.ended in
     g.same ∙ ap (λ l. chain (arrived items p) (reading l)) nothing
+
+-- the end is bad
+pub stops_at_end : (old : Held) (p : Place) (h : HeldLine) (x z : List ℕ) (items : List Item) (n : ℕ) → IsUsedUp h → finish p ≡ stuck (bad_line n) → GoesOn old (held_at p h) x z items
+    → StopsAtBad old (held_at p h) x items n
+stops_at_end old p h x z items n u e g = record {
+  stuck = reading-used_up old p h x z items u g ∙ ap (λ w. chain (arrived items p) (λ r. w)) e ∙ chain-arrived_stuck items p (bad_line n);
+  cause = g.cause ∙ ap (λ l. stop_cause l p) (ap (λ l. l ++ z) u.nothing ∙ g.at_end u.ended) ∙ ap (next_cause p) (sym u.nothing);
+}

@@ -4,12 +4,13 @@ use Rattle.std.proofs.lemmas.List.{append-nil}
 use Rattle.std.proofs.lemmas.List.Elements.{All-nil, All-cons, All-head, All-tail}
 use Rattle.script_text.specs.declared.faults.ScriptFault.{ScriptFault}
 use Rattle.script_text.specs.declared.faults.ScriptFault.TheVariants.{BadLine, TooLong, ReadFault, NoMemory}
+use Rattle.grid_versions.specs.Maps.{Map}
 use Rattle.turn_core.specs.declared.posts.Post.{Post}
 use Rattle.script_text.specs.declared.intake.LineEnd.{LineEnd}
 use Rattle.script_text.specs.declared.intake.LineEnd.TheVariants.{Newline, Input}
 use Rattle.script_text.specs.Lines.{full_lines, unlines, IsPlain}
 use Rattle.script_text.specs.Script.{Place, Item, ends_turn, arrived, chain, accept, walk}
-use Rattle.script_text.specs.Reader.{Held, HoldsTurn, UsesLines, GoesOn, ReadsForTurn, TakesNoneAhead, TurnAnswers, TurnTold}
+use Rattle.script_text.specs.Reader.{Held, HoldsTurn, UsesLines, GoesOn, Refuses, RefusesMap, MapAnswers, MapTold, ReadsForTurn, TakesNoneAhead, TurnAnswers, TurnTold}
 use Rattle.script_text.specs.inner.Taking.{Taken, HasLine, MovesPart, MovesAll, LineAnswer, LineTold, HeldLine, newline_of, bytes_of, HasEnd, IsWholeLine, TakesNext, NextTold}
 use Rattle.script_text.specs.inner.Judging.{after_line, held_at}
 use Rattle.script_text.proofs.ReadLines.{full_lines-plain, full_lines-line, unlines-line}
@@ -118,17 +119,36 @@ uses_flags old new a b c d taken items u = record { lines = u.lines; plain = u.p
 
 goes_flags : (old new : Held) (a b c d : Bool) (x y : List ℕ) (items : List Item) → GoesOn old new x y items → GoesOn (with_flags old a b) (with_flags new c d) x y items
 goes_flags old new a b c d x y items g =
-    record { taken = g.taken; took = g.took; same = g.same; at_end = g.at_end; used = λ going. uses_flags old new a b c d g.taken items (g.used going) }
+    record { taken = g.taken; took = g.took; same = g.same; cause = g.cause; at_end = g.at_end; used = λ going. uses_flags old new a b c d g.taken items (g.used going) }
+
+refuses_flags : (old new : Held) (a b c d : Bool) (x y : List ℕ) (items : List Item) (fault : ScriptFault) → Refuses old new x y items fault
+    → Refuses (with_flags old a b) (with_flags new c d) x y items fault
+refuses_flags old new a b c d x y items (BadLine n) r = record { stuck = r.stuck; cause = r.cause }
+refuses_flags old new a b c d x y items TooLong r = r
+refuses_flags old new a b c d x y items ReadFault r =
+    record { going = r.going; taken = r.taken; took = r.took; used = uses_flags old new a b c d r.taken items r.used; no_line = r.no_line }
+refuses_flags old new a b c d x y items NoMemory r = r
+
+map_refuses_flags : (old new : Held) (a b c d : Bool) (x y : List ℕ) (fault : ScriptFault) → RefusesMap old new x y fault → RefusesMap (with_flags old a b) (with_flags new c d) x y fault
+map_refuses_flags old new a b c d x y fault r = record { items = r.items; refused = refuses_flags old new a b c d x y r.items fault r.refused; no_turn = r.no_turn }
+
+map_answers_flags : (old new : Held) (a b c d : Bool) (x y : List ℕ) (result : Result Map ScriptFault) → MapAnswers old new result x y
+    → MapAnswers (with_flags old a b) (with_flags new c d) result x y
+map_answers_flags old new a b c d x y (Ok m) t = record { items = t.items; on = goes_flags old new a b c d x y t.items t.on; map = t.map; no_turn = t.no_turn }
+map_answers_flags old new a b c d x y (Err (BadLine n)) t = (t.0, refuses_flags old new a b c d x y [] (BadLine n) t.1)
+map_answers_flags old new a b c d x y (Err TooLong) t = map_refuses_flags old new a b c d x y TooLong t
+map_answers_flags old new a b c d x y (Err ReadFault) t = map_refuses_flags old new a b c d x y ReadFault t
+map_answers_flags old new a b c d x y (Err NoMemory) t = t
+
+pub map_flags : (old new : Held) (a b c d : Bool) (left later : Option (List ℕ)) (result : Result Map ScriptFault) → MapTold old new left later result
+    → MapTold (with_flags old a b) (with_flags new c d) left later result
+map_flags old new a b c d left later result = told-weaker left later _ _ (λ x y t end. map_answers_flags old new a b c d x y result (t end))
 
 answers_flags : (old new : Held) (a b c d : Bool) (x y : List ℕ) (result : Result (Option (List (List Post))) ScriptFault) → TurnAnswers old new result x y
     → TurnAnswers (with_flags old a b) (with_flags new c d) result x y
 answers_flags old new a b c d x y (Ok (Some posts)) t = goes_flags old new a b c d x y (ends_turn posts ∷ []) t
 answers_flags old new a b c d x y (Ok None) t = record { whole = t.whole; nothing = t.nothing }
-answers_flags old new a b c d x y (Err (BadLine n)) t = t
-answers_flags old new a b c d x y (Err TooLong) t = t
-answers_flags old new a b c d x y (Err ReadFault) t =
-    record { going = t.going; taken = t.taken; took = t.took; used = uses_flags old new a b c d t.taken [] t.used; no_line = t.no_line }
-answers_flags old new a b c d x y (Err NoMemory) t = t
+answers_flags old new a b c d x y (Err fault) t = refuses_flags old new a b c d x y [] fault t
 
 pub turn_flags : (old new : Held) (a b c d : Bool) (left later : Option (List ℕ)) (result : Result (Option (List (List Post))) ScriptFault) → TurnTold old new left later result
     → TurnTold (with_flags old a b) (with_flags new c d) left later result

@@ -68,6 +68,11 @@ walk-push [] line p = chain-arrived (line_at line p)
 walk-push (first ∷ lines) line p =
     chain-same (line_at first p) _ _ (λ q. walk-push lines line q) ∙ sym (chain-assoc (line_at first p) (λ q. walk lines q) (line_at line))
 
+-- over lines, and then more lines
+pub walk-append : (lines more : List (List ℕ)) (p : Place) → walk (lines ++ more) p ≡ chain (walk lines p) (λ q. walk more q)
+walk-append [] more p = refl
+walk-append (line ∷ lines) more p = chain-same (line_at line p) _ _ (λ q. walk-append lines more q) ∙ sym (chain-assoc (line_at line p) (λ q. walk lines q) (λ q. walk more q))
+
 -- ---- readings
 
 pub reading-line : (line rest : List ℕ) (p : Place) → IsPlain line → reading (line ++ 10 ∷ rest) p ≡ chain (line_at line p) (reading rest)

@@ -15,7 +15,7 @@ use Rattle.script_text.specs.Lines.{full_lines, tail_of, IsPlain}
 use Rattle.script_text.specs.declared.parts.Rules.{Rules}
 use Rattle.script_text.specs.declared.parts.Part.{Part}
 use Rattle.script_text.specs.declared.parts.Part.TheVariants.{BeforeMap, InBase, InTurns}
-use Rattle.script_text.specs.Script.{rules_of, Place, Item, Ends, at_place, stuck_by, Stop, whole_input, too_long, bad_line, Walk, arrived, stuck, chain, chain_from, map_after, reading_of, counted, bad, end_line, turn_line, placed_in_turn, base_line, placed_in, is_long, is_empty, accept, walk, finish_in, finish, last_line, reading}
+use Rattle.script_text.specs.Script.{rules_of, Place, Item, Ends, at_place, stuck_by, Stop, whole_input, too_long, bad_line, Walk, stuck, chain, chain_from, map_after, reading_of, counted, end_line, turn_line, placed_in_turn, base_line, placed_in, is_long, is_empty, accept, walk, finish_in, last_line, reading}
 use Rattle.script_text.specs.Reader.{Held, GivesMap, MapTold, IsWholeMap}
 use Rattle.script_text.specs.inner.Taking.{Taken, HeldLine, newline_of, bytes_of, HasEnd}
 use Rattle.script_text.specs.inner.Judging.{IsInTurns, IsNoBaseLine, HoldsNoBase, IsNoBaseNext, IsBetweenTurns, held_at}

@@ -1,4 +1,6 @@
 pub mod Canon
+pub mod CauseTexts
+pub mod Causes
 pub mod Forms
 pub mod Grammar
 pub mod Lines

@@ -1,5 +1,5 @@
 -- What a reader holds, and how its calls go through an input.
-use Rattle.std.specs.Prelude.{ℕ, ◌≡◌, ◌≢◌, ◌≤◌, ◌⊎◌, List, [], ◌∷◌, ◌++◌, length, sum_by, Bool, true, false, All, IsFalse, IsTrue, Option, Some, None, Result, Ok, Err, ⊤}
+use Rattle.std.specs.Prelude.{ℕ, ◌≡◌, ◌≢◌, ◌≤◌, ◌⊎◌, List, [], ◌∷◌, ◌++◌, length, sum_by, Bool, true, false, All, IsFalse, IsTrue, IsSome, Option, Some, None, Result, Ok, Err, ⊤}
 use Rattle.script_text.specs.declared.faults.ScriptFault.{ScriptFault}
 use Rattle.script_text.specs.declared.faults.ScriptFault.TheVariants.{BadLine, TooLong, ReadFault, NoMemory}
 use Rattle.grid_versions.specs.Maps.{Map}
@@ -8,6 +8,8 @@ use Rattle.script_text.specs.Lines.{full_lines, unlines, IsPlain}
 use Rattle.script_text.specs.declared.parts.Rules.{Rules}
 use Rattle.script_text.specs.declared.parts.Part.{Part}
 use Rattle.script_text.specs.declared.parts.Part.TheVariants.{BeforeMap, InBase, InTurns}
+use Rattle.script_text.specs.declared.causes.Cause.{Cause}
+use Rattle.script_text.specs.Causes.{next_cause, stop_cause, bad_number}
 use Rattle.script_text.specs.Script.{Place, beginning, Item, ends_turn, Stop, whole_input, too_long, bad_line, stuck_by, Walk, arrived, stuck, chain, map_after, turns_of, walk, reading}
 
 -- The place that the reading has come to, the bytes taken that no line has used yet, whether the end of the input was
@@ -22,6 +24,10 @@ pub record Held : Type 0 where
 -- a reader at the beginning of an input
 abbrev pub unread : Held
 unread = record { place = beginning; bytes = []; ended = false; over = false; failed = false }
+
+-- why what a reader holds is refused
+abbrev pub held_cause : Held → Option Cause
+held_cause h = next_cause h.place h.bytes
 
 -- what the lines after the map line keep to, once the map line was read
 abbrev pub rules_at : Part → Option Rules
@@ -56,6 +62,7 @@ pub record GoesOn (old new : Held) (before after : List ℕ) (items : List Item)
   pub taken : List ℕ
   pub took : before ≡ taken ++ after
   pub same : reading (old.bytes ++ before) old.place ≡ chain (arrived items new.place) (λ q. reading (new.bytes ++ after) q)
+  pub cause : stop_cause (old.bytes ++ before) old.place ≡ stop_cause (new.bytes ++ after) new.place
   pub at_end : IsTrue new.ended → after ≡ []
   pub used : IsFalse new.ended → UsesLines old new taken items
 
@@ -77,10 +84,15 @@ pub record IsRead (old : Held) (before after : List ℕ) : Type 0 where
 abbrev pub stuck_after : List Item → Stop → Walk
 stuck_after items stop = record { items = items; ends = stuck_by stop }
 
+-- The input stops at the line of this number, after these items, and the cause is that of what is held.
+pub record StopsAtBad (old new : Held) (before : List ℕ) (items : List Item) (n : ℕ) : Type 0 where
+  pub stuck : reading (old.bytes ++ before) old.place ≡ stuck_after items (bad_line n)
+  pub cause : stop_cause (old.bytes ++ before) old.place ≡ held_cause new
+
 -- What a refusal after these items says of an input that tells its bytes: `before` and `after` are those left in the
 -- source.
 abbrev pub Refuses : Held → Held → List ℕ → List ℕ → List Item → ScriptFault → Type 0
-Refuses old new before after items (BadLine n) = reading (old.bytes ++ before) old.place ≡ stuck_after items (bad_line n)
+Refuses old new before after items (BadLine n) = StopsAtBad old new before items n
 Refuses old new before after items TooLong = reading (old.bytes ++ before) old.place ≡ stuck_after items too_long
 Refuses old new before after items ReadFault = StopsAtFault old new before after items
 Refuses old new before after items NoMemory = ⊤
@@ -101,7 +113,7 @@ pub record RefusesMap (old new : Held) (before after : List ℕ) (fault : Script
 -- what an answer with a map, or without, says of an input that tells its bytes; of bad lines only the first is named
 abbrev pub MapAnswers : Held → Held → Result Map ScriptFault → List ℕ → List ℕ → Type 0
 MapAnswers old new (Ok m) before after = GivesMap old new before after m
-MapAnswers old new (Err (BadLine n)) before after = (n ≡ 1) × (reading (old.bytes ++ before) old.place ≡ stuck (bad_line n))
+MapAnswers old new (Err (BadLine n)) before after = (n ≡ 1) × StopsAtBad old new before [] n
 MapAnswers old new (Err TooLong) before after = RefusesMap old new before after TooLong
 MapAnswers old new (Err ReadFault) before after = RefusesMap old new before after ReadFault
 MapAnswers old new (Err NoMemory) before after = ⊤
@@ -149,3 +161,15 @@ abbrev pub is_last : Result (Option (List (List Post))) ScriptFault → Bool
 is_last (Ok (Some posts)) = false
 is_last (Ok None) = true
 is_last (Err fault) = true
+
+-- The bad line of this number is the first that the reader holds, or the one that is missing where it holds nothing.
+pub record HoldsBad (n : ℕ) (h : Held) : Type 0 where
+  pub number : n ≡ bad_number h.place h.bytes
+  pub cause : IsSome (held_cause h)
+
+-- what a refusal leaves held
+abbrev pub HoldsRefused : Held → ScriptFault → Type 0
+HoldsRefused h (BadLine n) = HoldsBad n h
+HoldsRefused h TooLong = ⊤
+HoldsRefused h ReadFault = ⊤
+HoldsRefused h NoMemory = ⊤

@@ -5,7 +5,6 @@ use Rattle.std.specs.Str.{is_utf8}
 use Rattle.serde_json.specs.Data.{Data}
 use Rattle.serde_json.specs.Read.{read}
 use Rattle.nav_types.specs.declared.cells.Rect.{Rect}
-use Rattle.nav_types.specs.declared.cells.Size.{Size}
 use Rattle.grid_versions.specs.Maps.{Map, with_base}
 use Rattle.turn_core.specs.declared.posts.Post.{Post}
 use Rattle.turn_core.specs.States.{list_of}

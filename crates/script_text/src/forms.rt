@@ -6,10 +6,10 @@ ghost use Rattle.class_config.specs.Classes.{classes_of};
 ghost use Rattle.script_text.specs.Values as value_form;
 ghost use Rattle.script_text.specs.Forms as form;
 
-mod bases;
-mod goals;
-mod posts;
-mod values;
+pub(crate) mod bases;
+pub(crate) mod goals;
+pub(crate) mod posts;
+pub(crate) mod values;
 
 use class_config::{ClassRefusal, ClassTable, has_keys};
 use grid_versions::{BaseRects, MapSpec};
@@ -27,7 +27,7 @@ pub struct CallerPost {
 }
 
 /// The newest version of a script.
-const NEWEST_VERSION: u64 = 3;
+pub(crate) const NEWEST_VERSION: u64 = 3;
 
 /// The map of a map line, which has no base rectangle yet. None where the value is no map line.
 #[tactic(auto, unfolding(crate::specs::Forms::map_of))]
@@ -52,7 +52,11 @@ pub(crate) fn map_of(alloc: Global, value: &Value) -> Result<Option<MapSpec>, No
 }
 
 /// The table of classes under a key.
-fn classes_under(alloc: Global, value: &Value, key: &str) -> Result<Option<ClassTable>, NoMemory>
+pub(crate) fn classes_under(
+    alloc: Global,
+    value: &Value,
+    key: &str,
+) -> Result<Option<ClassTable>, NoMemory>
     ensures { IfOk result (λ made. made ≡ value_form.under classes_of key.now (view value.now)) }
 {
     let Some(found) = value.get(key) else {

@@ -2,6 +2,8 @@
 ghost use Rattle.std.specs.Prelude.{◌≡◌, ◌+◌, ◌≤◌, [], length, false, ℕ, IsTrue, IfErr, IfOk, IsErrOf, IsSome, None, Ok, OnOk};
 ghost use Rattle.io_edges.specs.Faults.{Rose};
 
+mod first_lines;
+
 use crate::faults::ScriptFault;
 use crate::intake::{Intake, LineEnd};
 use io_edges::Source;
@@ -118,13 +120,9 @@ impl HeldLines {
         ensures later { S.faults source.old ≤ S.faults source.new }
         ensures fault { IsErrOf result ScriptFault.ReadFault → Rose (S.faults source.old) (S.faults source.new) }
     {
-        match self.intake.next_line(source, &mut self.line, room) {
-            Ok(end) => {
-                self.line_end = Some(end);
-                Ok(self.line_size())
-            }
-            Err(fault) => Err(fault),
-        }
+        let end = self.intake.next_line(source, &mut self.line, room)?;
+        self.line_end = Some(end);
+        Ok(self.line_size())
     }
 
     /// How many bytes the whole line has, with its newline where it has one. None where the input ended and nothing

@@ -77,7 +77,7 @@ impl Intake {
     }
 
     /// The bytes that no line has used yet.
-    fn held(&self) -> &[u8]
+    pub fn held(&self) -> &[u8]
         ensures { result.now ≡ self.now.bytes }
     {
         &self.buffer[self.from..self.to]
@@ -108,17 +108,12 @@ impl Intake {
         ensures newline { result ≡ Ok Newline → length line.new.items + 1 + length self.new.bytes ≤ 8454144 }
     {
         'parts: loop {
-            match self.refill(source) {
-                Ok(()) => {}
-                Err(fault) => return Err(fault),
-            }
+            self.refill(source)?;
             if self.is_used_up() {
                 return Ok(LineEnd::Input);
             }
-            match self.move_line(line) {
-                Ok(true) => return Ok(LineEnd::Newline),
-                Ok(false) => {}
-                Err(NoMemory) => return Err(ScriptFault::NoMemory),
+            if self.move_line(line)? {
+                return Ok(LineEnd::Newline);
             }
             // Tested before the newline comes: a line without an end must not fill the memory.
             let size = line.len() as u64;
@@ -187,7 +182,7 @@ impl Intake {
 }
 
 /// The place of the first newline.
-fn first_newline(bytes: &[u8]) -> Option<usize>
+pub(crate) fn first_newline(bytes: &[u8]) -> Option<usize>
     ensures place { result ≡ position (λ byte. byte == 10) bytes.now }
     ensures within { IfSome result (λ at. at < length bytes.now) }
 {

@@ -1,5 +1,6 @@
-//! Laws: the forms of lines are the grammar, no value is a line of two forms, and canonical scripts read back.
-ghost use Rattle.std.specs.Prelude.{◌≡◌, ◌↔◌, ℕ, List, Some};
+//! Laws: the forms of lines are the grammar, no value is a line of two forms, each bad line and no other has a cause,
+//! and canonical scripts read back.
+ghost use Rattle.std.specs.Prelude.{◌≡◌, ◌↔◌, ◌+◌, ℕ, IsSome, List, Some};
 ghost use Rattle.nav_types.specs.declared.cells.Rect.{Rect};
 ghost use Rattle.nav_types.specs.declared.cells.Size.{Size};
 ghost use Rattle.serde_json.specs.Data.{Data};
@@ -8,6 +9,12 @@ ghost use Rattle.turn_core.specs.declared.posts.Post.{Post};
 ghost use Rattle.script_text.specs.declared.forms.CallerPost.{CallerPost};
 ghost use Rattle.script_text.specs.Forms as form;
 ghost use Rattle.script_text.specs.Grammar.{Line, IsLine, IsMapLine, IsBaseLine, IsPostLine, IsEndLine};
+ghost use Rattle.script_text.specs.Script.{Place, bad, bad_line, finish, placed, reading_of, stuck};
+ghost use Rattle.script_text.specs.declared.causes.Cause.TheVariants.{WrongValue};
+ghost use Rattle.script_text.specs.declared.causes.keys.Key.{Key};
+ghost use Rattle.script_text.specs.declared.causes.keys.Wanted.{Wanted};
+ghost use Rattle.script_text.specs.declared.parts.Part.{Part};
+ghost use Rattle.script_text.specs.Causes.{IsWrongIn, cause, end_cause};
 ghost use Rattle.script_text.specs.ReadsBack as back;
 
 /// A law: the form of a map line gives a map exactly where the value is a map line of the grammar that says it.
@@ -35,6 +42,22 @@ pub fn end_lines()
 pub fn one_line()
     ensures { (version callers : ℕ) (size : Size) (d : Data) (a b : Line)
         → IsLine version callers size a d → IsLine version callers size b d → a ≡ b }
+{}
+
+/// A law: a line has a cause exactly where it is bad in its place.
+pub fn line_causes()
+    ensures { (p : Place) (line : List ℕ) → (placed p (reading_of line) ≡ bad p) ↔ IsSome (cause p.part (p.turns + 1) (reading_of line)) }
+{}
+
+/// A law: a value that a cause names as wrong is not what is wanted.
+pub fn wrong_values()
+    ensures { (part : Part) (turn : ℕ) (d : Data) (key : Key) (wanted : Wanted) → cause part turn (Some d) ≡ Some (WrongValue key wanted)
+        → IsWrongIn key wanted d }
+{}
+
+/// A law: the end of an input has a cause exactly where the input may not end there.
+pub fn end_causes()
+    ensures { (p : Place) → (finish p ≡ stuck (bad_line (p.lines + 1))) ↔ IsSome (end_cause p.part p.posts) }
 {}
 
 /// A law: a canonical script whose lines and whole are within the limits of an input reads back as the map and the

@@ -2,6 +2,7 @@
 #![tactic(auto)]
 
 mod canon;
+mod causes;
 mod faults;
 mod forms;
 mod held_lines;
@@ -15,8 +16,12 @@ mod tests;
 mod versions;
 
 pub use canon::{write_journal, write_map};
+pub use causes::{Cause, Key, Wanted};
 pub use faults::ScriptFault;
 pub use forms::CallerPost;
-pub use laws::{base_lines, canonical_reads_back, end_lines, map_lines, one_line, post_lines};
+pub use laws::{
+    base_lines, canonical_reads_back, end_causes, end_lines, line_causes, map_lines, one_line,
+    post_lines, wrong_values,
+};
 pub use reader::ScriptReader;
 pub use versions::have_lines;

@@ -1,23 +1,23 @@
 //! How far a script was read, and what its next line gives.
-ghost use Rattle.std.specs.Prelude.{◌≡◌, ◌+◌, ◌≤◌, ◌<◌, ◌++◌, ◌∷◌, [], length, slice_set, ℕ, All, IfErr, IfOk, IfSome, IsFalse, IsSome, OnOk, OnErr, option_and_then, option_map, Some};
+ghost use Rattle.std.specs.Prelude.{◌≡◌, ◌+◌, ◌≤◌, ◌<◌, length, ℕ, All, IfErr, IfOk, IfSome, IsFalse, IsSome, OnOk, OnErr, option_and_then, option_map, Some};
 ghost use Rattle.std.specs.List.{list_all};
 ghost use Rattle.serde_json.specs.View.{view};
-ghost use Rattle.turn_core.specs.States.{list_of};
 ghost use Rattle.nav_types.specs.Cells.{IsRectInside};
 ghost use Rattle.script_text.specs.Forms.{map_of, base_of};
-ghost use Rattle.script_text.specs.Script.{is_empty, no_posts, reading_of};
+ghost use Rattle.script_text.specs.Script.{is_empty, reading_of};
 
+use crate::causes::{self, Cause};
 use crate::faults::ScriptFault;
 use crate::forms::{self, CallerPost};
 use crate::parts::{Part, Rules};
 use grid_versions::{BaseRects, MapSpec};
 use nav_types::limits::{MAX_INPUT_BYTES, MAX_LINE_BYTES};
-use nav_types::{NoMemory, Sequence, Size};
+use nav_types::{NoMemory, Size};
 use serde_json::Value;
 use std::alloc::Global;
 use std::marker::Model;
 use std::mem;
-use turn_core::{Post, Posts, TurnPosts};
+use turn_core::{Posts, TurnPosts, empty_lists, push_post};
 
 /// The place that the reading of a script has come to.
 #[derive(Drop)]
@@ -43,7 +43,8 @@ impl Model for Progress {
 impl Progress {
     ghost use Rattle.script_text.specs.Script.{beginning, rules_of, accept, counted, end_line, finish, is_long, map_line, placed_in_turn, with_post};
     ghost use Rattle.script_text.specs.Reader.{callers_of, post_count, rules_at};
-    ghost use Rattle.script_text.specs.inner.Judging.{AddsBase, BeginsMap, CountsPosts, GivesTurn, IsBase, IsInTurns, IsInsideAt, IsNoBaseAt, IsObject, Stops};
+    ghost use Rattle.script_text.specs.Causes.{cause, end_cause};
+    ghost use Rattle.script_text.specs.inner.Judging.{AddsBase, BeginsMap, CountsPosts, GivesTurn, IsBadAt, IsBase, IsInTurns, IsInsideAt, IsNoBaseAt, IsObject, Stops};
 
     /// Nothing is read yet.
     pub fn new(alloc: Global) -> Progress
@@ -80,6 +81,7 @@ impl Progress {
         ensures posts { OnOk result (post_count self.new.posts ≡ 0) }
         ensures number { IfErr result (λ fault. (n : ℕ) → fault ≡ ScriptFault.BadLine n → n ≡ self.old.lines + 1) }
         ensures limit { self.new.bytes ≤ MAX_INPUT_BYTES }
+        ensures bad { IfErr result (IsBadAt self.new (counted self.old size)) }
     {
         if self.is_long(line, size) {
             return Err(ScriptFault::TooLong);
@@ -106,7 +108,7 @@ impl Progress {
             version: map.version(),
             callers: map.callers(),
         };
-        self.posts = empty_lists(alloc, rules.callers)?;
+        self.posts = empty_lists(alloc, usize::from(rules.callers))?;
         self.part = Part::InBase(rules);
         Ok(map)
     }
@@ -161,6 +163,7 @@ impl Progress {
         ensures two_bytes { OnOk result (2 ≤ length line.now) }
         ensures counts { IfOk result (CountsPosts self.old.posts self.new.posts) }
         ensures lists { IfOk result (λ next. IfSome next (λ turn. length turn ≡ callers_of self.old.part)) }
+        ensures bad { IfErr result (IsBadAt self.new (counted self.old size)) }
     {
         if self.is_long(line, size) {
             return Err(ScriptFault::TooLong);
@@ -193,6 +196,25 @@ impl Progress {
             Ok(())
         } else {
             Err(ScriptFault::BadLine(self.lines + 1))
+        }
+    }
+
+    /// Why the line is not in the grammar here. The place may have counted it.
+    pub fn line_cause(&self, alloc: Global, line: &[u8]) -> Result<Option<Cause>, NoMemory>
+        ensures { IfOk result (λ found. found ≡ cause self.now.part (self.now.turns + 1) (reading_of line.now)) }
+    {
+        causes::cause_of(alloc, self.part, self.turns + 1, line)
+    }
+
+    /// Why an input may not end here.
+    pub fn end_cause(&self) -> Option<Cause>
+        ensures { result ≡ end_cause self.now.part self.now.posts }
+    {
+        match self.part {
+            Part::BeforeMap => Some(Cause::NoLine),
+            Part::InBase(_) => None,
+            Part::InTurns(_) if are_empty(self.posts.as_slice()) => None,
+            Part::InTurns(_) => Some(Cause::EndsInsideTurn),
         }
     }
 
@@ -233,6 +255,7 @@ impl Progress {
         ensures object { OnOk result (IsObject (view value.now)) }
         ensures counts { IfOk result (CountsPosts self.old.posts self.new.posts) }
         ensures lists { IfOk result (λ next. IfSome next (λ turn. length turn ≡ callers_of self.old.part)) }
+        ensures bad { IfErr result (IsBadAt self.new self.old) }
     {
         let rules = self.rules();
         match forms::post_of(alloc, rules.version, rules.callers, value)? {
@@ -285,6 +308,7 @@ impl Progress {
         ensures number { OnOk result (IsSome number) }
         ensures counts { IfOk result (CountsPosts self.old.posts self.new.posts) }
         ensures lists { IfOk result (λ next. IfSome next (λ turn. length turn ≡ rules.callers)) }
+        ensures bad { IfErr result (IsBadAt self.new self.old) }
     {
         let Some(number) = number else {
             return Err(ScriptFault::BadLine(self.lines));
@@ -292,34 +316,12 @@ impl Progress {
         if number != self.turns + 1 {
             return Err(ScriptFault::BadLine(self.lines));
         }
-        let empty = empty_lists(alloc, rules.callers)?;
+        let empty = empty_lists(alloc, usize::from(rules.callers))?;
         self.turns += 1;
         self.part = Part::InTurns(rules);
         let posts = mem::replace(&mut self.posts, empty);
         Ok(Some(TurnPosts::from(posts)))
     }
-}
-
-/// An empty list of posts for each caller.
-fn empty_lists(alloc: Global, callers: u8) -> Result<Vec<Posts>, NoMemory>
-    ensures { IfOk result (λ made. made.items ≡ no_posts callers) }
-{
-    let mut made = Vec::new(alloc);
-    for _caller in 0..callers {
-        made.push(Sequence::new(alloc))?;
-    }
-    Ok(made)
-}
-
-/// Appends a post to those of a caller.
-fn push_post(posts: &mut Vec<Posts>, caller: usize, post: Post) -> Result<(), NoMemory>
-    requires { caller < length posts.old.items }
-    ensures ok { OnOk result (posts.new.items ≡ slice_set posts.old.items caller (list_of posts.old.items caller ++ post ∷ [])) }
-    ensures err { OnErr result (posts.new.items ≡ posts.old.items) }
-{
-    let list = &mut posts[caller];
-    list.push(post)?;
-    Ok(())
 }
 
 /// Whether no caller has a post.
@@ -351,7 +353,7 @@ fn read_base(alloc: Global, size: Size, line: &[u8]) -> Result<Option<BaseRects>
 }
 
 /// The reading of a line, where it has one.
-fn read_line(alloc: Global, line: &[u8]) -> Result<Option<Value>, NoMemory>
+pub(crate) fn read_line(alloc: Global, line: &[u8]) -> Result<Option<Value>, NoMemory>
     ensures { IfOk result (λ read. option_map view read ≡ reading_of line.now) }
 {
     match Value::from_slice(alloc, line) {

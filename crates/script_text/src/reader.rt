@@ -1,14 +1,16 @@
 //! Scripts, read turn by turn.
-ghost use Rattle.std.specs.Prelude.{◌≡◌, ◌+◌, ◌*◌, ◌≤◌, ℕ, IfErr, IfOk, IfSome, IsErrOf, IsFalse, IsSome, IsTrue, None, OnOk, Some, is_err, length, [], ◌∷◌};
+ghost use Rattle.std.specs.Prelude.{◌≡◌, ◌+◌, ◌*◌, ◌≤◌, ℕ, IfErr, IfOk, IfSome, IsErrOf, IsFalse, IsSome, IsTrue, None, OnErr, OnOk, Some, is_err, length, [], ◌∷◌};
 ghost use Rattle.nav_types.specs.declared.limits.TheConstants.{MAX_INPUT_BYTES};
 ghost use Rattle.io_edges.specs.Faults.{Rose};
+ghost use Rattle.io_edges.specs.Passing.{HasGiven};
 ghost use Rattle.script_text.specs.declared.parts.Part.TheVariants.{InBase};
-ghost use Rattle.script_text.specs.Script.{accept, beginning, rules_of};
-ghost use Rattle.script_text.specs.Reader.{HoldsTurn, IsWholeMap, MapTold, TakesNoneAhead, TurnTold, callers_of, is_last, post_count, rules_at};
-ghost use Rattle.script_text.specs.inner.Judging.{BaseTold, BeginsMap, CountsPosts, GivesTurn, IsBase, IsBetweenTurns, IsInTurns, IsNoBaseAt, IsNoBaseNext, TakesBase, held_at};
+ghost use Rattle.script_text.specs.Script.{accept, beginning, counted, rules_of};
+ghost use Rattle.script_text.specs.Reader.{HoldsRefused, HoldsTurn, IsWholeMap, MapTold, TakesNoneAhead, TurnTold, callers_of, held_cause, is_last, post_count, rules_at};
+ghost use Rattle.script_text.specs.inner.Judging.{BaseTold, BeginsMap, CountsPosts, GivesTurn, IsBadAt, IsBase, IsBetweenTurns, IsInTurns, IsNoBaseAt, IsNoBaseNext, TakesBase, held_at};
 ghost use Rattle.script_text.specs.Lines.{IsPlain};
 ghost use Rattle.script_text.specs.inner.Taking.{HeldLine, IsWholeLine, bytes_of};
 
+use crate::causes::Cause;
 use crate::faults::ScriptFault;
 use crate::held_lines::HeldLines;
 use crate::progress::Progress;
@@ -74,6 +76,7 @@ impl ScriptReader {
         requires going { IsFalse self.old.over }
         ensures told { MapTold self.old self.new (S.left source.old) (S.left source.new) result }
         ensures whole { IfOk result (λ map. IsWholeMap self.old (S.left source.old) map) }
+        ensures given { HasGiven (S.left source.old) (S.left source.new) }
         ensures later { S.faults source.old ≤ S.faults source.new }
         ensures fault { IsErrOf result ScriptFault.ReadFault → Rose (S.faults source.old) (S.faults source.new) }
         ensures bad_line { IfErr result (λ fault. (n : ℕ) → fault ≡ ScriptFault.BadLine n → n ≡ 1) }
@@ -82,6 +85,7 @@ impl ScriptReader {
         ensures stays { IsTrue self.old.ended → IsTrue self.new.ended }
         ensures over { self.new.over ≡ is_err result }
         ensures failed { self.new.failed ≡ is_err result }
+        ensures bad { IfErr result (HoldsRefused self.new) }
     {
         let answer = read_lines_of_map(alloc, source, &mut self.lines, &mut self.progress);
         self.failed = answer.is_err();
@@ -107,6 +111,7 @@ impl ScriptReader {
         ensures told { TurnTold self.old self.new (S.left source.old) (S.left source.new) result }
         ensures still { HoldsTurn self.old → source.new ≡ source.old }
         ensures ahead { TakesNoneAhead self.old (S.left source.old) (S.left source.new) }
+        ensures given { HasGiven (S.left source.old) (S.left source.new) }
         ensures later { S.faults source.old ≤ S.faults source.new }
         ensures fault { IsErrOf result ScriptFault.ReadFault → Rose (S.faults source.old) (S.faults source.new) }
         ensures rules { rules_at self.new.place.part ≡ rules_at self.old.place.part }
@@ -117,6 +122,7 @@ impl ScriptReader {
         ensures stays { IsTrue self.old.ended → IsTrue self.new.ended }
         ensures over { self.new.over ≡ is_last result }
         ensures failed { self.new.failed ≡ is_err result }
+        ensures bad { IfErr result (HoldsRefused self.new) }
     {
         let answer = read_turn(alloc, source, &mut self.lines, &mut self.progress);
         self.failed = answer.is_err();
@@ -130,6 +136,29 @@ impl ScriptReader {
         ensures few { result ≤ 8454144 }
     {
         self.lines.held()
+    }
+
+    /// Why the line that a call refused as bad is not in the grammar in its place, or why the script may not end where
+    /// it does (`held_cause`). After such a refusal there is a cause (`HoldsBad`). The only refusal is want of memory.
+    pub fn cause(&self, alloc: Global) -> Result<Cause, NoMemory>
+        requires bad { IsSome (held_cause self.now) }
+        ensures cause { IfOk result (λ found. Some found ≡ held_cause self.now) }
+    {
+        match self.next_cause(alloc)? {
+            Some(found) => Ok(found),
+            None => unreachable!(),
+        }
+    }
+
+    /// Why the first line that is held, or the end of the script where nothing is held, is not in the grammar.
+    fn next_cause(&self, alloc: Global) -> Result<Option<Cause>, NoMemory>
+        ensures { IfOk result (λ found. found ≡ held_cause self.now) }
+    {
+        if self.held() == 0 {
+            return Ok(self.progress.end_cause());
+        }
+        let line = self.lines.first_line(alloc)?;
+        self.progress.line_cause(alloc, line.as_slice())
     }
 
     /// Whether a call was refused.
@@ -161,6 +190,7 @@ fn read_lines_of_map<S: Source>(
     requires first { progress.old ≡ beginning }
     requires between { lines.old.line_end ≡ None → lines.old.line ≡ [] }
     ensures told { MapTold (held_at progress.old lines.old) (held_at progress.new lines.new) (S.left source.old) (S.left source.new) result }
+    ensures given { HasGiven (S.left source.old) (S.left source.new) }
     ensures later { S.faults source.old ≤ S.faults source.new }
     ensures fault { IsErrOf result ScriptFault.ReadFault → Rose (S.faults source.old) (S.faults source.new) }
     ensures bad_line { IfErr result (λ fault. (n : ℕ) → fault ≡ ScriptFault.BadLine n → n ≡ 1) }
@@ -168,15 +198,11 @@ fn read_lines_of_map<S: Source>(
     ensures ready { OnOk result (IsBetweenTurns progress.new lines.new) }
     ensures limit { progress.new.bytes ≤ MAX_INPUT_BYTES }
     ensures stays { IsTrue lines.old.rest.ended → IsTrue lines.new.rest.ended }
+    ensures bad { IfErr result (HoldsRefused (held_at progress.new lines.new)) }
 {
-    let mut map = match read_first_line(alloc, source, lines, progress) {
-        Ok(map) => map,
-        Err(fault) => return Err(fault),
-    };
-    match read_base_lines(alloc, source, lines, progress, &mut map) {
-        Ok(()) => Ok(map),
-        Err(fault) => Err(fault),
-    }
+    let mut map = read_first_line(alloc, source, lines, progress)?;
+    read_base_lines(alloc, source, lines, progress, &mut map)?;
+    Ok(map)
 }
 
 /// Reads line 1, which is the map line.
@@ -189,6 +215,7 @@ fn read_first_line<S: Source>(
     requires first { progress.old ≡ beginning }
     requires between { lines.old.line_end ≡ None → lines.old.line ≡ [] }
     ensures told { MapTold (held_at progress.old lines.old) (held_at progress.new lines.new) (S.left source.old) (S.left source.new) result }
+    ensures given { HasGiven (S.left source.old) (S.left source.new) }
     ensures later { S.faults source.old ≤ S.faults source.new }
     ensures fault { IsErrOf result ScriptFault.ReadFault → Rose (S.faults source.old) (S.faults source.new) }
     ensures bad_line { IfErr result (λ fault. (n : ℕ) → fault ≡ ScriptFault.BadLine n → n ≡ 1) }
@@ -197,12 +224,12 @@ fn read_first_line<S: Source>(
     ensures empty { OnOk result (lines.new.line ≡ []) }
     ensures limit { progress.new.bytes ≤ MAX_INPUT_BYTES }
     ensures stays { IsTrue lines.old.rest.ended → IsTrue lines.new.rest.ended }
+    ensures bad { IfErr result (HoldsRefused (held_at progress.new lines.new)) }
 {
     let room = progress.room();
-    match lines.next_line(source, room) {
-        Ok(Some(size)) => take_map_line(alloc, lines, progress, size),
-        Ok(None) => Err(ScriptFault::BadLine(1)),
-        Err(fault) => Err(fault),
+    match lines.next_line(source, room)? {
+        Some(size) => take_map_line(alloc, lines, progress, size),
+        None => Err(ScriptFault::BadLine(1)),
     }
 }
 
@@ -223,14 +250,13 @@ fn take_map_line(
     ensures rules { IfOk result (λ map. progress.new.part ≡ InBase (rules_of map)) }
     ensures posts { OnOk result (post_count progress.new.posts ≡ 0) }
     ensures limit { progress.new.bytes ≤ MAX_INPUT_BYTES }
+    ensures kept { OnErr result (lines.new ≡ lines.old) }
+    ensures at_bad { IfErr result (IsBadAt progress.new (counted progress.old size)) }
+    ensures bad { IfErr result (HoldsRefused (held_at progress.new lines.new)) }
 {
-    match progress.map_line(alloc, lines.line(), size) {
-        Ok(map) => {
-            lines.use_line();
-            Ok(map)
-        }
-        Err(fault) => Err(fault),
-    }
+    let map = progress.map_line(alloc, lines.line(), size)?;
+    lines.use_line();
+    Ok(map)
 }
 
 /// Reads base lines, up to the first line that is none, and adds their rectangles to the map.
@@ -245,6 +271,7 @@ fn read_base_lines<S: Source>(
     requires posts { post_count progress.old.posts ≡ 0 }
     requires between { lines.old.line_end ≡ None → lines.old.line ≡ [] }
     ensures told { BaseTold (held_at progress.old lines.old) (held_at progress.new lines.new) map.old map.new (S.left source.old) (S.left source.new) result }
+    ensures given { HasGiven (S.left source.old) (S.left source.new) }
     ensures later { S.faults source.old ≤ S.faults source.new }
     ensures fault { IsErrOf result ScriptFault.ReadFault → Rose (S.faults source.old) (S.faults source.new) }
     ensures good { IfErr result (λ fault. (n : ℕ) → fault ≡ ScriptFault.BadLine n → ⊥) }
@@ -255,15 +282,12 @@ fn read_base_lines<S: Source>(
 {
     'lines: loop {
         let room = progress.room();
-        match lines.next_line(source, room) {
-            Ok(Some(size)) => match take_base_line(alloc, lines, progress, map, size) {
-                Ok(true) => {}
-                // The line stays held, and is judged as the first line of a turn.
-                Ok(false) => return Ok(()),
-                Err(fault) => return Err(fault),
-            },
-            Ok(None) => return Ok(()),
-            Err(fault) => return Err(fault),
+        let Some(size) = lines.next_line(source, room)? else {
+            return Ok(());
+        };
+        // A line that is none stays held, and is judged as the first line of a turn.
+        if !take_base_line(alloc, lines, progress, map, size)? {
+            return Ok(());
         }
     }
 }
@@ -285,14 +309,13 @@ fn take_base_line(
     ensures posts { progress.new.posts ≡ progress.old.posts }
     ensures limit { progress.new.bytes ≤ MAX_INPUT_BYTES }
 {
-    match progress.base_line(alloc, lines.line(), size) {
-        Ok(Some(rects)) => {
+    match progress.base_line(alloc, lines.line(), size)? {
+        Some(rects) => {
             map.add_base(rects.as_slice())?;
             lines.use_line();
             Ok(true)
         }
-        Ok(None) => Ok(false),
-        Err(fault) => Err(fault),
+        None => Ok(false),
     }
 }
 
@@ -317,22 +340,16 @@ fn read_turn<S: Source>(
     ensures ready { IfOk result (λ next. IfSome next (λ turn. IsBetweenTurns progress.new lines.new)) }
     ensures limit { progress.new.bytes ≤ MAX_INPUT_BYTES }
     ensures stays { IsTrue lines.old.rest.ended → IsTrue lines.new.rest.ended }
+    ensures bad { IfErr result (HoldsRefused (held_at progress.new lines.new)) }
 {
     'lines: loop {
         let room = progress.room();
-        match lines.next_line(source, room) {
-            Ok(Some(size)) => match take_turn_line(alloc, lines, progress, size) {
-                Ok(None) => {}
-                Ok(Some(turn)) => return Ok(Some(turn)),
-                Err(fault) => return Err(fault),
-            },
-            Ok(None) => {
-                return match progress.finish() {
-                    Ok(()) => Ok(None),
-                    Err(fault) => Err(fault),
-                };
-            }
-            Err(fault) => return Err(fault),
+        let Some(size) = lines.next_line(source, room)? else {
+            progress.finish()?;
+            return Ok(None);
+        };
+        if let Some(turn) = take_turn_line(alloc, lines, progress, size)? {
+            return Ok(Some(turn));
         }
     }
 }
@@ -358,12 +375,11 @@ fn take_turn_line(
     ensures counts { IfOk result (CountsPosts progress.old.posts progress.new.posts) }
     ensures lists { IfOk result (λ next. IfSome next (λ turn. length turn ≡ callers_of progress.old.part)) }
     ensures limit { progress.new.bytes ≤ MAX_INPUT_BYTES }
+    ensures kept { OnErr result (lines.new ≡ lines.old) }
+    ensures at_bad { IfErr result (IsBadAt progress.new (counted progress.old size)) }
+    ensures bad { IfErr result (HoldsRefused (held_at progress.new lines.new)) }
 {
-    match progress.accept(alloc, lines.line(), size) {
-        Ok(next) => {
-            lines.use_line();
-            Ok(next)
-        }
-        Err(fault) => Err(fault),
-    }
+    let next = progress.accept(alloc, lines.line(), size)?;
+    lines.use_line();
+    Ok(next)
 }

@@ -1,3 +1,4 @@
-//! Tests: lines and their forms, and scripts that are read.
+//! Tests: lines and their forms, scripts that are read, and the causes of bad lines.
+mod causes;
 mod lines;
 mod reading;

@@ -11,7 +11,7 @@ use Rattle.grid_versions.specs.declared.edits.Refusal.{Refusal}
 use Rattle.grid_versions.specs.declared.edits.Refusal.TheVariants.{StartOutside}
 use Rattle.turn_core.specs.declared.replies.Answer.{Answer}
 use Rattle.turn_core.specs.declared.replies.Answer.TheVariants.{Refused}
-use Rattle.turn_core.specs.Finding.{is_on_map}
+use Rattle.turn_core.specs.NamedGoals.{is_on_map}
 use Rattle.turn_core.specs.Solving.{IsPathTo, IsPathFound, IsAnswerAt}
 use Rattle.turn_core.proofs.FoundGoals.{on_map_decides}
 

@@ -20,6 +20,17 @@ solves_known m final (q ∷ qs) [] k x e = absurd x
 solves_known m final (q ∷ qs) (None ∷ rs) k x e = cc
 solves_known m final (q ∷ qs) (Some r ∷ rs) k x e = (x.0, solves_known m final qs rs (k + 1) x.1 e)
 
+-- no job is unanswered where there is no least one
+pub no_gap : (answers rest : List (Option Answer)) (k : ℕ) → why_unanswered k (answers ++ None ∷ rest) ≡ None → ⊥
+no_gap [] rest k e = cc
+no_gap (None ∷ answers) rest k e = cc
+no_gap (Some answer ∷ answers) rest k e = no_gap answers rest (k + 1) e
+
+pub length_known : (answers : List (Option Answer)) → length (known answers) ≡ length answers
+length_known [] = refl
+length_known (None ∷ answers) = ap suc (length_known answers)
+length_known (Some answer ∷ answers) = ap suc (length_known answers)
+
 -- the replies to the posts of one caller, and the answers that are left
 pub given_are : (m : Map) (final s : Standing) (ps : List Post) (qs : List Request) (rs : List Answer) → AreAnswersTo m final (requests ps ++ qs) rs
     → AreReplies m final s ps (given m s ps rs) × AreAnswersTo m final qs (drop (length (requests ps)) rs)

@@ -1,9 +1,8 @@
 -- The machine comes to each journal that one thread answers.
-use Rattle.std.proofs.Common.{◌≡◌, ℕ, zero, suc, ◌+◌, ◌<◌, ◌≤◌, List, [], ◌∷◌, ◌++◌, Option, None, Some, length, map, set, replicate, slice_index, refl, sym, ap, ◌∙◌, subst, arith, append_assoc, append-nil, length-append}
+use Rattle.std.proofs.Common.{◌≡◌, ℕ, zero, suc, ◌+◌, ◌<◌, ◌≤◌, List, [], ◌∷◌, ◌++◌, Option, None, length, map, set, replicate, slice_index, refl, sym, ap, ◌∙◌, subst, arith, append_assoc, append-nil, length-append}
 use Rattle.std.specs.Prelude.{nat_lt, slice_get}
 use Rattle.std.proofs.lemmas.List.{get_or_at, set_at, length-replicate}
 use Rattle.grid_versions.specs.Maps.{Map}
-use Rattle.turn_core.specs.declared.events.Event.{Event}
 use Rattle.turn_core.specs.declared.events.Event.TheVariants.{Stage, Deliver, Collect}
 use Rattle.turn_core.specs.declared.events.Why.TheVariants.{Callers, Collected}
 use Rattle.turn_core.specs.declared.posts.Post.{Post}
@@ -17,7 +16,7 @@ use Rattle.turn_core.specs.Turns.{after, after_turn, requests, jobs, of_caller, 
 use Rattle.turn_core.specs.States.{State, opening, list_of, stands_after_done}
 use Rattle.turn_core.specs.Table.{why_no_caller, why_collected}
 use Rattle.turn_core.specs.Effects.{joined_up, IsStep, IsRun}
-use Rattle.turn_core.specs.Facts.{all_turns, HaveLists, Facts}
+use Rattle.turn_core.specs.Facts.{HaveLists, Facts}
 use Rattle.turn_core.specs.Arrival.{post_events, answering, whole_turn, turn_events, collect_events, arrival, CanStage, answered_run, in_stage, in_run, at_end, CanArrive, HasArrived}
 use Rattle.turn_core.proofs.CallerLists.{of_caller_push}
 use Rattle.turn_core.proofs.Threads.{one_thread_lem, standing_more}

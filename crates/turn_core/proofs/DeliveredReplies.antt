@@ -7,7 +7,7 @@ use Rattle.turn_core.specs.declared.machines.delivered.DeliveredTurn.{DeliveredT
 use Rattle.turn_core.specs.declared.replies.Reply.{Reply}
 use Rattle.turn_core.specs.States.{list_of}
 use Rattle.turn_core.specs.Effects.{joined_up}
-use Rattle.turn_core.specs.Runs.{gathered, replies_to}
+use Rattle.turn_core.specs.inner.Runs.{gathered, replies_to}
 use Rattle.turn_core.proofs.CallerLists.{joined_up_at}
 
 get_front : {A : Type 0} (xs ys : List A) (k : ℕ) → k < length xs → slice_get (xs ++ ys) k ≡ slice_get xs k

@@ -4,6 +4,7 @@ use Rattle.std.specs.Prelude.{Option, if◌then◌else◌}
 use Rattle.std.specs.FinMap as fin_map
 use Rattle.std.proofs.lemmas.Bool.{false_from_ne_true}
 use Rattle.std.proofs.lemmas.Bool.Decides.{Decides-like, Decides-and}
+use Rattle.nav_types.specs.declared.limits.TheConstants.{MAX_GROWTH}
 use Rattle.nav_types.specs.declared.cells.Size.{Size}
 use Rattle.fixed_point.specs.declared.plane.Rectangle.{Rectangle}
 use Rattle.fixed_point.specs.Plane.{IsOnAxis, is_unit_vector, is_on_axis, is_up_to}
@@ -16,7 +17,7 @@ use Rattle.goal_shapes.specs.Limits.{middle_x, middle_z, IsWellFormedSquare, IsW
 use Rattle.grid_versions.specs.declared.edits.Refusal.TheVariants.{BadShape, GoalOutside}
 use Rattle.grid_versions.specs.Maps.{Map}
 use Rattle.turn_core.specs.Words.{Standing}
-use Rattle.turn_core.specs.Finding.{is_on_map, is_well_formed_square, is_well_formed, plain_goal, goal_about, goal_found}
+use Rattle.turn_core.specs.NamedGoals.{is_on_map, is_well_formed_square, is_well_formed, plain_goal, goal_about, goal_found}
 
 -- ---- tests
 
@@ -70,15 +71,15 @@ plain_outside size goal well outside =
 -- ---- goals about obstructions
 
 -- the goal by a distance within or out of its limits
-about_by : (map : Map) (standing : Standing) (id : ℕ) (grow : ℤ) (near : Bool) → is_up_to 3840 grow ≡ near
+about_by : (map : Map) (standing : Standing) (id : ℕ) (grow : ℤ) (near : Bool) → is_up_to MAX_GROWTH grow ≡ near
     → goal_found map standing (Obstruction id grow) ≡ (if near then goal_about (fin_map.get standing id) grow else Err BadShape)
 unfolding goal_found
 about_by map standing id grow near is = cc
 
-pub about_far : (map : Map) (standing : Standing) (id : ℕ) (grow : ℤ) → is_up_to 3840 grow ≡ false → Err BadShape ≡ goal_found map standing (Obstruction id grow)
+pub about_far : (map : Map) (standing : Standing) (id : ℕ) (grow : ℤ) → is_up_to MAX_GROWTH grow ≡ false → Err BadShape ≡ goal_found map standing (Obstruction id grow)
 about_far map standing id grow far = sym (about_by map standing id grow false far)
 
-pub about_near : (map : Map) (standing : Standing) (id : ℕ) (grow : ℤ) (found : Option StandingShape) → is_up_to 3840 grow ≡ true → found ≡ fin_map.get standing id
+pub about_near : (map : Map) (standing : Standing) (id : ℕ) (grow : ℤ) (found : Option StandingShape) → is_up_to MAX_GROWTH grow ≡ true → found ≡ fin_map.get standing id
     → goal_about found grow ≡ goal_found map standing (Obstruction id grow)
 about_near map standing id grow found near has =
     ap (λ (o : Option StandingShape). goal_about o grow) has ∙ sym (about_by map standing id grow true near)

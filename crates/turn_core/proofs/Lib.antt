@@ -4,9 +4,10 @@ pub mod OneAnswer
 pub mod TurnByTurn
 pub mod Threads
 pub mod CallerLists
-pub mod MergedReplies
+pub mod Sweeping
+pub mod FilledReplies
 pub mod StagedTurns
-pub mod Grounded
+pub mod TurnEdits
 pub mod DeliveredReplies
 pub mod Answering
 pub mod Keeping
@@ -15,3 +16,4 @@ pub mod Settling
 pub mod Reaching
 pub mod Arriving
 pub mod MachineSteps
+pub mod HeldCounts

@@ -4,7 +4,7 @@ use Rattle.std.specs.Prelude.{nat_lt, slice_get, IsSome, ◌↔◌}
 use Rattle.std.proofs.lemmas.List.{map_push}
 use Rattle.std.proofs.lemmas.Option.{slice_get-get_or}
 use Rattle.grid_versions.specs.Maps.{Map}
-use Rattle.grid_versions.specs.declared.edits.EditReply.{EditReply}
+use Rattle.grid_versions.specs.Versions.{map_state}
 use Rattle.turn_core.specs.declared.events.Event.{Event}
 use Rattle.turn_core.specs.declared.events.Event.TheVariants.{Post as Posting, Stage, Start, Claim, Finish, Deliver, Collect}
 use Rattle.turn_core.specs.declared.events.Why.{Why}
@@ -17,21 +17,22 @@ use Rattle.turn_core.specs.declared.replies.Reply.TheVariants.{Answer as Answere
 use Rattle.turn_core.specs.declared.machines.running.RunningTurn.{RunningTurn}
 use Rattle.turn_core.specs.declared.machines.delivered.DeliveredTurn.{DeliveredTurn}
 use Rattle.turn_core.specs.declared.machines.Machine.TheInside.{Inside}
-use Rattle.turn_core.specs.Solving.{IsAnswerTo}
+use Rattle.turn_core.specs.declared.replies.TurnReplies.{TurnReplies}
+use Rattle.turn_core.specs.Solving.{IsAnswerTo, AreAnswersTo}
 use Rattle.turn_core.specs.Words.{Standing, MapState, bare}
-use Rattle.turn_core.specs.Turns.{after_turn, standing, jobs}
+use Rattle.turn_core.specs.Turns.{after_turn, standing, jobs, IsTurnTold}
+use Rattle.turn_core.specs.ReadyTurns.{Ready, after_edits_of}
 use Rattle.turn_core.specs.States.{State, Run, list_of, stands_after_done, stands_in_run}
-use Rattle.turn_core.specs.Table.{unless, or_else, why_not, why_none_staged, why_running, running_turn, why_no_caller, why_no_claim, why_no_finish, why_collected, last_turn}
+use Rattle.turn_core.specs.Table.{unless, or_else, why_not, why_none_staged, why_running, running_turn, why_no_caller, why_no_claim, why_no_finish, why_unanswered, why_no_delivery, why_collected, last_turn}
 use Rattle.turn_core.specs.Effects.{joined_up, known, given_turn, started, claimed, finished, delivered, collected, AnswersJob, IsStep, IsCollect}
 use Rattle.turn_core.specs.Facts.{WhileRunning, Facts}
-use Rattle.turn_core.specs.Merging.{edits_told_in, merged_turn}
-use Rattle.turn_core.specs.Runs.{run_of, option_run_of, option_posts_of, base_of, IsReadyOn, posts_in, gathered, replies_to, with_claim, IsHeldOn, HasUnclaimed, HasJob, HasPlace, AnswersOn, AnswersHeld, PutsIn, PutsAnswer}
-use Rattle.turn_core.specs.Machines.{state_of, HoldsRun, HoldsStaged, HoldsState}
+use Rattle.turn_core.specs.inner.Runs.{run_of, option_run_of, option_posts_of, base_of, IsReadyOn, posts_in, gathered, replies_to, with_claim, IsHeldOn, HasUnclaimed, HasJob, HasPlace, AnswersAfter, AnswersHeld, PutsIn, PutsAnswer}
+use Rattle.turn_core.specs.inner.Machines.{state_of, HoldsRun, HoldsStaged, HoldsState}
 use Rattle.turn_core.proofs.CallerLists.{none_at}
-use Rattle.turn_core.proofs.Threads.{standing_more}
-use Rattle.turn_core.proofs.Answering.{length_answers}
+use Rattle.turn_core.proofs.Threads.{standing_more, one_turn}
+use Rattle.turn_core.proofs.Answering.{length_answers, solves_known, given_turn_are}
+use Rattle.turn_core.proofs.TurnByTurn.{answers_moved}
 use Rattle.turn_core.proofs.Keeping.{first_none, second_none, unless_none, is_less}
-use Rattle.turn_core.proofs.MergedReplies.{merged_turn_given}
 use Rattle.turn_core.proofs.DeliveredReplies.{gathered_at, gathered_push}
 
 pub same_state : (s t : State) → s.map ≡ t.map → s.posted ≡ t.posted → s.taken ≡ t.taken → s.staged ≡ t.staged → s.running ≡ t.running → s.done ≡ t.done → s.replies ≡ t.replies → s.collected ≡ t.collected → s ≡ t
@@ -43,15 +44,14 @@ caller_replies n ds c = gathered_at (replicate n []) ds c ∙ ap (λ (l : List R
 
 -- Claims
 
-pub unclaimed_held : (last : ℕ) (version : MapState) (o : Option RunningTurn) → HoldsRun version o → why_no_claim last (option_run_of o) ≡ None → HasUnclaimed o
-unclaimed_held last version None held why = tt
-unclaimed_held last version (Some run) held why =
-    let less : run.claimed < length (jobs run.posts) = is_less run.claimed (length (jobs run.posts)) (unless_none (nat_lt run.claimed (length (jobs run.posts))) _ why) in
-    omega (arith, ap length held.jobs)
+pub unclaimed_held : (last : ℕ) (o : Option RunningTurn) → why_no_claim last (option_run_of o) ≡ None → HasUnclaimed o
+unclaimed_held last None why = tt
+unclaimed_held last (Some run) why =
+    is_less run.claimed (length (jobs run.ready.turn)) (unless_none (nat_lt run.claimed (length (jobs run.ready.turn))) _ why)
 
 pub claim_holds : (version : MapState) (o : Option RunningTurn) → HoldsRun version o → HoldsRun version (with_claim o)
 claim_holds version None held = tt
-claim_holds version (Some run) held = record { map = held.map; standing = held.standing; edits = held.edits; jobs = held.jobs }
+claim_holds version (Some run) held = record { map = held.map; before = held.before }
 
 pub claimed_is : (a : Inside) (o : Option RunningTurn) → a.running ≡ o → state_of (record a { running = with_claim o }) ≡ claimed (state_of a) (option_run_of o)
 claimed_is a None e = ap (λ (o : Option RunningTurn). state_of (record a { running = o })) (sym e)
@@ -71,34 +71,32 @@ claimed_holds a holds = record {
 
 -- Finishes
 
-pub job_held : (last job : ℕ) (version : MapState) (o : Option RunningTurn) → HoldsRun version o → WhileRunning version.map version.standing (option_run_of o)
+pub job_held : (last job : ℕ) (version : MapState) (o : Option RunningTurn) → WhileRunning version.map version.standing (option_run_of o)
     → why_no_finish job last (option_run_of o) ≡ None → HasJob o job
-job_held last job version None held f why = cc
-job_held last job version (Some run) held f why =
+job_held last job version None f why = cc
+job_held last job version (Some run) f why =
     let less : job < run.claimed = is_less job run.claimed (unless_none (nat_lt job run.claimed) _ (first_none (unless (nat_lt job run.claimed) _) _ why)) in
-    omega (arith, f.claimed, ap length held.jobs)
+    omega (arith, f.claimed)
 
-pub place_held : (last job : ℕ) (version : MapState) (o : Option RunningTurn) → HoldsRun version o → WhileRunning version.map version.standing (option_run_of o)
+pub place_held : (last job : ℕ) (version : MapState) (o : Option RunningTurn) → WhileRunning version.map version.standing (option_run_of o)
     → why_no_finish job last (option_run_of o) ≡ None → HasPlace o job
-place_held last job version None held f why = cc
-place_held last job version (Some run) held f why =
+place_held last job version None f why = cc
+place_held last job version (Some run) f why =
     let less : job < run.claimed = is_less job run.claimed (unless_none (nat_lt job run.claimed) _ (first_none (unless (nat_lt job run.claimed) _) _ why)) in
-    omega (arith, f.claimed, length_answers version.map (after_turn version.map version.standing run.posts) (jobs run.posts) run.answers.items f.answers)
+    omega (arith, f.claimed, length_answers version.map (after_turn version.map version.standing run.ready.turn) (jobs run.ready.turn) run.answers.items f.answers)
 
 pub put_holds : (version : MapState) (old new : Option RunningTurn) (job : ℕ) (answer : Answer) → PutsAnswer old new job answer → HoldsRun version old → HoldsRun version new
 put_holds version None new job answer puts held = absurd puts
 put_holds version (Some old) None job answer puts held = absurd puts
 put_holds version (Some old) (Some new) job answer puts held = record {
-  map = ap (λ (v : MapState). v.map) puts.version ∙ held.map;
-  standing = ap (λ (v : MapState). v.standing) puts.version ∙ held.standing ∙ ap (after_turn version.map version.standing) (sym puts.posts);
-  edits = puts.edits ∙ held.edits ∙ ap (edits_told_in version.map version.standing) (sym puts.posts);
-  jobs = puts.jobs ∙ held.jobs ∙ ap jobs (sym puts.posts);
+  map = ap (λ (r : Ready). r.map) puts.ready ∙ held.map;
+  before = ap (λ (r : Ready). r.before) puts.ready ∙ held.before;
 }
 
 put_stays : (version : MapState) (old new : Option RunningTurn) (job : ℕ) (answer : Answer) → PutsAnswer old new job answer → base_of version new ≡ base_of version old
 put_stays version None new job answer puts = absurd puts
 put_stays version (Some old) None job answer puts = absurd puts
-put_stays version (Some old) (Some new) job answer puts = puts.version
+put_stays version (Some old) (Some new) job answer puts = ap (λ (r : Ready). map_state r.map (after_edits_of r)) puts.ready
 
 pub finished_holds : (a : Inside) (new : Option RunningTurn) (job : ℕ) (answer : Answer) → PutsAnswer a.running new job answer → HoldsState a → HoldsState (record a { running = new })
 finished_holds a new job answer puts holds = record {
@@ -108,7 +106,7 @@ finished_holds a new job answer puts holds = record {
 }
 
 put_run : (old new : RunningTurn) (job : ℕ) (answer : Answer) → PutsIn old new job answer → run_of new ≡ record (run_of old) { answers = set old.answers.items job (Some answer) }
-put_run old new job answer puts = λ i. record { turn = puts.posts i; claimed = puts.claimed i; answers = puts.answers i }
+put_run old new job answer puts = λ i. record { turn = (puts.ready i).turn; claimed = puts.claimed i; answers = puts.answers i }
 
 pub finished_is : (a : Inside) (old new : Option RunningTurn) (job : ℕ) (answer : Answer) → PutsAnswer old new job answer
     → state_of (record a { running = new }) ≡ finished (state_of a) job answer (option_run_of old)
@@ -116,18 +114,26 @@ finished_is a None new job answer puts = absurd puts
 finished_is a (Some old) None job answer puts = absurd puts
 finished_is a (Some old) (Some new) job answer puts = ap (λ (r : Run). record (state_of a) { running = Some r }) (put_run old new job answer puts)
 
-answers_step : (m : Map) (final : Standing) (version : MapState) (qs : List Request) (job : ℕ) (answer : Answer) (o : Option Request) → slice_get qs job ≡ o → version.map ≡ m → version.standing ≡ final
-    → AnswersOn version o answer → (request : Request) × ((slice_get qs job ≡ Some request) × IsAnswerTo m final request answer)
-answers_step m final version qs job answer None e f g x = absurd x
-answers_step m final version qs job answer (Some q) e f g x =
-    (q, (e, subst (λ (n : Map). IsAnswerTo n final q answer) f (subst (λ (s : Standing). IsAnswerTo version.map s q answer) g x)))
+answers_step : (m : Map) (final : Standing) (ready : Ready) (job : ℕ) (answer : Answer) (o : Option Request) → slice_get (jobs ready.turn) job ≡ o → ready.map ≡ m → after_edits_of ready ≡ final
+    → AnswersAfter ready o answer → (request : Request) × ((slice_get (jobs ready.turn) job ≡ Some request) × IsAnswerTo m final request answer)
+answers_step m final ready job answer None e f g x = absurd x
+answers_step m final ready job answer (Some q) e f g x =
+    (q, (e, subst (λ (n : Map). IsAnswerTo n final q answer) f (subst (λ (s : Standing). IsAnswerTo ready.map s q answer) g x)))
+
+-- what stands after the turn that is held, on the version on which it is held
+stands_on : (version : MapState) (run : RunningTurn) → IsHeldOn version run → after_edits_of run.ready ≡ after_turn version.map version.standing run.ready.turn
+stands_on version run held =
+    ap (λ (m : Map). after_turn m run.ready.before run.ready.turn) held.map
+    ∙ ap (λ (s : Standing). after_turn version.map s run.ready.turn) held.before
+
+stands_after : (a : Inside) (run : RunningTurn) → HoldsState a → IsHeldOn a.version run → after_edits_of run.ready ≡ stands_in_run (state_of a) (run_of run)
+stands_after a run holds held = stands_on a.version run held ∙ ap (λ (s : Standing). after_turn a.version.map s run.ready.turn) holds.standing
 
 pub answers_job : (a : Inside) (job : ℕ) (answer : Answer) (o : Option RunningTurn) → HoldsState a → HoldsRun a.version o → AnswersHeld o job answer → AnswersJob (state_of a) job answer (option_run_of o)
 answers_job a job answer None holds held x = absurd x
 answers_job a job answer (Some run) holds held x =
-    answers_step a.version.map (stands_in_run (state_of a) (run_of run)) run.version (jobs run.posts) job answer (slice_get run.jobs job)
-    (ap (λ (qs : List Request). slice_get qs job) (sym held.jobs)) held.map
-    (held.standing ∙ ap (λ (s : Standing). after_turn a.version.map s run.posts) holds.standing) x
+    answers_step a.version.map (stands_in_run (state_of a) (run_of run)) run.ready job answer (slice_get (jobs run.ready.turn) job)
+    refl held.map (stands_after a run holds held) x
 
 -- what holds of the running turn, on the version that is held
 pub while_held : (a : Inside) → HoldsState a → Facts (state_of a) → WhileRunning a.version.map a.version.standing (option_run_of a.running)
@@ -163,7 +169,7 @@ pub started_is : (a b : Inside) (ready : RunningTurn) → HoldsState a → a.sta
 started_is a b ready holds is none version posted taken staged running delivered collected =
     let ready_on : IsReadyOn a.version ready =
     subst (λ (o : Option RunningTurn). HoldsStaged (base_of a.version o) (Some ready)) none (subst (HoldsStaged (base_of a.version a.running)) is holds.staged) in
-    same_state (state_of b) (started (state_of a) (Some ready.posts))
+    same_state (state_of b) (started (state_of a) (Some ready.ready.turn))
     (ap (λ (v : MapState). v.map) version) (ap (λ (v : _). v.items) posted) (ap (λ (v : _). v.items) taken) (ap option_posts_of staged)
     (ap option_run_of running ∙ ap (λ (r : Run). Some r) ready_on.begins)
     (ap (λ (d : _). posts_in d.items) delivered)
@@ -173,29 +179,63 @@ started_is a b ready holds is none version posted taken staged running delivered
 
 -- Deliveries
 
-pub delivered_holds : (a : Inside) (run : RunningTurn) (ds : List DeliveredTurn) (turn : DeliveredTurn) → HoldsState a → IsHeldOn a.version run → ds ≡ a.delivered.items ++ turn ∷ [] → turn.posts ≡ run.posts
-    → run.version.standing ≡ standing run.version.map bare (posts_in ds)
-delivered_holds a run ds turn holds held pushed same =
-    held.standing
-    ∙ ap (λ (s : Standing). after_turn a.version.map s run.posts) holds.standing
-    ∙ sym (standing_more a.version.map bare (posts_in a.delivered.items) run.posts)
+-- the version after the edits of a turn, by its map and what stands on it
+pub version_is : (version : MapState) (ready : Ready) → version.map ≡ ready.map → version.standing ≡ after_edits_of ready → version ≡ map_state ready.map (after_edits_of ready)
+version_is version ready map stands = λ i. record { map = map i; standing = stands i }
+
+-- all jobs of a turn that can be delivered are answered
+pub all_answered : (a : Inside) (run : RunningTurn) → a.running ≡ Some run → why_not (state_of a) Deliver ≡ None → why_unanswered 0 run.answers.items ≡ None
+all_answered a run is why =
+    second_none (unless _ _) (why_unanswered 0 run.answers.items)
+    (subst (λ (o : Option RunningTurn). why_no_delivery (last_turn (state_of a)) (option_run_of o) ≡ None) is why)
+
+-- and the answers are those to its jobs
+pub answers_given : (a : Inside) (run : RunningTurn) → HoldsState a → Facts (state_of a) → a.running ≡ Some run → IsHeldOn a.version run → why_not (state_of a) Deliver ≡ None
+    → AreAnswersTo run.ready.map (after_edits_of run.ready) (jobs run.ready.turn) (known run.answers.items)
+answers_given a run holds f is held why =
+    let m : Map = a.version.map in
+    let before : Standing = a.version.standing in
+    let qs : List Request = jobs run.ready.turn in
+    let running = subst (λ (o : Option RunningTurn). WhileRunning m before (option_run_of o)) is (while_held a holds f) in
+    let final : Standing = after_turn m before run.ready.turn in
+    answers_moved (map_state m final) run.ready.map (after_edits_of run.ready) qs qs (known run.answers.items)
+    (sym held.map) (sym (stands_on a.version run held)) refl
+    (solves_known m final qs run.answers.items 0 running.answers (all_answered a run is why))
+
+pub delivered_holds : (a : Inside) (run : RunningTurn) (after : MapState) (ds : List DeliveredTurn) (turn : DeliveredTurn) → HoldsState a → IsHeldOn a.version run
+    → after.map ≡ run.ready.map → after.standing ≡ after_edits_of run.ready → ds ≡ a.delivered.items ++ turn ∷ [] → turn.posts ≡ run.ready.turn
+    → after.standing ≡ standing after.map bare (posts_in ds)
+delivered_holds a run after ds turn holds held map stands pushed same =
+    stands
+    ∙ stands_after a run holds held
+    ∙ sym (standing_more a.version.map bare (posts_in a.delivered.items) run.ready.turn)
     ∙ ap (λ (t : List (List Post)). standing a.version.map bare (posts_in a.delivered.items ++ t ∷ [])) (sym same)
     ∙ ap (standing a.version.map bare) (sym (map_push (λ (d : DeliveredTurn). d.posts) a.delivered.items turn))
     ∙ ap (λ (l : List DeliveredTurn). standing a.version.map bare (posts_in l)) (sym pushed)
-    ∙ ap (λ (m : Map). standing m bare (posts_in ds)) (sym held.map)
+    ∙ ap (λ (m : Map). standing m bare (posts_in ds)) (sym (map ∙ held.map))
 
-pub delivered_is : (a b : Inside) (run : RunningTurn) (turn : DeliveredTurn) → HoldsState a → IsHeldOn a.version run → a.running ≡ Some run
-    → b.version ≡ run.version → b.posted ≡ a.posted → b.taken ≡ a.taken → b.staged ≡ a.staged → b.running ≡ None → b.collected ≡ a.collected
-    → b.delivered.items ≡ a.delivered.items ++ turn ∷ [] → turn.posts ≡ run.posts → turn.replies ≡ merged_turn run.posts run.edits (known run.answers.items)
+-- the replies that a running turn is told are those that the answers to its jobs give
+told_given : (a : Inside) (run : RunningTurn) (told : TurnReplies) → HoldsState a → IsHeldOn a.version run
+    → AreAnswersTo run.ready.map (after_edits_of run.ready) (jobs run.ready.turn) (known run.answers.items) → IsTurnTold run.ready.map run.ready.before run.ready.turn told
+    → told.replies ≡ given_turn a.version.map (stands_after_done (state_of a)) run.ready.turn (known run.answers.items)
+told_given a run told holds held are is =
+    let ready : Ready = run.ready in
+    let answers : List Answer = known run.answers.items in
+    one_turn ready.map (after_edits_of ready) ready.before ready.turn told.replies (given_turn ready.map ready.before ready.turn answers) is.replies
+    (given_turn_are ready.map (after_edits_of ready) ready.before ready.turn answers are)
+    ∙ ap (λ (n : Map). given_turn n ready.before ready.turn answers) held.map
+    ∙ ap (λ (s : Standing). given_turn a.version.map s ready.turn answers) (held.before ∙ holds.standing)
+
+pub delivered_is : (a b : Inside) (run : RunningTurn) (turn : DeliveredTurn) (told : TurnReplies) → HoldsState a → IsHeldOn a.version run → a.running ≡ Some run
+    → b.version.map ≡ run.ready.map → b.posted ≡ a.posted → b.taken ≡ a.taken → b.staged ≡ a.staged → b.running ≡ None → b.collected ≡ a.collected
+    → b.delivered.items ≡ a.delivered.items ++ turn ∷ [] → turn.posts ≡ run.ready.turn → turn.replies ≡ told.replies
+    → AreAnswersTo run.ready.map (after_edits_of run.ready) (jobs run.ready.turn) (known run.answers.items) → IsTurnTold run.ready.map run.ready.before run.ready.turn told
     → state_of b ≡ delivered (state_of a) (state_of a).running
-delivered_is a b run turn holds held is version posted taken staged none collected pushed posts replies =
+delivered_is a b run turn told holds held is map posted taken staged none collected pushed posts replies are telling =
     let m : Map = a.version.map in
-    let map_is : b.version.map ≡ m = ap (λ (v : MapState). v.map) version ∙ held.map in
-    let given : turn.replies ≡ given_turn m (stands_after_done (state_of a)) run.posts (known run.answers.items) =
-    replies
-    ∙ ap (λ (es : List EditReply). merged_turn run.posts es (known run.answers.items)) held.edits
-    ∙ merged_turn_given m a.version.standing run.posts (known run.answers.items)
-    ∙ ap (λ (s : Standing). given_turn m s run.posts (known run.answers.items)) holds.standing in
+    let map_is : b.version.map ≡ m = map ∙ held.map in
+    let given : turn.replies ≡ given_turn m (stands_after_done (state_of a)) run.ready.turn (known run.answers.items) =
+    replies ∙ told_given a run told holds held are telling in
     let lists : List (List Reply) = gathered (replicate m.callers []) a.delivered.items in
     same_state (state_of b) (delivered (state_of a) (Some (run_of run)))
     map_is (ap (λ (v : _). v.items) posted) (ap (λ (v : _). v.items) taken) (ap option_posts_of staged) (ap option_run_of none)

@@ -26,7 +26,7 @@ use Rattle.turn_core.specs.declared.replies.RegionAnswer.{RegionAnswer}
 use Rattle.turn_core.specs.declared.replies.Answer.{Answer}
 use Rattle.turn_core.specs.declared.replies.Answer.TheVariants.{Path as IsPath, Region as IsRegion}
 use Rattle.turn_core.specs.Words.{Standing}
-use Rattle.turn_core.specs.Finding.{class_named, is_on_map, goal_found}
+use Rattle.turn_core.specs.NamedGoals.{class_named, is_on_map, goal_found}
 use Rattle.turn_core.specs.Solving.{IsImpassable, is_near, IsPathAnswer, IsPathTo, IsPathFound, IsRegionAnswer, IsRegionAt, IsAnswerAt, IsAnswerTo, AreAnswersTo}
 
 one_region : (passes : Cell → Bool) (chunk : Chunk) (cell : Cell) (m n : ℕ) → HasRegion passes chunk cell m → HasRegion passes chunk cell n → m ≡ n

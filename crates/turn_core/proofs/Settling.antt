@@ -1,5 +1,5 @@
 -- Where nothing is staged or running, each post that is taken has one reply.
-use Rattle.std.proofs.Common.{◌≡◌, ℕ, zero, suc, List, [], ◌∷◌, ◌++◌, Option, None, length, slice_index, refl, sym, ap, ◌∙◌, arith, append-nil, length-append, length-take-le}
+use Rattle.std.proofs.Common.{◌≡◌, ℕ, zero, suc, ◌+◌, List, [], ◌∷◌, ◌++◌, Option, None, length, slice_index, refl, sym, ap, ◌∙◌, arith, append-nil, length-append, length-take-le}
 use Rattle.grid_versions.specs.Maps.{Map}
 use Rattle.turn_core.specs.declared.posts.Post.{Post}
 use Rattle.turn_core.specs.declared.replies.Reply.{Reply}
@@ -7,6 +7,7 @@ use Rattle.turn_core.specs.Words.{Standing, bare, edited}
 use Rattle.turn_core.specs.Turns.{after, after_turn, of_caller, AreReplies, AreTurnReplies, OneThread}
 use Rattle.turn_core.specs.States.{State, Run, list_of}
 use Rattle.turn_core.specs.Facts.{running_turns, staged_turns, all_turns, Facts}
+use Rattle.turn_core.proofs.CallerLists.{of_caller-append}
 
 one_each : (m : Map) (final s : Standing) (ps : List Post) (rs : List Reply) → AreReplies m final s ps rs → length rs ≡ length ps
 one_each m final s [] [] x = refl
@@ -47,6 +48,26 @@ pub taken_done : (s : State) (c : ℕ) → Facts s → s.staged ≡ None → s.r
 taken_done s c f e r =
     sym (length-take-le (slice_index s.taken c) (list_of s.posted c) (f.taken c))
     ∙ ap length (sym (f.posts c) ∙ ap (of_caller c) (all_done s e r))
+
+-- of the posts that are taken, those in turns that are done have their replies
+pub replies_counted : (s : State) (c : ℕ) → Facts s
+    → length (list_of s.replies c) + length (of_caller c (running_turns s.running)) + length (of_caller c (staged_turns s.staged)) ≡ slice_index s.taken c
+replies_counted s c f =
+    let done = s.done in
+    let running = running_turns s.running in
+    let staged = staged_turns s.staged in
+    let taken : slice_index s.taken c ≡ length (of_caller c (done ++ running ++ staged)) =
+    sym (length-take-le (slice_index s.taken c) (list_of s.posted c) (f.taken c)) ∙ ap length (sym (f.posts c)) in
+    let replies : length (list_of s.replies c) ≡ length (of_caller c done) = ap length (f.replies.each c) ∙ as_many s.map bare done f.replies.all c f.replies.one_thread in
+    omega (
+      arith,
+      taken,
+      replies,
+      ap length (of_caller-append c (done ++ running) staged),
+      length-append (of_caller c (done ++ running)) (of_caller c staged),
+      ap length (of_caller-append c done running),
+      length-append (of_caller c done) (of_caller c running),
+    )
 
 pub settled : (s : State) → Facts s → s.staged ≡ None → s.running ≡ None → ((c : ℕ) → slice_index s.taken c ≡ length (list_of s.posted c)) → (c : ℕ) → length (list_of s.replies c) ≡ length (list_of s.posted c)
 settled s f e r all_taken c =

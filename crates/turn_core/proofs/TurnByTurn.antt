@@ -4,7 +4,6 @@ use Rattle.std.specs.Prelude.{◌↔◌, slice_get}
 use Rattle.std.proofs.lemmas.List.{take_more}
 use Rattle.nav_types.specs.Regions.{HasTallies, HasRelabelled}
 use Rattle.grid_versions.specs.Maps.{Map}
-use Rattle.grid_versions.specs.declared.edits.EditReply.{EditReply}
 use Rattle.grid_versions.specs.Versions.{map_state, passes_of}
 use Rattle.turn_core.specs.declared.posts.Post.{Post}
 use Rattle.turn_core.specs.declared.posts.Request.{Request}
@@ -14,11 +13,8 @@ use Rattle.turn_core.specs.declared.replies.Reply.{Reply}
 use Rattle.turn_core.specs.declared.replies.TurnReplies.{TurnReplies}
 use Rattle.turn_core.specs.Words.{Standing, MapState, bare, TellsNumbers}
 use Rattle.turn_core.specs.Solving.{IsAnswerTo, AreAnswersTo}
-use Rattle.turn_core.specs.Turns.{after_turn, standing, jobs, AreTurnReplies, OneThread, TellNumbers, IsTurnTold, replies_in, IsOneThread}
+use Rattle.turn_core.specs.Turns.{after_turn, standing, OneThread, TellNumbers, IsTurnTold, replies_in, IsOneThread}
 use Rattle.turn_core.specs.Effects.{known}
-use Rattle.turn_core.specs.Merging.{edits_told_in, merged_turn}
-use Rattle.turn_core.proofs.Answering.{given_turn_are}
-use Rattle.turn_core.proofs.MergedReplies.{merged_turn_given}
 use Rattle.turn_core.proofs.Threads.{standing_more, thread_more}
 
 -- ---- the answers to requests
@@ -39,17 +35,11 @@ answers_next m s requests answers i request answer lt are is =
     subst (λ (rs : List Request). AreAnswersTo m s rs (answers ++ answer ∷ [])) (sym (take_more requests i request lt))
     (answers_end m s (take i requests) answers (get_or requests i request) answer are is)
 
-known_end : (answers : List (Option Answer)) (answer : Answer) → known (answers ++ Some answer ∷ []) ≡ known answers ++ answer ∷ []
+-- the answers that are known, and one more
+pub known_end : (answers : List (Option Answer)) (answer : Answer) → known (answers ++ Some answer ∷ []) ≡ known answers ++ answer ∷ []
 known_end [] answer = refl
 known_end (None ∷ answers) answer = ap (λ (l : List Answer). Nowhere ∷ l) (known_end answers answer)
 known_end (Some other ∷ answers) answer = ap (λ (l : List Answer). other ∷ l) (known_end answers answer)
-
-pub answers_more : (m : Map) (s : Standing) (requests : List Request) (answers : List (Option Answer)) (i : ℕ) (request : Request) (answer : Answer) → i < length requests
-    → AreAnswersTo m s (take i requests) (known answers) → IsAnswerTo m s (get_or requests i request) answer
-    → AreAnswersTo m s (take (i + 1) requests) (known (answers ++ Some answer ∷ []))
-answers_more m s requests answers i request answer lt are is =
-    subst (AreAnswersTo m s (take (i + 1) requests)) (sym (known_end answers answer))
-    (answers_next m s requests (known answers) i request answer lt are is)
 
 -- ---- answers by their places
 
@@ -98,16 +88,6 @@ answers_moved state m s asked requests answers p q r are =
     (subst (λ (rs : List Request). AreAnswersTo state.map state.standing rs answers) r are))
 
 -- ---- the replies to a turn
-
--- put together from the replies to its edits and the answers to its requests
-pub merged_are : (m : Map) (s : Standing) (turn : List (List Post)) (edits : List EditReply) (answers : List Answer)
-    → edits ≡ edits_told_in m s turn → AreAnswersTo m (after_turn m s turn) (jobs turn) answers
-    → AreTurnReplies m (after_turn m s turn) s turn (merged_turn turn edits answers)
-merged_are m s turn edits answers told are =
-    let final = after_turn m s turn in
-    subst (λ (rs : List (List Reply)). AreTurnReplies m final s turn rs)
-    (sym (merged_turn_given m s turn answers) ∙ ap (λ (es : List EditReply). merged_turn turn es answers) (sym told))
-    (given_turn_are m final s turn answers are)
 
 same_state : (state : MapState) (m : Map) (s : Standing) → state.map ≡ m → state.standing ≡ s → state ≡ map_state m s
 same_state state m s p q = λ i. record { map = p i; standing = q i }

@@ -1,13 +1,12 @@
 pub mod Words
-pub mod Finding
+pub mod NamedGoals
 pub mod Solving
 pub mod Turns
+pub mod ReadyTurns
 pub mod States
 pub mod Table
 pub mod Refusals
 pub mod Effects
 pub mod Facts
 pub mod Arrival
-pub mod Merging
-pub mod Runs
-pub mod Machines
+pub mod inner

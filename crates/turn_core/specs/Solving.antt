@@ -21,7 +21,7 @@ use Rattle.turn_core.specs.declared.replies.RegionAnswer.{RegionAnswer}
 use Rattle.turn_core.specs.declared.replies.Answer.{Answer}
 use Rattle.turn_core.specs.declared.replies.Answer.TheVariants.{Refused, Nowhere, Path as IsPath, Region as IsRegion}
 use Rattle.turn_core.specs.Words.{Standing}
-use Rattle.turn_core.specs.Finding.{class_named, is_on_map, goal_found}
+use Rattle.turn_core.specs.NamedGoals.{class_named, is_on_map, goal_found}
 
 -- no cell is passable
 abbrev pub IsImpassable : (Cell → Bool) → Type 0

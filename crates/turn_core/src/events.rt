@@ -1,6 +1,6 @@
 //! Events of the turn machine, and why one is not enabled.
 ghost use Rattle.std.specs.Prelude.{◌≡◌, Some};
-ghost use Rattle.turn_core.specs.Refusals.{text_of};
+ghost use Rattle.turn_core.specs.Refusals.{why_text, refusal_text};
 
 use crate::posts::Post;
 use nav_types::{NoMemory, Sequence};
@@ -78,12 +78,33 @@ impl From<NoMemory> for StepRefusal {
     }
 }
 
+impl fmt::Display for Why {
+    ghost output = { λ why. Some (why_text why) };
+
+    fn fmt<W: fmt::Write>(&self, f: &mut fmt::Formatter<W>) -> fmt::Result {
+        match *self {
+            Why::Callers(count) => write!(f, "there are {count} callers"),
+            Why::Staged(turn) => write!(f, "turn {turn} is staged"),
+            Why::Posted(caller, count) => write!(f, "caller {caller} has {count} posts left"),
+            Why::NoneStaged(last) => write!(f, "no turn is staged after turn {last}"),
+            Why::Running(turn) => write!(f, "turn {turn} runs"),
+            Why::NoneRunning(last) => write!(f, "no turn runs after turn {last}"),
+            Why::AllClaimed(count) => write!(f, "all {count} jobs are claimed"),
+            Why::Claimed(count) => write!(f, "{count} jobs are claimed"),
+            Why::Answered(job) => write!(f, "job {job} is answered"),
+            Why::Unclaimed(count) => write!(f, "only {count} jobs are claimed"),
+            Why::Unanswered(job) => write!(f, "job {job} is not answered"),
+            Why::Collected(count) => write!(f, "all {count} replies are collected"),
+        }
+    }
+}
+
 impl fmt::Display for StepRefusal {
-    ghost output = { λ refusal. Some (text_of refusal) };
+    ghost output = { λ refusal. Some (refusal_text refusal) };
 
     fn fmt<W: fmt::Write>(&self, f: &mut fmt::Formatter<W>) -> fmt::Result {
         match self {
-            StepRefusal::NotEnabled(_) => f.write_str("the event is not enabled"),
+            StepRefusal::NotEnabled(why) => write!(f, "the event is not enabled: {why}"),
             StepRefusal::NoMemory => f.write_str("there is no memory"),
         }
     }

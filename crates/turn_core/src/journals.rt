@@ -2,13 +2,13 @@
 ghost use Rattle.std.specs.Prelude.{◌≡◌, IfOk};
 ghost use Rattle.turn_core.specs.Solving.{AreAnswersTo};
 ghost use Rattle.turn_core.specs.Turns.{after_turn, IsTurnTold, IsOneThread};
-ghost use Rattle.turn_core.specs.Effects.{known};
 
-use crate::grounds::{self, Advanced};
-use crate::merging::merged_turn;
-use crate::posts::{Journal, Request, TurnPosts};
-use crate::replies::{AllReplies, Answer, TurnReplies};
+use crate::edited_turns::EditedTurn;
+use crate::posts::{Jobs, Journal, TurnPosts};
+use crate::ready_turns::AnsweredTurn;
+use crate::replies::{AllReplies, Answers};
 use crate::solving::solve;
+use crate::turn_versions::bare_version;
 use grid_versions::{MapSpec, Version};
 use nav_types::{NoMemory, Sequence};
 use std::alloc::Global;
@@ -18,7 +18,7 @@ use std::alloc::Global;
 pub fn one_thread(alloc: Global, map: &MapSpec, journal: &Journal) -> Result<AllReplies, NoMemory>
     ensures { IfOk result (IsOneThread map.now journal.now) }
 {
-    let mut version = grounds::bare_version(alloc, map)?;
+    let mut version = bare_version(alloc, map)?;
     let mut all = Sequence::new(alloc);
     for turn in journal.as_slice() {
         let AnsweredTurn { replies, after } = answer_turn(alloc, &version, turn)?;
@@ -26,13 +26,6 @@ pub fn one_thread(alloc: Global, map: &MapSpec, journal: &Journal) -> Result<All
         version = after;
     }
     Ok(all)
-}
-
-/// The replies to a turn, and the version after it.
-#[derive(Drop)]
-pub struct AnsweredTurn {
-    pub replies: TurnReplies,
-    pub after: Version,
 }
 
 /// Answers a turn on the version before it (`IsTurnTold`): each edit has its reply, and each request its answer on the
@@ -46,33 +39,18 @@ pub fn answer_turn(
     ensures standing { IfOk result (λ answered. answered.after.standing ≡ after_turn version.now.map version.now.standing turn.now) }
     ensures told { IfOk result (λ answered. IsTurnTold version.now.map version.now.standing turn.now answered.replies) }
 {
-    let Advanced {
-        version: after,
-        edits,
-        relabelled,
-    } = grounds::after_turn(alloc, version, turn)?;
-    let jobs = grounds::jobs_of(alloc, turn)?;
-    let answers = answers_to(alloc, &after, jobs.as_slice())?;
-    let replies = merged_turn(alloc, turn.as_slice(), edits.as_slice(), answers.as_slice())?;
-    let replies = TurnReplies {
-        tallies: after.tallies(),
-        relabelled,
-        replies,
-    };
-    Ok(AnsweredTurn { replies, after })
+    let edited = EditedTurn::new(alloc, version, turn)?;
+    let answers = answers_to(alloc, edited.version(), edited.jobs())?;
+    Ok(edited.answered(answers))
 }
 
-/// The answer to each request on a version.
-fn answers_to(
-    alloc: Global,
-    version: &Version,
-    requests: &[Request],
-) -> Result<Sequence<Option<Answer>>, NoMemory>
-    ensures { IfOk result (λ answers. AreAnswersTo version.now.map version.now.standing requests.now (known answers)) }
+/// The answer to each job on a version.
+pub(crate) fn answers_to(alloc: Global, version: &Version, jobs: &Jobs) -> Result<Answers, NoMemory>
+    ensures { IfOk result (AreAnswersTo version.now.map version.now.standing jobs.now) }
 {
     let mut answers = Sequence::new(alloc);
-    for request in requests {
-        answers.push(Some(solve(alloc, version, request)?))?;
+    for job in jobs.as_slice() {
+        answers.push(solve(alloc, version, job)?)?;
     }
     Ok(answers)
 }

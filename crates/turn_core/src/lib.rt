@@ -4,15 +4,16 @@
 
 mod copying;
 mod cores;
+mod edited_turns;
 mod events;
-mod finding;
-mod grounds;
 mod journals;
 pub mod laws;
 mod machines;
-mod merging;
+mod named_goals;
 mod posts;
+mod ready_turns;
 mod replies;
+mod reply_lists;
 pub mod request_laws;
 #[cfg(test)]
 mod request_tests;
@@ -20,17 +21,19 @@ mod runners;
 mod solving;
 #[cfg(test)]
 mod tests;
+mod turn_versions;
 
 pub use copying::Copied;
 pub use cores::Core;
 pub use events::{Event, StepRefusal, Takes, Why};
-pub use finding::goal_of;
-pub use grounds::bare_version;
-pub use journals::{AnsweredTurn, answer_turn, one_thread};
-pub use posts::{Jobs, Journal, Post, Posts, Request, TurnPosts};
+pub use journals::{answer_turn, one_thread};
+pub use named_goals::goal_of;
+pub use posts::{Jobs, Journal, Post, Posts, Request, TurnPosts, empty_lists, push_post};
+pub use ready_turns::{AnsweredTurn, ReadyTurn};
 pub use replies::{
     AllReplies, Answer, Answers, CallerReplies, PathAnswer, RegionAnswer, Replies, Reply,
     TurnReplies,
 };
-pub use runners::Runner;
+pub use runners::{RunBy, Runner};
 pub use solving::solve;
+pub use turn_versions::bare_version;

@@ -1,5 +1,6 @@
 //! The turn machine with what it holds of maps.
-ghost use Rattle.std.specs.Prelude.{◌≡◌, ◌++◌, ◌∷◌, ◌<◌, ◌≤◌, [], IfOk, IsOk, OnErr, OnOk, None, length, replicate, slice_set};
+ghost use Rattle.std.specs.Prelude.{◌≡◌, ◌<◌, ◌≤◌, IfOk, IsOk, OnErr, None, length, slice_set};
+ghost use Rattle.nav_types.specs.declared.limits.TheConstants.{MAX_CALLERS};
 ghost use Rattle.turn_core.specs.States.{opening, list_of};
 ghost use Rattle.turn_core.specs.Table.{why_not, last_turn, running_turn};
 ghost use Rattle.turn_core.specs.Effects.{Effect, TakesNoMemory};
@@ -11,12 +12,13 @@ mod running;
 mod staging;
 
 use crate::events::{Event, Takes, Why};
-use crate::posts::{Post, Posts};
+use crate::posts::{Post, Posts, empty_lists, push_post};
+use crate::ready_turns::AnsweredTurn;
 use crate::replies::Reply;
-use crate::{grounds, merging};
+use crate::turn_versions::bare_version;
 use delivered::DeliveredTurn;
 use grid_versions::{MapSpec, Version};
-use nav_types::{NoMemory, Sequence};
+use nav_types::NoMemory;
 use running::RunningTurn;
 use staging::NextTurn;
 use std::alloc::Global;
@@ -41,7 +43,7 @@ impl Model for Machine {
 
     ghost Value = { State };
 
-    ghost use Rattle.turn_core.specs.Machines.{state_of, HoldsState};
+    ghost use Rattle.turn_core.specs.inner.Machines.{state_of, HoldsState};
 
     ghost view = { state_of };
 
@@ -53,12 +55,12 @@ impl Machine {
     pub(crate) fn new(alloc: Global, map: &MapSpec) -> Result<Machine, NoMemory>
         ensures { IfOk result (λ made. made ≡ opening map.now) }
     {
-        let version = grounds::bare_version(alloc, map)?;
+        let version = bare_version(alloc, map)?;
         let callers = usize::from(map.callers());
         Ok(Machine {
             alloc,
             version,
-            posted: nothing_posted(alloc, callers)?,
+            posted: empty_lists(alloc, callers)?,
             taken: vec![in alloc; 0; callers]?,
             staged: None,
             running: None,
@@ -70,7 +72,7 @@ impl Machine {
     /// The number of callers.
     fn callers(&self) -> u8
         ensures value { result ≡ self.now.map.callers }
-        ensures few { result ≤ 64 }
+        ensures few { result ≤ MAX_CALLERS }
     {
         self.version.map().callers()
     }
@@ -128,14 +130,26 @@ impl Machine {
 
     /// Why the caller can't collect a reply.
     fn why_no_collect(&self, caller: u8) -> Option<Why>
+        requires { Facts self.now }
         ensures { result ≡ why_not self.now (Event.Collect caller) }
     {
         let count = staging::number_at(self.collected.as_slice(), usize::from(caller));
-        let reply = delivered::reply_at(self.delivered.as_slice(), usize::from(caller), count);
         causes::or_else(
             causes::why_no_caller(self.callers(), caller),
-            causes::why_collected(count, reply),
+            causes::why_collected(count, self.reply_count(usize::from(caller))),
         )
+    }
+
+    /// How many replies there are to a caller, collected or not. There is one to each of its posts that were taken,
+    /// but for those in turns that are not delivered, so no delivered turn is looked at.
+    fn reply_count(&self, caller: usize) -> u64
+        requires { Facts self.now }
+        ensures { result ≡ length (list_of self.now.replies caller) }
+    {
+        let taken = staging::number_at(self.taken.as_slice(), caller);
+        taken
+            - running::post_count(&self.running, caller)
+            - running::post_count(&self.staged, caller)
     }
 
     /// Lets an event that is enabled have its effect, and hands out the reply where it is a collect. Without
@@ -221,8 +235,10 @@ impl Machine {
         Ok(None)
     }
 
-    /// The running turn is done, and its replies go to their callers.
+    /// The running turn is done, and its replies go to their callers. All memory is taken before the turn is taken apart.
     fn deliver(&mut self) -> Result<Option<Reply>, NoMemory>
+        requires facts { Facts self.old }
+        requires enabled { why_not self.old Event.Deliver ≡ None }
         ensures ok { IfOk result (λ handed. Effect self.old Event.Deliver handed self.new) }
         ensures err { OnErr result (self.new ≡ self.old) }
     {
@@ -230,18 +246,19 @@ impl Machine {
         let Some(run) = self.running.take() else {
             return Ok(None);
         };
-        let Ok(replies) = merging::merged_turn(
-            self.alloc,
-            run.posts.as_slice(),
-            run.edits.as_slice(),
-            run.answers.as_slice(),
-        ) else {
+        let Ok(room) = Vec::with_capacity(self.alloc, run.answers.len()) else {
             self.running = Some(run);
             return Err(NoMemory);
         };
-        let RunningTurn { posts, version, .. } = run;
-        delivered::push_turn(&mut self.delivered, DeliveredTurn { posts, replies });
-        self.version = version;
+        let RunningTurn { ready, answers, .. } = run;
+        let (posts, answered) = ready.answered(running::all_given(answers, room));
+        let AnsweredTurn { replies, after } = answered;
+        let turn = DeliveredTurn {
+            posts,
+            replies: replies.replies,
+        };
+        delivered::push_turn(&mut self.delivered, turn);
+        self.version = after;
         Ok(None)
     }
 
@@ -265,28 +282,6 @@ impl Machine {
         put_number(&mut self.collected, at, next);
         Ok(Some(reply))
     }
-}
-
-/// An empty list of posts for each caller.
-fn nothing_posted(alloc: Global, callers: usize) -> Result<Vec<Posts>, NoMemory>
-    ensures { IfOk result (λ posted. posted.items ≡ replicate callers []) }
-{
-    let mut posted = Vec::new(alloc);
-    for _caller in 0..callers {
-        posted.push(Sequence::new(alloc))?;
-    }
-    Ok(posted)
-}
-
-/// Appends a post to those of a caller.
-fn push_post(posted: &mut Vec<Posts>, caller: usize, post: Post) -> Result<(), NoMemory>
-    requires { caller < length posted.old.items }
-    ensures ok { OnOk result (posted.new.items ≡ slice_set posted.old.items caller (list_of posted.old.items caller ++ post ∷ [])) }
-    ensures err { OnErr result (posted.new.items ≡ posted.old.items) }
-{
-    let posts = &mut posted[caller];
-    posts.push(post)?;
-    Ok(())
 }
 
 /// Puts the number at a place.

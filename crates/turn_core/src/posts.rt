@@ -1,6 +1,7 @@
 //! Posts, the requests among them, and lists of them.
-ghost use Rattle.std.specs.Prelude.{◌≡◌, IfOk, is_some};
+ghost use Rattle.std.specs.Prelude.{◌≡◌, ◌<◌, [], ◌∷◌, ◌++◌, IfOk, OnOk, OnErr, is_some, length, replicate, slice_set};
 ghost use Rattle.turn_core.specs.Words.{request_of, edit_of};
+ghost use Rattle.turn_core.specs.States.{list_of};
 
 use crate::copying::Copied;
 use class_config::ClassName;
@@ -119,4 +120,26 @@ impl Copied for Request {
     fn copy(&self, alloc: Global) -> Result<Request, NoMemory> {
         self.copy(alloc)
     }
+}
+
+/// An empty list of posts for each of so many callers.
+pub fn empty_lists(alloc: Global, callers: usize) -> Result<Vec<Posts>, NoMemory>
+    ensures { IfOk result (λ posted. posted.items ≡ replicate callers []) }
+{
+    let mut posted = Vec::new(alloc);
+    for _caller in 0..callers {
+        posted.push(Sequence::new(alloc))?;
+    }
+    Ok(posted)
+}
+
+/// Appends a post to those of a caller.
+pub fn push_post(posted: &mut Vec<Posts>, caller: usize, post: Post) -> Result<(), NoMemory>
+    requires { caller < length posted.old.items }
+    ensures ok { OnOk result (posted.new.items ≡ slice_set posted.old.items caller (list_of posted.old.items caller ++ post ∷ [])) }
+    ensures err { OnErr result (posted.new.items ≡ posted.old.items) }
+{
+    let posts = &mut posted[caller];
+    posts.push(post)?;
+    Ok(())
 }

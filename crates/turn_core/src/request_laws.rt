@@ -9,7 +9,7 @@ ghost use Rattle.turn_core.specs.declared.posts.Request.{Request};
 ghost use Rattle.turn_core.specs.declared.replies.Answer.{Answer};
 ghost use Rattle.turn_core.specs.declared.replies.TurnReplies.{TurnReplies};
 ghost use Rattle.turn_core.specs.Words.{Standing, TellsNumbers};
-ghost use Rattle.turn_core.specs.Finding.{is_on_map, is_well_formed};
+ghost use Rattle.turn_core.specs.NamedGoals.{is_on_map, is_well_formed};
 ghost use Rattle.turn_core.specs.Solving.{IsAnswerTo, AreAnswersTo};
 
 /// A law: the tests of points, lengths and goals hold exactly where what they test does.

@@ -1,4 +1,7 @@
 //! Requests and journals on maps of one row, with their answers.
+ghost use Rattle.std.specs.Prelude.{IfOk};
+ghost use Rattle.turn_core.specs.Solving.{AreAnswersTo};
+
 use crate::tests::one_class;
 use crate::*;
 use class_config::ClassName;
@@ -36,7 +39,7 @@ fn row_map(alloc: Global, cells: u16, callers: u8, blocked: Option<(u16, u16)>) 
 /// The version of such a map of one caller, where nothing stands.
 fn row_version(alloc: Global, cells: u16, blocked: Option<(u16, u16)>) -> Option<Version> {
     let map = row_map(alloc, cells, 1, blocked)?;
-    grounds::bare_version(alloc, &map).ok()
+    bare_version(alloc, &map).ok()
 }
 
 /// A coordinate in halves of a navcell.
@@ -415,20 +418,46 @@ fn regions_are_those_of_the_cell_itself(rt: HostRuntime) -> Result<(), Fail> {
     Ok(())
 }
 
-/// Runs each job itself, one after another.
-#[derive(Drop)]
-struct Alone;
-
-impl Runner for Alone {
-    fn run(&self, alloc: Global, version: &Version, jobs: &Jobs) -> Result<Answers, NoMemory> {
-        let mut answers = Answers::new(alloc);
-        for job in jobs.as_slice() {
-            answers.push(solve(alloc, version, job)?)?;
-        }
-        Ok(answers)
+/// The posts of both callers and the replies to them, on a map of three cells: first the edits are made, then the jobs
+/// are solved, and then the answers are moved into the replies.
+fn ready_and_answered(alloc: Global) -> Option<(TurnPosts, AnsweredTurn)> {
+    let map = row_map(alloc, 3, 2, None)?;
+    let version = bare_version(alloc, &map).ok()?;
+    let ready = ReadyTurn::new(alloc, &version, turn_of_two(alloc)?).ok()?;
+    if ready.posts().len() != 2 || ready.relabelled() != 1 {
+        return None;
     }
+    let answers = journals::answers_to(alloc, ready.version(), ready.jobs()).ok()?;
+    Some(ready.answered(answers))
+}
 
-    fn staged(&self, _posts: u64) {}
+#[test]
+fn answers_are_moved_into_the_replies_of_a_ready_turn(rt: HostRuntime) -> Result<(), Fail> {
+    let alloc = rt.alloc();
+    let (posts, answered) = ready_and_answered(alloc).ok_or("no turn")?;
+    assert_eq!(rt; posts.len(), 2);
+    let mut all = AllReplies::new(alloc);
+    all.push(answered.replies)?;
+    assert!(rt; stays(reply_at(&all, 0, 0)));
+    assert!(rt; matches!(reply_at(&all, 1, 0), Some(Reply::Edit(EditReply::Added(1)))));
+    assert_eq!(rt; numbers(&all), Some((2, 0, 2, 1)));
+    Ok(())
+}
+
+/// The posts of the turn of both callers that come back with the version after it.
+fn parts(alloc: Global) -> Option<(TurnPosts, Version)> {
+    let map = row_map(alloc, 3, 2, None)?;
+    let version = bare_version(alloc, &map).ok()?;
+    let ready = ReadyTurn::new(alloc, &version, turn_of_two(alloc)?).ok()?;
+    Some(ready.into_parts())
+}
+
+#[test]
+fn a_ready_turn_comes_apart(rt: HostRuntime) -> Result<(), Fail> {
+    let (posts, version) = parts(rt.alloc()).ok_or("no turn")?;
+    assert_eq!(rt; posts.len(), 2);
+    assert!(rt; version.shapes().get(1).is_some());
+    Ok(())
 }
 
 /// Jobs that ask for two regions, the first of them for a class that is unknown.
@@ -440,12 +469,9 @@ fn two_jobs(alloc: Global) -> Option<Jobs> {
 }
 
 /// The answers to at most two jobs, through the bound alone.
-fn run_jobs<R: Runner>(
-    runner: &R,
-    alloc: Global,
-    version: &Version,
-    jobs: &Jobs,
-) -> Option<Answers> {
+fn run_jobs<R: Runner>(runner: &R, alloc: Global, version: &Version, jobs: &Jobs) -> Option<Answers>
+    requires { R.ready runner.now }
+{
     runner.staged(2);
     if jobs.len() > 2 {
         return None;
@@ -453,11 +479,19 @@ fn run_jobs<R: Runner>(
     runner.run(alloc, version, jobs).ok()
 }
 
-/// The answers to two jobs on a row of three cells.
+/// The answers to two jobs on a row of three cells, by a runner that solves them one after another.
 fn two_answers(alloc: Global) -> Option<Answers> {
     let version = shared(row_version(alloc, 3, None)?);
     let jobs = shared(two_jobs(alloc)?.copy(alloc).ok()?);
-    run_jobs(&Alone, alloc, &version, &jobs).map(|answers| shared(answers))
+    let run = |version: &Version, jobs: &Jobs| -> Result<Answers, NoMemory>
+        ensures { IfOk result (AreAnswersTo version.now.map version.now.standing jobs.now) }
+    { journals::answers_to(alloc, version, jobs) };
+    let staged = |_posts: u64| {};
+    let runner = RunBy {
+        run: &run,
+        staged: &staged,
+    };
+    run_jobs(&runner, alloc, &version, &jobs).map(|answers| shared(answers))
 }
 
 #[test]

@@ -5,10 +5,10 @@ ghost use Rattle.nav_types.specs.Cells.{IsInside};
 ghost use Rattle.goal_shapes.specs.Goals.{HoldsPoint};
 ghost use Rattle.goal_shapes.specs.Limits.{IsSoundGoal};
 ghost use Rattle.grid_versions.specs.Passing.{passable_at};
-ghost use Rattle.turn_core.specs.Finding.{class_named, is_on_map, goal_found};
+ghost use Rattle.turn_core.specs.NamedGoals.{class_named, is_on_map, goal_found};
 ghost use Rattle.turn_core.specs.Solving.{is_near, IsPathTo, IsPathFound, IsRegionAnswer, IsRegionAt, IsAnswerAt, IsAnswerTo};
 
-use crate::finding::goal_of;
+use crate::named_goals::goal_of;
 use crate::posts::Request;
 use crate::replies::{Answer, PathAnswer, RegionAnswer};
 use class_config::ClassName;

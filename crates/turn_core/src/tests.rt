@@ -211,6 +211,19 @@ fn posts_and_stages_have_their_causes(rt: HostRuntime) -> Result<(), Fail> {
 }
 
 #[test]
+fn refused_steps_say_why(rt: HostRuntime) -> Result<(), Fail> {
+    let alloc = rt.alloc();
+    let few = StepRefusal::NotEnabled(Why::Posted(3, 12)).to_string(alloc)?;
+    assert_eq!(rt;
+        few.as_str(),
+        "the event is not enabled: caller 3 has 12 posts left"
+    );
+    let runs = StepRefusal::NotEnabled(Why::Running(7)).to_string(alloc)?;
+    assert_eq!(rt; runs.as_str(), "the event is not enabled: turn 7 runs");
+    Ok(())
+}
+
+#[test]
 fn claims_and_collects_have_their_causes(rt: HostRuntime) -> Result<(), Fail> {
     let mut core = small_core(rt.alloc(), 2).ok_or("refused")?;
     assert!(rt; is_refused(&mut core, Event::Claim, Why::NoneRunning(0)));

@@ -1,4 +1,4 @@
-pub mod CellPlaces
+pub mod CellTests
 pub mod Walking
 pub mod Sweeping
 pub mod Tracing

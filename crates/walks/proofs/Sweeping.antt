@@ -12,8 +12,9 @@ use Rattle.nav_types.specs.declared.directions.Dir.TheVariants.{N, E, S, W, NE, 
 use Rattle.nav_types.specs.Cells.{IsInside}
 use Rattle.nav_types.specs.Directions.{step_cost}
 use Rattle.nav_types.specs.Walks.{Step, IsWalk, walk_cost}
-use Rattle.walks.specs.inner.Tables.{place_of, cell_of, entry, unreached, CoversMap, IsSoundTable, IsSoundForSome, IsSettledAlong, IsSettledAt, IsSettled, Relaxes, HasDistances}
-use Rattle.walks.proofs.CellPlaces.{place_of-lt, place_of-inj, cell_of-place_of}
+use Rattle.nav_types.specs.Places.{place_of, cell_of}
+use Rattle.walks.specs.inner.Tables.{entry, unreached, CoversMap, IsSoundTable, IsSoundForSome, IsSettledAlong, IsSettledAt, IsSettled, Relaxes, HasDistances}
+use Rattle.nav_types.proofs.CellPlaces.{place_of-lt, place_of-inj, cell_of-place_of}
 use Rattle.nav_types.proofs.Walking.{IsWalk-push, walk_cost-push, leads_to_same}
 
 pub step_cost_most : (dir : Dir) → step_cost dir ≤ 92682

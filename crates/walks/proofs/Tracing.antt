@@ -12,8 +12,9 @@ use Rattle.nav_types.specs.Walks.{Step, IsWalk, walk_cost, IsDistance}
 use Rattle.walks.specs.Waypoints.{IsInGrid, StaysInGrid, waypoints}
 use Rattle.walks.specs.Chosen.{Enters, preference, IsFirstIn, CanGoStraight, IsPicked, IsChosenBack, IsChosen, IsAnswer}
 use Rattle.nav_types.specs.Walks.{CanReach}
-use Rattle.walks.specs.inner.Tables.{place_of, cell_of, entry, unreached, HasDistances, IsReachedCell, Arrives}
-use Rattle.walks.proofs.CellPlaces.{place_of-lt, place_of-cell_of, cell_of-place_of, cell_of-inside, not_after}
+use Rattle.nav_types.specs.Places.{place_of, cell_of}
+use Rattle.walks.specs.inner.Tables.{entry, unreached, HasDistances, IsReachedCell, Arrives}
+use Rattle.nav_types.proofs.CellPlaces.{place_of-lt, place_of-cell_of, cell_of-place_of, cell_of-inside, not_after}
 use Rattle.nav_types.proofs.Walking.{IsWalk-push, walk_cost-push, IsWalk-passes, IsDistance-unique, leads_from_same, Leads-from_opposite, Step-opposite, Step-from_opposite}
 use Rattle.walks.proofs.Sweeping.{step_cost_some}
 

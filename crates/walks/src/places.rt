@@ -1,6 +1,6 @@
 ghost use Rattle.std.specs.Prelude.{◌≡◌, ◌*◌, ◌<◌, ◌≤◌};
 ghost use Rattle.nav_types.specs.Cells.{IsInside};
-ghost use Rattle.walks.specs.inner.Tables.{place_of, cell_of};
+ghost use Rattle.nav_types.specs.Places.{place_of, cell_of};
 
 use nav_types::{Cell, View};
 

@@ -3,7 +3,8 @@
 ghost use Rattle.std.specs.Prelude.{Bool, ◌≡◌, ◌-◌, ◌<◌, slice_set, nat_lt, if◌then◌else◌, IfOk, IsTrue};
 ghost use Rattle.nav_types.specs.declared.cells.Cell.{Cell};
 ghost use Rattle.nav_types.specs.Cells.{IsInside};
-ghost use Rattle.walks.specs.inner.Tables.{place_of, entry, CoversMap, IsSoundTable, IsSoundForSome, IsSettledAlong, IsSettledAt, IsSettled, Relaxes, HasDistances};
+ghost use Rattle.nav_types.specs.Places.{place_of};
+ghost use Rattle.walks.specs.inner.Tables.{entry, CoversMap, IsSoundTable, IsSoundForSome, IsSettledAlong, IsSettledAt, IsSettled, Relaxes, HasDistances};
 
 use crate::places::{cell_at_place, cell_count, place};
 use nav_types::{Cell, Class, Dir, NoMemory, View, step};

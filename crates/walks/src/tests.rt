@@ -5,7 +5,7 @@ ghost use Rattle.std.specs.List.{list_any};
 ghost use Rattle.std.proofs.lemmas.Bool.{and_parts, ltb-true};
 ghost use Rattle.nav_types.specs.declared.cells.Cell.{Cell};
 ghost use Rattle.nav_types.specs.Walks.{CanReach};
-ghost use Rattle.walks.specs.inner.Tables.{place_of};
+ghost use Rattle.nav_types.specs.Places.{place_of};
 
 use crate::distances::is_hit;
 use crate::found_walk::Found;

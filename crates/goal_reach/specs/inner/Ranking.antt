@@ -13,3 +13,9 @@ IsPreferred a b = (a.rank < b.rank) ⊎ ((a.rank ≡ b.rank) × IsNotAfter a.cel
 abbrev pub IsBest : (Cell → ℕ) → (Cell → Type 0) → Option Ranked → Type 0
 IsBest rank Within None = (cell : Cell) → Within cell → ⊥
 IsBest rank Within (Some best) = (best.rank ≡ rank best.cell) × IsLeastBy rank Within best.cell
+
+-- the first is as good as the second, where there is a second
+abbrev pub IsNoWorse : Option Ranked → Option Ranked → Type 0
+IsNoWorse result None = Unit {0}
+IsNoWorse None (Some b) = ⊥
+IsNoWorse (Some a) (Some b) = IsPreferred a b

@@ -1,19 +1,23 @@
-ghost use Rattle.std.specs.Prelude.{Bool, ◌≡◌, ◌++◌, ◌<◌, ◌≤◌, ◌↔◌, ◌⊎◌, OnOk, IfOk, map, length, Contains};
+ghost use Rattle.std.specs.Prelude.{Bool, IsFalse, ◌≡◌, ◌++◌, ◌<◌, ◌≤◌, ◌↔◌, ◌⊎◌, OnOk, IfOk, map, length, Contains};
+ghost use Rattle.std.specs.Arc.{arc_value};
 ghost use Rattle.nav_types.specs.declared.cells.Cell.{Cell};
 ghost use Rattle.reach_sets.specs.declared.regions.RegionId.{RegionId};
 ghost use Rattle.region_edges.specs.Edges.{AreEdges, PassesInside};
 ghost use Rattle.grid_versions.specs.Chunks.{chunk_count};
 ghost use Rattle.grid_versions.specs.inner.ChunkLists.{chunk_numbered, neighbour_on};
+ghost use Rattle.grid_versions.specs.inner.Changing.{AreChanges, AgreeIn};
 ghost use Rattle.grid_versions.specs.inner.Tables.{AreAllLabels, AreAllEdges};
 ghost use Rattle.grid_versions.specs.inner.Building.{IsLaidOut, IsSideLink, link_between};
 
 use crate::chunks;
+use crate::relabelling::is_marked;
 use crate::shared_list::SharedList;
 use chunk_regions::Labels;
-use nav_types::{NoMemory, Size};
+use nav_types::{Class, NoMemory, Size};
 use reach_sets::{Links, RegionId};
 use region_edges::{Edges, Side, between};
 use std::alloc::Global;
+use std::sync::Arc;
 
 /// The region edges of the chunk at a place to its neighbour on that side; none where the map has no such neighbour.
 fn edges_at(
@@ -61,6 +65,76 @@ pub fn all_edges(
     for place in 0..count {
         let edges = edges_at(alloc, size, labels, place, side)?;
         all.push(alloc, edges)?;
+    }
+    Ok(all)
+}
+
+/// Whether the bits say that the chunk at a place or its neighbour on that side has changed for the class.
+fn is_touched(size: Size, changed: &[u16], class: Class, place: u32, side: Side) -> bool
+    requires within { place < chunk_count size }
+    requires each { length changed.now ≡ chunk_count size }
+    ensures { IsFalse result → (old now : Cell → Bool) → AreChanges old now size class changed.now
+        → AgreeIn old now (chunk_numbered size place) × AgreeIn old now (neighbour_on side (chunk_numbered size place)) }
+{
+    if is_marked(changed, place, class) {
+        return true;
+    }
+    match chunks::neighbour(size, chunks::numbered(size, place), side) {
+        Some(there) => is_marked(changed, chunks::place_of(size, there), class),
+        None => false,
+    }
+}
+
+/// The region edges of the chunk at a place to its neighbour on that side: those of before where neither of the two
+/// has changed for the class.
+fn next_edges_at(
+    alloc: Global,
+    size: Size,
+    labels: &SharedList<Labels>,
+    before: &SharedList<Edges>,
+    changed: &[u16],
+    class: Class,
+    place: u32,
+    side: Side,
+) -> Result<Arc<Edges, Global>, NoMemory>
+    requires labels { IsLaidOut size labels.now }
+    requires before { length before.now ≡ chunk_count size }
+    requires changed { length changed.now ≡ chunk_count size }
+    requires within { place < chunk_count size }
+    ensures { IfOk result (λ edges. (old now : Cell → Bool) → AreChanges old now size class changed.now
+        → AreAllEdges side old size before.now → AreAllLabels now size labels.now
+        → AreEdges now (chunk_numbered size place) (neighbour_on side (chunk_numbered size place)) (arc_value edges)) }
+{
+    if !is_touched(size, changed, class, place, side) {
+        return before.shared(place as usize);
+    }
+    let edges = edges_at(alloc, size, labels, place, side)?;
+    Ok(Arc::new(alloc, edges)?)
+}
+
+/// The region edges of each chunk to its neighbour on that side, from those of before, the new regions and the bits
+/// of what has changed. Two chunks of which neither has changed for the class share their edges with the map before.
+pub fn next_edges(
+    alloc: Global,
+    size: Size,
+    labels: &SharedList<Labels>,
+    before: &SharedList<Edges>,
+    changed: &[u16],
+    class: Class,
+    side: Side,
+) -> Result<SharedList<Edges>, NoMemory>
+    requires labels { IsLaidOut size labels.now }
+    requires before { length before.now ≡ chunk_count size }
+    requires changed { length changed.now ≡ chunk_count size }
+    ensures { IfOk result (λ all. (old now : Cell → Bool) → AreChanges old now size class changed.now
+        → AreAllEdges side old size before.now → AreAllLabels now size labels.now
+        → AreAllEdges side now size all) }
+{
+    let count = chunks::count(size);
+    let mut all = SharedList::with_capacity(alloc, count as usize)?;
+    for place in 0..count {
+        let edges = next_edges_at(alloc, size, labels, before, changed, class, place, side)?;
+        all.push_shared(edges)?;
     }
     Ok(all)
 }

@@ -88,7 +88,16 @@ fn serves_client<R: Threads + Wait + Sync>(
         text: Bytes::new(alloc),
         answered,
     };
-    let ended = run(rt, alloc, &words, &mut source, &mut sink, &OpenGate);
+    let mut why = None;
+    let ended = run(
+        rt,
+        alloc,
+        &words,
+        &mut source,
+        &mut sink,
+        &OpenGate,
+        &mut why,
+    );
     Ok(ended == status && sink.text.as_slice() == answers.as_bytes())
 }
 

@@ -1,5 +1,5 @@
 -- What a line gives in its place, as the answers to it say.
-use Rattle.std.specs.Prelude.{ℕ, ◌≡◌, ◌+◌, ◌≤◌, List, [], ◌∷◌, length, Bool, true, false, All, IsFalse, IsSome, IsTrue, Option, Some, None, option_and_then, Result, Ok, Err, ⊤}
+use Rattle.std.specs.Prelude.{ℕ, ◌≡◌, ◌+◌, ◌≤◌, List, [], ◌∷◌, length, Bool, true, false, All, IsFalse, IsTrue, Option, Some, None, option_and_then, Result, Ok, Err, ⊤}
 use Rattle.script_text.specs.declared.faults.ScriptFault.{ScriptFault}
 use Rattle.script_text.specs.declared.faults.ScriptFault.TheVariants.{BadLine, TooLong, ReadFault, NoMemory}
 use Rattle.nav_types.specs.declared.cells.Rect.{Rect}
@@ -9,7 +9,6 @@ use Rattle.serde_json.specs.Data.{Data, null, boolean, number, string, array, ob
 use Rattle.grid_versions.specs.Maps.{Map, with_base}
 use Rattle.turn_core.specs.declared.posts.Post.{Post}
 use Rattle.script_text.specs.Forms.{base_of}
-use Rattle.script_text.specs.declared.parts.Rules.{Rules}
 use Rattle.script_text.specs.declared.parts.Part.{Part}
 use Rattle.script_text.specs.declared.parts.Part.TheVariants.{BeforeMap, InBase, InTurns}
 use Rattle.script_text.specs.Script.{Place, Item, Walk, begins, adds_base, ends_turn, whole_input, too_long, bad_line, arrived, stuck, map_after, turns_of, reading_of, is_long, accept}
@@ -41,6 +40,13 @@ pub record IsReadTo (p : Place) : Type 0 where
   pub few_lines : p.lines ≤ p.bytes
   pub few_turns : p.turns ≤ p.lines
   pub lists : length p.posts ≡ callers_of p.part
+
+-- where a line is bad, the place is that which has counted it, and the number that of the line
+abbrev pub IsBadAt : Place → Place → ScriptFault → Type 0
+IsBadAt new counted (BadLine n) = (new ≡ counted) × (n ≡ counted.lines)
+IsBadAt new counted TooLong = ⊤
+IsBadAt new counted ReadFault = ⊤
+IsBadAt new counted NoMemory = ⊤
 
 -- the walk is stuck as the refusal says
 abbrev pub IsStuckBy : Walk → ScriptFault → Type 0

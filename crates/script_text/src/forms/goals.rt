@@ -78,3 +78,10 @@ fn grown_of(value: &Value) -> Option<GoalSpec>
         _ => None,
     }
 }
+
+/// The obstruction number and the decimal of the array under a key.
+pub(crate) fn grown_under(value: &Value, key: &str) -> Option<GoalSpec>
+    ensures { result ≡ under form.grown_of key.now (view value.now) }
+{
+    value.get(key).and_then(grown_of)
+}

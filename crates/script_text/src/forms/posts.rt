@@ -78,7 +78,7 @@ fn shape_of(version: u8, value: &Value) -> Option<Shape>
 }
 
 /// Whether the keys are those of an add line with its shape under this key.
-fn has_add_keys(version: u8, value: &Value, shape: &str) -> bool
+pub(crate) fn has_add_keys(version: u8, value: &Value, shape: &str) -> bool
     ensures { result ≡ config.has_keys (form.add_keys version shape.now) (view value.now) }
 {
     if version >= FIRST_WITH_MASKS {

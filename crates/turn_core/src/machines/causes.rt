@@ -1,14 +1,14 @@
 //! Why an event is not enabled.
-ghost use Rattle.std.specs.Prelude.{◌≡◌, ◌-◌, ◌≤◌, List, None, length, option_copied, slice_get, slice_index_or};
-ghost use Rattle.turn_core.specs.declared.replies.Reply.{Reply as Answered};
+ghost use Rattle.std.specs.Prelude.{◌≡◌, ◌-◌, ◌≤◌, None, length, slice_index_or};
+ghost use Rattle.nav_types.specs.declared.limits.TheConstants.{MAX_CALLERS};
 ghost use Rattle.turn_core.specs.Table.{or_else, why_no_caller, why_not_each, why_staged, why_few, why_none_staged, why_running, why_no_claim, why_no_finish, why_answered, why_unanswered, why_no_delivery, why_collected};
-ghost use Rattle.turn_core.specs.Runs.{option_run_of, option_posts_of, HoldsJobs};
+ghost use Rattle.turn_core.specs.inner.Runs.{option_run_of, option_posts_of};
 
 use crate::events::{Takes, Why};
 use crate::machines::running::RunningTurn;
 use crate::machines::staging::number_at;
 use crate::posts::Posts;
-use crate::replies::{Answer, Reply};
+use crate::replies::Answer;
 
 /// The first cause, where there is one, else the second.
 pub(crate) fn or_else(first: Option<Why>, second: Option<Why>) -> Option<Why>
@@ -54,7 +54,7 @@ pub(crate) fn why_staged(last: u64, staged: &Option<RunningTurn>) -> Option<Why>
 
 /// The first caller that is to have more posts taken than it has left.
 pub(crate) fn why_few(posted: &[Posts], taken: &[u64], takes: &[u64]) -> Option<Why>
-    requires { length posted.now ≤ 64 }
+    requires { length posted.now ≤ MAX_CALLERS }
     ensures { result ≡ why_few 0 posted.now taken.now takes.now }
 {
     for (caller, posts) in posted.iter().enumerate() {
@@ -95,13 +95,12 @@ pub(crate) fn why_running(number: u64, running: &Option<RunningTurn>) -> Option<
 
 /// No turn runs, or it has no job that is not claimed.
 pub(crate) fn why_no_claim(last: u64, running: &Option<RunningTurn>) -> Option<Why>
-    requires { HoldsJobs running.now }
     ensures { result ≡ why_no_claim last (option_run_of running.now) }
 {
     let Some(run) = running else {
         return Some(Why::NoneRunning(last));
     };
-    let count = run.jobs.len() as u64;
+    let count = run.ready.jobs().len() as u64;
     if run.claimed < count {
         None
     } else {
@@ -146,24 +145,24 @@ fn why_unanswered(answers: &[Option<Answer>]) -> Option<Why>
 
 /// No turn runs, or a job is not claimed, or one is not answered.
 pub(crate) fn why_no_delivery(last: u64, running: &Option<RunningTurn>) -> Option<Why>
-    requires { HoldsJobs running.now }
     ensures { result ≡ why_no_delivery last (option_run_of running.now) }
 {
     let Some(run) = running else {
         return Some(Why::NoneRunning(last));
     };
-    if run.claimed < run.jobs.len() as u64 {
+    if run.claimed < run.ready.jobs().len() as u64 {
         return Some(Why::Unclaimed(run.claimed));
     }
     why_unanswered(run.answers.as_slice())
 }
 
-/// All of so many replies are collected, where there is none at that place.
-pub(crate) fn why_collected(count: u64, reply: Option<&Reply>) -> Option<Why>
-    ensures { (replies : List Answered) → option_copied reply.entry ≡ slice_get replies count → result ≡ why_collected count (length replies) }
+/// All replies are collected.
+pub(crate) fn why_collected(count: u64, replies: u64) -> Option<Why>
+    ensures { result ≡ why_collected count replies }
 {
-    match reply {
-        Some(_) => None,
-        None => Some(Why::Collected(count)),
+    if count < replies {
+        None
+    } else {
+        Some(Why::Collected(count))
     }
 }

@@ -1,6 +1,6 @@
 //! The turns delivered.
 ghost use Rattle.std.specs.Prelude.{◌≡◌, ◌++◌, ◌∷◌, ◌<◌, [], option_copied, slice_get, slice_index_or, vec_capacity, vec_len};
-ghost use Rattle.turn_core.specs.Runs.{replies_to};
+ghost use Rattle.turn_core.specs.inner.Runs.{replies_to};
 
 use crate::posts::TurnPosts;
 use crate::replies::{CallerReplies, Reply};

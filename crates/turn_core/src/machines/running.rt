@@ -1,26 +1,22 @@
 //! Turns that are ready to run, and the running one.
-ghost use Rattle.std.specs.Prelude.{◌≡◌, ◌+◌, ◌<◌, IfOk, None, Some, length, replicate, slice_set};
-ghost use Rattle.turn_core.specs.Turns.{after_turn, jobs};
-ghost use Rattle.turn_core.specs.Effects.{begun};
-ghost use Rattle.turn_core.specs.Merging.{edits_told_in};
-ghost use Rattle.turn_core.specs.Runs.{run_of, base_of, with_claim, IsHeldOn, HasUnclaimed, HasJob, HasPlace, AnswersHeld, PutsAnswer};
+ghost use Rattle.std.specs.Prelude.{◌≡◌, ◌+◌, ◌<◌, ◌≤◌, [], IfOk, None, Some, length, replicate, slice_set, vec_capacity};
+ghost use Rattle.turn_core.specs.Turns.{jobs};
+ghost use Rattle.turn_core.specs.Table.{why_unanswered};
+ghost use Rattle.turn_core.specs.Effects.{begun, known};
+ghost use Rattle.turn_core.specs.inner.Runs.{run_of, base_of, posts_held, with_claim, IsHeldOn, HasUnclaimed, HasJob, HasPlace, AnswersHeld, PutsAnswer};
 
-use crate::grounds::{self, Advanced};
-use crate::posts::{Jobs, TurnPosts};
-use crate::replies::Answer;
+use crate::posts::TurnPosts;
+use crate::ready_turns::ReadyTurn;
+use crate::replies::{Answer, Answers};
 use crate::solving::solve;
-use grid_versions::{EditReplies, Version};
-use nav_types::NoMemory;
+use grid_versions::Version;
+use nav_types::{NoMemory, Sequence};
 use std::alloc::Global;
 
-/// A turn that is ready to run or runs: its posts, the replies to its edits, the version after them, its jobs, how many of these
-/// are claimed, and the answer to each, where there is one.
+/// A turn that is ready to run or runs: how many of its jobs are claimed, and the answer to each, where there is one.
 #[derive(Drop)]
 pub(crate) struct RunningTurn {
-    pub posts: TurnPosts,
-    pub edits: EditReplies,
-    pub version: Version,
-    pub jobs: Jobs,
+    pub ready: ReadyTurn,
     pub claimed: u64,
     pub answers: Vec<Option<Answer>>,
 }
@@ -33,19 +29,12 @@ pub(crate) fn begun(
 ) -> Result<RunningTurn, NoMemory>
     ensures held { IfOk result (λ run. IsHeldOn version.now run) }
     ensures run { IfOk result (λ run. run_of run ≡ begun posts) }
-    ensures posts { IfOk result (λ run. run.posts ≡ posts) }
+    ensures posts { IfOk result (λ run. run.ready.turn ≡ posts) }
 {
-    let Prepared {
-        advanced,
-        jobs,
-        answers,
-    } = prepare(alloc, version, &posts)?;
-    let Advanced { version, edits, .. } = advanced;
+    let ready = ReadyTurn::new(alloc, version, posts)?;
+    let answers = unanswered(alloc, ready.jobs().len())?;
     Ok(RunningTurn {
-        posts,
-        edits,
-        version,
-        jobs,
+        ready,
         claimed: 0,
         answers,
     })
@@ -53,38 +42,26 @@ pub(crate) fn begun(
 
 /// The version on which the next turn stands.
 pub(crate) fn base_of<'a>(version: &'a Version, running: &'a Option<RunningTurn>) -> &'a Version
-    ensures { result.now ≡ base_of version.now running.now }
+    ensures map { result.now.map ≡ (base_of version.now running.now).map }
+    ensures standing { result.now.standing ≡ (base_of version.now running.now).standing }
 {
     match running {
         None => version,
-        Some(run) => &run.version,
+        Some(run) => run.ready.version(),
     }
 }
 
-/// What a turn needs to run besides its posts.
-#[derive(Drop)]
-struct Prepared {
-    advanced: Advanced,
-    jobs: Jobs,
-    answers: Vec<Option<Answer>>,
-}
-
-/// What the turn needs to run on a version.
-fn prepare(alloc: Global, version: &Version, posts: &TurnPosts) -> Result<Prepared, NoMemory>
-    ensures map { IfOk result (λ made. made.advanced.version.map ≡ version.now.map) }
-    ensures standing { IfOk result (λ made. made.advanced.version.standing ≡ after_turn version.now.map version.now.standing posts.now) }
-    ensures edits { IfOk result (λ made. made.advanced.edits ≡ edits_told_in version.now.map version.now.standing posts.now) }
-    ensures jobs { IfOk result (λ made. made.jobs ≡ jobs posts.now) }
-    ensures answers { IfOk result (λ made. made.answers.items ≡ replicate (length (jobs posts.now)) None) }
+/// How many posts a caller has in a turn; none where there is no turn.
+pub(crate) fn post_count(turn: &Option<RunningTurn>, caller: usize) -> u64
+    ensures { result ≡ length (posts_held turn.now caller) }
 {
-    let advanced = grounds::after_turn(alloc, version, posts)?;
-    let jobs = grounds::jobs_of(alloc, posts)?;
-    let answers = unanswered(alloc, jobs.len())?;
-    Ok(Prepared {
-        advanced,
-        jobs,
-        answers,
-    })
+    let Some(run) = turn else {
+        return 0;
+    };
+    match run.ready.posts().get(caller) {
+        Some(posts) => posts.len() as u64,
+        None => 0,
+    }
 }
 
 /// No answer to each of so many jobs.
@@ -110,10 +87,10 @@ pub(crate) fn claim(running: &mut Option<RunningTurn>)
 
 /// Claims the next job of a turn.
 fn claim_next(run: &mut RunningTurn)
-    requires { run.old.claimed < length run.old.jobs }
+    requires { run.old.claimed < length (jobs run.old.ready.turn) }
     ensures { run.new ≡ record run.old { claimed = run.old.claimed + 1 } }
 {
-    if run.claimed < run.jobs.len() as u64 {
+    if run.claimed < run.ready.jobs().len() as u64 {
         run.claimed += 1;
     }
 }
@@ -130,8 +107,8 @@ pub(crate) fn answer_to(
     let Some(run) = running else {
         unreachable!();
     };
-    let request = &run.jobs.as_slice()[job as usize];
-    solve(alloc, &run.version, request)
+    let request = &run.ready.jobs().as_slice()[job as usize];
+    solve(alloc, run.ready.version(), request)
 }
 
 /// Puts the answer to a job of the running turn.
@@ -150,4 +127,21 @@ fn put_at(answers: &mut Vec<Option<Answer>>, job: u64, answer: Answer)
     ensures { answers.new.items ≡ slice_set answers.old.items job (Some answer) }
 {
     answers[job as usize] = Some(answer);
+}
+
+/// The answers to all jobs, moved into the room that was taken for them.
+pub(crate) fn all_given(answers: Vec<Option<Answer>>, room: Vec<Answer>) -> Answers
+    requires given { why_unanswered 0 answers.items ≡ None }
+    requires empty { room.items ≡ [] }
+    requires room { length answers.items ≤ vec_capacity room }
+    ensures { result ≡ known answers.items }
+{
+    let mut given = room;
+    for answer in answers {
+        let Some(answer) = answer else {
+            unreachable!();
+        };
+        given.push_reserved(answer);
+    }
+    Sequence::from(given)
 }

@@ -2,8 +2,8 @@
 ghost use Rattle.std.specs.Prelude.{◌≡◌, ◌+◌, ◌<◌, ◌^◌, IfOk, drop, length, map, take, slice_index};
 ghost use Rattle.turn_core.specs.Effects.{next_posts, added_up};
 
+use crate::copying;
 use crate::posts::{Post, Posts, TurnPosts};
-use crate::{copying, merging};
 use nav_types::{NoMemory, Sequence};
 use std::alloc::Global;
 
@@ -52,10 +52,21 @@ fn part_of(posts: &[Post], from: u64, count: u64) -> &[Post]
     ensures value { result.now ≡ take count (drop from posts.now) }
     ensures fits { from + length result.now < 2 ^ 64 }
 {
-    let rest = merging::past(posts, from as usize);
+    let rest = past(posts, from as usize);
     if (count as usize) < rest.len() {
         &rest[..count as usize]
     } else {
         rest
+    }
+}
+
+/// The items past the first `count`.
+fn past<T>(items: &[T], count: usize) -> &[T]
+    ensures { result.now ≡ drop count items.now }
+{
+    if count < items.len() {
+        &items[count..]
+    } else {
+        &[]
     }
 }

@@ -1,20 +1,13 @@
 -- The table of the plain search: for each cell of a map, row by row, the cost of a walk from the start to it.
-use Rattle.std.specs.Prelude.{ℕ, Bool, true, false, ◌≡◌, ◌+◌, ◌*◌, ◌/◌, ◌%◌, ◌<◌, ◌≤◌, List, length, slice_index, sum, count_by, nat_lt}
+use Rattle.std.specs.Prelude.{ℕ, Bool, true, false, ◌≡◌, ◌+◌, ◌*◌, ◌<◌, ◌≤◌, List, length, slice_index, sum, count_by, nat_lt}
 use Rattle.nav_types.specs.declared.cells.Cell.{Cell}
 use Rattle.nav_types.specs.declared.cells.Size.{Size}
 use Rattle.nav_types.specs.declared.directions.Dir.{Dir}
-use Rattle.nav_types.specs.Cells.{cell_at, IsInside}
+use Rattle.nav_types.specs.Cells.{IsInside}
+use Rattle.nav_types.specs.Places.{place_of}
 use Rattle.nav_types.specs.Directions.{step_cost, Leads}
 use Rattle.nav_types.specs.Walks.{Step, IsWalk, walk_cost, IsDistance}
 use Rattle.walks.specs.Chosen.{Enters}
-
--- the place of a cell in the table
-abbrev pub place_of : Size → Cell → ℕ
-place_of size cell = cell.j * size.w + cell.i
-
--- the cell at a place of the table
-abbrev pub cell_of : Size → ℕ → Cell
-cell_of size place = cell_at (place % size.w) (place / size.w)
 
 -- the table's cost for a cell
 abbrev pub entry : Size → List ℕ → Cell → ℕ

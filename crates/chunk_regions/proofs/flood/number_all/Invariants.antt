@@ -1,14 +1,15 @@
-use Rattle.std.proofs.Common.{Bool, ◌≡◌, ◌*◌, ◌-◌, ◌≤◌, [], length}
-use Rattle.nav_types.specs.Cells.{cell_at}
+use Rattle.std.proofs.Common.{Bool, ◌≡◌, ◌≤◌, [], length}
+use Rattle.std.specs.Prelude.{slice_index}
 use Rattle.nav_types.specs.declared.cells.Cell.{Cell}
+use Rattle.chunk_regions.specs.inner.Spans.{HasCell, IsCut, region_of}
 use Rattle.chunk_regions.specs.inner.Flooding.{Floods}
 use Rattle.chunk_regions.proofs.flood.number_all.Given as goal
 
-abbrev pub invariant-loop-j : goal.invariant-loop-j
-invariant-loop-j l = record {
-  rect : l.table.rect ≡ l.initial.table.rect;
-  emptied : l.frontier.items ≡ [];
-  few : length l.firsts.items ≤ 96 * (l.j - l.initial.table.rect.j0);
-  floods : (passes : Cell → Bool) → Floods passes l.initial.table [] [] (cell_at l.initial.table.rect.i0 l.initial.table.rect.j0)
-      → Floods passes l.table l.firsts.items [] (cell_at l.initial.table.rect.i0 l.j);
+abbrev pub invariant-loop-row : goal.invariant-loop-row
+invariant-loop-row l = record {
+  regions : length l.flood.regions.items ≡ length l.rows.spans;
+  emptied : l.flood.frontier.items ≡ [];
+  few : length l.firsts.items ≤ slice_index l.rows.starts l.row;
+  floods : (passes : Cell → Bool) → IsCut passes l.chunk l.rows
+      → Floods passes (HasCell l.chunk l.rows) (region_of l.chunk l.rows l.flood.regions.items) l.firsts.items [] (slice_index l.rows.starts l.row);
 }

@@ -1,14 +1,15 @@
-use Rattle.std.proofs.Common.{Bool, ◌≡◌, ◌+◌, ◌-◌, ◌≤◌, [], length}
-use Rattle.nav_types.specs.Cells.{cell_at}
+use Rattle.std.proofs.Common.{Bool, ◌≡◌, ◌≤◌, [], length}
 use Rattle.nav_types.specs.declared.cells.Cell.{Cell}
+use Rattle.chunk_regions.specs.inner.Spans.{HasCell, IsCut, region_of}
 use Rattle.chunk_regions.specs.inner.Flooding.{Floods}
 use Rattle.chunk_regions.proofs.flood.number_row.Given as goal
 
-abbrev pub invariant-loop-i : goal.invariant-loop-i
-invariant-loop-i l = record {
-  rect : l.table.rect ≡ l.initial.table.rect;
-  emptied : l.frontier.items ≡ [];
-  few : length l.firsts.items ≤ length l.initial.firsts.items + (l.i - l.initial.table.rect.i0);
-  floods : (passes : Cell → Bool) → Floods passes l.initial.table l.initial.firsts.items [] (cell_at l.initial.table.rect.i0 l.j)
-      → Floods passes l.table l.firsts.items [] (cell_at l.i l.j);
+abbrev pub invariant-loop-at : goal.invariant-loop-at
+invariant-loop-at l = record {
+  regions : length l.flood.regions.items ≡ length l.rows.spans;
+  emptied : l.flood.frontier.items ≡ [];
+  few : length l.firsts.items ≤ l.at;
+  floods : (passes : Cell → Bool) → IsCut passes l.chunk l.rows
+      → Floods passes (HasCell l.chunk l.rows) (region_of l.chunk l.rows l.initial.flood.regions.items) l.initial.firsts.items [] l.start
+      → Floods passes (HasCell l.chunk l.rows) (region_of l.chunk l.rows l.flood.regions.items) l.firsts.items [] l.at;
 }

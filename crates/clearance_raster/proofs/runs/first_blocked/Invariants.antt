@@ -5,4 +5,4 @@ use Rattle.clearance_raster.proofs.runs.first_blocked.Given as goal
 
 -- no column before column i is blocked
 abbrev pub invariant-loop-i : goal.invariant-loop-i
-invariant-loop-i l = (i : ℕ) → l.fn.rect.i0 ≤ i → i < l.i → IsFalse (blocked l.shape l.clearance (cell_at i l.j))
+invariant-loop-i l = (i : ℕ) → l.start ≤ i → i < l.i → IsFalse (blocked l.shape l.clearance (cell_at i l.j))

@@ -1,4 +1,4 @@
-use Rattle.std.proofs.Common.{◌≡◌, ◌∙◌, ap, sym, subst, List, ℕ, get_or, arith}
+use Rattle.std.proofs.Common.{◌≡◌, sym, subst, List, ℕ, get_or, arith}
 use Rattle.grid_versions.specs.inner.Painting.{free_count}
 use Rattle.grid_versions.proofs.CellLists.{free-rest, free_more}
 use Rattle.grid_versions.proofs.chunk_cells.free_counts.Goals as goal

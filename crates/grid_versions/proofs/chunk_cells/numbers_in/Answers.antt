@@ -1,4 +1,4 @@
-use Rattle.std.proofs.Common.{◌≡◌, ◌+◌, ◌∙◌, ap, sym, subst, List, ℕ, get_or, arith}
+use Rattle.std.proofs.Common.{◌+◌, ◌∙◌, ap, sym, subst, List, ℕ, get_or, arith}
 use Rattle.std.specs.Prelude.{slice_range}
 use Rattle.navcell_grid.specs.Grids.{number_at}
 use Rattle.chunk_regions.proofs.TableLemmas.{IsReadTo}

@@ -7,6 +7,6 @@ use Rattle.grid_versions.proofs.class_tables.class_tables.Given as goal
 -- the classes below `number` have their tables
 abbrev pub invariant-loop-number : goal.invariant-loop-number
 invariant-loop-number g l = record {
-  tables : AreTablesOf l.number (is_passable l.grid) l.grid.size l.all.items;
+  tables : AreTablesOf l.number (is_passable l.grid) l.grid.size l.all;
   ticks : l.ticks ≡ l.initial.ticks + l.number * chunk_count l.grid.size;
 }

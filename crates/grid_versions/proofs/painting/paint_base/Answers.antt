@@ -1,9 +1,9 @@
-use Rattle.std.proofs.Common.{◌≡◌, ◌&&◌, ℕ, List, ◌∙◌, Bool, subst}
+use Rattle.std.proofs.Common.{◌&&◌, ℕ, List, ◌∙◌, Bool, subst}
 use Rattle.std.specs.List.{list_any}
 use Rattle.nav_types.specs.declared.cells.Cell.{Cell}
 use Rattle.nav_types.specs.declared.cells.Rect.{Rect}
 use Rattle.lane_rows.specs.Rows.{has_class}
-use Rattle.clearance_raster.specs.Rasters.{IsRaster}
+use Rattle.clearance_raster.specs.inner.TestRasters.{IsRaster}
 use Rattle.grid_versions.specs.Passing.{is_in_rect}
 use Rattle.grid_versions.proofs.PaintLemmas.{Ends-at, Ends-past}
 use Rattle.grid_versions.proofs.painting.paint_base.Goals as goal

@@ -1,6 +1,6 @@
 use Rattle.std.specs.Prelude.{◌&&◌}
 use Rattle.lane_rows.specs.Rows.{has_class}
-use Rattle.clearance_raster.specs.Rasters.{IsRaster}
+use Rattle.clearance_raster.specs.inner.TestRasters.{IsRaster}
 use Rattle.grid_versions.proofs.PaintLemmas.{in_rows}
 use Rattle.grid_versions.proofs.painting.paint_rect.Given as goal
 

@@ -1,12 +1,13 @@
-use Rattle.std.proofs.Common.{◌≡◌, ◌∙◌, ap, sym, subst, List, [], ◌∷◌, ℕ, Bool, length}
-use Rattle.std.specs.List.{Contains, list_any}
+use Rattle.std.proofs.Common.{◌≡◌, ◌∙◌, sym, subst, List, [], ◌∷◌, ℕ, Bool}
+use Rattle.std.specs.List.{Contains}
 use Rattle.std.specs.FinMap as fin_map
 use Rattle.nav_types.specs.declared.cells.Cell.{Cell}
 use Rattle.nav_types.specs.declared.cells.Size.{Size}
 use Rattle.obstruction_shapes.specs.declared.shapes.Obstruction.{Obstruction}
 use Rattle.obstruction_shapes.specs.Shapes.{FitsMap}
 use Rattle.class_config.specs.declared.table.PassabilityClass.{PassabilityClass}
-use Rattle.clearance_raster.specs.Rasters.{blocks_class, IsRaster}
+use Rattle.clearance_raster.specs.Rasters.{blocks_class}
+use Rattle.clearance_raster.specs.inner.TestRasters.{IsRaster}
 use Rattle.obstruction_store.proofs.Listing.{Contains-entries}
 use Rattle.nav_types.proofs.Items.{Contains-head, Contains-tail}
 use Rattle.grid_versions.proofs.PaintLemmas.{Ends, Ends-none, Ends-more, Ends-all}

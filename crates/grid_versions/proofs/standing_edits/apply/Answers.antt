@@ -1,8 +1,7 @@
-use Rattle.std.proofs.Common.{◌≡◌, ℤ, IsSomeAnd, ◌∙◌, sym, ap, subst}
+use Rattle.std.proofs.Common.{IsSomeAnd, ◌∙◌, sym, ap, subst}
 use Rattle.std.specs.FinMap as fin_map
 use Rattle.nav_types.specs.declared.cells.Size.{Size}
 use Rattle.obstruction_shapes.specs.Shapes.{FitsMap, moved_to}
-use Rattle.obstruction_store.specs.Standing.{Standing}
 use Rattle.grid_versions.specs.Editing.{edit_reply, after_edit}
 use Rattle.grid_versions.proofs.EditingLemmas.{reply_to_move, edited_by_move, reply_to_bad_move, edited_by_bad_move}
 use Rattle.grid_versions.proofs.standing_edits.apply.Goals as goal

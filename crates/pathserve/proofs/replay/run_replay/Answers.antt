@@ -6,10 +6,35 @@ use Rattle.turn_core.specs.declared.posts.Post.{Post}
 use Rattle.script_text.specs.declared.faults.ScriptFault.{ScriptFault}
 use Rattle.script_text.specs.Reader.{unread, TurnAnswers}
 use Rattle.pathserve.specs.Output.{Said, unsaid, with_turn}
-use Rattle.pathserve.proofs.Replaying.{Stands, stands_unread, stands_map, stands_turn, told_turn, told_done, told_no_memory, tells_nothing, told_fault, map_refusal, turn_refusal, stop_done, stop_fault, stop_refused, rose_since}
-use Rattle.io_edges.proofs.Passed.{taken_none, taken_more}
-use Rattle.pathserve.proofs.Passes.{stands_taken, piece_taken, stop_taken}
+use Rattle.pathserve.proofs.Replaying.{Stands, stands_unread, stands_map, stands_turn, told_turn, told_done, told_no_memory, tells_nothing, told_fault, map_refusal, turn_refusal, stop_done, stop_fault, stop_refused, rose_since, why_told}
+use Rattle.io_edges.proofs.Passed.{given_none, given_more, taken_none, taken_more}
+use Rattle.pathserve.proofs.Passes.{stands_given, stands_taken, piece_taken, stop_taken}
+use Rattle.pathserve.proofs.FewJobs.{few_jobs}
 use Rattle.pathserve.proofs.replay.run_replay.Goals as goal
+
+-- ---- the jobs of a turn are fewer than the bytes of its posts
+
+pub answered-requires-clause-few : goal.answered-requires-clause-few
+answered-requires-clause-few g c =
+    let used = rw c.in-Ok-Some.field-0-is at c.in-Ok-Some.ensures.used in
+    omega (arith, used, few_jobs c.in-Ok-Some.posts, c.next_turn.ensures.limit)
+
+-- ---- what the source gave, at each exit
+
+pub returns-in-Err-clause-given : goal.returns-in-Err-clause-given
+returns-in-Err-clause-given g c = given_none _
+
+pub returns-in-Err-answered-clause-given : goal.returns-in-Err-answered-clause-given
+returns-in-Err-answered-clause-given g c = given_more _ _ _ (stands_given _ _ _ _ _ _ c.turns.invariant.stands) c.next_turn.ensures.given
+
+pub returns-in-Err-write_all-clause-given : goal.returns-in-Err-write_all-clause-given
+returns-in-Err-write_all-clause-given g c = given_more _ _ _ (stands_given _ _ _ _ _ _ c.turns.invariant.stands) c.next_turn.ensures.given
+
+pub returns-in-Ok-None-clause-given : goal.returns-in-Ok-None-clause-given
+returns-in-Ok-None-clause-given g c = given_more _ _ _ (stands_given _ _ _ _ _ _ c.turns.invariant.stands) c.next_turn.ensures.given
+
+pub returns-in-Err-next_turn-clause-given : goal.returns-in-Err-next_turn-clause-given
+returns-in-Err-next_turn-clause-given g c = given_more _ _ _ (stands_given _ _ _ _ _ _ c.turns.invariant.stands) c.next_turn.ensures.given
 
 -- ---- what the sink took, at each exit
 
@@ -17,7 +42,7 @@ pub returns-in-Err-clause-taken : goal.returns-in-Err-clause-taken
 returns-in-Err-clause-taken g c = taken_none _
 
 pub returns-in-Err-read_map-clause-taken : goal.returns-in-Err-read_map-clause-taken
-returns-in-Err-read_map-clause-taken g c = stop_taken _ _ _ _ c.write_stop.ensures.stops
+returns-in-Err-read_map-clause-taken g c = stop_taken _ _ _ _ c.stop_at.ensures.stops
 
 pub returns-in-Err-bare_version-clause-taken : goal.returns-in-Err-bare_version-clause-taken
 returns-in-Err-bare_version-clause-taken g c = taken_none _
@@ -36,7 +61,7 @@ returns-in-Ok-None-clause-taken g c = stands_taken _ _ _ _ _ _ c.turns.invariant
 
 pub returns-in-Err-next_turn-clause-taken : goal.returns-in-Err-next_turn-clause-taken
 returns-in-Err-next_turn-clause-taken g c =
-    taken_more _ _ _ (stands_taken _ _ _ _ _ _ c.turns.invariant.stands) (stop_taken _ _ _ _ c.write_stop-in-Err-next_turn.ensures.stops)
+    taken_more _ _ _ (stands_taken _ _ _ _ _ _ c.turns.invariant.stands) (stop_taken _ _ _ _ c.stop_at-in-Err-next_turn.ensures.stops)
 
 -- ---- what was written, and the status
 
@@ -48,14 +73,14 @@ returns-in-Err-clause-told g c =
 pub returns-in-Err-read_map-clause-told : goal.returns-in-Err-read_map-clause-told
 returns-in-Err-read_map-clause-told g c =
     told_fault _ _ _ _ _ _ _ _ _ _ _ (stands_unread _ _ c.in-Ok.reader c.in-Ok.ensures)
-    (map_refusal c.in-Ok.reader c.read_map.new.self _ _ c.in-Err-read_map.fault c.in-Err-read_map.ensures.told) c.write_stop.ensures.stops
+    (map_refusal c.in-Ok.reader c.read_map.new.self _ _ c.in-Err-read_map.fault c.in-Err-read_map.ensures.told) c.stop_at.ensures.stops
 
 pub returns-in-Err-read_map-clause-stop : goal.returns-in-Err-read_map-clause-stop
 returns-in-Err-read_map-clause-stop g c =
     stop_fault _ _ _ _ _ _ _ _ _ _ _ _ _ _ _ (stands_unread _ _ c.in-Ok.reader c.in-Ok.ensures)
-    (map_refusal c.in-Ok.reader c.read_map.new.self _ _ c.in-Err-read_map.fault c.in-Err-read_map.ensures.told) c.write_stop.ensures.stops
+    (map_refusal c.in-Ok.reader c.read_map.new.self _ _ c.in-Err-read_map.fault c.in-Err-read_map.ensures.told) c.stop_at.ensures.stops
     (λ is. c.in-Err-read_map.ensures.fault (ap (λ (f : ScriptFault). let r : Result Map ScriptFault = Err f in r) is))
-    c.write_stop.ensures.write
+    c.stop_at.ensures.write
 
 pub returns-in-Err-bare_version-clause-told : goal.returns-in-Err-bare_version-clause-told
 returns-in-Err-bare_version-clause-told g c =
@@ -70,6 +95,7 @@ turns-init g c =
     let same : (record unsaid { map = Some c.in-Ok-read_map.map }) ≡ (record { map = Some c.in-Ok-bare_version.version.map; standing = c.in-Ok-bare_version.version.standing; turns = 0 }) =
     λ i. record { map = Some (map i); standing = standing i; turns = 0 } in record {
       stands = subst (λ (state : Said). Stands (g.S.Source.left c.args.source.now) (g.S.Source.left c.read_map.new.source) (g.K.Sink.kept c.args.sink.now) (g.K.Sink.kept c.args.sink.now) c.read_map.new.self state) same s;
+      quiet = refl;
       going = c.in-Ok-read_map.ensures.over;
       rules = rw c.in-Ok-read_map.ensures.rules refl;
       few = omega arith;
@@ -111,6 +137,7 @@ turns-preserved g c =
     ≡ (record { map = Some c.in-Ok-answered.told.after.map; standing = c.in-Ok-answered.told.after.standing; turns = c.turns.turns + 1 }) =
     λ i. record { map = Some (map i); standing = standing i; turns = c.turns.turns + 1 } in record {
       stands = subst (λ (said : Said). Stands (g.S.Source.left c.args.source.now) (g.S.Source.left c.next_turn.new.source) (g.K.Sink.kept c.args.sink.now) (g.K.Sink.kept c.write_all.new.sink) c.next_turn.new.self said) same s;
+      quiet = before.quiet;
       going = over;
       rules = rw c.in-Ok-Some.ensures.rules before.rules;
       few = omega (arith, before.few, used);
@@ -131,11 +158,23 @@ returns-in-Ok-None-clause-stop g c =
 pub returns-in-Err-next_turn-clause-told : goal.returns-in-Err-next_turn-clause-told
 returns-in-Err-next_turn-clause-told g c =
     told_fault _ _ _ _ _ _ _ _ _ _ _ c.turns.invariant.stands
-    (turn_refusal c.turns.reader c.next_turn.new.self _ _ c.in-Err-next_turn.fault c.in-Err-next_turn.ensures.told) c.write_stop-in-Err-next_turn.ensures.stops
+    (turn_refusal c.turns.reader c.next_turn.new.self _ _ c.in-Err-next_turn.fault c.in-Err-next_turn.ensures.told) c.stop_at-in-Err-next_turn.ensures.stops
 
 pub returns-in-Err-next_turn-clause-stop : goal.returns-in-Err-next_turn-clause-stop
 returns-in-Err-next_turn-clause-stop g c =
     stop_fault _ _ _ _ _ _ _ _ _ _ _ _ _ _ _ c.turns.invariant.stands
-    (turn_refusal c.turns.reader c.next_turn.new.self _ _ c.in-Err-next_turn.fault c.in-Err-next_turn.ensures.told) c.write_stop-in-Err-next_turn.ensures.stops
+    (turn_refusal c.turns.reader c.next_turn.new.self _ _ c.in-Err-next_turn.fault c.in-Err-next_turn.ensures.told) c.stop_at-in-Err-next_turn.ensures.stops
     (λ is. rose_since _ _ _ c.turns.invariant.reads (c.in-Err-next_turn.ensures.fault (ap (λ (f : ScriptFault). let r : Result (Option (List (List Post))) ScriptFault = Err f in r) is)))
-    (λ is. rose_since _ _ _ c.turns.invariant.writes (c.write_stop-in-Err-next_turn.ensures.write is))
+    (λ is. rose_since _ _ _ c.turns.invariant.writes (c.stop_at-in-Err-next_turn.ensures.write is))
+
+-- ---- why a line is bad
+
+pub returns-in-Err-read_map-clause-why : goal.returns-in-Err-read_map-clause-why
+returns-in-Err-read_map-clause-why g c =
+    why_told _ _ _ _ _ _ _ _ c.in-Err-read_map.fault _ (stands_unread (g.S.Source.left c.args.source.now) (g.K.Sink.kept c.args.sink.now) c.in-Ok.reader c.in-Ok.ensures)
+    (map_refusal c.in-Ok.reader c.read_map.new.self _ _ c.in-Err-read_map.fault c.in-Err-read_map.ensures.told) c.stop_at.ensures.why
+
+pub returns-in-Err-next_turn-clause-why : goal.returns-in-Err-next_turn-clause-why
+returns-in-Err-next_turn-clause-why g c =
+    why_told _ _ _ _ _ _ _ _ c.in-Err-next_turn.fault _ c.turns.invariant.stands
+    (turn_refusal c.turns.reader c.next_turn.new.self _ _ c.in-Err-next_turn.fault c.in-Err-next_turn.ensures.told) c.stop_at-in-Err-next_turn.ensures.why

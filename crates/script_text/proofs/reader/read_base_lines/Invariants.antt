@@ -1,5 +1,6 @@
 -- The lines used so far added their rectangles to the map, and a line is held whole or nothing of one is.
 use Rattle.std.proofs.Common.{◌≡◌, ◌≤◌, ◌-◌, [], None, IsTrue}
+use Rattle.io_edges.specs.Passing.{HasGiven}
 use Rattle.script_text.specs.declared.parts.Part.TheVariants.{InBase}
 use Rattle.script_text.specs.Script.{rules_of}
 use Rattle.script_text.specs.Reader.{post_count}
@@ -14,6 +15,7 @@ invariant-lines g l = record {
   posts : post_count l.progress.posts ≡ 0;
   between : l.lines.line_end ≡ None → l.lines.line ≡ [];
   stays : IsTrue l.initial.lines.rest.ended → IsTrue l.lines.rest.ended;
+  given : HasGiven (g.S.Source.left l.initial.source) (g.S.Source.left l.source);
   later : g.S.Source.faults l.initial.source ≤ g.S.Source.faults l.source;
 }
 

@@ -4,7 +4,7 @@ use Rattle.grid_versions.specs.Maps.{Map}
 use Rattle.grid_versions.specs.Passing.{passable_at}
 use Rattle.turn_core.specs.declared.replies.Answer.{Answer}
 use Rattle.turn_core.specs.declared.replies.Answer.TheVariants.{Refused}
-use Rattle.turn_core.specs.Finding.{class_named, is_on_map, goal_found}
+use Rattle.turn_core.specs.NamedGoals.{class_named, is_on_map, goal_found}
 use Rattle.turn_core.specs.Solving.{IsPathFound}
 use Rattle.turn_core.proofs.Answered.{on_map_held, answered_at, answered_ok, outside_at, found_ok, found_err}
 use Rattle.turn_core.proofs.solving.path_asked.Goals as goal

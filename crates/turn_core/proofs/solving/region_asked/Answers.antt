@@ -4,7 +4,7 @@ use Rattle.grid_versions.specs.Maps.{Map}
 use Rattle.grid_versions.specs.Passing.{passable_at}
 use Rattle.turn_core.specs.declared.replies.Answer.{Answer}
 use Rattle.turn_core.specs.declared.replies.Answer.TheVariants.{Region}
-use Rattle.turn_core.specs.Finding.{class_named, is_on_map}
+use Rattle.turn_core.specs.NamedGoals.{class_named, is_on_map}
 use Rattle.turn_core.specs.Solving.{IsRegionAt}
 use Rattle.turn_core.proofs.Answered.{on_map_held, answered_at, outside_at}
 use Rattle.turn_core.proofs.solving.region_asked.Goals as goal

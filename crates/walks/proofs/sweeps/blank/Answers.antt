@@ -1,6 +1,7 @@
 use Rattle.std.proofs.Common.{ℕ, ◌≡◌, List, set, sym, ap, ◌∙◌, subst}
 use Rattle.std.specs.Prelude.{replicate}
-use Rattle.walks.specs.inner.Tables.{place_of, unreached, IsSoundTable}
+use Rattle.nav_types.specs.Places.{place_of}
+use Rattle.walks.specs.inner.Tables.{unreached, IsSoundTable}
 use Rattle.walks.proofs.Sweeping.{sound_blank}
 use Rattle.walks.proofs.sweeps.blank.Goals as goal
 

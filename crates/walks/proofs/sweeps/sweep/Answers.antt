@@ -1,6 +1,7 @@
 use Rattle.std.proofs.Common.{ℕ, ◌-◌, List, cond, ap, ◌∙◌, subst, arith}
 use Rattle.nav_types.specs.declared.cells.Cell.{Cell}
-use Rattle.walks.specs.inner.Tables.{cell_of, IsSettledAt, IsSettled, Relaxes}
+use Rattle.nav_types.specs.Places.{cell_of}
+use Rattle.walks.specs.inner.Tables.{IsSettledAt, IsSettled, Relaxes}
 use Rattle.walks.proofs.Sweeping.{relaxes_none, relaxes_more, relaxes_as, table_kept, settled_throughout}
 use Rattle.walks.proofs.sweeps.sweep.Goals as goal
 

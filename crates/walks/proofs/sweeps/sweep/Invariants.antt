@@ -1,5 +1,6 @@
 use Rattle.std.proofs.Common.{ℕ, ◌<◌, ◌-◌, List, cond}
-use Rattle.walks.specs.inner.Tables.{cell_of, IsSettledAt, Relaxes}
+use Rattle.nav_types.specs.Places.{cell_of}
+use Rattle.walks.specs.inner.Tables.{IsSettledAt, Relaxes}
 use Rattle.walks.proofs.sweeps.sweep.Given as goal
 
 abbrev pub invariant-loop-passed : goal.invariant-loop-passed

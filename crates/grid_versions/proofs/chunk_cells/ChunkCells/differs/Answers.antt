@@ -2,7 +2,6 @@ use Rattle.std.proofs.Common.{◌≡◌, ◌*◌, ◌↔◌, ◌∙◌, ℕ, Lis
 use Rattle.std.specs.Int.{bit_at}
 use Rattle.lane_rows.specs.Rows.{DifferIn}
 use Rattle.nav_types.specs.Numbering.{Numbering, IsPatch, columns, rows}
-use Rattle.grid_versions.specs.inner.Painting.{DiffersIn}
 use Rattle.grid_versions.proofs.CellLists.{differs_in_cells}
 use Rattle.grid_versions.proofs.chunk_cells.ChunkCells.differs.Goals as goal
 

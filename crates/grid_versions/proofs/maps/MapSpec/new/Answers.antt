@@ -1,4 +1,4 @@
-use Rattle.std.proofs.Common.{◌≡◌, true, List, All, IsTrue, ℕ, sym, subst}
+use Rattle.std.proofs.Common.{List, All, IsTrue, ℕ, sym, subst}
 use Rattle.nav_types.specs.declared.cells.Rect.{Rect}
 use Rattle.nav_types.specs.Cells.{IsRectInside}
 use Rattle.grid_versions.proofs.maps.MapSpec.new.Goals as goal

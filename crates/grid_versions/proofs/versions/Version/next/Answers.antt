@@ -1,18 +1,41 @@
-use Rattle.std.proofs.Common.{◌≡◌, ◌∙◌, ap, sym, subst}
+use Rattle.std.proofs.Common.{List, ◌≡◌, ◌∙◌, length, ap, sym, subst}
 use Rattle.std.specs.Arc.{arc_value}
+use Rattle.nav_types.specs.Regions.{HasRelabelled}
 use Rattle.obstruction_store.specs.Standing.{Standing, AllFit}
+use Rattle.grid_versions.specs.declared.edits.Edit.{Edit}
 use Rattle.grid_versions.specs.Maps.{Map}
 use Rattle.grid_versions.specs.Editing.{after_edits}
+use Rattle.grid_versions.specs.Versions.{MapState, map_state, passes_of}
 use Rattle.grid_versions.proofs.EditingLemmas.{AllFit-after_edits}
 use Rattle.grid_versions.proofs.versions.Version.next.Goals as goal
 
-pub build_shared-requires : goal.build_shared-requires
-build_shared-requires g c =
-    let map = arc_value c.self.inside.map in
-    let edits = c.as_slice.result.now in
-    let after : c.apply_all.new.shapes ≡ after_edits map c.self.inside.shapes edits =
-    c.in_ok-replies.ensures.standing
-    ∙ ap (λ (m : Map). after_edits m c.in_ok-shapes.shapes edits) c.deref.ensures
-    ∙ ap (λ (s : Standing). after_edits map s edits) c.in_ok-shapes.ensures in
-    subst (λ (m : Map). AllFit m.size c.apply_all.new.shapes) (sym c.in_ok-map.ensures)
-    (subst (λ (s : Standing). AllFit map.size s) (sym after) (AllFit-after_edits map c.self.inside.shapes edits c.self.invariant.fit))
+-- what stands after the edits, of the map and the obstructions that were read
+after_here : (map read_map : Map) (old read copied new : Standing) (edits all : List Edit) (state : MapState) → new ≡ after_edits read_map copied edits → read_map ≡ map
+    → copied ≡ read → read ≡ old → edits ≡ all → map_state map old ≡ state → new ≡ after_edits state.map state.standing all
+after_here map read_map old read copied new edits all state applied same_map copied_is read_is edits_are view_is =
+    applied ∙ ap (λ (m : Map). after_edits m copied edits) same_map ∙ ap (λ (s : Standing). after_edits map s edits) (copied_is ∙ read_is)
+    ∙ ap (λ (es : List Edit). after_edits map old es) edits_are ∙ ap (λ (s : MapState). after_edits s.map s.standing all) view_is
+
+pub updated-requires : goal.updated-requires
+updated-requires g c =
+    let state = c.args.self.now in
+    let after = after_here (arc_value c.self.inside.map) c.deref-2.result.now (arc_value c.self.inside.shapes) c.deref.result.now c.in_ok-shapes.shapes c.apply_all.new.shapes
+    c.as_slice.result.now c.args.edits.now state c.in_ok-replies.ensures.standing c.deref-2.ensures c.in_ok-shapes.ensures c.deref.ensures c.as_slice.ensures c.self.view_is in
+    let fit : AllFit state.map.size state.standing = subst (λ (s : MapState). AllFit s.map.size s.standing) c.self.view_is c.self.invariant.fit in
+    subst (λ (s : Standing). AllFit state.map.size s) (sym after) (AllFit-after_edits state.map state.standing c.args.edits.now fit)
+
+pub returns-in_err-version-clause-most : goal.returns-in_err-version-clause-most
+returns-in_err-version-clause-most g c = λ count has.
+    let state = c.args.self.now in
+    let after = after_here (arc_value c.self.inside.map) c.deref-2.result.now (arc_value c.self.inside.shapes) c.deref.result.now c.in_ok-shapes.shapes c.apply_all.new.shapes
+    c.as_slice.result.now c.args.edits.now state c.in_ok-replies.ensures.standing c.deref-2.ensures c.in_ok-shapes.ensures c.deref.ensures c.as_slice.ensures c.self.view_is in
+    c.updated.ensures.most count
+    (subst (λ (s : Standing). HasRelabelled (length state.map.classes) (passes_of state) (passes_of (map_state state.map s)) count) (sym after) has)
+
+pub returns-clause-most : goal.returns-clause-most
+returns-clause-most g c = λ count has.
+    let state = c.args.self.now in
+    let after = after_here (arc_value c.self.inside.map) c.deref-2.result.now (arc_value c.self.inside.shapes) c.deref.result.now c.in_ok-shapes.shapes c.apply_all.new.shapes
+    c.as_slice.result.now c.args.edits.now state c.in_ok-replies.ensures.standing c.deref-2.ensures c.in_ok-shapes.ensures c.deref.ensures c.as_slice.ensures c.self.view_is in
+    c.updated.ensures.most count
+    (subst (λ (s : Standing). HasRelabelled (length state.map.classes) (passes_of state) (passes_of (map_state state.map s)) count) (sym after) has)

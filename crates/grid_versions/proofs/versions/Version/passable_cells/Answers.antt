@@ -31,7 +31,7 @@ loop-place-preserved c =
 pub returns : goal.returns
 returns c =
     let map = arc_value c.self.inside.map in
-    let standing = c.self.inside.shapes in
+    let standing = (arc_value c.self.inside.shapes) in
     let cells = c.self.inside.cells in
     let f : Numbering → ℕ = λ one. free_count c.args.class one.numbers in
     let low = subst (λ (s : MapState). c.args.class < length s.map.classes) (sym c.self.view_is) c.requires in

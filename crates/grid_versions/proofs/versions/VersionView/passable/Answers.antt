@@ -12,21 +12,21 @@ use Rattle.grid_versions.proofs.versions.VersionView.passable.Goals as goal
 pub is_free-requires : goal.is_free-requires
 is_free-requires c =
     let map = arc_value c.self.inside.map in
-    let standing = c.self.inside.shapes in
+    let standing = (arc_value c.self.inside.shapes) in
     let inside = subst (λ (s : MapState). IsInside s.map.size c.args.cell) (sym c.self.view_is) c.requires.inside in
     let place : c.place_of-place.result ≡ chunk_place map.size (chunk_of c.args.cell) =
     c.place_of-place.ensures.value ∙ ap (λ (s : Size). chunk_place s c.chunk.result) (c.size.ensures ∙ ap (λ (m : Map). m.size) c.deref.ensures) ∙ ap (λ (chunk : Chunk). chunk_place map.size chunk) c.chunk.ensures in
     in_own_rect map standing c.args.cell c.at.result.now inside
-    (cell_chunk map standing c.self.inside.cells c.self.inside.tables.items c.self.invariant c.args.cell c.place_of-place.result c.at.result.now inside place c.at.ensures)
+    (cell_chunk map standing c.self.inside.cells c.self.inside.tables c.self.invariant c.args.cell c.place_of-place.result c.at.result.now inside place c.at.ensures)
 
 pub returns : goal.returns
 returns c =
     let map = arc_value c.self.inside.map in
-    let standing = c.self.inside.shapes in
+    let standing = (arc_value c.self.inside.shapes) in
     let inside = subst (λ (s : MapState). IsInside s.map.size c.args.cell) (sym c.self.view_is) c.requires.inside in
     let low = subst (λ (s : MapState). c.args.class < length s.map.classes) (sym c.self.view_is) c.requires.class in
     let place : c.place_of-place.result ≡ chunk_place map.size (chunk_of c.args.cell) =
     c.place_of-place.ensures.value ∙ ap (λ (s : Size). chunk_place s c.chunk.result) (c.size.ensures ∙ ap (λ (m : Map). m.size) c.deref.ensures) ∙ ap (λ (chunk : Chunk). chunk_place map.size chunk) c.chunk.ensures in
-    let painted = cell_chunk map standing c.self.inside.cells c.self.inside.tables.items c.self.invariant c.args.cell c.place_of-place.result c.at.result.now inside place c.at.ensures in
+    let painted = cell_chunk map standing c.self.inside.cells c.self.inside.tables c.self.invariant c.args.cell c.place_of-place.result c.at.result.now inside place c.at.ensures in
     c.is_free.ensures ∙ free_is_passable map standing c.args.cell c.at.result.now c.args.class inside low painted
     ∙ ap (λ (s : MapState). passes_of s c.args.class c.args.cell) c.self.view_is

@@ -1,6 +1,7 @@
 use Rattle.std.proofs.Common.{◌≡◌, subst}
 use Rattle.script_text.specs.Reader.{Held, HoldsTurn, TakesNoneAhead, TurnTold}
 use Rattle.script_text.specs.inner.Judging.{held_at}
+use Rattle.script_text.proofs.ReadNeed.{given_ahead}
 use Rattle.script_text.proofs.ReadStill.{turn_flags, ahead_flags, with_flags}
 use Rattle.script_text.proofs.reader.ScriptReader.next_turn.Goals as goal
 
@@ -27,3 +28,7 @@ returns-clause-ahead g c =
     let turn = c.read_turn-answer in
     let Said : Held → Type 0 = λ h. TakesNoneAhead h (left c.args.source.now) (left turn.new.source) in
     subst Said c.self.view_is (ahead_flags (held_at c.self.inside.progress c.self.inside.lines) c.self.inside.over c.self.inside.failed (left c.args.source.now) (left turn.new.source) turn.ensures.ahead)
+
+-- what the source gave
+pub returns-clause-given : goal.returns-clause-given
+returns-clause-given g c = given_ahead _ _ _ c.read_turn-answer.ensures.ahead

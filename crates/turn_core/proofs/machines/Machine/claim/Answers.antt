@@ -4,14 +4,14 @@ use Rattle.turn_core.specs.declared.machines.running.RunningTurn.{RunningTurn}
 use Rattle.turn_core.specs.States.{State}
 use Rattle.turn_core.specs.Table.{why_not, last_turn}
 use Rattle.turn_core.specs.Effects.{claimed}
-use Rattle.turn_core.specs.Machines.{state_of, HoldsState}
+use Rattle.turn_core.specs.inner.Machines.{state_of, HoldsState}
 use Rattle.turn_core.proofs.MachineSteps.{unclaimed_held, claimed_holds, claimed_is}
 use Rattle.turn_core.proofs.machines.Machine.claim.Goals as goal
 
 pub claim-requires : goal.claim-requires
 claim-requires c =
     let a = c.self.inside in
-    unclaimed_held (last_turn (state_of a)) a.version a.running c.self.invariant.running
+    unclaimed_held (last_turn (state_of a)) a.running
     (subst (λ (s : State). why_not s Claim ≡ None) (sym c.self.view_is) c.requires)
 
 pub invariant_of-self : goal.invariant_of-self

@@ -4,8 +4,8 @@ use Rattle.turn_core.specs.declared.replies.Reply.{Reply}
 use Rattle.turn_core.specs.declared.machines.delivered.DeliveredTurn.{DeliveredTurn}
 use Rattle.turn_core.specs.States.{State, list_of}
 use Rattle.turn_core.specs.Effects.{collected}
-use Rattle.turn_core.specs.Runs.{replies_to}
-use Rattle.turn_core.specs.Machines.{state_of}
+use Rattle.turn_core.specs.inner.Runs.{replies_to}
+use Rattle.turn_core.specs.inner.Machines.{state_of}
 use Rattle.turn_core.proofs.MachineSteps.{caller_replies, reply_left}
 use Rattle.turn_core.proofs.machines.Machine.collect.Goals as goal
 

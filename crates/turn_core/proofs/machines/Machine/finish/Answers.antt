@@ -5,21 +5,21 @@ use Rattle.turn_core.specs.States.{State}
 use Rattle.turn_core.specs.Table.{why_not, last_turn}
 use Rattle.turn_core.specs.Effects.{finished, AnswersJob}
 use Rattle.turn_core.specs.Facts.{Facts}
-use Rattle.turn_core.specs.Machines.{state_of}
+use Rattle.turn_core.specs.inner.Machines.{state_of}
 use Rattle.turn_core.proofs.MachineSteps.{job_held, place_held, while_held, finished_holds, finished_is, answers_job}
 use Rattle.turn_core.proofs.machines.Machine.finish.Goals as goal
 
 pub answer_to-requires : goal.answer_to-requires
 answer_to-requires c =
     let a = c.self.inside in
-    job_held (last_turn (state_of a)) c.args.job a.version a.running c.self.invariant.running
+    job_held (last_turn (state_of a)) c.args.job a.version a.running
     (while_held a c.self.invariant (subst Facts (sym c.self.view_is) c.requires.facts))
     (subst (λ (s : State). why_not s (Finish c.args.job) ≡ None) (sym c.self.view_is) c.requires.enabled)
 
 pub put_answer-requires : goal.put_answer-requires
 put_answer-requires c =
     let a = c.self.inside in
-    place_held (last_turn (state_of a)) c.args.job a.version a.running c.self.invariant.running
+    place_held (last_turn (state_of a)) c.args.job a.version a.running
     (while_held a c.self.invariant (subst Facts (sym c.self.view_is) c.requires.facts))
     (subst (λ (s : State). why_not s (Finish c.args.job) ≡ None) (sym c.self.view_is) c.requires.enabled)
 

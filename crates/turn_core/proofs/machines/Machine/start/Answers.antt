@@ -4,7 +4,7 @@ use Rattle.turn_core.specs.declared.machines.running.RunningTurn.{RunningTurn}
 use Rattle.turn_core.specs.States.{State}
 use Rattle.turn_core.specs.Table.{why_not}
 use Rattle.turn_core.specs.Effects.{started}
-use Rattle.turn_core.specs.Machines.{state_of}
+use Rattle.turn_core.specs.inner.Machines.{state_of}
 use Rattle.turn_core.proofs.MachineSteps.{start_none, started_holds, started_is}
 use Rattle.turn_core.proofs.machines.Machine.start.Goals as goal
 

@@ -1,5 +1,5 @@
 use Rattle.std.specs.Prelude.{slice_get}
-use Rattle.turn_core.specs.Runs.{replies_to}
+use Rattle.turn_core.specs.inner.Runs.{replies_to}
 use Rattle.turn_core.proofs.DeliveredReplies.{reply_found, reply_past}
 use Rattle.turn_core.proofs.machines.delivered.reply_at.Goals as goal
 

@@ -1,6 +1,6 @@
 use Rattle.std.proofs.Common.{◌≡◌, drop}
 use Rattle.std.specs.Prelude.{slice_get}
-use Rattle.turn_core.specs.Runs.{replies_to}
+use Rattle.turn_core.specs.inner.Runs.{replies_to}
 use Rattle.turn_core.proofs.machines.delivered.reply_at.Given as goal
 
 abbrev pub invariant-loop-turn : goal.invariant-loop-turn

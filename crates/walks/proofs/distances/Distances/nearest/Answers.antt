@@ -2,7 +2,7 @@ use Rattle.std.proofs.Common.{ℕ, ◌≡◌, ◌+◌, ◌*◌, ◌<◌, ◌≤�
 use Rattle.std.proofs.lemmas.Bool.{both_ways, le-ltb}
 use Rattle.std.proofs.lemmas.List.{get_or_read}
 use Rattle.nav_types.specs.declared.cells.Cell.{Cell}
-use Rattle.walks.specs.inner.Tables.{cell_of}
+use Rattle.nav_types.specs.Places.{cell_of}
 use Rattle.walks.proofs.Tracing.{IsNearest, nearest_none, nearest_takes, nearest_keeps, nearest_some, nearest_all}
 use Rattle.walks.proofs.distances.Distances.nearest.Goals as goal
 use Rattle.walks.proofs.distances.Distances.nearest.Goals.{then-cost-least, else-cost-least, then-nearer, else-nearer}

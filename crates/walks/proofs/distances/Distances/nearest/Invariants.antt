@@ -1,5 +1,5 @@
 use Rattle.std.proofs.Common.{ℕ}
-use Rattle.walks.specs.inner.Tables.{cell_of}
+use Rattle.nav_types.specs.Places.{cell_of}
 use Rattle.walks.proofs.Tracing.{IsNearest}
 use Rattle.walks.proofs.distances.Distances.nearest.Given as goal
 

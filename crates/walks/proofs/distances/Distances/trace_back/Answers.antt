@@ -2,7 +2,7 @@ use Rattle.std.proofs.Common.{◌++◌, [], None, List, sym, subst}
 use Rattle.std.proofs.lemmas.List.{append-nil}
 use Rattle.nav_types.specs.declared.directions.Dir.{Dir}
 use Rattle.walks.specs.Chosen.{IsChosenBack}
-use Rattle.walks.proofs.CellPlaces.{same_tested, other_tested}
+use Rattle.walks.proofs.CellTests.{same_tested, other_tested}
 use Rattle.walks.proofs.Tracing.{chosen_push}
 use Rattle.walks.proofs.distances.Distances.trace_back.Goals as goal
 

@@ -1,0 +1,161 @@
+-- From the bits of a chunk to its spans, and from the spans' regions to the chunk's labels.
+use Rattle.std.proofs.Common.{ℕ, zero, suc, Bool, true, false, ◌≡◌, ◌<◌, ◌≤◌, ◌+◌, ◌-◌, ◌*◌, ◌/◌, ◌%◌, ◌⊎◌, ◌==◌, ◌&&◌, if◌then◌else◌, List, IsTrue, map, ap, inl, inr, refl, sym, subst, ◌∙◌, arith}
+use Rattle.std.specs.Int.{bit_at}
+use Rattle.std.specs.List.{range_with_len, slice_get}
+use Rattle.std.specs.Prelude.{slice_index}
+use Rattle.std.proofs.lemmas.Bool.{and_parts, and_from, eqb-true, eq-eqb, cases_Bool, both_ways}
+use Rattle.std.proofs.lemmas.List.FromFn.{get_or-map-range_with_len}
+use Rattle.std.proofs.lemmas.Nat.{div-mul-add, mod-mul-add, mul-add-lt}
+use Rattle.std.proofs.lemmas.Option.{slice_get_within}
+use Rattle.nav_types.specs.declared.cells.Cell.{Cell}
+use Rattle.nav_types.specs.declared.cells.Chunk.{Chunk}
+use Rattle.nav_types.specs.declared.cells.Rect.{Rect}
+use Rattle.nav_types.specs.declared.cells.Size.{Size}
+use Rattle.nav_types.specs.Cells.{cell_at, IsInRect, IsInside}
+use Rattle.nav_types.specs.Numbering.{Numbering, columns, rows, number_of, place_in}
+use Rattle.nav_types.specs.Regions.{passes_in, HasRegion}
+use Rattle.chunk_regions.specs.Labelling.{AreLabels, AreBitsOf, chunk_rect}
+use Rattle.chunk_regions.specs.declared.flood.Place.{Place}
+use Rattle.chunk_regions.specs.inner.Spans.{Runs, AreRuns, Holds, IsCut, holds, region_from, region_at, region_of, number_by}
+use Rattle.chunk_regions.specs.inner.Flooding.{IsNumbered}
+use Rattle.chunk_regions.proofs.SpanLemmas.{region_of-blocked}
+use Rattle.nav_types.proofs.CellOrder.{same_cell}
+
+-- a cell past the map's end is not passable
+pub shut_past : (passes : Cell → Bool) (size : Size) → ((cell : Cell) → IsTrue (passes cell) → IsInside size cell) → (cell : Cell)
+    → (size.w ≤ cell.i) ⊎ (size.h ≤ cell.j) → passes cell ≡ false
+shut_past passes size within cell past = elim (cases_Bool (passes cell)) [
+  | inl passing ↦
+      let inside = within cell passing in
+      let column = inside.column in
+      let row = inside.row in
+      absurd (elim past [ inl east ↦ omega arith | inr north ↦ omega arith ])
+  | inr shut ↦ shut
+]
+
+-- the spans of a chunk's set bits hold exactly its passable cells
+pub IsCut-from_bits : (passes : Cell → Bool) (chunk : Chunk) (bits : List ℕ) (runs : Runs) → AreBitsOf passes chunk bits → AreRuns bits runs → IsCut (passes_in passes chunk) chunk runs
+IsCut-from_bits passes chunk bits runs of are = record {
+  are = are.are;
+  held = λ cell here.
+      let parts = and_parts ((cell.i / 96 == chunk.ci) && (cell.j / 96 == chunk.cj)) (passes cell) here in
+      let both = and_parts (cell.i / 96 == chunk.ci) (cell.j / 96 == chunk.cj) parts.0 in
+      let column = eqb-true (cell.i / 96) chunk.ci both.0 in
+      let row = eqb-true (cell.j / 96) chunk.cj both.1 in
+      let r = cell.j - 96 * chunk.cj in
+      let x = cell.i - 96 * chunk.ci in
+      let same : cell_at (96 * chunk.ci + x) (96 * chunk.cj + r) ≡ cell = same_cell (cell_at (96 * chunk.ci + x) (96 * chunk.cj + r)) cell (omega arith) (omega arith) in
+      let set : (bit_at (slice_index bits r) x == 1) ≡ true = of.set r x (omega arith) (omega arith) ∙ ap passes same ∙ parts.1 in
+      let is = are.holds r x (omega arith) (omega arith) (eqb-true (bit_at (slice_index bits r) x) 1 set) in
+      let h = is.1 in
+      let west = h.west in
+      let east = h.east in
+      let place : Place = record { row = r; at = is.0 } in (
+        place,
+        record {
+          is = record { row = h.row; from = h.from; to = h.to; within = slice_get_within runs.spans is.0 h.span h.found };
+          span = h.span;
+          found = h.found;
+          row = omega arith;
+          west = omega arith;
+          east = omega arith;
+        },
+      );
+  passing = λ place cell has.
+      let x = cell.i - 96 * chunk.ci in
+      let row = has.row in
+      let west = has.west in
+      let east = has.east in
+      let in_row = has.is.row in
+      let ordered = are.are.ordered place.at has.span has.found in
+      let within = ordered.1 in
+      let h : Holds runs place.row place.at x = record {
+        span = has.span;
+        found = has.found;
+        row = in_row;
+        from = has.is.from;
+        to = has.is.to;
+        west = omega arith;
+        east = omega arith;
+      } in
+      let same : cell_at (96 * chunk.ci + x) (96 * chunk.cj + place.row) ≡ cell = same_cell (cell_at (96 * chunk.ci + x) (96 * chunk.cj + place.row)) cell (omega arith) (omega arith) in
+      let set = eq-eqb (bit_at (slice_index bits place.row) x) 1 (are.set place.row place.at x h) in
+      let passes_here : passes cell ≡ true = sym (of.set place.row x in_row (omega arith) ∙ ap passes same) ∙ set in
+      and_from ((cell.i / 96 == chunk.ci) && (cell.j / 96 == chunk.cj)) (passes cell)
+      (and_from (cell.i / 96 == chunk.ci) (cell.j / 96 == chunk.cj) (eq-eqb (cell.i / 96) chunk.ci (omega arith)) (eq-eqb (cell.j / 96) chunk.cj (omega arith))) passes_here;
+}
+
+-- ---- the numbers of the labels
+
+-- the numbers of a rectangle's cells by the spans' regions
+abbrev pub numbered_by : Runs → List ℕ → Rect → Numbering
+numbered_by runs regions rect = record { rect = rect; numbers = map (number_by runs regions (columns rect)) (range_with_len 0 (columns rect * rows rect)) }
+
+pub number_of-numbered_by : (runs : Runs) (regions : List ℕ) (rect : Rect) (cell : Cell) → IsInRect rect cell
+    → number_of (numbered_by runs regions rect) cell ≡ region_at runs regions (cell.j - rect.j0) (cell.i - rect.i0)
+unfolding number_of place_in
+number_of-numbered_by runs regions rect cell inside =
+    let w = inside.west in let e = inside.east in let s = inside.south in let n = inside.north in
+    let row = cell.j - rect.j0 in
+    let column = cell.i - rect.i0 in
+    let place = row * columns rect + column in
+    let within = mul-add-lt row (columns rect) column (rows rect) (omega arith) (omega arith) in
+    let quotient : place / columns rect ≡ row = div-mul-add row (columns rect) column (omega arith) in
+    let rest : place % columns rect ≡ column = mod-mul-add row (columns rect) column (omega arith) in
+    get_or-map-range_with_len (number_by runs regions (columns rect)) 0 (columns rect * rows rect) place place 0 (omega arith) (omega arith)
+    ∙ ap (λ r. region_at runs regions r (place % columns rect)) quotient
+    ∙ ap (λ x. region_at runs regions row x) rest
+
+-- the number of a cell is found among its row's spans
+pub number_of-row : (runs : Runs) (regions : List ℕ) (rect : Rect) (cell : Cell) (from to : ℕ) → IsInRect rect cell
+    → from ≡ slice_index runs.starts (cell.j - rect.j0) → to ≡ slice_index runs.starts (cell.j - rect.j0 + 1)
+    → number_of (numbered_by runs regions rect) cell ≡ region_from runs regions (cell.i - rect.i0) (to - from) from
+number_of-row runs regions rect cell from to inside starts ends =
+    number_of-numbered_by runs regions rect cell inside
+    ∙ ap (λ k. region_from runs regions (cell.i - rect.i0) (slice_index runs.starts (cell.j - rect.j0 + 1) - k) k) (sym starts)
+    ∙ ap (λ k. region_from runs regions (cell.i - rect.i0) (k - from) from) (sym ends)
+
+-- a span that holds the column ends the search
+pub region_from-here : (runs : Runs) (regions : List ℕ) (x count k : ℕ) → 0 < count → holds (slice_get runs.spans k) x ≡ true
+    → region_from runs regions x count k ≡ slice_index regions k
+region_from-here runs regions x zero k some_left here = absurd (omega arith)
+region_from-here runs regions x (suc count) k some_left here = ap (λ b. if b then slice_index regions k else region_from runs regions x count (k + 1)) here
+
+-- a span that does not hold the column is passed over
+pub region_from-next : (runs : Runs) (regions : List ℕ) (x count k : ℕ) → 0 < count → holds (slice_get runs.spans k) x ≡ false
+    → region_from runs regions x count k ≡ region_from runs regions x (count - 1) (k + 1)
+region_from-next runs regions x zero k some_left here = absurd (omega arith)
+region_from-next runs regions x (suc count) k some_left here =
+    let less : count ≡ suc count - 1 = omega arith in
+    ap (λ b. if b then slice_index regions k else region_from runs regions x count (k + 1)) here
+    ∙ ap (λ c. region_from runs regions x c (k + 1)) less
+
+-- where each passable cell has its region's number, the numbers are the labels
+pub AreLabels-from_regions : (passes : Cell → Bool) (size : Size) (chunk : Chunk) (runs : Runs) (regions : List ℕ) (firsts : List Cell) (rect : Rect) → rect ≡ chunk_rect size chunk
+    → IsCut (passes_in passes chunk) chunk runs → IsNumbered (passes_in passes chunk) (region_of chunk runs regions) firsts
+    → AreLabels passes size chunk (record { chunk = chunk; cells = numbered_by runs regions rect; firsts = firsts })
+AreLabels-from_regions passes size chunk runs regions firsts rect extent cut numbered = record {
+  of_chunk = refl;
+  extent = extent;
+  numbers = λ cell inside.
+      let west = inside.west in
+      let south = inside.south in
+      let north = inside.north in
+      let i0 = ap (λ (r : Rect). r.i0) extent in
+      let j0 = ap (λ (r : Rect). r.j0) extent in
+      let j1 = ap (λ (r : Rect). r.j1) extent in
+      let row : cell.j - rect.j0 ≡ cell.j - 96 * chunk.cj = omega arith in
+      let column : cell.i - rect.i0 ≡ cell.i - 96 * chunk.ci = omega arith in
+      let number : number_of (numbered_by runs regions rect) cell ≡ region_of chunk runs regions cell =
+      number_of-numbered_by runs regions rect cell inside
+      ∙ ap (λ r. region_at runs regions r (cell.i - rect.i0)) row
+      ∙ ap (λ x. region_at runs regions (cell.j - 96 * chunk.cj) x) column in
+      elim (cases_Bool (passes_in passes chunk cell)) [
+        | inl here ↦ subst (λ n. HasRegion passes chunk cell n) (sym number) (numbered.numbers cell here)
+        | inr shut ↦ record {
+          blocked = λ again. number ∙ region_of-blocked (passes_in passes chunk) chunk runs regions cut cell (omega arith) (omega arith) (omega arith) shut;
+          placed = λ here. absurd (both_ways (passes_in passes chunk cell) shut here);
+        }
+      ];
+  first_cells = numbered.first_cells;
+}

@@ -1,0 +1,102 @@
+-- Passable cells of a chunk's rows that lie side by side.
+use Rattle.std.specs.Prelude.{ℕ, zero, suc, Bool, false, ◌≡◌, ◌+◌, ◌-◌, ◌*◌, ◌/◌, ◌%◌, ◌<◌, ◌≤◌, ◌⊎◌, ◌&&◌, ◌==◌, if◌then◌else◌, List, Option, Some, None, IsTrue, length, slice_get, slice_index, count_by, nat_le}
+use Rattle.std.specs.Int.{bit_at}
+use Rattle.nav_types.specs.declared.cells.Cell.{Cell}
+use Rattle.nav_types.specs.declared.cells.Chunk.{Chunk}
+use Rattle.chunk_regions.specs.declared.spans.Span.{Span}
+use Rattle.chunk_regions.specs.declared.flood.Place.{Place}
+
+-- the place of the first span of each row and the count of all spans, and the spans of all rows
+pub record Runs : Type 0 where
+  pub starts : List ℕ
+  pub spans : List Span
+
+-- the spans are in order: 96 rows of spans that rise and do not touch
+pub record AreSpans (runs : Runs) : Type 0 where
+  pub rows : length runs.starts ≡ 97
+  pub rising : (r : ℕ) → r < 96 → slice_index runs.starts r ≤ slice_index runs.starts (r + 1)
+  pub all : slice_index runs.starts 96 ≡ length runs.spans
+  pub few : length runs.spans ≤ 4608
+  pub ordered : (k : ℕ) (span : Span) → slice_get runs.spans k ≡ Some span → (span.first ≤ span.last) × (span.last < 96)
+  pub apart : (r k l : ℕ) (west east : Span) → r < 96 → slice_index runs.starts r ≤ k → k < l → l < slice_index runs.starts (r + 1)
+      → slice_get runs.spans k ≡ Some west → slice_get runs.spans l ≡ Some east → west.last + 1 < east.first
+
+-- the span at place k is one of row r and holds column x
+pub record Holds (runs : Runs) (r k x : ℕ) : Type 0 where
+  pub span : Span
+  pub found : slice_get runs.spans k ≡ Some span
+  pub row : r < 96
+  pub from : slice_index runs.starts r ≤ k
+  pub to : k < slice_index runs.starts (r + 1)
+  pub west : span.first ≤ x
+  pub east : x ≤ span.last
+
+-- the spans hold exactly the set bits of a chunk's rows
+pub record AreRuns (bits : List ℕ) (runs : Runs) : Type 0 where
+  pub are : AreSpans runs
+  pub holds : (r x : ℕ) → r < 96 → x < 96 → bit_at (slice_index bits r) x ≡ 1 → (k : ℕ) × Holds runs r k x
+  pub set : (r k x : ℕ) → Holds runs r k x → bit_at (slice_index bits r) x ≡ 1
+
+-- the spans from place `from` on hold exactly the set bits below a column, and do not touch
+pub record IsRowTo (bits from : ℕ) (spans : List Span) (column : ℕ) : Type 0 where
+  pub few : 2 * length spans ≤ 2 * from + column
+  pub longer : from ≤ length spans
+  pub ordered : (k : ℕ) (span : Span) → from ≤ k → slice_get spans k ≡ Some span → (span.first ≤ span.last) × (span.last < 96) × (span.last + 1 < column)
+  pub apart : (k l : ℕ) (west east : Span) → from ≤ k → k < l → slice_get spans k ≡ Some west → slice_get spans l ≡ Some east → west.last + 1 < east.first
+  pub holds : (x : ℕ) → x < column → bit_at bits x ≡ 1
+      → (k : ℕ) × (span : Span) × (from ≤ k) × (slice_get spans k ≡ Some span) × (span.first ≤ x) × (x ≤ span.last)
+  pub set : (k x : ℕ) (span : Span) → from ≤ k → slice_get spans k ≡ Some span → span.first ≤ x → x ≤ span.last → bit_at bits x ≡ 1
+
+-- the place is that of a span
+pub record IsPlace (runs : Runs) (place : Place) : Type 0 where
+  pub row : place.row < 96
+  pub from : slice_index runs.starts place.row ≤ place.at
+  pub to : place.at < slice_index runs.starts (place.row + 1)
+  pub within : place.at < length runs.spans
+
+-- the rows lie side by side
+abbrev pub AreBeside : ℕ → ℕ → Type 0
+AreBeside a b = (b ≡ a + 1) ⊎ (a ≡ b + 1)
+
+-- the cell of the chunk is one of the span at the place
+pub record HasCell (chunk : Chunk) (runs : Runs) (place : Place) (cell : Cell) : Type 0 where
+  pub is : IsPlace runs place
+  pub span : Span
+  pub found : slice_get runs.spans place.at ≡ Some span
+  pub row : cell.j ≡ 96 * chunk.cj + place.row
+  pub west : 96 * chunk.ci + span.first ≤ cell.i
+  pub east : cell.i ≤ 96 * chunk.ci + span.last
+
+-- the spans hold exactly the passable cells of the chunk
+pub record IsCut (passes : Cell → Bool) (chunk : Chunk) (runs : Runs) : Type 0 where
+  pub are : AreSpans runs
+  pub held : (cell : Cell) → IsTrue (passes cell) → (place : Place) × HasCell chunk runs place cell
+  pub passing : (place : Place) (cell : Cell) → HasCell chunk runs place cell → IsTrue (passes cell)
+
+-- whether there is a span that holds the column
+abbrev pub holds : Option Span → ℕ → Bool
+holds None column = false
+holds (Some span) column = nat_le span.first column && nat_le column span.last
+
+-- the region of the first of so many spans from place k on that holds the column, 0 where none does
+abbrev pub region_from : Runs → List ℕ → ℕ → ℕ → ℕ → ℕ
+region_from runs regions column zero k = 0
+region_from runs regions column (suc count) k =
+    if holds (slice_get runs.spans k) column then slice_index regions k else region_from runs regions column count (k + 1)
+
+-- the region of the span that holds a column of a row, 0 where none does
+abbrev pub region_at : Runs → List ℕ → ℕ → ℕ → ℕ
+region_at runs regions row column =
+    region_from runs regions column (slice_index runs.starts (row + 1) - slice_index runs.starts row) (slice_index runs.starts row)
+
+-- the region of the cell at a place among the cells of the chunk's rectangle, which has so many columns
+abbrev pub number_by : Runs → List ℕ → ℕ → ℕ → ℕ
+number_by runs regions columns place = region_at runs regions (place / columns) (place % columns)
+
+-- the region of a cell of the chunk
+abbrev pub region_of : Chunk → Runs → List ℕ → Cell → ℕ
+region_of chunk runs regions cell = region_at runs regions (cell.j - 96 * chunk.cj) (cell.i - 96 * chunk.ci)
+
+-- how many spans have no region yet
+abbrev pub waiting : List ℕ → ℕ
+waiting regions = count_by (λ region. region == 0) regions

@@ -1,0 +1,4 @@
+mod BitLemmas
+mod CellLemmas
+mod LineLemmas
+mod PlaneLemmas

@@ -1,0 +1,99 @@
+//! The plane of one class.
+ghost use Rattle.std.specs.Prelude.{◌≡◌, ◌<◌, ◌≤◌, ◌/◌, ◌+◌, length, IfOk};
+ghost use Rattle.nav_types.specs.Cells.{IsInside, cell_at};
+ghost use Rattle.class_planes.specs.Planes.{AreFreeBits, is_passable};
+ghost use Rattle.class_planes.specs.inner.Lines.{AreRows, plane_of};
+
+use crate::lines::Lines;
+use crate::rows::lines_of;
+use crate::turned::columns_of;
+use nav_types::{Cell, Class, NoMemory, Rows, Size};
+use std::alloc::Global;
+use std::marker::Model;
+
+/// The passable cells of a map for one class as bits, by rows and by columns. A set bit is a passable cell. Contracts see
+/// the size of the map and the set of those cells.
+///
+/// Bits past the map are 0, so that a run over set bits ends at the border by itself. The line after the last is one of
+/// zeros, and serves before the first one too.
+#[derive(Drop)]
+pub struct ClassPlane {
+    rows: Lines,
+    columns: Lines,
+    size: Size,
+}
+
+impl Model for ClassPlane {
+    ghost use Rattle.class_planes.specs.Planes.{PlaneCells};
+    ghost use Rattle.class_planes.specs.inner.Lines.{AreRows, AreColumns, plane_of};
+
+    ghost Value = { PlaneCells };
+
+    ghost view = { λ p. plane_of (record { size = p.size; rows = p.rows }) };
+
+    ghost invariant = { λ p. record {
+      rows : AreRows (record { size = p.size; rows = p.rows });
+      columns : AreColumns (record { size = p.size; rows = p.rows }) p.columns;
+    } };
+}
+
+impl ClassPlane {
+    /// The plane of the class in any view that hands out rows. It reads each row once, by vectors of cells, and the
+    /// columns from the rows bit by bit.
+    pub fn build<V: Rows>(alloc: Global, view: &V, class: Class) -> Result<ClassPlane, NoMemory>
+        requires class { class < V.class_count view.now }
+        ensures size { IfOk result (λ plane. plane.size ≡ V.extent view.now) }
+        ensures passes { IfOk result (λ plane. is_passable plane ≡ V.passes view.now class) }
+    {
+        let rows = lines_of(alloc, view, class)?;
+        let plane = ClassPlane::of_rows(alloc, rows, view.size())?;
+        Ok(plane)
+    }
+
+    /// The plane of a map that is given by its rows.
+    fn of_rows(alloc: Global, rows: Lines, size: Size) -> Result<ClassPlane, NoMemory>
+        requires { AreRows (record { size = size; rows = rows }) }
+        ensures { IfOk result (λ plane. plane ≡ plane_of (record { size = size; rows = rows })) }
+    {
+        Ok(ClassPlane {
+            columns: columns_of(alloc, &rows, size)?,
+            rows,
+            size,
+        })
+    }
+
+    /// The size of the map, in navcells.
+    pub fn size(&self) -> Size
+        ensures { result ≡ self.now.size }
+    {
+        self.size
+    }
+
+    /// The passable cells of row `j`: bit `i % 64` of word `i / 64` is set exactly where the cell (i, j) is passable
+    /// (`AreFreeBits`), for every i. The row after the last is a line of zeros.
+    pub fn row_words(&self, j: u16) -> &[u64]
+        requires row { j ≤ self.now.size.h }
+        ensures words { length result.now ≡ self.now.size.w / 64 + 1 }
+        ensures bits { AreFreeBits (λ i. is_passable self.now (cell_at i j)) result.now }
+    {
+        self.rows.line(j)
+    }
+
+    /// The passable cells of column `i`: bit `j % 64` of word `j / 64` is set exactly where the cell (i, j) is passable
+    /// (`AreFreeBits`), for every j. The column after the last is a line of zeros.
+    pub fn column_words(&self, i: u16) -> &[u64]
+        requires column { i ≤ self.now.size.w }
+        ensures words { length result.now ≡ self.now.size.h / 64 + 1 }
+        ensures bits { AreFreeBits (λ j. is_passable self.now (cell_at i j)) result.now }
+    {
+        self.columns.line(i)
+    }
+
+    /// Whether a cell of the map is passable.
+    pub fn passable(&self, cell: Cell) -> bool
+        requires { IsInside self.now.size cell }
+        ensures { result ≡ is_passable self.now cell }
+    {
+        self.rows.is_free(cell.j, cell.i)
+    }
+}

@@ -1,0 +1,14 @@
+//! Planes: the passable cells of a class as bits, by rows and by columns, so that a search can look at 64 cells at once.
+#![tactic(auto)]
+
+mod class_plane;
+mod lines;
+mod plane_sets;
+mod rows;
+mod turned;
+
+pub use class_plane::ClassPlane;
+pub use plane_sets::Planes;
+
+#[cfg(test)]
+mod tests;

@@ -1,0 +1,82 @@
+//! Lines of bits in bands that several tables may share.
+ghost use Rattle.std.specs.Prelude.{◌≡◌, ◌<◌, ◌≤◌, ◌+◌, ◌*◌, ◌/◌, ◌++◌, ◌∷◌, [], length, slice_index_or, IfOk, OnOk};
+ghost use Rattle.class_planes.specs.inner.Lines.{line_at, free_at};
+
+use nav_types::NoMemory;
+use std::alloc::Global;
+use std::marker::Model;
+use std::sync::Arc;
+
+/// The words of 32 lines. Contracts see the list of the words.
+#[derive(Drop)]
+struct Band {
+    words: Vec<u64>,
+}
+
+impl Model for Band {
+    ghost use Rattle.std.specs.Prelude.{ℕ, List};
+
+    ghost Value = { List ℕ };
+
+    ghost view = { λ b. b.words.items };
+}
+
+/// Lines of bits in bands of 32 lines, each of which other tables may share.
+#[derive(Drop)]
+pub struct Lines {
+    bands: Vec<Arc<Band, Global>>,
+    words: usize,
+}
+
+impl Model for Lines {
+    ghost use Rattle.std.specs.Prelude.{map};
+    ghost use Rattle.std.specs.Arc.{arc_value};
+    ghost use Rattle.class_planes.specs.inner.Lines.{LineTable};
+
+    ghost Value = { LineTable };
+
+    ghost view = { λ l. record { words = l.words; bands = map arc_value l.bands.items } };
+}
+
+impl Lines {
+    /// No bands yet, with room for so many, and lines of so many words.
+    pub fn with_capacity(alloc: Global, bands: usize, words: usize) -> Result<Lines, NoMemory>
+        ensures words { IfOk result (λ lines. lines.words ≡ words) }
+        ensures none { IfOk result (λ lines. lines.bands ≡ []) }
+    {
+        Ok(Lines {
+            bands: Vec::with_capacity(alloc, bands)?,
+            words,
+        })
+    }
+
+    /// Appends a band.
+    pub fn push(&mut self, alloc: Global, words: Vec<u64>) -> Result<(), NoMemory>
+        ensures words { OnOk result (self.new.words ≡ self.old.words) }
+        ensures bands { OnOk result (self.new.bands ≡ self.old.bands ++ words.items ∷ []) }
+    {
+        self.bands.push(Arc::new(alloc, Band { words })?)?;
+        Ok(())
+    }
+
+    /// The words of line `n`.
+    pub fn line(&self, n: u16) -> &[u64]
+        requires band { n / 32 < length self.now.bands }
+        requires long { length (slice_index_or self.now.bands (n / 32) []) ≡ 32 * self.now.words }
+        ensures { result.now ≡ line_at self.now n }
+    {
+        let band = &self.bands[usize::from(n) / 32].words;
+        let start = usize::from(n) % 32 * self.words;
+        &band[start..start + self.words]
+    }
+
+    /// Whether place `i` of line `n` is passable.
+    pub fn is_free(&self, n: u16, i: u16) -> bool
+        requires band { n / 32 < length self.now.bands }
+        requires long { length (slice_index_or self.now.bands (n / 32) []) ≡ 32 * self.now.words }
+        requires place { i / 64 < self.now.words }
+        ensures { result ≡ free_at self.now n i }
+    {
+        (self.line(n)[usize::from(i) / 64] >> (i % 64)) & 1 == 1
+    }
+}

@@ -1,0 +1,166 @@
+//! All bits of a plane against the cells of a map that is wider and higher than a word, and which classes have planes.
+ghost use Rattle.std.specs.Prelude.{true, false, ◌≡◌, ◌<◌, ◌&&◌, nat_lt, slice_index_or, IsTrue, IfOk};
+ghost use Rattle.std.specs.Int.{bit_at};
+ghost use Rattle.std.proofs.lemmas.Bool.{and_parts, ltb-true};
+ghost use Rattle.nav_types.specs.Places.{place_of};
+ghost use Rattle.nav_types.specs.Rows.{bit_of};
+ghost use Rattle.class_planes.specs.Planes.{ArePlanes};
+
+use crate::{ClassPlane, Planes};
+use nav_types::{Cell, Class, NoMemory, Rows, Size, View};
+use std::alloc::Global;
+use std::test::Fail;
+
+/// A map of one class.
+#[derive(Drop)]
+struct Plan {
+    size: Size,
+    free: Vec<bool>,
+}
+
+impl View for Plan {
+    ghost extent = { λ plan. plan.size };
+
+    ghost class_count = { λ plan. 1 };
+
+    ghost passes = { λ plan class cell. (nat_lt cell.i plan.size.w && nat_lt cell.j plan.size.h) && slice_index_or plan.free.items (place_of plan.size cell) false };
+
+    fn size(&self) -> Size {
+        self.size
+    }
+
+    fn classes(&self) -> u8 {
+        1
+    }
+
+    fn passable(&self, _class: Class, cell: Cell) -> bool {
+        match self
+            .free
+            .get(cell.j as usize * self.size.w as usize + cell.i as usize)
+        {
+            Some(free) => *free,
+            None => false,
+        }
+    }
+
+    ghost within = { λ plan class cell passing.
+        let inside = (and_parts (nat_lt cell.i plan.size.w && nat_lt cell.j plan.size.h) (slice_index_or plan.free.items (place_of plan.size cell) false) passing).0 in
+        let sides = and_parts (nat_lt cell.i plan.size.w) (nat_lt cell.j plan.size.h) inside in
+        record { column = ltb-true cell.i plan.size.w sides.0; row = ltb-true cell.j plan.size.h sides.1 } };
+}
+
+impl Rows for Plan {
+    fn row_bits(&self, j: u16, out: &mut [u16]) {
+        for i in 0..self.size.w {
+            out[usize::from(i)] = impassable(self.passable(Class::new(0), Cell::new(i, j)));
+        }
+    }
+}
+
+/// The number of a cell of one class.
+fn impassable(free: bool) -> u16
+    ensures { bit_at result 0 ≡ bit_of free }
+{
+    u16::from(!free)
+}
+
+/// Whether the cell is none of those at the ends of words that are blocked.
+fn is_open(i: u16, j: u16) -> bool {
+    let blocked = i == 63 || i == 64 || i == 127 || i == 128 || j == 63 || j == 64;
+    !blocked || (u32::from(i) + 2 * u32::from(j)) % 5 == 0
+}
+
+/// The map of this size with the blocked cells.
+fn drawn(alloc: Global, size: Size) -> Result<Plan, Fail> {
+    let mut free = Vec::new(alloc);
+    for j in 0..size.h {
+        for i in 0..size.w {
+            free.push(is_open(i, j))?;
+        }
+    }
+    Ok(Plan { size, free })
+}
+
+/// Whether the bit of the place is set. Past the last word none is.
+fn is_set(words: &[u64], place: u16) -> bool {
+    match words.get(usize::from(place) / 64) {
+        Some(word) => (*word >> (place % 64)) & 1 == 1,
+        None => false,
+    }
+}
+
+/// Whether the bits of row `j` are those of the map's cells.
+fn is_row(words: &[u64], size: Size, j: u16) -> bool {
+    for i in 0..200 {
+        let free = size.has(Cell::new(i, j)) && is_open(i, j);
+        if is_set(words, i) != free {
+            return false;
+        }
+    }
+    true
+}
+
+/// Whether the bits of column `i` are those of the map's cells.
+fn is_column(words: &[u64], size: Size, i: u16) -> bool {
+    for j in 0..200 {
+        let free = size.has(Cell::new(i, j)) && is_open(i, j);
+        if is_set(words, j) != free {
+            return false;
+        }
+    }
+    true
+}
+
+/// The first row whose bits are wrong.
+fn wrong_row(plane: &ClassPlane) -> Option<u16> {
+    let size = plane.size();
+    for j in 0..size.h + 1 {
+        if !is_row(plane.row_words(j), size, j) {
+            return Some(j);
+        }
+    }
+    None
+}
+
+/// The first column whose bits are wrong.
+fn wrong_column(plane: &ClassPlane) -> Option<u16> {
+    let size = plane.size();
+    for i in 0..size.w + 1 {
+        if !is_column(plane.column_words(i), size, i) {
+            return Some(i);
+        }
+    }
+    None
+}
+
+#[test]
+fn all_bits_are_those_of_the_cells(rt: HostRuntime) -> Result<(), Fail> {
+    let size = Size::new(130, 70).ok_or("no such size")?;
+    let plan = drawn(rt.alloc(), size)?;
+    let plane = ClassPlane::build(rt.alloc(), &plan, Class::new(0))?;
+    assert!(rt; plane.size() == size);
+    assert_eq!(rt; wrong_row(&plane), None);
+    assert_eq!(rt; wrong_column(&plane), None);
+    Ok(())
+}
+
+/// The wanted planes of any view that hands out rows.
+fn planes_of<V: Rows>(alloc: Global, view: &V, classes: u16) -> Result<Planes, NoMemory>
+    ensures { IfOk result (ArePlanes (V.extent view.now) (V.passes view.now) classes (V.class_count view.now)) }
+{
+    Planes::build(alloc, view, classes)
+}
+
+#[test]
+fn only_wanted_classes_have_planes(rt: HostRuntime) -> Result<(), Fail> {
+    let size = Size::new(65, 3).ok_or("no such size")?;
+    let plan = drawn(rt.alloc(), size)?;
+    let all = planes_of(rt.alloc(), &plan, u16::MAX)?;
+    let others = planes_of(rt.alloc(), &plan, u16::MAX - 1)?;
+    let plane = all.plane(Class::new(0)).ok_or("no plane")?;
+    assert!(rt; plane.size() == size);
+    assert_eq!(rt; wrong_row(plane), None);
+    assert!(rt; all.plane(Class::new(1)).is_none());
+    assert!(rt; others.plane(Class::new(0)).is_none());
+    Ok(())
+}

@@ -1,8 +1,0 @@
-use Rattle.std.specs.Prelude.{◌==◌, ◌&&◌, nat_lt}
-use Rattle.obstruction_shapes.specs.Blocking.{blocked}
-use Rattle.clearance_raster.specs.Rasters.{IsRaster}
-use Rattle.clearance_raster.proofs.rasters.raster_class.Given as goal
-
--- the rows below row j are done
-abbrev pub invariant-loop-j : goal.invariant-loop-j
-invariant-loop-j l = IsRaster (λ k cell. k == l.class && nat_lt cell.j l.j && blocked l.shape l.clearance cell) l.fn.grid l.grid

@@ -1,0 +1,22 @@
+use Rattle.std.proofs.Common.{rules, arith, ◌∙◌, ◌≤◌, ◌+◌, ◌^◌, w64, to_z, of_z, unsigned_abs}
+use Rattle.std.proofs.lemmas.Option.{IfSome_then}
+use Rattle.clearance_raster.proofs.BlockedColumns.{across_near, if_none_then, read_back}
+use Rattle.clearance_raster.proofs.windows.steps_across.Goals as goal
+
+pub returns-clause-blocked : goal.returns-clause-blocked
+returns-clause-blocked c = IfSome_then c.steps_near.result c.steps_near.ensures.near
+    (λ run near k within hit.
+    let slow : unsigned_abs c.opposite.result ≤ 2 ^ 51 = omega (arith, c.opposite.ensures.bounded) in
+    (near k within).1
+    (across_near c.args.shape.now c.args.clearance c.args.first c.args.j k (c.scaled.result + c.scaled-2.result)
+    (to_z w64 (of_z w64 c.centre_across.result)) (to_z w64 (of_z w64 c.opposite.result))
+    (read_back c.centre_across.result c.centre_across.ensures.bounded ∙ search rules) (read_back c.opposite.result slow ∙ search rules) (search rules) hit))
+
+pub returns-clause-none : goal.returns-clause-none
+returns-clause-none c = if_none_then c.steps_near.result c.steps_near.ensures.none
+    (λ none k within hit.
+    let slow : unsigned_abs c.opposite.result ≤ 2 ^ 51 = omega (arith, c.opposite.ensures.bounded) in
+    none k within
+    (across_near c.args.shape.now c.args.clearance c.args.first c.args.j k (c.scaled.result + c.scaled-2.result)
+    (to_z w64 (of_z w64 c.centre_across.result)) (to_z w64 (of_z w64 c.opposite.result))
+    (read_back c.centre_across.result c.centre_across.ensures.bounded ∙ search rules) (read_back c.opposite.result slow ∙ search rules) (search rules) hit))

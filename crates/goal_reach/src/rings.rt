@@ -1,0 +1,200 @@
+//! The search for the best cell of a map, by square rings round a rectangle.
+ghost use Rattle.std.specs.Prelude.{◌≡◌, ◌≤◌, ◌<◌, ◌↔◌, IsTrue, IfSome, IfNone, Some};
+ghost use Rattle.nav_types.specs.declared.cells.Cell.{Cell};
+ghost use Rattle.nav_types.specs.Cells.{IsInside, IsInRect, IsRectInside};
+ghost use Rattle.goal_reach.specs.declared.choices.Ranked.{Ranked};
+ghost use Rattle.goal_reach.specs.Choices.{IsLeastBy};
+ghost use Rattle.goal_reach.specs.inner.Ranking.{IsBest};
+ghost use Rattle.goal_reach.specs.inner.Rings.{rect_of, whole, clipped, widened, IsInRun, IsInBlock, IsBlockInside, IsOnRing, Holds};
+
+use crate::choices::{Choice, Ranked, better};
+use nav_types::{Cell, Rect, Size};
+
+/// The cells from column `west` up to `east` and from row `south` up to `north`, where `east` and `north` are
+/// the first that no longer belong to it.
+#[derive(Drop)]
+struct Block {
+    west: u16,
+    east: u16,
+    south: u16,
+    north: u16,
+}
+
+/// The cell of least rank, the first in cell order among equals. None exactly where there is no cell to
+/// choose from. All of them lie in the map.
+///
+/// It looks at the core and then at one ring after the other round it, and ends where no cell beyond can be
+/// as good as the best so far, or where the map has no cell beyond.
+pub(crate) fn least_cell<C: Choice>(choice: &C) -> Option<Cell>
+    requires sound { C.sound choice.now }
+    requires within { (cell : Cell) → C.offered choice.now cell → IsInside (C.extent choice.now) cell }
+    ensures least { IfSome result (IsLeastBy (C.rank_of choice.now) (C.offered choice.now)) }
+    ensures none { IfNone result ((cell : Cell) → C.offered choice.now cell → ⊥) }
+{
+    match best_by_rings(choice) {
+        Some(best) => Some(best.cell),
+        None => None,
+    }
+}
+
+/// The cell of least rank with its rank.
+fn best_by_rings<C: Choice>(choice: &C) -> Option<Ranked>
+    requires sound { C.sound choice.now }
+    requires within { (cell : Cell) → C.offered choice.now cell → IsInside (C.extent choice.now) cell }
+    ensures { IsBest (C.rank_of choice.now) (C.offered choice.now) result }
+{
+    let size = choice.size();
+    let core = choice.core();
+    let mut best = best_in_rect(choice, core);
+    for ring in 0..size.w.max(size.h) {
+        let inner = widened(core, ring, size);
+        if is_whole(inner, size) || is_below(best, choice.least_beyond(ring)) {
+            return best;
+        }
+        let outer = widened(core, ring + 1, size);
+        best = better(best, best_on_ring(choice, inner, outer));
+    }
+    best
+}
+
+/// The rectangle of one cell.
+pub(crate) fn rect_of(cell: Cell) -> Rect
+    ensures { result ≡ rect_of cell }
+{
+    Rect {
+        i0: cell.i,
+        j0: cell.j,
+        i1: cell.i,
+        j1: cell.j,
+    }
+}
+
+/// The part of the map that a rectangle and so many rings round it cover.
+fn widened(rect: Rect, rings: u16, size: Size) -> Rect
+    requires inside { IsRectInside size rect }
+    requires rings { rings ≤ 2048 }
+    ensures inside { IsRectInside size result }
+    ensures value { result ≡ clipped size (widened rings rect) }
+{
+    Rect {
+        i0: rect.i0.saturating_sub(rings),
+        j0: rect.j0.saturating_sub(rings),
+        i1: (rect.i1 + rings).min(size.w - 1),
+        j1: (rect.j1 + rings).min(size.h - 1),
+    }
+}
+
+/// Whether the rectangle is the whole map.
+fn is_whole(rect: Rect, size: Size) -> bool
+    ensures { IsTrue result ↔ (rect ≡ whole size) }
+{
+    let map = Rect {
+        i0: 0,
+        j0: 0,
+        i1: size.w - 1,
+        j1: size.h - 1,
+    };
+    rect == map
+}
+
+/// Whether there is a best cell of less rank.
+fn is_below(best: Option<Ranked>, rank: u128) -> bool
+    ensures { IsTrue result ↔ (found : Ranked) × ((best ≡ Some found) × (found.rank < rank)) }
+{
+    match best {
+        Some(best) => best.rank < rank,
+        None => false,
+    }
+}
+
+/// The best cell of the ring between two rectangles.
+fn best_on_ring<C: Choice>(choice: &C, inner: Rect, outer: Rect) -> Option<Ranked>
+    requires sound { C.sound choice.now }
+    requires inner { IsRectInside (C.extent choice.now) inner }
+    requires outer { IsRectInside (C.extent choice.now) outer }
+    requires holds { Holds outer inner }
+    ensures { IsBest (C.rank_of choice.now) (λ cell. C.offered choice.now cell × IsOnRing inner outer cell) result }
+{
+    let south = Block {
+        west: outer.i0,
+        east: outer.i1 + 1,
+        south: outer.j0,
+        north: inner.j0,
+    };
+    let north = Block {
+        west: outer.i0,
+        east: outer.i1 + 1,
+        south: inner.j1 + 1,
+        north: outer.j1 + 1,
+    };
+    let west = Block {
+        west: outer.i0,
+        east: inner.i0,
+        south: inner.j0,
+        north: inner.j1 + 1,
+    };
+    let east = Block {
+        west: inner.i1 + 1,
+        east: outer.i1 + 1,
+        south: inner.j0,
+        north: inner.j1 + 1,
+    };
+    better(
+        better(best_in_block(choice, &south), best_in_block(choice, &north)),
+        better(best_in_block(choice, &west), best_in_block(choice, &east)),
+    )
+}
+
+/// The best cell of a rectangle.
+fn best_in_rect<C: Choice>(choice: &C, rect: Rect) -> Option<Ranked>
+    requires sound { C.sound choice.now }
+    requires inside { IsRectInside (C.extent choice.now) rect }
+    ensures { IsBest (C.rank_of choice.now) (λ cell. C.offered choice.now cell × IsInRect rect cell) result }
+{
+    let block = Block {
+        west: rect.i0,
+        east: rect.i1 + 1,
+        south: rect.j0,
+        north: rect.j1 + 1,
+    };
+    best_in_block(choice, &block)
+}
+
+/// The best cell of a block.
+fn best_in_block<C: Choice>(choice: &C, block: &Block) -> Option<Ranked>
+    requires sound { C.sound choice.now }
+    requires inside { IsBlockInside (C.extent choice.now) block.now }
+    ensures { IsBest (C.rank_of choice.now) (λ cell. C.offered choice.now cell × IsInBlock block.now cell) result }
+{
+    let mut best = None;
+    for j in block.south..block.north {
+        best = better(best, best_in_run(choice, block.west, block.east, j));
+    }
+    best
+}
+
+/// The best cell of row `j` from column `west` up to `east`, without that one.
+fn best_in_run<C: Choice>(choice: &C, west: u16, east: u16, j: u16) -> Option<Ranked>
+    requires sound { C.sound choice.now }
+    requires columns { (west ≤ east) × (east ≤ (C.extent choice.now).w) }
+    requires row { j < (C.extent choice.now).h }
+    ensures { IsBest (C.rank_of choice.now) (λ cell. C.offered choice.now cell × IsInRun west east j cell) result }
+{
+    let mut best = None;
+    for i in west..east {
+        best = better(best, ranked(choice, Cell::new(i, j)));
+    }
+    best
+}
+
+/// The cell with its rank, where it is one to choose from.
+fn ranked<C: Choice>(choice: &C, cell: Cell) -> Option<Ranked>
+    requires sound { C.sound choice.now }
+    requires inside { IsInside (C.extent choice.now) cell }
+    ensures { IsBest (C.rank_of choice.now) (λ other. C.offered choice.now other × (other ≡ cell)) result }
+{
+    match choice.rank(cell) {
+        Some(rank) => Some(Ranked { cell, rank }),
+        None => None,
+    }
+}

@@ -1,0 +1,30 @@
+use Rattle.std.proofs.Common.{ℕ, ◌∙◌, ap, sym}
+use Rattle.std.specs.Prelude.{slice_get}
+use Rattle.std.specs.List.{count_by}
+use Rattle.std.specs.Arc.{arc_value}
+use Rattle.std.proofs.lemmas.Result.{IfOk-weaker}
+use Rattle.lane_rows.specs.Rows.{has_class}
+use Rattle.navcell_grid.specs.Grids.{is_passable}
+use Rattle.grid_versions.proofs.ChangeLemmas.{tables_stay}
+use Rattle.grid_versions.proofs.class_tables.tables_at.Goals as goal
+
+pub returns-then-count_bit-eq0-clause-tables : goal.returns-then-count_bit-eq0-clause-tables
+returns-then-count_bit-eq0-clause-tables g c =
+    let class = c.args.class in
+    let bits = c.args.changed.now in
+    let place = c.from-place.ensures ∙ c.number.ensures.value in
+    let none = ap (λ (k : ℕ). count_by (has_class k) bits) (sym c.number-2.ensures.value) ∙ sym c.count_bit.ensures ∙ c.if-count_bit-eq0.true in
+    IfOk-weaker c.shared.result _ _
+    (λ tables at. tables_stay c.requires.before.0 (is_passable c.args.grid.now class) c.args.grid.now.size class bits (arc_value tables) c.requires.before.1.1 none
+    (c.requires.before.1.0 (arc_value tables) (ap (λ (i : ℕ). slice_get c.args.before.now i) (sym place) ∙ at)))
+    c.shared.ensures
+
+pub updated-requires-clause-before : goal.updated-requires-clause-before
+updated-requires-clause-before g c =
+    let place = c.from-place.ensures ∙ c.number.ensures.value in (
+      c.requires.before.0,
+      (
+        c.requires.before.1.0 c.at.result.now (ap (λ (i : ℕ). slice_get c.args.before.now i) (sym place) ∙ c.at.ensures),
+        c.requires.before.1.1,
+      ),
+    )

@@ -1,0 +1,4 @@
+pub mod Turns
+pub mod Successors
+pub mod Stops
+pub mod inner

@@ -1,0 +1,97 @@
+//! Directions beside a direction.
+ghost use Rattle.std.specs.Prelude.{◌≡◌, IsTrue, ◌↔◌};
+ghost use Rattle.nav_types.specs.Directions.{row_part, column_part};
+ghost use Rattle.jump_scan.specs.declared.turns.Side.TheVariants as Side;
+ghost use Rattle.jump_scan.specs.Turns.{ahead_to, aside_to, IsNatural, IsTurn};
+
+use nav_types::Dir;
+
+/// A side of a direction.
+#[derive(Clone, Copy, Debug, PartialEq, Eq)]
+pub enum Side {
+    Left,
+    Right,
+}
+
+/// The direction an eighth of a turn to the side: of N it is NW to the left.
+pub fn ahead_to(side: Side, dir: Dir) -> Dir
+    ensures { result ≡ ahead_to side dir }
+{
+    match side {
+        Side::Left => left(dir),
+        Side::Right => right(dir),
+    }
+}
+
+fn left(dir: Dir) -> Dir
+    ensures { result ≡ ahead_to Side.Left dir }
+{
+    match dir {
+        Dir::N => Dir::NW,
+        Dir::NW => Dir::W,
+        Dir::W => Dir::SW,
+        Dir::SW => Dir::S,
+        Dir::S => Dir::SE,
+        Dir::SE => Dir::E,
+        Dir::E => Dir::NE,
+        Dir::NE => Dir::N,
+    }
+}
+
+fn right(dir: Dir) -> Dir
+    ensures { result ≡ ahead_to Side.Right dir }
+{
+    match dir {
+        Dir::N => Dir::NE,
+        Dir::NE => Dir::E,
+        Dir::E => Dir::SE,
+        Dir::SE => Dir::S,
+        Dir::S => Dir::SW,
+        Dir::SW => Dir::W,
+        Dir::W => Dir::NW,
+        Dir::NW => Dir::N,
+    }
+}
+
+/// The direction a quarter of a turn to the side: of N it is W to the left.
+pub fn aside_to(side: Side, dir: Dir) -> Dir
+    ensures { result ≡ aside_to side dir }
+{
+    ahead_to(side, ahead_to(side, dir))
+}
+
+/// The straight part of the direction along the row; a straight direction is its own.
+pub fn row_part(dir: Dir) -> Dir
+    ensures { result ≡ row_part dir }
+{
+    match dir {
+        Dir::NE | Dir::SE => Dir::E,
+        Dir::NW | Dir::SW => Dir::W,
+        Dir::N | Dir::E | Dir::S | Dir::W => dir,
+    }
+}
+
+/// The straight part of the direction along the column; a straight direction is its own.
+pub fn column_part(dir: Dir) -> Dir
+    ensures { result ≡ column_part dir }
+{
+    match dir {
+        Dir::NE | Dir::NW => Dir::N,
+        Dir::SE | Dir::SW => Dir::S,
+        Dir::N | Dir::E | Dir::S | Dir::W => dir,
+    }
+}
+
+/// Whether the direction is that of the step before or a straight part of it.
+pub fn is_natural(arrived: Dir, dir: Dir) -> bool
+    ensures { IsTrue result ↔ IsNatural arrived dir }
+{
+    dir == arrived || dir == row_part(arrived) || dir == column_part(arrived)
+}
+
+/// Whether the direction is an eighth or a quarter of a turn to the side.
+pub fn is_turn(side: Side, arrived: Dir, dir: Dir) -> bool
+    ensures { IsTrue result ↔ IsTurn side arrived dir }
+{
+    dir == ahead_to(side, arrived) || dir == aside_to(side, arrived)
+}

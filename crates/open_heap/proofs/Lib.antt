@@ -1,0 +1,5 @@
+pub mod EntryOrder
+pub mod Gaps
+pub mod Ends
+pub mod Queues
+pub mod Lowering

@@ -1,0 +1,13 @@
+//! The open list of a search: keys with priorities, of which the entry that comes first is taken out.
+//!
+//! Contracts see a finite map from key to priority.
+#![tactic(auto)]
+
+mod entries;
+mod heaps;
+#[cfg(test)]
+mod tests;
+mod tree;
+
+pub use entries::{Entry, Priority};
+pub use heaps::OpenHeap;

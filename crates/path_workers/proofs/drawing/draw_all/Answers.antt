@@ -1,0 +1,24 @@
+use Rattle.std.proofs.Common.{sym, ap, ◌∙◌}
+use Rattle.claim_board.specs.Boards.{SeatState}
+use Rattle.claim_board.proofs.Left.{left_of-falls}
+use Rattle.path_workers.proofs.Working.{one_more}
+use Rattle.path_workers.proofs.drawing.draw_all.Goals as goal
+
+pub drawing-smaller : goal.drawing-smaller
+drawing-smaller g c =
+    let drawn = c.in-Job.ensures in
+    left_of-falls c.args.claims.now c.drawing.seat c.in-Job.next c.in-Job.job c.drawing.invariant.board drawn.below drawn.above drawn.job
+
+pub drawing-preserved : goal.drawing-preserved
+drawing-preserved g c =
+    let kept = c.drawing.invariant in
+    let next = c.in-Job.ensures.job in
+    let more = one_more c.args.version.now.map c.args.version.now.standing c.args.jobs.now c.in-Job.job c.drawing.answered c.solve_job.new.answered
+    c.drawing.seat.drawn c.in-Ok.ensures kept.numbers kept.answers in
+    record {
+      board = ap (λ (seat : SeatState). seat.board) next ∙ kept.board;
+      live = ap (λ (seat : SeatState). seat.ended) next ∙ kept.live;
+      credit = ap (λ (seat : SeatState). seat.credit) next ∙ kept.credit;
+      numbers = more.0 ∙ sym (ap (λ (seat : SeatState). seat.drawn) next);
+      answers = more.1;
+    }

@@ -1,0 +1,16 @@
+use Rattle.std.proofs.Common.{◌≡◌, false}
+use Rattle.claim_board.proofs.Left.{left_of}
+use Rattle.path_workers.specs.inner.Working.{job_numbers, AnswerTheirJobs}
+use Rattle.path_workers.proofs.drawing.draw_all.Given as goal
+
+abbrev pub invariant-drawing : goal.invariant-drawing
+invariant-drawing g l = record {
+  board : l.seat.board ≡ l.claims;
+  live : l.seat.ended ≡ false;
+  credit : l.seat.credit ≡ l.fn.seat.credit;
+  numbers : job_numbers l.answered ≡ l.seat.drawn;
+  answers : AnswerTheirJobs l.version.map l.version.standing l.jobs l.answered;
+}
+
+abbrev pub decreases-drawing : goal.decreases-drawing
+decreases-drawing g l = left_of l.seat

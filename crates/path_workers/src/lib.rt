@@ -1,0 +1,10 @@
+//! The jobs of a turn, solved by up to 64 workers beside each other.
+#![tactic(auto)]
+
+mod drawing;
+mod placing;
+#[cfg(test)]
+mod tests;
+mod turns;
+
+pub use turns::{Workers, run_turn};

@@ -1,0 +1,176 @@
+//! Turns on a map of one row, solved by several workers.
+use super::*;
+use class_config::{ClassName, ClassTable};
+use fixed_point::Fixed;
+use goal_shapes::{Goal, GoalSpec};
+use grid_versions::{BaseRects, MapSpec, Version};
+use io_edges::{Gate, OpenGate};
+use nav_types::Size;
+use serde_json::Value;
+use std::alloc::Global;
+use std::sync::atomic::{AtomicBool, AtomicU64, Ordering};
+use std::test::Fail;
+use std::thread;
+use std::thread::Threads;
+use turn_core::{Answer, Answers, Jobs, Request, bare_version, solve};
+
+/// The version of a row of five navcells with one class of clearance 0.
+fn row_version(alloc: Global) -> Option<Version> {
+    let text = "[{\"name\":\"default\",\"clearance\":\"0\"}]";
+    let value = Value::from_str(alloc, text).ok()?;
+    let classes = ClassTable::read(alloc, &value).ok()?;
+    let map = MapSpec::new(1, Size::new(5, 1)?, 1, classes, BaseRects::new(alloc))?;
+    bare_version(alloc, &map).ok()
+}
+
+/// A coordinate in halves of a navcell.
+fn halves(count: i16) -> Fixed {
+    Fixed::from_raw(32768 * i32::from(count))
+}
+
+/// Asks for a path of a class by its name, along the row from one point to another, in halves.
+fn push_path(alloc: Global, jobs: &mut Jobs, name: &[u8], from: i16, to: i16) -> Option<()> {
+    let request = Request::Path {
+        class: ClassName::new(alloc, name).ok()?,
+        x: halves(from),
+        z: halves(1),
+        goal: GoalSpec::Plain(Goal::Point {
+            x: halves(to),
+            z: halves(1),
+        }),
+    };
+    jobs.push(request).ok()
+}
+
+/// Jobs of which each has another answer.
+fn seven_jobs(alloc: Global) -> Option<Jobs> {
+    let mut jobs = Jobs::new(alloc);
+    push_path(alloc, &mut jobs, b"default", 1, 9)?;
+    push_path(alloc, &mut jobs, b"other", 1, 9)?;
+    push_path(alloc, &mut jobs, b"default", 9, 1)?;
+    push_path(alloc, &mut jobs, b"default", 11, 1)?;
+    push_path(alloc, &mut jobs, b"default", 1, 3)?;
+    push_path(alloc, &mut jobs, b"default", 1, -1)?;
+    push_path(alloc, &mut jobs, b"default", 5, 5)?;
+    Some(jobs)
+}
+
+/// Four times the same job.
+fn four_jobs(alloc: Global) -> Option<Jobs> {
+    let mut jobs = Jobs::new(alloc);
+    for _ in 0..4 {
+        push_path(alloc, &mut jobs, b"default", 1, 9)?;
+    }
+    Some(jobs)
+}
+
+/// Whether two answers read alike.
+fn read_alike(alloc: Global, one: &Answer, other: &Answer) -> Option<bool> {
+    let one = format!(in alloc; "{one:?}").ok()?;
+    let other = format!(in alloc; "{other:?}").ok()?;
+    Some(one == other)
+}
+
+/// Whether there is one answer for each job, and it reads as the one that `solve` gives.
+fn are_solved(alloc: Global, version: &Version, jobs: &Jobs, answers: &Answers) -> Option<bool> {
+    for (job, answer) in jobs.as_slice().iter().zip(answers.as_slice()) {
+        let expected = solve(alloc, version, job).ok()?;
+        if !read_alike(alloc, &expected, answer)? {
+            return Some(false);
+        }
+    }
+    Some(jobs.len() == answers.len())
+}
+
+/// Whether the seven jobs are solved by so many workers at a gate.
+fn solves_seven<R: Threads + Sync, G: Gate + Sync>(
+    rt: &R,
+    alloc: Global,
+    workers: u8,
+    gate: &G,
+) -> Option<bool> {
+    if workers < 1 || workers > 64 {
+        return None;
+    }
+    let version = row_version(alloc)?;
+    let jobs = seven_jobs(alloc)?;
+    if jobs.len() > 7 {
+        return None;
+    }
+    let answers = run_turn(rt, alloc, &version, &jobs, workers, gate).ok()?;
+    are_solved(alloc, &version, &jobs, &answers)
+}
+
+#[test]
+fn each_job_has_its_answer_by_any_number_of_workers(rt: HostRuntime) -> Result<(), Fail> {
+    for workers in [1u8, 2, 7, 64] {
+        let solved = solves_seven(&rt, rt.alloc(), workers, &OpenGate).ok_or("no answers")?;
+        assert!(rt; solved, "{workers} workers");
+    }
+    Ok(())
+}
+
+/// Counts passes, and holds the first one until three others have come.
+#[derive(Drop)]
+struct HoldingGate {
+    passes: AtomicU64,
+    numbers: AtomicU64,
+    posts: AtomicU64,
+    gave_up: AtomicBool,
+}
+
+impl Gate for HoldingGate {
+    fn pass(&self, job: u64) {
+        // A byte of its own for each of the four jobs.
+        self.numbers
+            .fetch_add(1u64 << (8 * job.min(7)), Ordering::SeqCst);
+        if self.passes.fetch_add(1, Ordering::SeqCst) > 0 {
+            return;
+        }
+        for _ in 0..2_000_000_000u64 {
+            if self.passes.load(Ordering::SeqCst) > 3 {
+                return;
+            }
+            thread::yield_now();
+        }
+        self.gave_up.store(true, Ordering::SeqCst);
+    }
+
+    fn staged(&self, posts: u64) {
+        self.posts.store(posts, Ordering::SeqCst);
+    }
+
+    fn begun(&self, _caller: u8) {}
+}
+
+/// Whether two workers at a gate solve four equal jobs.
+fn two_solve_four<R: Threads + Sync, G: Gate + Sync>(
+    rt: &R,
+    alloc: Global,
+    gate: &G,
+) -> Option<bool> {
+    let version = row_version(alloc)?;
+    let jobs = four_jobs(alloc)?;
+    if jobs.len() > 4 {
+        return None;
+    }
+    let workers = Workers::new(2, gate);
+    workers.staged(4);
+    let answers = workers.run(rt, alloc, &version, &jobs).ok()?;
+    Some(are_solved(alloc, &version, &jobs, &answers)? && answers.len() == 4)
+}
+
+#[test]
+fn two_workers_run_beside_each_other(rt: HostRuntime) -> Result<(), Fail> {
+    let gate = HoldingGate {
+        passes: AtomicU64::new(0),
+        numbers: AtomicU64::new(0),
+        posts: AtomicU64::new(0),
+        gave_up: AtomicBool::new(false),
+    };
+    assert!(rt; two_solve_four(&rt, rt.alloc(), &gate).ok_or("no answers")?);
+    assert_eq!(rt; gate.posts.load(Ordering::SeqCst), 4);
+    assert_eq!(rt; gate.numbers.load(Ordering::SeqCst), 0x0101_0101);
+    assert!(rt; !gate.gave_up.load(Ordering::SeqCst));
+    Ok(())
+}

@@ -1,0 +1,96 @@
+//! Turns whose jobs are solved by many workers.
+ghost use Rattle.std.specs.Prelude.{◌≡◌, ◌^◌, ◌<◌, ◌≤◌, IfOk, length};
+ghost use Rattle.turn_core.specs.Solving.{AreAnswersTo};
+
+use crate::drawing::{Worked, draw_by};
+use crate::placing::in_order;
+use claim_board::Claims;
+use grid_versions::Version;
+use io_edges::Gate;
+use nav_types::NoMemory;
+use nav_types::limits::MAX_WORKERS;
+use std::alloc::Global;
+use std::marker::Model;
+use std::thread::Threads;
+use turn_core::{Answers, Jobs};
+
+/// The answers to the jobs on a version, each in the place of its job (`AreAnswersTo`), whatever the gate, the number
+/// of workers and the order in which they come to their jobs. There are fewer than 2^32 jobs. It refuses for want of
+/// memory alone.
+///
+/// The workers, 1 to 64, draw the jobs one by one from a claim board, and each passes the gate once before it solves a
+/// job. There are no more threads than jobs, and none for a single job. Where no thread can be started, the caller's
+/// own does its work.
+pub fn run_turn<R: Threads + Sync, G: Gate + Sync>(
+    rt: &R,
+    alloc: Global,
+    version: &Version,
+    jobs: &Jobs,
+    workers: u8,
+    gate: &G,
+) -> Result<Answers, NoMemory>
+    requires some { 1 ≤ workers }
+    requires most { workers ≤ MAX_WORKERS }
+    requires few { length jobs.now < 2 ^ 32 }
+    ensures { IfOk result (AreAnswersTo version.now.map version.now.standing jobs.now) }
+{
+    let requests = jobs.as_slice();
+    let count = requests.len();
+    let (claims, seat) = Claims::start(alloc, count as u64)?;
+    let workers = u64::from(workers).min(count as u64).max(1);
+    let Worked { seat, answered } = draw_by(
+        rt, alloc, version, requests, gate, &claims, seat, workers,
+    );
+    let answered = answered?;
+    // Of the jobs that were drawn, each was answered: so all of them have their answer, and none has two.
+    let _drawings = claims.close(seat);
+    in_order(alloc, count, answered)
+}
+
+/// So many workers, 1 to 64, who pass a gate. Contracts see their number.
+#[derive(Drop)]
+pub struct Workers<'a, G> {
+    count: u8,
+    gate: &'a G,
+}
+
+impl<'a, G> Model for Workers<'a, G> {
+    ghost use Rattle.std.specs.Prelude.{ℕ, ◌≤◌};
+    ghost use Rattle.nav_types.specs.declared.limits.TheConstants.{MAX_WORKERS};
+
+    ghost Value = { ℕ };
+
+    ghost view = { λ w. w.count };
+
+    ghost invariant = { λ w. (1 ≤ w.count) × (w.count ≤ MAX_WORKERS) };
+}
+
+impl<'a, G: Gate + Sync> Workers<'a, G> {
+    /// So many workers at a gate.
+    pub fn new(count: u8, gate: &'a G) -> Workers<'a, G>
+        requires some { 1 ≤ count }
+        requires most { count ≤ MAX_WORKERS }
+        ensures { result ≡ count }
+    {
+        Workers { count, gate }
+    }
+
+    /// The answers to the jobs on a version, each in the place of its job, as [`run_turn`] gives them.
+    pub fn run<R: Threads + Sync>(
+        &self,
+        rt: &R,
+        alloc: Global,
+        version: &Version,
+        jobs: &Jobs,
+    ) -> Result<Answers, NoMemory>
+        requires { length jobs.now < 2 ^ 32 }
+        ensures { IfOk result (AreAnswersTo version.now.map version.now.standing jobs.now) }
+    {
+        run_turn(rt, alloc, version, jobs, self.count, self.gate)
+    }
+
+    /// Tells the gate that a turn with so many posts is staged.
+    pub fn staged(&self, posts: u64) {
+        self.gate.staged(posts);
+    }
+}

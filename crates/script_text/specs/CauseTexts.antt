@@ -1,0 +1,34 @@
+-- What a cause says.
+use Rattle.std.specs.Prelude.{ℕ, List, ◌++◌, codes, decimal}
+use Rattle.script_text.specs.declared.causes.Cause.{Cause}
+use Rattle.script_text.specs.declared.causes.Cause.TheVariants.{NotJson, NoSuchForm, WrongValue, MissingMask, LaterVersion, NotHere, EndsInsideTurn, NoLine}
+use Rattle.script_text.specs.declared.causes.keys.Wanted.{Wanted}
+use Rattle.script_text.specs.declared.causes.keys.Wanted.TheVariants.{Whole, Caller, Turn, Sides, Classes, Rectangles, ClassName, TwoDecimals, ThreeDecimals, SixDecimals, NumberAndDecimal, Goal}
+use Rattle.script_text.specs.Causes.{key_text}
+
+-- what must stand under a key
+abbrev pub wanted_text : Wanted → List ℕ
+wanted_text (Whole least most) = codes "a whole number from " ++ decimal least ++ codes " to " ++ decimal most
+wanted_text (Caller callers) = codes "the number of a caller, which is a whole number below " ++ decimal callers
+wanted_text (Turn number) = codes "the number of this turn, " ++ decimal number
+wanted_text Sides = codes "an array of two whole numbers from 1 to 2048"
+wanted_text Classes = codes "an array of 1 to 16 objects with the keys \"name\" and \"clearance\", each name once, of 1 to 64 ASCII letters, digits, - or _, and each clearance a decimal in quotes from 0 to 64"
+wanted_text (Rectangles size) = codes "an array of arrays [i0,j0,i1,j1,mask] with i0 <= i1, j0 <= j1 and mask <= 65535, on a map of "
+    ++ decimal size.w ++ codes " by " ++ decimal size.h
+wanted_text ClassName = codes "a string of 1 to 64 ASCII letters, digits, - or _"
+wanted_text TwoDecimals = codes "an array of two decimals in quotes with at most 16 places, from -32768 to below 32768"
+wanted_text ThreeDecimals = codes "an array of three decimals in quotes with at most 16 places, from -32768 to below 32768"
+wanted_text SixDecimals = codes "an array of six decimals in quotes with at most 16 places, from -32768 to below 32768"
+wanted_text NumberAndDecimal = codes "an array of an obstruction number from 0 to 4294967295 and a decimal in quotes"
+wanted_text (Goal version) = codes "an object with exactly one key: point, circle, not-circle, square, not-square or, from version 3 on, obstruction"
+
+-- what is to change in a line
+abbrev pub cause_text : Cause → List ℕ
+cause_text NotJson = codes "the line must be one JSON value in UTF-8"
+cause_text NoSuchForm = codes "the line must be an object with exactly the keys of one form"
+cause_text (WrongValue key wanted) = codes "the key \"" ++ key_text key ++ codes "\" must have " ++ wanted_text wanted
+cause_text MissingMask = codes "an add line must have the key \"mask\" from version 2 on"
+cause_text (LaterVersion version) = codes "the map line must name version " ++ decimal version ++ codes " or later for this"
+cause_text NotHere = codes "the map line must be line 1 alone, and base lines must stand between it and the turns"
+cause_text EndsInsideTurn = codes "the script must not end inside a turn: its end line is missing"
+cause_text NoLine = codes "the script must begin with a map line, and has no line"

@@ -1,7 +1,0 @@
-use Rattle.std.proofs.Common.{◌≡◌, take}
-use Rattle.std.specs.Prelude.{filter_map, flat_map}
-use Rattle.turn_core.specs.Words.{edit_of}
-use Rattle.turn_core.proofs.grounds.edits_of.Given as goal
-
-abbrev pub invariant-loop-posts : goal.invariant-loop-posts
-invariant-loop-posts l = l.edits ≡ flat_map (filter_map edit_of) (take l.posts-index l.posts-items)

@@ -1,6 +1,0 @@
-use Rattle.std.proofs.Common.{◌≡◌, take}
-use Rattle.turn_core.specs.Turns.{jobs}
-use Rattle.turn_core.proofs.grounds.jobs_of.Given as goal
-
-abbrev pub invariant-loop-posts : goal.invariant-loop-posts
-invariant-loop-posts l = l.made ≡ jobs (take l.posts-index l.posts-items)

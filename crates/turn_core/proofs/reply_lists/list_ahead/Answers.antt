@@ -1,0 +1,28 @@
+use Rattle.std.proofs.Common.{List, [], ◌∷◌, ◌++◌, take, sym, ap, ◌∙◌, subst}
+use Rattle.std.specs.Vec.Iter.{into_iter_items}
+use Rattle.turn_core.specs.declared.replies.Reply.{Reply}
+use Rattle.turn_core.specs.inner.ReplyLists.{ahead, edits_past, HasEdit, list_ahead}
+use Rattle.turn_core.proofs.Sweeping.{swept_more, left_more, has_at}
+use Rattle.turn_core.proofs.reply_lists.list_ahead.Goals as goal
+
+pub ahead-requires : goal.ahead-requires
+ahead-requires c =
+    let i = c.loop-post.post-index in
+    subst (HasEdit c.post-item.result) (sym c.loop-post.invariant.left)
+    (has_at HasEdit edits_past c.args.posts.now i c.post-item.result (into_iter_items c.args.edits.now) c.requires c.loop-post-test.true c.post-item.is)
+
+pub loop-post-preserved : goal.loop-post-preserved
+loop-post-preserved c =
+    let posts = c.args.posts.now in
+    let edits = into_iter_items c.args.edits.now in
+    let i = c.loop-post.post-index in
+    let post = c.post-item.result in
+    let before = c.loop-post.invariant in
+    record {
+      made = c.in_ok-push.ensures.items
+          ∙ ap (λ (l : List Reply). l ++ c.ahead.result ∷ []) before.made
+          ∙ ap (λ (r : Reply). list_ahead (take i posts) edits ++ r ∷ []) (c.ahead.ensures.reply ∙ ap (ahead post) before.left)
+          ∙ sym (swept_more ahead edits_past posts i post edits c.loop-post-test.true c.post-item.is);
+      left = c.ahead.ensures.left ∙ ap (edits_past post) before.left
+          ∙ sym (left_more edits_past posts i post edits c.loop-post-test.true c.post-item.is);
+    }

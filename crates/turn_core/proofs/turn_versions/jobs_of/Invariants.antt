@@ -1,0 +1,6 @@
+use Rattle.std.proofs.Common.{◌≡◌, take}
+use Rattle.turn_core.specs.Turns.{jobs}
+use Rattle.turn_core.proofs.turn_versions.jobs_of.Given as goal
+
+abbrev pub invariant-loop-posts : goal.invariant-loop-posts
+invariant-loop-posts l = l.made ≡ jobs (take l.posts-index l.posts-items)

@@ -1,0 +1,6 @@
+use Rattle.std.proofs.Common.{◌≡◌, ◌++◌, take}
+use Rattle.turn_core.specs.Turns.{requests}
+use Rattle.turn_core.proofs.turn_versions.push_requests.Given as goal
+
+abbrev pub invariant-loop-post : goal.invariant-loop-post
+invariant-loop-post l = l.made ≡ l.initial.made ++ requests (take l.post-index l.posts)
