@@ -9,6 +9,12 @@ use turn_core::{Reply, TurnReplies};
 
 /// The text of a turn of this number (`turn_text`): its turn line, and then for caller 0, 1 and so on
 /// one line for each reply, in the order of the posts.
+///
+/// ```
+/// let answered = answer_turn(alloc, &version, &posts)?;
+/// let text = turn_text(alloc, turn, &answered.replies)?;
+/// show(text.as_slice());
+/// ```
 pub fn turn_text(alloc: Global, turn: u64, replies: &TurnReplies) -> Result<Bytes, NoMemory>
     ensures { IfOk result (λ text. text ≡ turn_text turn replies.now) }
 {

@@ -35,6 +35,13 @@ use turn_core::{AnsweredTurn, ReadyTurn, TurnPosts, bare_version};
 ///
 /// At the status BadLine `why` has the line and its cause, unless there was no memory to find it. At every other status
 /// it has none.
+///
+/// ```
+/// let mut source = MemorySource::new(alloc, bytes, 4096, &[])?;
+/// let mut sink = MemorySink::new(alloc, 4096, &[])?;
+/// let mut why = None;
+/// let status = run(rt, alloc, &words, &mut source, &mut sink, &OpenGate, &mut why);
+/// ```
 pub fn run<R: Threads + Wait + Sync, S: Source, K: Sink, G: Gate + Sync>(
     rt: &R,
     alloc: Global,

@@ -25,6 +25,15 @@ use turn_core::TurnPosts;
 ///
 /// Contracts see the place that it has come to, these bytes, whether the end of the input was met, whether no call may
 /// follow, and whether it has failed.
+///
+/// ```
+/// let mut reader = ScriptReader::new(alloc)?;
+/// let map = reader.read_map(alloc, source)?;
+/// let mut version = bare_version(alloc, &map)?;
+/// while let Some(posts) = reader.next_turn(alloc, source)? {
+///     version = answer_turn(alloc, &version, &posts)?.after;
+/// }
+/// ```
 #[derive(Drop)]
 pub struct ScriptReader {
     lines: HeldLines,

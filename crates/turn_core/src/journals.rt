@@ -30,6 +30,15 @@ pub fn one_thread(alloc: Global, map: &MapSpec, journal: &Journal) -> Result<All
 
 /// Answers a turn on the version before it (`IsTurnTold`): each edit has its reply, and each request its answer on the
 /// version after all edits of the turn, which comes with the replies. It refuses for want of memory alone.
+///
+/// ```
+/// let mut version = bare_version(alloc, &map)?;
+/// for posts in journal.as_slice() {
+///     let AnsweredTurn { replies, after } = answer_turn(alloc, &version, posts)?;
+///     all.push(replies)?;
+///     version = after;
+/// }
+/// ```
 pub fn answer_turn(
     alloc: Global,
     version: &Version,
