@@ -1,4 +1,3 @@
-pub mod TableLemmas
 pub mod LabelLemmas
 pub mod FloodLemmas
 pub mod SpanLemmas

@@ -5,7 +5,7 @@ use Rattle.std.specs.List.{slice_get}
 use Rattle.std.specs.Prelude.{slice_index}
 use Rattle.std.proofs.lemmas.Bool.{cases_lt}
 use Rattle.std.proofs.lemmas.List.{get_or_append_left, get_or_push}
-use Rattle.std.proofs.lemmas.Option.{slice_get_within, slice_get_cases}
+use Rattle.std.proofs.lemmas.Option.{slice_get_within}
 use Rattle.chunk_regions.specs.declared.spans.Span.{Span}
 use Rattle.chunk_regions.specs.inner.Spans.{AreRuns, IsRowTo}
 use Rattle.nav_types.proofs.Items.{slice_get-append_left, slice_get-push_last, slice_get-push_cases}
@@ -86,13 +86,6 @@ IsRowTo-end bits from spans column r within clear =
       ];
       set = r.set;
     }
-
--- what is pushed leaves what stands before it
-pub slice_get-before : {A : Type 0} (xs ys : List A) (k : ℕ) → k < length xs → slice_get (xs ++ ys) k ≡ slice_get xs k
-slice_get-before xs ys k within = elim (slice_get_cases xs k).1 [
-  | inl there ↦ slice_get-append_left xs ys k there.0 there.2 ∙ sym there.2
-  | inr past ↦ let far = past.0 in absurd (omega arith)
-]
 
 -- the spans of the rows before a row, and the places where each row's begin
 pub record IsCutTo (bits starts : List ℕ) (spans : List Span) (row : ℕ) : Type 0 where

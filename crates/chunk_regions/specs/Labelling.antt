@@ -29,10 +29,12 @@ chunk_rect size chunk = record {
 pub record AreLabels (passes : Cell → Bool) (size : Size) (chunk : Chunk) (labels : Labelling) : Type 0 where
   pub of_chunk : labels.chunk ≡ chunk
   pub extent : labels.cells.rect ≡ chunk_rect size chunk
-  pub numbers : (cell : Cell) → IsInRect labels.cells.rect cell → HasRegion passes chunk cell (number_of labels.cells cell)
+  pub numbers : (cell : Cell) → IsInRect labels.cells.rect cell
+      → HasRegion passes chunk cell (number_of labels.cells cell)
   pub first_cells : AreFirsts (passes_in passes chunk) (InOneRegion passes chunk) IsBefore labels.firsts
 
--- the numbers of a chunk's 96 rows have a bit for each of its 96 columns, which is set exactly where the cell is passable
+-- the numbers of a chunk's 96 rows have a bit for each of its 96 columns, which is set exactly where the cell is
+-- passable
 pub record AreBitsOf (passes : Cell → Bool) (chunk : Chunk) (bits : List ℕ) : Type 0 where
   pub set : (row column : ℕ) → row < 96 → column < 96
       → (bit_at (slice_index bits row) column == 1) ≡ passes (cell_at (96 * chunk.ci + column) (96 * chunk.cj + row))

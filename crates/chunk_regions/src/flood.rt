@@ -72,7 +72,8 @@ fn visit(
     ensures frontier { All (IsPlace rows.now) flood.new.frontier.items }
     ensures kept { (k : ℕ) → slice_index flood.old.regions.items k ≢ 0 → slice_index flood.new.regions.items k ≢ 0 }
     ensures met { OnOk result ((a b : Span) → slice_get rows.now.spans from.at ≡ Some a
-        → slice_get rows.now.spans place.at ≡ Some b → a.first ≤ b.last → b.first ≤ a.last → slice_index flood.new.regions.items place.at ≢ 0) }
+        → slice_get rows.now.spans place.at ≡ Some b → a.first ≤ b.last → b.first ≤ a.last
+        → slice_index flood.new.regions.items place.at ≢ 0) }
     ensures work { OnOk result (waiting flood.new.regions.items + length flood.new.frontier.items
         ≡ waiting flood.old.regions.items + length flood.old.frontier.items) }
     ensures floods { OnOk result (KeepsFlood rows.now flood.old.regions.items (flood.old.frontier.items ++ from ∷ [])

@@ -36,7 +36,8 @@ impl Model for Labels {
       chunk = l.chunk;
       cells = record {
         rect = l.rect;
-        numbers = map (number_by l.spans l.regions.items (columns l.rect)) (range_with_len 0 (columns l.rect * rows l.rect));
+        numbers = map (number_by l.spans l.regions.items (columns l.rect))
+            (range_with_len 0 (columns l.rect * rows l.rect));
       };
       firsts = l.firsts.items;
     } };

@@ -4,6 +4,7 @@ use Rattle.std.specs.Prelude.{All, AllPairs, Contains, filter}
 use Rattle.std.proofs.lemmas.Bool.{cases_Bool, cond-true, cond-false}
 use Rattle.std.proofs.lemmas.Bool.Decides.{nat_tests}
 use Rattle.std.proofs.lemmas.List.Sums.{sum_by-cons, get_or-le-sum_by}
+use Rattle.nav_types.proofs.Items.{Contains-tail}
 use Rattle.claim_board.specs.inner.ClaimWord.{times, once_below}
 
 -- the next number
@@ -39,9 +40,6 @@ all-below ms bound few k d inside =
     let in_range : n < bound = once_below-in n bound (omega arith) in
     in_range
 
-contains-cons : (m : ℕ) (ms : List ℕ) (n : ℕ) → Contains ms n → Contains (m ∷ ms) n
-contains-cons m ms n there = (suc there.0, omega (arith, there.1), there.2)
-
 -- a number that passes the test and stands in the list stands among those that pass
 pub contains-filter : (p : ℕ → Bool) (n : ℕ) (ms : List ℕ) → p n ≡ true → 0 < times n ms → Contains (filter p ms) n
 contains-filter p n [] passes there = absurd (omega arith)
@@ -56,7 +54,7 @@ contains-filter p n (m ∷ ms) passes there =
     let none : cond {A = ℕ} (eqb m n) 1 0 ≡ 0 = cond-false (eqb m n) 1 0 other in
     let rest = contains-filter p n ms passes (omega arith) in
     ⊎_elim
-    (λ (kept : p m ≡ true). subst (λ (l : List ℕ). Contains l n) (sym (cond-true (p m) (m ∷ filter p ms) (filter p ms) kept)) (contains-cons m (filter p ms) n rest))
+    (λ (kept : p m ≡ true). subst (λ (l : List ℕ). Contains l n) (sym (cond-true (p m) (m ∷ filter p ms) (filter p ms) kept)) (Contains-tail m (filter p ms) n rest))
     (λ (left : p m ≡ false). subst (λ (l : List ℕ). Contains l n) (sym (cond-false (p m) (m ∷ filter p ms) (filter p ms) left)) rest)
     (cases_Bool (p m)))
     (cases_Bool (eqb m n))

@@ -12,8 +12,8 @@ use std::snapshot::Snapshot;
 pub const WHOLE_CREDIT: u64 = 64;
 
 /// A board that hands out the jobs 0, 1, 2 and so on below their number, each once. Many threads may share it.
-/// Contracts see a `Board` of `specs/Boards.antt`: which board it is, and its number of jobs. The rule that its word keeps is
-/// `KeepsBoard` of `specs/inner/ClaimWord.antt`.
+/// Contracts see a `Board` of `specs/Boards.antt`: which board it is, and its number of jobs. The rule that its word
+/// keeps is `KeepsBoard` of `specs/inner/ClaimWord.antt`.
 #[derive(Drop)]
 pub struct Claims {
     table: Table<(), View, u64, EachOnce, Global>,
@@ -32,8 +32,8 @@ impl Model for Claims {
 }
 
 /// The right to draw jobs of one board. It takes no bytes, and may go to another thread.
-/// Contracts see a `SeatState` of `specs/Boards.antt`: its board, its part of the credit, the jobs that it drew, in order, and
-/// whether it has ended.
+/// Contracts see a `SeatState` of `specs/Boards.antt`: its board, its part of the credit, the jobs that it drew, in
+/// order, and whether it has ended.
 #[derive(Drop)]
 pub struct Seat {
     place: Place<(), View>,
@@ -77,8 +77,8 @@ impl Model for Drawings {
 impl Claims {
     ghost use Rattle.claim_board.specs.Answers.{IfJob, IfEnded};
 
-    /// A board of so many jobs, fewer than 2^32, and its first seat, which has the whole credit, has drawn nothing and has not
-    /// ended. `NoMemory` where there is none for the word. No other call takes memory.
+    /// A board of so many jobs, fewer than 2^32, and its first seat, which has the whole credit, has drawn nothing and
+    /// has not ended. `NoMemory` where there is none for the word. No other call takes memory.
     pub fn start(alloc: Global, jobs: u64) -> Result<(Claims, Seat), NoMemory>
         requires { jobs < 2 ^ 32 }
         ensures jobs { IfOk result (λ made. made.0.jobs ≡ jobs) }
@@ -98,8 +98,8 @@ impl Claims {
         self.jobs
     }
 
-    /// Halves the credit of a seat, which is at least 2. The first has the greater half of an odd credit, and the list; the
-    /// second has drawn nothing. Both have ended exactly where the seat had.
+    /// Halves the credit of a seat, which is at least 2. The first has the greater half of an odd credit, and the list;
+    /// the second has drawn nothing. Both have ended exactly where the seat had.
     pub fn split(&self, seat: Seat) -> (Seat, Seat)
         requires own { seat.board ≡ self.now }
         requires credit { 2 ≤ seat.credit }
@@ -111,8 +111,9 @@ impl Claims {
         (Seat { place }, Seat { place: other })
     }
 
-    /// Draws the next number, by one fetch-add, which waits for nobody. It is a job exactly where it is below the number of
-    /// jobs; it is then above each job that the seat drew before, and joins its list. Any other number ends the seat.
+    /// Draws the next number, by one fetch-add, which waits for nobody. It is a job exactly where it is below the
+    /// number of jobs; it is then above each job that the seat drew before, and joins its list. Any other number ends
+    /// the seat.
     pub fn claim(&self, seat: Seat) -> Drawn
         requires own { seat.board ≡ self.now }
         requires live { seat.ended ≡ false }
@@ -130,8 +131,8 @@ impl Claims {
         }
     }
 
-    /// One seat for two: the credits are added, and the second list follows the first. It has ended exactly where one of the two
-    /// had.
+    /// One seat for two: the credits are added, and the second list follows the first. It has ended exactly where one
+    /// of the two had.
     pub fn join(&self, a: Seat, b: Seat) -> Seat
         requires first { a.board ≡ self.now }
         requires second { b.board ≡ self.now }
@@ -146,8 +147,8 @@ impl Claims {
         Seat { place }
     }
 
-    /// Takes back the whole credit, once a seat has ended. The list then has the numbers from 0 up to and without the number of
-    /// jobs, each once, and nothing else (`Lists` of `nav_types`).
+    /// Takes back the whole credit, once a seat has ended. The list then has the numbers from 0 up to and without the
+    /// number of jobs, each once, and nothing else (`Lists` of `nav_types`).
     pub fn close(self, seat: Seat) -> Drawings
         requires own { seat.board ≡ self }
         requires whole { seat.credit ≡ WHOLE_CREDIT }

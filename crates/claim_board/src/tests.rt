@@ -73,12 +73,15 @@ fn draw_by<R: Threads + Sync>(
     let ((a, first), (b, second)) = join(
         rt,
         || -> (Seat, Result<Vec<u64>, AllocError>)
-            requires { IsSync R.row × (a.board ≡ claims.now) × (a.ended ≡ false) × (1 ≤ threads - half) × (threads - half ≤ a.credit) }
-            ensures { (result.0.board ≡ claims.entry.now) × (result.0.credit ≡ a.credit) × OnOk result.1 (result.0.ended ≡ true) }
+            requires { IsSync R.row × (a.board ≡ claims.now) × (a.ended ≡ false) × (1 ≤ threads - half)
+                × (threads - half ≤ a.credit) }
+            ensures { (result.0.board ≡ claims.entry.now) × (result.0.credit ≡ a.credit)
+                × OnOk result.1 (result.0.ended ≡ true) }
         { draw_by(rt, alloc, claims, a, threads - half) },
         || -> (Seat, Result<Vec<u64>, AllocError>)
             requires { IsSync R.row × (b.board ≡ claims.now) × (b.ended ≡ false) × (1 ≤ half) × (half ≤ b.credit) }
-            ensures { (result.0.board ≡ claims.entry.now) × (result.0.credit ≡ b.credit) × OnOk result.1 (result.0.ended ≡ true) }
+            ensures { (result.0.board ≡ claims.entry.now) × (result.0.credit ≡ b.credit)
+                × OnOk result.1 (result.0.ended ≡ true) }
         { draw_by(rt, alloc, claims, b, half) },
     );
     (claims.join(a, b), both(first, second))

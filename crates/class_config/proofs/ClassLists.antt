@@ -3,7 +3,7 @@ use Rattle.std.proofs.Common.{◌≡◌, ◌≢◌, ℕ, zero, suc, ◌+◌, ◌
 use Rattle.std.specs.Prelude.{All, bytes_eq, codes, slice_get, ◌↔◌, position}
 use Rattle.std.specs.List.{list_all, list_any, filter_map, cons_option, position_from}
 use Rattle.std.specs.Option.{option_map_or}
-use Rattle.std.proofs.lemmas.Bool.{and_parts}
+use Rattle.std.proofs.lemmas.Bool.{and_from, and_parts}
 use Rattle.std.proofs.lemmas.Slice.Eq.{bytes_eq-Decides}
 use Rattle.std.proofs.lemmas.List.Elements.{All-head, All-tail, All-cons, All-nil, filter_map-append}
 use Rattle.std.proofs.lemmas.List.Folds.{list_all-map}
@@ -18,10 +18,6 @@ use Rattle.class_config.specs.Forms.{has_keys, text_under, some_if, is_class_nam
 use Rattle.class_config.specs.Classes.{is_class, is_clearance, class_of, class_with, clearance_under, has_name, are_distinct, is_table, list_of, are_classes, classes_of}
 
 -- ---- tests
-
-and_both : (x y : Bool) → x ≡ true → y ≡ true → (x && y) ≡ true
-and_both true y h k = k
-and_both false y h k = h
 
 -- the second of two tests decides where the first holds
 pub and_second : (a b r : Bool) → a ≡ true → (a && b) ≡ r → b ≡ r
@@ -96,7 +92,7 @@ list_all-filter_map {X} {Y} p f passes (x ∷ xs) = by_first (f x) (passes x) (l
   where
     by_first : (o : Option Y) → ((y : Y) → o ≡ Some y → p y ≡ true) → list_all p (filter_map f xs) ≡ true → list_all p (cons_option o (filter_map f xs)) ≡ true
     by_first None given rest = rest
-    by_first (Some y) given rest = and_both (p y) (list_all p (filter_map f xs)) (given y refl) rest
+    by_first (Some y) given rest = and_from (p y) (list_all p (filter_map f xs)) (given y refl) rest
 
 -- one item more
 pub filter_map-more : {X Y : Type 0} (f : X → Option Y) (before now : List X) (ys : List Y) (x : X) (y : Y)
@@ -156,8 +152,8 @@ is_table-filter_map items h =
     let outer = and_parts (few && each) (are_distinct classes) h in
     let inner = and_parts few each outer.0 in
     let same : length classes ≡ length items = length-filter_map class_of items inner.1 in
-    and_both (nat_le 1 (length classes) && nat_le (length classes) 16 && list_all is_class classes) (are_distinct classes)
-    (and_both (nat_le 1 (length classes) && nat_le (length classes) 16) (list_all is_class classes)
+    and_from (nat_le 1 (length classes) && nat_le (length classes) 16 && list_all is_class classes) (are_distinct classes)
+    (and_from (nat_le 1 (length classes) && nat_le (length classes) 16) (list_all is_class classes)
     (ap (λ n. nat_le 1 n && nat_le n 16) same ∙ inner.0) (list_all-filter_map is_class class_of is_class-class_of items))
     outer.1
 

@@ -29,7 +29,8 @@ are_distinct (class ∷ others) = not (has_name class.name others) && are_distin
 
 -- the classes of a map: 1 to 16, with distinct names
 abbrev pub is_table : List PassabilityClass → Bool
-is_table classes = nat_le 1 (length classes) && nat_le (length classes) 16 && list_all is_class classes && are_distinct classes
+is_table classes = nat_le 1 (length classes) && nat_le (length classes) 16 && list_all is_class classes
+    && are_distinct classes
 
 -- the name and the clearance of a class by its number
 abbrev pub name_at : List PassabilityClass → ℕ → Option (List ℕ)
@@ -48,11 +49,13 @@ clearance_under d = option_and_then fixed_value (text_under (codes "clearance") 
 abbrev pub class_with : Option (List ℕ) → Option ℤ → Option PassabilityClass
 class_with None raw = None
 class_with (Some name) None = None
-class_with (Some name) (Some raw) = some_if (is_class_name name && is_clearance raw) (record { name = name; clearance = raw })
+class_with (Some name) (Some raw) =
+    some_if (is_class_name name && is_clearance raw) (record { name = name; clearance = raw })
 
 -- the class that an object with exactly the keys `name` and `clearance` describes
 abbrev pub class_of : Data → Option PassabilityClass
-class_of d = if has_keys (codes "name" ∷ codes "clearance" ∷ []) d then class_with (text_under (codes "name") d) (clearance_under d) else None
+class_of d = if has_keys (codes "name" ∷ codes "clearance" ∷ []) d
+    then class_with (text_under (codes "name") d) (clearance_under d) else None
 
 -- the items of an array
 abbrev pub list_of : Items → List Data
@@ -66,4 +69,5 @@ are_classes items = nat_le 1 (length items) && nat_le (length items) 16
 
 -- the classes that an array of classes describes, in its order
 abbrev pub classes_of : Data → Option (List PassabilityClass)
-classes_of d = option_and_then (λ items. some_if (are_classes items) (filter_map class_of items)) (option_map list_of (as_array d))
+classes_of d = option_and_then (λ items. some_if (are_classes items) (filter_map class_of items))
+    (option_map list_of (as_array d))

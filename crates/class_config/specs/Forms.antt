@@ -1,4 +1,5 @@
--- Forms over the reading of serde_json: objects with exactly the keys of a form, the strings under them, and class names.
+-- Forms over the reading of serde_json: objects with exactly the keys of a form, the strings under them, and class
+-- names.
 use Rattle.std.specs.Prelude.{ℕ, ◌&&◌, ◌||◌, ◌==◌, List, [], ◌∷◌, length, count_by, bytes_eq, Bool, false, nat_le, if◌then◌else◌, Option, Some, None, option_and_then}
 use Rattle.std.specs.List.{list_all, list_any}
 use Rattle.std.specs.Char.{is_ascii_alphanumeric}
@@ -10,14 +11,16 @@ abbrev pub keys_of : Members → List (List ℕ)
 keys_of no_members = []
 keys_of (member key d ms) = key ∷ keys_of ms
 
--- an object whose keys are exactly these, in any order: each of its keys is one of these, and each of these stands in it once
+-- an object whose keys are exactly these, in any order: each of its keys is one of these, and each of these stands in
+-- it once
 abbrev pub has_keys : List (List ℕ) → Data → Bool
 has_keys keys null = false
 has_keys keys (boolean b) = false
 has_keys keys (number n) = false
 has_keys keys (string s) = false
 has_keys keys (array ds) = false
-has_keys keys (object ms) = list_all (λ key. list_any (bytes_eq key) keys) (keys_of ms) && list_all (λ key. count_by (bytes_eq key) (keys_of ms) == 1) keys
+has_keys keys (object ms) = list_all (λ key. list_any (bytes_eq key) keys) (keys_of ms)
+    && list_all (λ key. count_by (bytes_eq key) (keys_of ms) == 1) keys
 
 -- the string under a key
 abbrev pub text_under : List ℕ → Data → Option (List ℕ)

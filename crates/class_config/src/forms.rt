@@ -22,7 +22,8 @@ pub struct Reading<'v> {
 
 /// The class that a value is, if it is one.
 pub fn reading_of(value: &Value) -> Option<Reading<'_>>
-    ensures class { option_map (λ reading. record { name = reading.name.now; clearance = reading.clearance }) result ≡ class_of (view value.now) }
+    ensures class { option_map (λ reading. record { name = reading.name.now; clearance = reading.clearance }) result
+        ≡ class_of (view value.now) }
     ensures name { IfSome result (λ reading. IsTrue (form.is_class_name reading.name.now)) }
 {
     if !has_keys(value, &["name", "clearance"]) {
@@ -92,7 +93,9 @@ fn has_each(value: &Value, keys: &[&str]) -> bool
 
 /// Whether each key of an object is one of these. A map has each key once, in order.
 fn has_no_other(members: &Map<String, Value>, keys: &[&str]) -> bool
-    ensures others { result ≡ list_all (λ member. list_any (λ key. bytes_eq (string_bytes member) key.now) keys.now) (keys_of members.now.entries) }
+    ensures others { result
+        ≡ list_all (λ member. list_any (λ key. bytes_eq (string_bytes member) key.now) keys.now)
+        (keys_of members.now.entries) }
     ensures ordered { IsOrdered string_cmp members.now }
 {
     members.keys().all(|member| is_among(member, keys))

@@ -185,7 +185,8 @@ fn are_classes(items: &[Value]) -> bool
 
 /// Whether there are 1 to 16 items and each of them is a class.
 fn are_all_classes(items: &[Value]) -> bool
-    ensures { result ≡ (nat_le 1 (length items.now) && nat_le (length items.now) 16 && list_all (λ item. is_some (class_of (view item))) items.now) }
+    ensures { result ≡ (nat_le 1 (length items.now) && nat_le (length items.now) 16
+        && list_all (λ item. is_some (class_of (view item))) items.now) }
 {
     1 <= items.len() && items.len() <= usize::from(MAX_CLASSES) && is_each_class(items)
 }
@@ -212,7 +213,8 @@ fn are_distinct(items: &[Value]) -> bool
 
 /// Whether one of the items is a class of this name.
 fn has_class(items: &[Value], name: &[u8]) -> bool
-    ensures { result ≡ list_any (λ item. option_map_or (λ class. bytes_eq class.name name.now) (class_of (view item)) false) items.now }
+    ensures { result ≡ list_any
+        (λ item. option_map_or (λ class. bytes_eq class.name name.now) (class_of (view item)) false) items.now }
 {
     items.iter().any(|item| is_class_of(item, name))
 }

@@ -5,7 +5,7 @@ use Rattle.std.proofs.lemmas.Bool.{cases_lt}
 use Rattle.std.proofs.lemmas.Nat.Bits.{bit_at_not, bit_at_ones, bit_at-zero}
 use Rattle.std.proofs.lemmas.List.{take_all, drop_all, append-nil, get_or-map, get_or_past, get_or_append_left, get_or-append_right, get_or-drop, get_or-replicate, length-replicate, length-append, length-drop}
 use Rattle.nav_types.specs.Rows.{bit_of}
-use Rattle.class_planes.specs.Planes.{free_bit}
+use Rattle.lane_rows.specs.Rows.{one_if}
 
 -- the numbers of a row, and after them numbers with every bit set
 pub padded_bit : (free : Bool) (row rest : List ℕ) (n class i : ℕ) → class < 16 → length row ≡ n
@@ -45,7 +45,7 @@ words_bit row plane line class n i long within wide bits turned =
     turned (i / 64) (i % 64) (omega (arith, wide)) small
     ∙ ap (λ b. 1 - b) (bits (i / 64) (i % 64) small ∙ ap (λ p. bit_at (get_or row p 0) class) there)
 
-other_bit : (free : Bool) → 1 - bit_of free ≡ free_bit free
+other_bit : (free : Bool) → 1 - bit_of free ≡ one_if free
 other_bit true = refl
 other_bit false = refl
 
@@ -54,12 +54,12 @@ pub line_bits : (free : ℕ → Bool) (row line : List ℕ) (class i : ℕ) → 
     → (i < length row → bit_at (get_or row i 0) class ≡ bit_of (free i))
     → (length row ≤ i → free i ≡ false)
     → (i < length row → bit_at (get_or line (i / 64) 0) (i % 64) ≡ 1 - bit_at (get_or row i 0) class)
-    → bit_at (get_or line (i / 64) 0) (i % 64) ≡ free_bit (free i)
+    → bit_at (get_or line (i / 64) 0) (i % 64) ≡ one_if (free i)
 line_bits free row line class i long numbers outside turned = ⊎_elim
     (λ (below : i < length row). turned below ∙ ap (λ b. 1 - b) (numbers below) ∙ other_bit (free i))
     (λ (above : length row ≤ i).
     ap (λ n. bit_at n (i % 64)) (get_or_past line (i / 64) 0 (omega (arith, long, above)))
-    ∙ bit_at-zero (i % 64) ∙ sym (ap free_bit (outside above)))
+    ∙ bit_at-zero (i % 64) ∙ sym (ap one_if (outside above)))
     (cases_lt i (length row))
 
 zero_at : (n i : ℕ) → get_or {A = ℕ} (replicate n 0) i 0 ≡ 0
@@ -75,7 +75,8 @@ pub no_bits : (n i : ℕ) → bit_at (get_or (replicate n 0) (i / 64) 0) (i % 64
 no_bits n i = ap (λ n. bit_at n (i % 64)) (zero_at n (i / 64)) ∙ bit_at-zero (i % 64)
 
 -- a row with another's rest is as long as that
-pub joined_long : (row rest : List ℕ) (n i : ℕ) → length row ≡ n → n ≤ length rest → i < length (row ++ drop n rest) → i < length rest
+pub joined_long : (row rest : List ℕ) (n i : ℕ) → length row ≡ n → n ≤ length rest → i < length (row ++ drop n rest)
+    → i < length rest
 joined_long row rest n i long short below = omega (arith, length-append row (drop n rest), length-drop n rest)
 
 -- a loop over all words

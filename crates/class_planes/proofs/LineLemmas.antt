@@ -7,7 +7,8 @@ use Rattle.class_planes.specs.Planes.{AreFreeBits}
 use Rattle.class_planes.specs.inner.Lines.{LineTable, line_in, IsBand, AreLines}
 
 -- a line of a band stays where more is appended
-old_line : (words k count : ℕ) (band line : List ℕ) → length band ≡ count * words → k < count → line_in words (band ++ line) k ≡ line_in words band k
+old_line : (words k count : ℕ) (band line : List ℕ) → length band ≡ count * words → k < count
+    → line_in words (band ++ line) k ≡ line_in words band k
 old_line words k count band line long below =
     let start : ℕ = k * words in
     let more : (k + 1) * words ≤ count * words = mul-le (k + 1) words count words (omega arith) (omega arith) in
@@ -16,19 +17,22 @@ old_line words k count band line long below =
     ∙ take-append-le (start + words - start) (drop start band) line (omega (arith, length-drop start band))
 
 -- the line that was appended
-new_line : (words count : ℕ) (band line : List ℕ) → length band ≡ count * words → length line ≡ words → line_in words (band ++ line) count ≡ line
+new_line : (words count : ℕ) (band line : List ℕ) → length band ≡ count * words → length line ≡ words
+    → line_in words (band ++ line) count ≡ line
 new_line words count band line long wide =
     let start : ℕ = count * words in
     ap (take (start + words - start)) (drop_at band line start long)
     ∙ take_all (start + words - start) line (omega arith)
 
 -- a band with one line more
-pub band_more : (free : ℕ → ℕ → Bool) (first words count : ℕ) (band line : List ℕ) → IsBand free first words count band → length line ≡ words
+pub band_more : (free : ℕ → ℕ → Bool) (first words count : ℕ) (band line : List ℕ) → IsBand free first words count band
+    → length line ≡ words
     → AreFreeBits (free (first + count)) line → IsBand free first words (count + 1) (band ++ line)
 band_more free first words count band line is wide bits = record {
   long = omega (arith, length-append band line, is.long, wide);
   each = λ k below. ⊎_elim
-      (λ (old : k < count). subst (AreFreeBits (free (first + k))) (sym (old_line words k count band line is.long old)) (is.each k old))
+      (λ (old : k < count). subst (AreFreeBits (free (first + k))) (sym (old_line words k count band line is.long old))
+      (is.each k old))
       (λ (new : count ≤ k).
       let here : k ≡ count = omega arith in
       subst (λ n. AreFreeBits (free (first + n)) (line_in words (band ++ line) n)) (sym here)
@@ -37,13 +41,16 @@ band_more free first words count band line is wide bits = record {
 }
 
 -- a table with one band more
-pub lines_more : (free : ℕ → ℕ → Bool) (count words : ℕ) (before now : LineTable) (band : List ℕ) → AreLines free count words before
-    → now.words ≡ before.words → now.bands ≡ before.bands ++ band ∷ [] → IsBand free (32 * count) words 32 band → AreLines free (count + 1) words now
+pub lines_more : (free : ℕ → ℕ → Bool) (count words : ℕ) (before now : LineTable) (band : List ℕ)
+    → AreLines free count words before
+    → now.words ≡ before.words → now.bands ≡ before.bands ++ band ∷ [] → IsBand free (32 * count) words 32 band →
+    AreLines free (count + 1) words now
 lines_more free count words before now band are same more is = record {
   wide = same ∙ are.wide;
   many = ap length more ∙ length-append before.bands (band ∷ []) ∙ omega (arith, are.many);
   each = λ b below. subst (λ bands. IsBand free (32 * b) words 32 (get_or bands b [])) (sym more) (⊎_elim
-      (λ (old : b < count). subst (IsBand free (32 * b) words 32) (sym (get_or_append_left before.bands (band ∷ []) [] b (omega (arith, are.many)))) (are.each b old))
+      (λ (old : b < count). subst (IsBand free (32 * b) words 32)
+      (sym (get_or_append_left before.bands (band ∷ []) [] b (omega (arith, are.many)))) (are.each b old))
       (λ (new : count ≤ b).
       let here : b ≡ count = omega arith in
       subst (λ n. IsBand free (32 * n) words 32 (get_or (before.bands ++ band ∷ []) n [])) (sym here)

@@ -1,13 +1,16 @@
 -- The cells of a plane, and the bits of its lines.
-use Rattle.std.proofs.Common.{◌≡◌, ℕ, ◌+◌, ◌*◌, ◌/◌, ◌%◌, ◌<◌, Bool, true, false, ◌&&◌, IsTrue, eqb, ltb, List, [], get_or, refl, sym, ap, ◌∙◌, subst, arith}
-use Rattle.std.proofs.lemmas.Bool.{ltb-true, lt-ltb}
+use Rattle.std.proofs.Common.{◌≡◌, ℕ, ◌+◌, ◌*◌, ◌/◌, ◌%◌, ◌<◌, Bool, true, false, ◌&&◌, IsTrue, eqb, ltb, ◌≤◌, inl, inr, List, [], get_or, Option, Some, None, refl, sym, ap, ◌∙◌, subst, arith}
+use Rattle.std.proofs.lemmas.Bool.{false≢true, ltb-true, lt-ltb, cases_lt}
+use Rattle.std.proofs.lemmas.List.{get_or_past}
+use Rattle.std.specs.Int.{bit_at}
 use Rattle.std.proofs.lemmas.List.FromFn.{get_or-map-range_with_len}
 use Rattle.nav_types.specs.declared.cells.Cell.{Cell}
 use Rattle.nav_types.specs.declared.cells.Size.{Size}
 use Rattle.nav_types.specs.Cells.{IsInside, cell_at}
 use Rattle.nav_types.specs.Places.{place_of, cell_of}
 use Rattle.nav_types.proofs.CellPlaces.{place_of-lt, cell_of-place_of}
-use Rattle.class_planes.specs.Planes.{PlaneCells, is_passable, free_bit, AreFreeBits}
+use Rattle.class_planes.specs.Planes.{PlaneCells, is_passable, AreFreeBits, IsPlaneIn, ArePlanes, AreOf}
+use Rattle.lane_rows.specs.Rows.{one_if}
 use Rattle.class_planes.specs.inner.Lines.{LineTable, RowTable, line_at, line_in, free_at, free_cell, plane_of, AreLines, AreRows}
 
 -- two tests of the same two sides
@@ -34,19 +37,23 @@ guarded false b x y same sides = follows y (λ yes. (sides yes).0)
 pub passable_is : (table : RowTable) (cell : Cell) → is_passable (plane_of table) cell ≡ free_cell table cell
 passable_is table cell =
     let size = table.size in
-    same_inside (ltb cell.i size.w) (ltb cell.j size.h) (get_or (plane_of table).cells (place_of size cell) false) (free_at table.rows cell.j cell.i)
+    same_inside (ltb cell.i size.w) (ltb cell.j size.h) (get_or (plane_of table).cells (place_of size cell) false)
+    (free_at table.rows cell.j cell.i)
     (λ east north.
-    let inside : IsInside size cell = record { column = ltb-true cell.i size.w east; row = ltb-true cell.j size.h north } in
-    get_or-map-range_with_len (λ place. free_at table.rows (cell_of size place).j (cell_of size place).i) 0 (size.w * size.h) (place_of size cell) (place_of size cell) false
+    let inside : IsInside size cell = record
+    { column = ltb-true cell.i size.w east; row = ltb-true cell.j size.h north } in
+    get_or-map-range_with_len (λ place. free_at table.rows (cell_of size place).j (cell_of size place).i) 0
+    (size.w * size.h) (place_of size cell) (place_of size cell) false
     (place_of-lt size cell inside) (omega arith)
     ∙ ap (λ (c : Cell). free_at table.rows c.j c.i) (cell_of-place_of size cell inside))
 
-told : (free : Bool) → eqb (free_bit free) 1 ≡ free
+told : (free : Bool) → eqb (one_if free) 1 ≡ free
 told true = refl
 told false = refl
 
 -- the bits of one line
-pub line_free : (free : ℕ → ℕ → Bool) (count words n : ℕ) (table : LineTable) → AreLines free count words table → n / 32 < count → AreFreeBits (free n) (line_at table n)
+pub line_free : (free : ℕ → ℕ → Bool) (count words n : ℕ) (table : LineTable) → AreLines free count words table
+    → n / 32 < count → AreFreeBits (free n) (line_at table n)
 line_free free count words n table are below =
     let band : List ℕ = get_or table.bands (n / 32) [] in
     let there : 32 * (n / 32) + n % 32 ≡ n = omega arith in
@@ -54,12 +61,14 @@ line_free free count words n table are below =
     (subst (λ w. AreFreeBits (free (32 * (n / 32) + n % 32)) (line_in w band (n % 32))) (sym are.wide)
     ((are.each (n / 32) below).each (n % 32) (omega arith)))
 
-pub at_free : (free : ℕ → ℕ → Bool) (count words n i : ℕ) (table : LineTable) → AreLines free count words table → n / 32 < count → free_at table n i ≡ free n i
+pub at_free : (free : ℕ → ℕ → Bool) (count words n i : ℕ) (table : LineTable) → AreLines free count words table
+    → n / 32 < count → free_at table n i ≡ free n i
 at_free free count words n i table are below =
     ap (λ b. eqb b 1) (line_free free count words n table are below i) ∙ told (free n i)
 
 -- the cells of the rows that were made of a set of cells
-pub rows_free : (size : Size) (table : LineTable) (passes : Cell → Bool) → ((cell : Cell) → IsTrue (passes cell) → IsInside size cell)
+pub rows_free : (size : Size) (table : LineTable) (passes : Cell → Bool)
+    → ((cell : Cell) → IsTrue (passes cell) → IsInside size cell)
     → AreLines (λ j i. passes (cell_at i j)) (size.h / 32 + 1) (size.w / 64 + 1) table
     → (cell : Cell) → free_cell (record { size = size; rows = table }) cell ≡ passes cell
 rows_free size table passes within are cell =
@@ -69,19 +78,23 @@ rows_free size table passes within are cell =
     at_free (λ j i. passes (cell_at i j)) (size.h / 32 + 1) (size.w / 64 + 1) cell.j cell.i table are (omega arith))
     (λ yes. (lt-ltb cell.i size.w (within cell yes).column, lt-ltb cell.j size.h (within cell yes).row))
 
-pub rows_same : (size : Size) (table : LineTable) (passes : Cell → Bool) → ((cell : Cell) → IsTrue (passes cell) → IsInside size cell)
+pub rows_same : (size : Size) (table : LineTable) (passes : Cell → Bool)
+    → ((cell : Cell) → IsTrue (passes cell) → IsInside size cell)
     → AreLines (λ j i. passes (cell_at i j)) (size.h / 32 + 1) (size.w / 64 + 1) table
     → free_cell (record { size = size; rows = table }) ≡ passes
 rows_same size table passes within are = λ p cell. rows_free size table passes within are cell p
 
-pub are_rows : (size : Size) (table : LineTable) (passes : Cell → Bool) → ((cell : Cell) → IsTrue (passes cell) → IsInside size cell)
-    → AreLines (λ j i. passes (cell_at i j)) (size.h / 32 + 1) (size.w / 64 + 1) table → AreRows (record { size = size; rows = table })
+pub are_rows : (size : Size) (table : LineTable) (passes : Cell → Bool)
+    → ((cell : Cell) → IsTrue (passes cell) → IsInside size cell)
+    → AreLines (λ j i. passes (cell_at i j)) (size.h / 32 + 1) (size.w / 64 + 1) table → AreRows
+    (record { size = size; rows = table })
 are_rows size table passes within are =
     subst (λ (free : Cell → Bool). AreLines (λ j i. free (cell_at i j)) (size.h / 32 + 1) (size.w / 64 + 1) table)
     (sym (rows_same size table passes within are)) are
 
 -- the plane of the rows that were made of a set of cells
-pub plane_same : (size : Size) (table : LineTable) (passes : Cell → Bool) → ((cell : Cell) → IsTrue (passes cell) → IsInside size cell)
+pub plane_same : (size : Size) (table : LineTable) (passes : Cell → Bool)
+    → ((cell : Cell) → IsTrue (passes cell) → IsInside size cell)
     → AreLines (λ j i. passes (cell_at i j)) (size.h / 32 + 1) (size.w / 64 + 1) table
     → is_passable (plane_of (record { size = size; rows = table })) ≡ passes
 plane_same size table passes within are =
@@ -93,10 +106,40 @@ both_true true false x east north = dead x north
 both_true false b x east north = dead x east
 
 -- inside the map the bit alone decides
-pub inside_free : (table : RowTable) (i j : ℕ) → i < table.size.w → j < table.size.h → free_cell table (cell_at i j) ≡ free_at table.rows j i
+pub inside_free : (table : RowTable) (i j : ℕ) → i < table.size.w → j < table.size.h
+    → free_cell table (cell_at i j) ≡ free_at table.rows j i
 inside_free table i j east north =
-    both_true (ltb i table.size.w) (ltb j table.size.h) (free_at table.rows j i) (lt-ltb i table.size.w east) (lt-ltb j table.size.h north)
+    both_true (ltb i table.size.w) (ltb j table.size.h) (free_at table.rows j i) (lt-ltb i table.size.w east)
+    (lt-ltb j table.size.h north)
 
 -- the free cells of the rows of a plane are its passable ones
-pub free_passable : (table : RowTable) (plane : PlaneCells) → plane_of table ≡ plane → (cell : Cell) → free_cell table cell ≡ is_passable plane cell
+pub free_passable : (table : RowTable) (plane : PlaneCells) → plane_of table ≡ plane → (cell : Cell)
+    → free_cell table cell ≡ is_passable plane cell
 free_passable table plane is cell = sym (passable_is table cell) ∙ ap (λ (p : PlaneCells). is_passable p cell) is
+
+both_parts : (a b x : Bool) → IsTrue (a && b && x) → IsTrue a × IsTrue b
+both_parts true true x all = (refl, refl)
+both_parts true false x all = absurd (false≢true all)
+both_parts false b x all = absurd (false≢true all)
+
+-- the passable cells of a plane lie in its map
+pub only_inside : (plane : PlaneCells) (cell : Cell) → IsTrue (is_passable plane cell) → IsInside plane.size cell
+only_inside plane cell passing =
+    let size = plane.size in
+    let sides = both_parts (ltb cell.i size.w) (ltb cell.j size.h) (get_or plane.cells (place_of size cell) false)
+    passing in
+    record { column = ltb-true cell.i size.w sides.0; row = ltb-true cell.j size.h sides.1 }
+
+-- planes that were built of a map are planes of it
+none_some : (plane : PlaneCells) → None ≡ Some plane → ⊥
+none_some plane is = grind arith
+
+pub are_of : (size : Size) (passes : ℕ → Cell → Bool) (mask count : ℕ) (planes : List (Option PlaneCells))
+    → ArePlanes size passes mask count planes → AreOf size passes planes
+are_of size passes mask count planes are class plane is = elim (cases_lt class count) [
+  | inl known ↦ (subst (IsPlaneIn size (passes class) (eqb (bit_at mask class) 1)) is (are.each class known)).1
+  | inr past ↦
+      let none : get_or planes class None ≡ None =
+      get_or_past planes class None (subst (λ many. many ≤ class) (sym are.many) past) in
+      absurd (none_some plane (sym none ∙ is))
+]

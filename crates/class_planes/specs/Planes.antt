@@ -1,10 +1,11 @@
 -- A plane: the size of a map, and the set of its cells that are passable for one class.
 -- Its bits hold a row or a column as words of 64 cells each, in which a set bit is a passable cell.
-use Rattle.std.specs.Prelude.{ℕ, Bool, false, ◌≡◌, ◌==◌, ◌<◌, Option, Some, None, IsTrue, IsFalse, length, ◌/◌, ◌%◌, ◌&&◌, nat_lt, List, slice_index, slice_index_or, if◌then◌else◌}
+use Rattle.std.specs.Prelude.{ℕ, Bool, false, ◌≡◌, ◌==◌, ◌<◌, Option, Some, None, IsTrue, IsFalse, length, ◌/◌, ◌%◌, ◌&&◌, nat_lt, List, slice_index, slice_index_or}
 use Rattle.std.specs.Int.{bit_at}
 use Rattle.nav_types.specs.declared.cells.Cell.{Cell}
 use Rattle.nav_types.specs.declared.cells.Size.{Size}
 use Rattle.nav_types.specs.Places.{place_of}
+use Rattle.lane_rows.specs.Rows.{one_if}
 
 -- the size in navcells, and for each cell whether it is passable, in the order of cells: by row, then by column
 pub record PlaneCells : Type 0 where
@@ -13,15 +14,12 @@ pub record PlaneCells : Type 0 where
 
 -- whether the cell lies in the map and is passable
 abbrev pub is_passable : PlaneCells → Cell → Bool
-is_passable plane cell = nat_lt cell.i plane.size.w && nat_lt cell.j plane.size.h && slice_index_or plane.cells (place_of plane.size cell) false
-
--- 1 for a passable cell, 0 for an impassable one
-abbrev pub free_bit : Bool → ℕ
-free_bit passable = if passable then 1 else 0
+is_passable plane cell = nat_lt cell.i plane.size.w && nat_lt cell.j plane.size.h
+    && slice_index_or plane.cells (place_of plane.size cell) false
 
 -- bit i % 64 of word i / 64 is set exactly where the place i of the line is passable; past the last word no place is
 abbrev pub AreFreeBits : (ℕ → Bool) → List ℕ → Type 0
-AreFreeBits free words = (i : ℕ) → bit_at (slice_index words (i / 64)) (i % 64) ≡ free_bit (free i)
+AreFreeBits free words = (i : ℕ) → bit_at (slice_index words (i / 64)) (i % 64) ≡ one_if (free i)
 
 -- the plane of a map of this size with exactly these passable cells
 pub record IsPlane (size : Size) (passes : Cell → Bool) (plane : PlaneCells) : Type 0 where
@@ -34,6 +32,13 @@ IsPlaneIn size passes wanted (Some plane) = IsTrue wanted × IsPlane size passes
 IsPlaneIn size passes wanted None = IsFalse wanted
 
 -- the planes of the first so many classes whose bits are set in the mask
-pub record ArePlanes (size : Size) (passes : ℕ → Cell → Bool) (mask count : ℕ) (planes : List (Option PlaneCells)) : Type 0 where
+pub record ArePlanes (size : Size) (passes : ℕ → Cell → Bool) (mask count : ℕ)
+    (planes : List (Option PlaneCells)) : Type 0 where
   pub many : length planes ≡ count
-  pub each : (class : ℕ) → class < count → IsPlaneIn size (passes class) (bit_at mask class == 1) (slice_index_or planes class None)
+  pub each : (class : ℕ) → class < count
+      → IsPlaneIn size (passes class) (bit_at mask class == 1) (slice_index_or planes class None)
+
+-- each plane is that of its class in a map of this size with these passable cells
+abbrev pub AreOf : Size → (ℕ → Cell → Bool) → List (Option PlaneCells) → Type 0
+AreOf size passes planes = (class : ℕ) (plane : PlaneCells) → slice_index_or planes class None ≡ Some plane
+    → IsPlane size (passes class) plane

@@ -11,8 +11,8 @@ use nav_types::{Cell, Class, NoMemory, Rows, Size};
 use std::alloc::Global;
 use std::marker::Model;
 
-/// The passable cells of a map for one class as bits, by rows and by columns. A set bit is a passable cell. Contracts see
-/// the size of the map and the set of those cells.
+/// The passable cells of a map for one class as bits, by rows and by columns. A set bit is a passable cell. Contracts
+/// see the size of the map and the set of those cells.
 ///
 /// Bits past the map are 0, so that a run over set bits ends at the border by itself. The line after the last is one of
 /// zeros, and serves before the first one too.

@@ -1,13 +1,18 @@
-//! Planes: the passable cells of a class as bits, by rows and by columns, so that a search can look at 64 cells at once.
+//! Planes: the passable cells of a class as bits, by rows and by columns, so that a search can look at 64 cells at
+//! once.
 #![tactic(auto)]
 
 mod class_plane;
 mod lines;
+mod plane_runs;
+mod plane_scans;
 mod plane_sets;
 mod rows;
 mod turned;
+mod word_scans;
 
 pub use class_plane::ClassPlane;
+pub use plane_runs::PlaneRuns;
 pub use plane_sets::Planes;
 
 #[cfg(test)]

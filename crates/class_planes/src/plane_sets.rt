@@ -1,7 +1,7 @@
 //! The planes of several classes of a map.
 ghost use Rattle.std.specs.Prelude.{ℕ, ◌≡◌, ◌==◌, ◌<◌, Some, None, slice_index_or, IfOk, IfSome, IfNone};
 ghost use Rattle.std.specs.Int.{bit_at};
-ghost use Rattle.class_planes.specs.Planes.{IsPlaneIn, ArePlanes};
+ghost use Rattle.class_planes.specs.Planes.{IsPlaneIn, ArePlanes, AreOf};
 
 use crate::class_plane::ClassPlane;
 use nav_types::{Class, NoMemory, Rows};
@@ -24,9 +24,13 @@ impl Model for Planes {
 }
 
 impl Planes {
-    /// The plane of each class of the map whose bit is set in the mask (`ArePlanes`).
+    /// The plane of each class of the map whose bit is set in the mask (`ArePlanes`). They are planes of the map
+    /// (`AreOf`), which is what `PlaneRuns::new` asks for.
+    #[tactic(auto, using(crate::proofs::PlaneLemmas::are_of))]
     pub fn build<V: Rows>(alloc: Global, view: &V, classes: u16) -> Result<Planes, NoMemory>
-        ensures { IfOk result (ArePlanes (V.extent view.now) (V.passes view.now) classes (V.class_count view.now)) }
+        ensures wanted { IfOk result
+            (ArePlanes (V.extent view.now) (V.passes view.now) classes (V.class_count view.now)) }
+        ensures of_map { IfOk result (AreOf (V.extent view.now) (V.passes view.now)) }
     {
         let count = view.classes();
         let mut planes = Vec::with_capacity(alloc, usize::from(count))?;

@@ -18,7 +18,9 @@ const BAND: u16 = 32;
 /// The rows of the view for the class, as lines of bits. After the last row there is at least one line of zeros.
 pub fn lines_of<V: Rows>(alloc: Global, view: &V, class: Class) -> Result<Lines, NoMemory>
     requires class { class < V.class_count view.now }
-    ensures { IfOk result (AreLines (λ j i. V.passes view.now class (cell_at i j)) ((V.extent view.now).h / 32 + 1) ((V.extent view.now).w / 64 + 1)) }
+    ensures { IfOk result
+        (AreLines (λ j i. V.passes view.now class (cell_at i j)) ((V.extent view.now).h / 32 + 1)
+        ((V.extent view.now).w / 64 + 1)) }
 {
     let size = view.size();
     let words = usize::from(size.w) / 64 + 1;
@@ -44,7 +46,8 @@ fn band_of<V: Rows>(
     requires low { first ≤ 4096 }
     requires wide { length scratch.old ≡ (V.extent view.now).w / 64 + 1 }
     ensures stays { length scratch.new ≡ length scratch.old }
-    ensures band { IfOk result (λ band. IsBand (λ j i. V.passes view.now class (cell_at i j)) first (length scratch.old) 32 band.items) }
+    ensures band { IfOk result
+        (λ band. IsBand (λ j i. V.passes view.now class (cell_at i j)) first (length scratch.old) 32 band.items) }
 {
     let mut band = Vec::with_capacity(alloc, usize::from(BAND) * scratch.words())?;
     for k in 0..BAND {
@@ -118,7 +121,8 @@ fn read_row<V: Rows>(view: &V, j: u16, row: &mut [u16])
     requires row { j < (V.extent view.now).h }
     requires room { (V.extent view.now).w ≤ length row.old }
     ensures stays { length row.new ≡ length row.old }
-    ensures bits { (class i : ℕ) → class < V.class_count view.now → class < 16 → i < length row.new → bit_at (slice_index row.new i) class ≡ bit_of (V.passes view.now class (cell_at i j)) }
+    ensures bits { (class i : ℕ) → class < V.class_count view.now → class < 16 → i < length row.new
+        → bit_at (slice_index row.new i) class ≡ bit_of (V.passes view.now class (cell_at i j)) }
 {
     row.fill(u16::MAX);
     view.row_bits(j, &mut row[..usize::from(view.size().w)]);
@@ -129,7 +133,8 @@ fn free_words(row: &[u16], class: u8, line: &mut [u64])
     requires class { class < 16 }
     requires words { length row.now ≡ 64 * length line.old }
     ensures stays { length line.new ≡ length line.old }
-    ensures bits { (i : ℕ) → i < length row.now → bit_at (slice_index line.new (i / 64)) (i % 64) ≡ 1 - bit_at (slice_index row.now i) class }
+    ensures bits { (i : ℕ) → i < length row.now
+        → bit_at (slice_index line.new (i / 64)) (i % 64) ≡ 1 - bit_at (slice_index row.now i) class }
 {
     plane_words(row, class, line);
     turn_words(line);
@@ -137,7 +142,8 @@ fn free_words(row: &[u16], class: u8, line: &mut [u64])
 
 /// Turns every bit of the words.
 fn turn_words(words: &mut [u64])
-    ensures { (w k : ℕ) → w < length words.old → k < 64 → bit_at (slice_index words.new w) k ≡ 1 - bit_at (slice_index words.old w) k }
+    ensures { (w k : ℕ) → w < length words.old → k < 64
+        → bit_at (slice_index words.new w) k ≡ 1 - bit_at (slice_index words.old w) k }
 {
     for word in words.iter_mut() {
         *word = !*word;

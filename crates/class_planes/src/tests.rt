@@ -1,13 +1,16 @@
-//! All bits of a plane against the cells of a map that is wider and higher than a word, and which classes have planes.
-ghost use Rattle.std.specs.Prelude.{true, false, ◌≡◌, ◌<◌, ◌&&◌, nat_lt, slice_index_or, IsTrue, IfOk};
+//! All bits of a plane and the runs over it against the cells of a map that is wider and higher than a word, and which
+//! classes have planes.
+ghost use Rattle.std.specs.Prelude.{true, false, ◌≡◌, ◌<◌, ◌&&◌, nat_lt, nat_le, slice_index_or, IsTrue, IfOk, IfSome};
 ghost use Rattle.std.specs.Int.{bit_at};
 ghost use Rattle.std.proofs.lemmas.Bool.{and_parts, ltb-true};
+ghost use Rattle.nav_types.specs.Cells.{IsRectInside};
 ghost use Rattle.nav_types.specs.Places.{place_of};
 ghost use Rattle.nav_types.specs.Rows.{bit_of};
 ghost use Rattle.class_planes.specs.Planes.{ArePlanes};
 
-use crate::{ClassPlane, Planes};
-use nav_types::{Cell, Class, NoMemory, Rows, Size, View};
+use crate::{ClassPlane, PlaneRuns, Planes};
+use jump_scan::{CellRuns, Runs};
+use nav_types::{Aim, Cell, Class, Dir, NoMemory, Rect, Rows, Size, View};
 use std::alloc::Global;
 use std::test::Fail;
 
@@ -23,7 +26,8 @@ impl View for Plan {
 
     ghost class_count = { λ plan. 1 };
 
-    ghost passes = { λ plan class cell. (nat_lt cell.i plan.size.w && nat_lt cell.j plan.size.h) && slice_index_or plan.free.items (place_of plan.size cell) false };
+    ghost passes = { λ plan class cell. (nat_lt cell.i plan.size.w && nat_lt cell.j plan.size.h)
+        && slice_index_or plan.free.items (place_of plan.size cell) false };
 
     fn size(&self) -> Size {
         self.size
@@ -44,7 +48,8 @@ impl View for Plan {
     }
 
     ghost within = { λ plan class cell passing.
-        let inside = (and_parts (nat_lt cell.i plan.size.w && nat_lt cell.j plan.size.h) (slice_index_or plan.free.items (place_of plan.size cell) false) passing).0 in
+        let inside = (and_parts (nat_lt cell.i plan.size.w && nat_lt cell.j plan.size.h)
+        (slice_index_or plan.free.items (place_of plan.size cell) false) passing).0 in
         let sides = and_parts (nat_lt cell.i plan.size.w) (nat_lt cell.j plan.size.h) inside in
         record { column = ltb-true cell.i plan.size.w sides.0; row = ltb-true cell.j plan.size.h sides.1 } };
 }
@@ -162,5 +167,128 @@ fn only_wanted_classes_have_planes(rt: HostRuntime) -> Result<(), Fail> {
     assert_eq!(rt; wrong_row(plane), None);
     assert!(rt; all.plane(Class::new(1)).is_none());
     assert!(rt; others.plane(Class::new(0)).is_none());
+    Ok(())
+}
+
+/// All cells of a rectangle, which is asked for as the aim's own.
+#[derive(Drop)]
+struct Target {
+    rect: Rect,
+}
+
+impl Aim for Target {
+    ghost sound = { λ target size. IsRectInside size target.rect };
+
+    ghost hit = { λ target size cell. (nat_le target.rect.i0 cell.i && nat_le cell.i target.rect.i1)
+        && (nat_le target.rect.j0 cell.j && nat_le cell.j target.rect.j1) };
+
+    ghost framed = { λ target size cell. (nat_le target.rect.i0 cell.i && nat_le cell.i target.rect.i1)
+        && (nat_le target.rect.j0 cell.j && nat_le cell.j target.rect.j1) };
+
+    fn hits(&self, _size: Size, cell: Cell) -> bool {
+        (self.rect.i0 <= cell.i && cell.i <= self.rect.i1)
+            && (self.rect.j0 <= cell.j && cell.j <= self.rect.j1)
+    }
+
+    fn bounds(&self, _size: Size) -> Rect {
+        self.rect
+    }
+
+    ghost hits_framed = { λ target size cell sound inside hit. hit };
+}
+
+/// The stop of the run in any direction.
+fn stop_of<R: Runs, A: Aim>(runs: &R, from: Cell, dir: Dir, aim: &A) -> Option<Cell>
+    requires class { 0 < R.class_count runs.now }
+    requires start { IsTrue (R.passes runs.now 0 from) }
+    requires aim { A.sound aim.now (R.extent runs.now) }
+{
+    if dir.is_straight() {
+        runs.straight(Class::new(0), from, dir, aim)
+    } else {
+        runs.diagonal(Class::new(0), from, dir, aim)
+    }
+}
+
+/// The first direction in which the two scans from the cell have unlike stops.
+fn unlike_from<R: Runs, S: Runs, A: Aim>(runs: &R, other: &S, from: Cell, aim: &A) -> Option<Dir>
+    requires class { 0 < R.class_count runs.now }
+    requires class_of_other { 0 < S.class_count other.now }
+    requires start { IsTrue (R.passes runs.now 0 from) }
+    requires start_of_other { IsTrue (S.passes other.now 0 from) }
+    requires aim { A.sound aim.now (R.extent runs.now) }
+    requires aim_of_other { A.sound aim.now (S.extent other.now) }
+{
+    for dir in Dir::ALL {
+        if stop_of(runs, from, dir, aim) != stop_of(other, from, dir, aim) {
+            return Some(dir);
+        }
+    }
+    None
+}
+
+/// The first passable cell from which the two scans have unlike stops in some direction.
+fn unlike<R: Runs, S: Runs, A: Aim>(runs: &R, other: &S, aim: &A) -> Option<(Cell, Dir)>
+    requires class { 0 < R.class_count runs.now }
+    requires class_of_other { 0 < S.class_count other.now }
+    requires aim { A.sound aim.now (R.extent runs.now) }
+    requires aim_of_other { A.sound aim.now (S.extent other.now) }
+{
+    let size = runs.size();
+    for j in 0..size.h {
+        for i in 0..size.w {
+            let cell = Cell::new(i, j);
+            if is_start(runs, cell) && is_start(other, cell) {
+                if let Some(dir) = unlike_from(runs, other, cell, aim) {
+                    return Some((cell, dir));
+                }
+            }
+        }
+    }
+    None
+}
+
+/// Whether the cell lies in the map and is passable.
+fn is_start<R: Runs>(runs: &R, cell: Cell) -> bool
+    requires { 0 < R.class_count runs.now }
+    ensures { IsTrue result → IsTrue (R.passes runs.now 0 cell) }
+{
+    runs.size().has(cell) && runs.passable(Class::new(0), cell)
+}
+
+/// The cells of a rectangle that lies in the map.
+fn cells_of(size: Size, rect: Rect) -> Option<Target>
+    ensures { IfSome result (λ target. IsRectInside size target.rect) }
+{
+    if rect.i0 <= rect.i1 && rect.j0 <= rect.j1 && rect.i1 < size.w && rect.j1 < size.h {
+        Some(Target { rect })
+    } else {
+        None
+    }
+}
+
+#[test]
+fn runs_stop_at_the_same_cells_by_words_and_by_cells(rt: HostRuntime) -> Result<(), Fail> {
+    let size = Size::new(130, 70).ok_or("no such size")?;
+    let plan = drawn(rt.alloc(), size)?;
+    let planes = Planes::build(rt.alloc(), &plan, 1)?;
+    let by_words = PlaneRuns::new(&plan, &planes);
+    let by_cells = CellRuns::new(&plan);
+    let one_cell = Rect {
+        i0: 129,
+        i1: 129,
+        j0: 40,
+        j1: 40,
+    };
+    let many_cells = Rect {
+        i0: 60,
+        i1: 90,
+        j0: 30,
+        j1: 50,
+    };
+    let cell = cells_of(plan.size, one_cell).ok_or("no such cell")?;
+    let rect = cells_of(plan.size, many_cells).ok_or("no such cells")?;
+    assert_eq!(rt; unlike(&by_words, &by_cells, &cell), None);
+    assert_eq!(rt; unlike(&by_words, &by_cells, &rect), None);
     Ok(())
 }

@@ -7,15 +7,15 @@ use Rattle.std.proofs.lemmas.Nat.Bits.{bit_at_or, bit_at_set_same, bit_at_set_ot
 use Rattle.std.proofs.lemmas.Bool.{cases_lt, cases_eq, both_ways, and_parts, eq-eqb, ne_eqb}
 use Rattle.std.proofs.lemmas.Option.{slice_get_past, none-some}
 use Rattle.nav_types.specs.declared.cells.Cell.{Cell}
-use Rattle.lane_rows.specs.Rows.{has_class}
-use Rattle.navcell_grid.specs.Grids.{GridCells}
+use Rattle.nav_types.specs.declared.cells.Rect.{Rect}
+use Rattle.lane_rows.specs.Rows.{has_class, one_if}
 use Rattle.obstruction_shapes.specs.declared.shapes.Obstruction.{Obstruction}
 use Rattle.obstruction_shapes.specs.Blocking.{blocked}
 use Rattle.class_config.specs.declared.table.PassabilityClass.{PassabilityClass}
 use Rattle.class_config.specs.Classes.{clearance_at}
-use Rattle.clearance_raster.specs.Rasters.{blocks_class, one_if}
-use Rattle.clearance_raster.specs.inner.TestRasters.{IsRaster}
-use Rattle.clearance_raster.proofs.Rastering.{Test, raster_both, raster_alike, one_if-has_class}
+use Rattle.clearance_raster.specs.Rasters.{blocks_class}
+use Rattle.clearance_raster.specs.inner.TestRasters.{IsRasterIn}
+use Rattle.clearance_raster.proofs.Rastering.{Test, Numbers, part_both, part_alike, one_if-has_class}
 
 either : (x y : Bool) → (max (one_if x) (one_if y) == 1) ≡ (x || y)
 either true true = refl
@@ -60,23 +60,23 @@ spread true false false y same = refl
 spread false false x y same = refl
 
 -- the classes done, and those of one clearance more, which were painted
-pub more_done : (obstruction : Obstruction) (classes : List PassabilityClass) (clearance painted : ℤ) (done alike given : ℕ) (a b c : GridCells)
+pub more_done : (rect part : Rect) (obstruction : Obstruction) (classes : List PassabilityClass) (clearance painted : ℤ) (done alike given : ℕ) (a b c : Numbers)
     → painted ≡ clearance → given ≡ alike
     → AreAlike classes clearance obstruction.mask alike
-    → IsRaster (λ k cell. has_class k done && blocks_class obstruction classes k cell) a b
-    → IsRaster (λ k cell. has_class k given && blocked obstruction.shape painted cell) b c
-    → IsRaster (λ k cell. has_class k (bit_or done alike) && blocks_class obstruction classes k cell) a c
-more_done obstruction classes clearance painted done alike given a b c painted_is given_is are one two =
+    → IsRasterIn rect part (λ k cell. has_class k done && blocks_class obstruction classes k cell) a b
+    → IsRasterIn rect part (λ k cell. has_class k given && blocked obstruction.shape painted cell) b c
+    → IsRasterIn rect part (λ k cell. has_class k (bit_or done alike) && blocks_class obstruction classes k cell) a c
+more_done rect part obstruction classes clearance painted done alike given a b c painted_is given_is are one two =
     let first : Test = λ k cell. has_class k done && blocks_class obstruction classes k cell in
     let second : Test = λ k cell. has_class k given && blocked obstruction.shape painted cell in
-    raster_alike (λ k cell. first k cell || second k cell) (λ k cell. has_class k (bit_or done alike) && blocks_class obstruction classes k cell) a c
-    (λ k cell. ap (λ g. first k cell || has_class k g && blocked obstruction.shape painted cell) given_is
+    part_alike rect part (λ k cell. first k cell || second k cell) (λ k cell. has_class k (bit_or done alike) && blocks_class obstruction classes k cell) a c
+    (λ k cell inside. ap (λ g. first k cell || has_class k g && blocked obstruction.shape painted cell) given_is
     ∙ spread (has_class k done) (has_class k alike) (blocks_class obstruction classes k cell) (blocked obstruction.shape painted cell)
     (λ is. let both = (are k).0 is in
     blocks_alike obstruction classes clearance k cell both.0 both.1
     ∙ ap (λ c. blocked obstruction.shape c cell) (sym painted_is))
     ∙ ap (λ b. b && blocks_class obstruction classes k cell) (sym (in_both k done alike)))
-    (raster_both first second a b c one two)
+    (part_both rect part first second a b c one two)
 
 -- the mask's classes below `number` are done
 abbrev pub AreDone : ℕ → ℕ → ℕ → Type 0
@@ -99,13 +99,13 @@ in_table obstruction classes k cell blocks = ⊎_elim
     (cases_lt k (length classes))
 
 -- all classes are done
-pub all_done : (obstruction : Obstruction) (classes : List PassabilityClass) (done : ℕ) (a b : GridCells)
+pub all_done : (rect part : Rect) (obstruction : Obstruction) (classes : List PassabilityClass) (done : ℕ) (a b : Numbers)
     → AreDone obstruction.mask done (length classes)
-    → IsRaster (λ k cell. has_class k done && blocks_class obstruction classes k cell) a b
-    → IsRaster (λ k cell. blocks_class obstruction classes k cell) a b
-all_done obstruction classes done a b are is =
-    raster_alike (λ k cell. has_class k done && blocks_class obstruction classes k cell) (λ k cell. blocks_class obstruction classes k cell) a b
-    (λ k cell. only_false (has_class k done) (blocks_class obstruction classes k cell)
+    → IsRasterIn rect part (λ k cell. has_class k done && blocks_class obstruction classes k cell) a b
+    → IsRasterIn rect part (λ k cell. blocks_class obstruction classes k cell) a b
+all_done rect part obstruction classes done a b are is =
+    part_alike rect part (λ k cell. has_class k done && blocks_class obstruction classes k cell) (λ k cell. blocks_class obstruction classes k cell) a b
+    (λ k cell inside. only_false (has_class k done) (blocks_class obstruction classes k cell)
     (λ blocks. are k (in_table obstruction classes k cell blocks)
     (and_parts (has_class k obstruction.mask) (option_map_or (λ c. blocked obstruction.shape c cell) (clearance_at classes k) false) blocks).0))
     is

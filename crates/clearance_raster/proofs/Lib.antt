@@ -1,3 +1,5 @@
 pub mod AlikeClasses
 pub mod BlockedColumns
 pub mod Rastering
+pub mod Reaching
+pub mod Sizes

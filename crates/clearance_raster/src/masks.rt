@@ -8,7 +8,7 @@ use fixed_point::Fixed;
 use nav_types::Class;
 
 /// Whether the class is in the mask.
-fn includes(mask: u16, class: Class) -> bool
+pub fn includes(mask: u16, class: Class) -> bool
     ensures { result ≡ has_class class mask }
 {
     (mask >> class.number()) & 1 == 1

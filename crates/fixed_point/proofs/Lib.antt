@@ -5,3 +5,4 @@ pub mod ReadsBack
 pub mod Decimals
 pub mod PlaneTests
 pub mod Squares
+pub mod TurningBack

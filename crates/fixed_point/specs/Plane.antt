@@ -60,4 +60,5 @@ centre_across rectangle i j = across rectangle (from_centre i rectangle.x) (from
 -- the squared distance of that middle past the rectangle's sides, and 0 within them, times 2^32
 abbrev pub squared_past : Rectangle → ℕ → ℕ → ℕ
 squared_past rectangle i j =
-    square (beyond (centre_along rectangle i j) rectangle.hw) + square (beyond (centre_across rectangle i j) rectangle.hh)
+    square (beyond (centre_along rectangle i j) rectangle.hw)
+    + square (beyond (centre_across rectangle i j) rectangle.hh)

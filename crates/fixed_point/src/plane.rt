@@ -155,7 +155,8 @@ pub fn columns_near(x: Fixed, reach: u64, count: u16) -> Option<(u16, u16)>
     requires reach { reach ≤ 2 ^ 34 }
     requires count { 0 < count }
     ensures inside { IfSome result (λ span. (span.0 ≤ span.1) × (span.1 < count)) }
-    ensures near { IfSome result (λ span. (i : ℕ) → i < count → (((span.0 ≤ i) × (i ≤ span.1)) ↔ (unsigned_abs (from_centre i x) ≤ reach))) }
+    ensures near { IfSome result (λ span. (i : ℕ) → i < count
+        → (((span.0 ≤ i) × (i ≤ span.1)) ↔ (unsigned_abs (from_centre i x) ≤ reach))) }
     ensures none_near { IfNone result ((i : ℕ) → i < count → ¬ (unsigned_abs (from_centre i x) ≤ reach)) }
 {
     let x = magnitude(x);

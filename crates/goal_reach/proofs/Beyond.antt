@@ -1,5 +1,5 @@
 -- How remote a cell is at least that lies beyond an edge of a goal's box.
-use Rattle.std.proofs.Common.{ℕ, ◌≡◌, ◌+◌, ◌-◌, ◌*◌, ◌<◌, ◌≤◌, ◌⊎◌, inl, inr, subst, refl, arith, leb-true, le-leb, nat_le, ℤ, pos, ◌+ℤ◌, ◌-ℤ◌, ◌*ℤ◌}
+use Rattle.std.proofs.Common.{ℕ, ◌≡◌, ◌+◌, ◌-◌, ◌*◌, ◌<◌, ◌≤◌, ◌⊎◌, inl, inr, subst, refl, arith, leb-true, le-leb, nat_le, ℤ, pos, ◌-ℤ◌}
 use Rattle.std.specs.Prelude.{unsigned_abs}
 use Rattle.std.specs.Ordering.{int_eq}
 use Rattle.std.proofs.lemmas.Int.{ints}
@@ -13,7 +13,8 @@ use Rattle.goal_shapes.specs.declared.goals.Goal.TheVariants.{Point, Circle, Squ
 use Rattle.goal_shapes.specs.Goals.{columns_from, gap, squared_length, meets_axis, framed, remoteness}
 use Rattle.goal_reach.specs.inner.Remote.{IsLeastBeyond}
 use Rattle.goal_reach.proofs.Edges.{IsPast, past_distance, past_edges}
-use Rattle.goal_reach.proofs.Turned.{turns, turned_back, reached_sides}
+use Rattle.fixed_point.proofs.TurningBack.{column_back, row_back}
+use Rattle.goal_reach.proofs.Turned.{reached_sides}
 
 -- ---- points
 
@@ -66,24 +67,18 @@ past_square s k i j positive (inl past) =
     let px = from_centre i s.x in let pz = from_centre j s.z in
     let p = unsigned_abs px in let u = unsigned_abs s.ux in let v = unsigned_abs s.uz in
     let d = unsigned_abs (along s px pz) in let e = unsigned_abs (across s px pz) in
-    let back : p * (square u + square v) ≤ u * d + v * e = turned_back p u v d e (turns px pz s.ux s.uz) in
     reached_sides (squared_length s.ux s.uz) (65536 * k + 32768) p u v d e (unsigned_abs s.hw) (unsigned_abs s.hh) positive refl
-    (past_axis s.x s.ux s.uz s.hw s.hh k i past) back
+    (past_axis s.x s.ux s.uz s.hw s.hh k i past) (column_back px pz s.ux s.uz)
 past_square s k i j positive (inr past) =
     let px = from_centre i s.x in let pz = from_centre j s.z in
     let p = unsigned_abs pz in let u = unsigned_abs s.uz in let v = unsigned_abs s.ux in
     let d = unsigned_abs (along s px pz) in let e = unsigned_abs (across s px pz) in
     let n = squared_length s.uz s.ux in
     let order : n ≡ squared_length s.ux s.uz = omega arith in
-    let same_d : unsigned_abs (pz *ℤ s.uz +ℤ px *ℤ s.ux) ≡ d = omega (arith, ints) in
-    let same_e : unsigned_abs (px *ℤ s.uz -ℤ pz *ℤ s.ux) ≡ e = omega (arith, ints) in
-    let back : p * (square u + square v) ≤ u * unsigned_abs (pz *ℤ s.uz +ℤ px *ℤ s.ux) + v * unsigned_abs (px *ℤ s.uz -ℤ pz *ℤ s.ux) =
-    turned_back p u v (unsigned_abs (pz *ℤ s.uz +ℤ px *ℤ s.ux)) (unsigned_abs (px *ℤ s.uz -ℤ pz *ℤ s.ux)) (turns pz px s.uz s.ux) in
-    let back' : p * (square u + square v) ≤ u * d + v * e = subst (λ (t : ℕ). p * (square u + square v) ≤ u * d + v * t) same_e
-    (subst (λ (t : ℕ). p * (square u + square v) ≤ u * t + v * unsigned_abs (px *ℤ s.uz -ℤ pz *ℤ s.ux)) same_d back) in
     let sides = past_axis s.z s.uz s.ux s.hw s.hh k j past in
     let it : n * square (65536 * k + 32768) ≤ square (d - 65536 * unsigned_abs s.hw) + square (e - 65536 * unsigned_abs s.hh) =
-    reached_sides n (65536 * k + 32768) p u v d e (unsigned_abs s.hw) (unsigned_abs s.hh) (omega arith) refl sides back' in
+    reached_sides n (65536 * k + 32768) p u v d e (unsigned_abs s.hw) (unsigned_abs s.hh) (omega arith) refl sides
+    (row_back px pz s.ux s.uz) in
     subst (λ (t : ℕ). t * square (65536 * k + 32768) ≤ squared_past s i j) order it
 
 -- ---- goals

@@ -1,6 +1,6 @@
 -- A map, which tests walk on, whose only blocked cells are those of a corner: all others are joined.
-use Rattle.std.proofs.Common.{ℕ, zero, suc, ◌+◌, ◌-◌, ◌<◌, ◌≤◌, ◌≡◌, ◌⊎◌, ◌↔◌, ◌&&◌, ◌||◌, Bool, true, false, nat_lt, [], IsTrue, IsFalse, inl, inr, refl, ap, subst, arith}
-use Rattle.std.proofs.lemmas.Bool.{false≢true, both_ways, and_parts, and_from, ltb-true, lt-ltb}
+use Rattle.std.proofs.Common.{ℕ, zero, suc, ◌+◌, ◌-◌, ◌<◌, ◌≤◌, ◌≡◌, ◌⊎◌, ◌↔◌, ◌&&◌, ◌||◌, Bool, nat_lt, [], IsTrue, IsFalse, inl, inr, refl, ap, subst, arith}
+use Rattle.std.proofs.lemmas.Bool.{or_left, or_right, or_cases, both_ways, and_parts, and_from, ltb-true, lt-ltb}
 use Rattle.nav_types.specs.declared.cells.Cell.{Cell}
 use Rattle.nav_types.specs.declared.directions.Dir.TheVariants.{N, W}
 use Rattle.nav_types.specs.Cells.{cell_at}
@@ -11,19 +11,13 @@ use Rattle.nav_types.proofs.Walking.{Joined-step, Joined-trans, Joined-sym, stra
 abbrev is_free : ℕ → ℕ → Cell → Bool
 is_free w h cell = (nat_lt cell.i w && nat_lt cell.j h) && (nat_lt 20 cell.i || nat_lt 20 cell.j)
 
-or_true : (a b : Bool) → IsTrue a ⊎ IsTrue b → IsTrue (a || b)
-or_true true b either = refl
-or_true false b (inl first) = absurd (false≢true first)
-or_true false b (inr second) = second
-
-true_or : (a b : Bool) → IsTrue (a || b) → IsTrue a ⊎ IsTrue b
-true_or true b either = inl refl
-true_or false b either = inr either
-
 free_there : (w h i j : ℕ) → i < w → j < h → (20 < i) ⊎ (20 < j) → IsTrue (is_free w h (cell_at i j))
 free_there w h i j column row off =
     and_from (nat_lt i w && nat_lt j h) (nat_lt 20 i || nat_lt 20 j) (and_from (nat_lt i w) (nat_lt j h) (lt-ltb i w column) (lt-ltb j h row))
-    (or_true (nat_lt 20 i) (nat_lt 20 j) (elim off [ inl a ↦ inl (lt-ltb 20 i a) | inr b ↦ inr (lt-ltb 20 j b) ]))
+    (elim off [
+      | inl a ↦ or_left (nat_lt 20 i) (nat_lt 20 j) (lt-ltb 20 i a)
+      | inr b ↦ or_right (nat_lt 20 i) (nat_lt 20 j) (lt-ltb 20 j b)
+    ])
 
 -- cells of one column are joined, where all of them are passable
 up_column : (passes : Cell → Bool) (i j n : ℕ) → ((m : ℕ) → m ≤ n → IsTrue (passes (cell_at i (j + m)))) → Joined passes (cell_at i j) (cell_at i (j + n))
@@ -48,7 +42,7 @@ to_last_row w h high cell free =
     let parts = and_parts (nat_lt cell.i w && nat_lt cell.j h) (nat_lt 20 cell.i || nat_lt 20 cell.j) free in
     let sides = and_parts (nat_lt cell.i w) (nat_lt cell.j h) parts.0 in
     let column : cell.i < w = ltb-true cell.i w sides.0 in let row : cell.j < h = ltb-true cell.j h sides.1 in
-    let off : (20 < cell.i) ⊎ (20 < cell.j) = elim (true_or (nat_lt 20 cell.i) (nat_lt 20 cell.j) parts.1) [
+    let off : (20 < cell.i) ⊎ (20 < cell.j) = elim (or_cases (nat_lt 20 cell.i) (nat_lt 20 cell.j) parts.1) [
       | inl a ↦ inl (ltb-true 20 cell.i a)
       | inr b ↦ inr (ltb-true 20 cell.j b)
     ] in

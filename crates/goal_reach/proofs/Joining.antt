@@ -5,16 +5,12 @@ use Rattle.nav_types.specs.declared.cells.Cell.{Cell}
 use Rattle.nav_types.specs.declared.cells.Size.{Size}
 use Rattle.nav_types.specs.Cells.{IsInside}
 use Rattle.nav_types.specs.Walks.{Joined}
-use Rattle.nav_types.proofs.Walking.{IsWalk-passes}
+use Rattle.nav_types.proofs.Walking.{Joined-passes}
 use Rattle.goal_reach.specs.inner.StartAreas.{IsAreaOf}
-
--- what is joined to a passable cell is passable
-pub joined_passes : (passes : Cell → Bool) (start cell : Cell) → IsTrue (passes start) → Joined passes start cell → IsTrue (passes cell)
-joined_passes passes start cell passable joined = IsWalk-passes passes joined.0 start cell passable joined.1
 
 -- what is joined to a passable cell lies in the map
 pub joined_inside : (passes : Cell → Bool) (size : Size) → ((cell : Cell) → IsTrue (passes cell) → IsInside size cell) → (start cell : Cell) → IsTrue (passes start) → Joined passes start cell → IsInside size cell
-joined_inside passes size within start cell passable joined = within cell (joined_passes passes start cell passable joined)
+joined_inside passes size within start cell passable joined = within cell (Joined-passes passes start cell passable joined)
 
 -- a cell is joined to the start exactly where its area has the start's number
 pub same_area : (passes : Cell → Bool) (HasNumber : Cell → ℕ → Type 0) (start cell : Cell) (area number : ℕ)
@@ -30,6 +26,6 @@ same_area passes HasNumber start cell area number blocked joined own numbered = 
       ] in
       (joined start cell area number own.passable free own.numbered numbered).0 (sym same)),
   (λ walk.
-      let free = joined_passes passes start cell own.passable walk in
+      let free = Joined-passes passes start cell own.passable walk in
       eq-eqb number area (sym ((joined start cell area number own.passable free own.numbered numbered).1 walk))),
 )

@@ -12,8 +12,8 @@ IsBlockedAt passes x z = (holder : Cell) → HoldsPoint x z holder → IsFalse (
 abbrev pub IsNearestPassable : (Cell → Bool) → ℤ → ℤ → Cell → Type 0
 IsNearestPassable passes x z cell = IsLeastBy (squared_distance x z) (λ other. IsTrue (passes other)) cell
 
--- The start cell of the point (x, z): the passable cell that holds the point. Where no passable cell holds it, the nearest
--- passable one.
+-- The start cell of the point (x, z): the passable cell that holds the point. Where no passable cell holds it, the
+-- nearest passable one.
 pub record IsStartCell (passes : Cell → Bool) (x z : ℤ) (cell : Cell) : Type 0 where
   pub passable : IsTrue (passes cell)
   pub nearest : HoldsPoint x z cell ⊎ (IsBlockedAt passes x z × IsNearestPassable passes x z cell)

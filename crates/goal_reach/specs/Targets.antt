@@ -34,7 +34,9 @@ IsSoundTarget size (Near near) = IsInside size near
 abbrev pub IsNearCell : (Cell → Bool) → Cell → Goal → Cell → Type 0
 IsNearCell passes start goal cell = IsLeastBy (remoteness goal) (Joined passes start) cell
 
--- The targets of a goal from a start: the goal, where one of its cells is joined to the start. Where none is, the near cell.
+-- The targets of a goal from a start: the goal, where one of its cells is joined to the start. Where none is, the near
+-- cell.
 abbrev pub AreTargets : (Cell → Bool) → Cell → Goal → Target → Type 0
 AreTargets passes start goal (GoalTarget same) = (same ≡ goal) × CanReach passes start (contains goal)
-AreTargets passes start goal (Near cell) = (CanReach passes start (contains goal) → ⊥) × IsNearCell passes start goal cell
+AreTargets passes start goal (Near cell) = (CanReach passes start (contains goal) → ⊥)
+    × IsNearCell passes start goal cell

@@ -48,7 +48,8 @@ pub(crate) trait Choice {
     fn least_beyond(&self, rings: u16) -> u128
         requires sound { sound self.now }
         requires rings { rings ≤ 2048 }
-        ensures { (cell : Cell) → IsInside (extent self.now) cell → (IsInRect (widened rings (core_of self.now)) cell → ⊥) → result ≤ rank_of self.now cell };
+        ensures { (cell : Cell) → IsInside (extent self.now) cell
+            → (IsInRect (widened rings (core_of self.now)) cell → ⊥) → result ≤ rank_of self.now cell };
 }
 
 /// A cell and its rank.

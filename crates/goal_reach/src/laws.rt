@@ -7,7 +7,8 @@ ghost use Rattle.goal_reach.specs.Targets.{AreTargets};
 
 /// A law: a point has at most one start cell.
 pub fn one_start_cell()
-    ensures { (passes : Cell → Bool) (x z : ℤ) (a b : Cell) → IsStartCell passes x z a → IsStartCell passes x z b → a ≡ b }
+    ensures { (passes : Cell → Bool) (x z : ℤ) (a b : Cell) → IsStartCell passes x z a → IsStartCell passes x z b
+        → a ≡ b }
 {}
 
 /// A law: a start cell and a goal have at most one target.

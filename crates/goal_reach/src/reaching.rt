@@ -66,7 +66,8 @@ impl<M: Areas> AreaCells<'_, M> {
     /// areas have one number, and 0 is the number of no passable cell.
     fn has(&self, cell: Cell) -> bool
         requires class { self.now.class < M.class_count self.now.map.now }
-        requires area { IsAreaOf (M.passes self.now.map.now self.now.class) (M.has_area self.now.map.now self.now.class) self.now.start self.now.area }
+        requires area { IsAreaOf (M.passes self.now.map.now self.now.class) (M.has_area self.now.map.now self.now.class)
+            self.now.start self.now.area }
         requires inside { IsInside (M.extent self.now.map.now) cell }
         ensures { IsTrue result ↔ Joined (M.passes self.now.map.now self.now.class) self.now.start cell }
     {
@@ -76,10 +77,12 @@ impl<M: Areas> AreaCells<'_, M> {
     /// Whether some cell of the goal is joined to the start. They all lie in the goal's box.
     fn has_goal_cell(&self) -> bool
         requires class { self.now.class < M.class_count self.now.map.now }
-        requires area { IsAreaOf (M.passes self.now.map.now self.now.class) (M.has_area self.now.map.now self.now.class) self.now.start self.now.area }
+        requires area { IsAreaOf (M.passes self.now.map.now self.now.class) (M.has_area self.now.map.now self.now.class)
+            self.now.start self.now.area }
         requires goal { IsWellFormed self.now.goal.now }
         requires frame { IsFrame (framed self.now.goal.now) (M.extent self.now.map.now) self.now.frame }
-        ensures { IsTrue result ↔ CanReach (M.passes self.now.map.now self.now.class) self.now.start (contains self.now.goal.now) }
+        ensures { IsTrue result
+            ↔ CanReach (M.passes self.now.map.now self.now.class) self.now.start (contains self.now.goal.now) }
     {
         for j in self.frame.j0..self.frame.j1 + 1 {
             if self.has_goal_cell_in_row(j) {
@@ -92,13 +95,17 @@ impl<M: Areas> AreaCells<'_, M> {
     /// Whether some cell in row `j` of the goal's box is the goal's and joined to the start.
     fn has_goal_cell_in_row(&self, j: u16) -> bool
         requires class { self.now.class < M.class_count self.now.map.now }
-        requires area { IsAreaOf (M.passes self.now.map.now self.now.class) (M.has_area self.now.map.now self.now.class) self.now.start self.now.area }
+        requires area { IsAreaOf (M.passes self.now.map.now self.now.class) (M.has_area self.now.map.now self.now.class)
+            self.now.start self.now.area }
         requires goal { IsWellFormed self.now.goal.now }
         requires frame { IsRectInside (M.extent self.now.map.now) self.now.frame }
         requires row { j < (M.extent self.now.map.now).h }
-        ensures some { IsTrue result → CanReach (M.passes self.now.map.now self.now.class) self.now.start (contains self.now.goal.now) }
-        ensures none { IsFalse result → (cell : Cell) → cell.j ≡ j → self.now.frame.i0 ≤ cell.i → cell.i ≤ self.now.frame.i1
-            → IsTrue (contains self.now.goal.now cell) → Joined (M.passes self.now.map.now self.now.class) self.now.start cell → ⊥ }
+        ensures some { IsTrue result
+            → CanReach (M.passes self.now.map.now self.now.class) self.now.start (contains self.now.goal.now) }
+        ensures none { IsFalse result → (cell : Cell) → cell.j ≡ j → self.now.frame.i0 ≤ cell.i
+            → cell.i ≤ self.now.frame.i1
+            → IsTrue (contains self.now.goal.now cell)
+            → Joined (M.passes self.now.map.now self.now.class) self.now.start cell → ⊥ }
     {
         for i in self.frame.i0..self.frame.i1 + 1 {
             let cell = Cell::new(i, j);

@@ -56,7 +56,8 @@ impl<V: View> Choice for PassableCells<'_, V> {
 
     ghost extent = { λ c. V.extent c.view.now };
 
-    ghost sound = { λ c. (c.class < V.class_count c.view.now) × HoldsPoint c.x c.z c.holder × IsInside (V.extent c.view.now) c.holder };
+    ghost sound = { λ c. (c.class < V.class_count c.view.now) × HoldsPoint c.x c.z c.holder
+        × IsInside (V.extent c.view.now) c.holder };
 
     ghost offered = { λ c cell. IsTrue (V.passes c.view.now c.class cell) };
 

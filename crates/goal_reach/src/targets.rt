@@ -25,7 +25,8 @@ impl Aim for Target {
     ghost framed = { λ target _ cell. framed_by target cell };
 
     ghost hits_framed = { λ target size cell.
-        elim target as (λ t. IsSoundTarget size t → IsInside size cell → IsTrue (hit_by t cell) → IsTrue (framed_by t cell)) [
+        elim target as (λ t. IsSoundTarget size t → IsInside size cell → IsTrue (hit_by t cell)
+        → IsTrue (framed_by t cell)) [
           | GoalTarget goal ↦ λ sound inside hit. contains_framed goal cell hit
           | Near near ↦ λ sound inside hit. hit
         ] };

@@ -64,7 +64,8 @@ impl View for Plan {
     }
 
     ghost within = { λ plan class cell passing.
-        let inside = (and_parts (nat_lt cell.i plan.size.w && nat_lt cell.j plan.size.h) (slice_index_or plan.free.items (cell.j * plan.size.w + cell.i) false) passing).0 in
+        let inside = (and_parts (nat_lt cell.i plan.size.w && nat_lt cell.j plan.size.h)
+        (slice_index_or plan.free.items (cell.j * plan.size.w + cell.i) false) passing).0 in
         let sides = and_parts (nat_lt cell.i plan.size.w) (nat_lt cell.j plan.size.h) inside in
         record { column = ltb-true cell.i plan.size.w sides.0; row = ltb-true cell.j plan.size.h sides.1 } };
 }
@@ -116,7 +117,8 @@ impl View for TwoRooms {
 
     ghost class_count = { λ _. 1 };
 
-    ghost passes = { λ map _ cell. (nat_lt cell.i map.size.w && nat_lt cell.j map.size.h) && not (cell.i == 3 || (cell.i == 1 && cell.j == 1)) };
+    ghost passes = { λ map _ cell. (nat_lt cell.i map.size.w && nat_lt cell.j map.size.h)
+        && not (cell.i == 3 || (cell.i == 1 && cell.j == 1)) };
 
     fn size(&self) -> Size {
         self.size
@@ -132,7 +134,8 @@ impl View for TwoRooms {
     }
 
     ghost within = { λ map class cell passing.
-        let inside = (and_parts (nat_lt cell.i map.size.w && nat_lt cell.j map.size.h) (not (cell.i == 3 || (cell.i == 1 && cell.j == 1))) passing).0 in
+        let inside = (and_parts (nat_lt cell.i map.size.w && nat_lt cell.j map.size.h)
+        (not (cell.i == 3 || (cell.i == 1 && cell.j == 1))) passing).0 in
         let sides = and_parts (nat_lt cell.i map.size.w) (nat_lt cell.j map.size.h) inside in
         record { column = ltb-true cell.i map.size.w sides.0; row = ltb-true cell.j map.size.h sides.1 } };
 }
@@ -143,7 +146,8 @@ impl Areas for TwoRooms {
     ghost has_area = { λ map class cell number.
         let room = λ (c : Cell). if Self.passes map class c then (if nat_lt c.i 3 then 1 else 2) else 0 in
         (number ≡ room cell) × ((room cell ≡ 0) ↔ IsFalse (Self.passes map class cell))
-        × ((a b : Cell) → IsTrue (Self.passes map class a) → IsTrue (Self.passes map class b) → (room a ≡ room b) ↔ Joined (Self.passes map class) a b) };
+        × ((a b : Cell) → IsTrue (Self.passes map class a) → IsTrue (Self.passes map class b)
+        → (room a ≡ room b) ↔ Joined (Self.passes map class) a b) };
 
     fn area(&self, class: Class, cell: Cell) -> u32 {
         room(self.passable(class, cell), cell.i)
@@ -152,8 +156,10 @@ impl Areas for TwoRooms {
     ghost blocked = { λ map class cell area numbered.
         ((λ none. numbered.1.0 (sym numbered.0 ∙ none)), (λ blocked. numbered.0 ∙ numbered.1.1 blocked)) };
 
-    ghost joined = { λ map class a b m n free other here there.
-        ((λ same. (here.2 a b free other).0 (sym here.0 ∙ same ∙ there.0)), (λ walk. here.0 ∙ (here.2 a b free other).1 walk ∙ sym there.0)) };
+    ghost joined = { λ map class a b m n free other here there. (
+      (λ same. (here.2 a b free other).0 (sym here.0 ∙ same ∙ there.0)),
+      (λ walk. here.0 ∙ (here.2 a b free other).1 walk ∙ sym there.0),
+    ) };
 }
 
 /// The number of the room that a cell of column `i` is in.
@@ -281,7 +287,8 @@ impl View for Boulder {
 
     ghost class_count = { λ _. 1 };
 
-    ghost passes = { λ map _ cell. (nat_lt cell.i map.size.w && nat_lt cell.j map.size.h) && not (cell.i == 1000 && cell.j == 1000) };
+    ghost passes = { λ map _ cell. (nat_lt cell.i map.size.w && nat_lt cell.j map.size.h)
+        && not (cell.i == 1000 && cell.j == 1000) };
 
     fn size(&self) -> Size {
         self.size
@@ -297,7 +304,8 @@ impl View for Boulder {
     }
 
     ghost within = { λ map class cell passing.
-        let inside = (and_parts (nat_lt cell.i map.size.w && nat_lt cell.j map.size.h) (not (cell.i == 1000 && cell.j == 1000)) passing).0 in
+        let inside = (and_parts (nat_lt cell.i map.size.w && nat_lt cell.j map.size.h)
+        (not (cell.i == 1000 && cell.j == 1000)) passing).0 in
         let sides = and_parts (nat_lt cell.i map.size.w) (nat_lt cell.j map.size.h) inside in
         record { column = ltb-true cell.i map.size.w sides.0; row = ltb-true cell.j map.size.h sides.1 } };
 }
@@ -327,7 +335,8 @@ impl View for Corner {
 
     ghost class_count = { λ _. 1 };
 
-    ghost passes = { λ map _ cell. (nat_lt cell.i map.size.w && nat_lt cell.j map.size.h) && (nat_lt 20 cell.i || nat_lt 20 cell.j) };
+    ghost passes = { λ map _ cell. (nat_lt cell.i map.size.w && nat_lt cell.j map.size.h)
+        && (nat_lt 20 cell.i || nat_lt 20 cell.j) };
 
     fn size(&self) -> Size {
         self.size
@@ -343,7 +352,8 @@ impl View for Corner {
     }
 
     ghost within = { λ map class cell passing.
-        let inside = (and_parts (nat_lt cell.i map.size.w && nat_lt cell.j map.size.h) (nat_lt 20 cell.i || nat_lt 20 cell.j) passing).0 in
+        let inside = (and_parts (nat_lt cell.i map.size.w && nat_lt cell.j map.size.h)
+        (nat_lt 20 cell.i || nat_lt 20 cell.j) passing).0 in
         let sides = and_parts (nat_lt cell.i map.size.w) (nat_lt cell.j map.size.h) inside in
         record { column = ltb-true cell.i map.size.w sides.0; row = ltb-true cell.j map.size.h sides.1 } };
 }
@@ -352,7 +362,8 @@ impl Areas for Corner {
     // 0 for each blocked cell, and 1 for each passable one: all of those are joined.
     ghost has_area = { λ map class cell number.
         ((number ≡ 0) ↔ IsFalse (Self.passes map class cell)) × (IsTrue (Self.passes map class cell) → number ≡ 1)
-        × ((a b : Cell) → IsTrue (Self.passes map class a) → IsTrue (Self.passes map class b) → Joined (Self.passes map class) a b) };
+        × ((a b : Cell) → IsTrue (Self.passes map class a) → IsTrue (Self.passes map class b)
+        → Joined (Self.passes map class) a b) };
 
     fn area(&self, class: Class, cell: Cell) -> u32 {
         if self.passable(class, cell) { 1 } else { 0 }

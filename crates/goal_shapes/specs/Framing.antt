@@ -10,7 +10,8 @@ use Rattle.goal_shapes.specs.declared.goals.Goal.TheVariants.{Point, Circle, Not
 use Rattle.goal_shapes.specs.Goals.{gap, meets_axes, meets_sides, contains, framed}
 
 -- both parts of a sum of squares are near
-both_near : (a b r : ℕ) → IsTrue (nat_le (square a + square b) (square r)) → (IsTrue (nat_le a r)) × (IsTrue (nat_le b r))
+both_near : (a b r : ℕ) → IsTrue (nat_le (square a + square b) (square r))
+    → (IsTrue (nat_le a r)) × (IsTrue (nat_le b r))
 both_near a b r hit = let sum = leb-true (square a + square b) (square r) hit in
     (le-leb a r (root_le a r (omega arith)), le-leb b r (root_le b r (omega arith)))
 

@@ -57,7 +57,8 @@ corners_of cell = (cell.i, cell.j) ∷ (cell.i + 1, cell.j) ∷ (cell.i, cell.j 
 
 -- the corner lies no nearer than r to the point (x, z)
 abbrev pub is_off_circle : ℤ → ℤ → ℤ → ℕ × ℕ → Bool
-is_off_circle x z r corner = nat_le (square (unsigned_abs r)) (squared_length (from_edge corner.0 x) (from_edge corner.1 z))
+is_off_circle x z r corner =
+    nat_le (square (unsigned_abs r)) (squared_length (from_edge corner.0 x) (from_edge corner.1 z))
 
 -- ---- squares
 
@@ -72,7 +73,8 @@ meets_axis p main other hw hh = let n = squared_length main other in
 -- along the axis
 abbrev pub meets_side : Rectangle → ℤ → ℤ → Bool
 meets_side rectangle half length =
-    nat_le (unsigned_abs length) (65536 * unsigned_abs half + 32768 * (unsigned_abs rectangle.ux + unsigned_abs rectangle.uz))
+    nat_le (unsigned_abs length)
+    (65536 * unsigned_abs half + 32768 * (unsigned_abs rectangle.ux + unsigned_abs rectangle.uz))
 
 -- no axis of the map separates the square and the cell
 abbrev pub meets_axes : Rectangle → Cell → Bool
@@ -104,7 +106,8 @@ within length half = 65536 * unsigned_abs half - unsigned_abs length
 -- how deep the cell's middle lies within the square's sides: within those that are nearest to it
 abbrev pub depth : Rectangle → Cell → ℕ
 depth rectangle cell =
-    min (within (centre_along rectangle cell.i cell.j) rectangle.hw) (within (centre_across rectangle cell.i cell.j) rectangle.hh)
+    min (within (centre_along rectangle cell.i cell.j) rectangle.hw)
+    (within (centre_across rectangle cell.i cell.j) rectangle.hh)
 
 -- ---- goals
 

@@ -69,7 +69,9 @@ fn near_box(x: Fixed, z: Fixed, reach_x: u64, reach_z: u64, size: Size) -> Rect
     requires columns { (32768 ≤ reach_x) × (reach_x ≤ 2 ^ 34) }
     requires rows { (32768 ≤ reach_z) × (reach_z ≤ 2 ^ 34) }
     ensures inside { IsRectInside size result }
-    ensures near { (cell : Cell) → IsInside size cell → (IsInRect result cell ↔ ((unsigned_abs (from_centre cell.i x) ≤ reach_x) × (unsigned_abs (from_centre cell.j z) ≤ reach_z))) }
+    ensures near { (cell : Cell) → IsInside size cell
+        → (IsInRect result cell
+        ↔ ((unsigned_abs (from_centre cell.i x) ≤ reach_x) × (unsigned_abs (from_centre cell.j z) ≤ reach_z))) }
 {
     let (i0, i1) = reached(x, reach_x, size.w);
     let (j0, j1) = reached(z, reach_z, size.h);
@@ -83,7 +85,8 @@ fn reached(x: Fixed, reach: u64, count: u16) -> (u16, u16)
     requires reach { (32768 ≤ reach) × (reach ≤ 2 ^ 34) }
     ensures order { result.0 ≤ result.1 }
     ensures inside { result.1 < count }
-    ensures near { (i : ℕ) → i < count → (((result.0 ≤ i) × (i ≤ result.1)) ↔ (unsigned_abs (from_centre i x) ≤ reach)) }
+    ensures near { (i : ℕ) → i < count
+        → (((result.0 ≤ i) × (i ≤ result.1)) ↔ (unsigned_abs (from_centre i x) ≤ reach)) }
 {
     match columns_near(x, reach, count) {
         Some(span) => span,

@@ -124,7 +124,9 @@ fn axis_extent(main: Fixed, other: Fixed, hw: Fixed, hh: Fixed) -> u128
     requires unit_vector { IsUnitVector main other }
     requires width { IsUpTo MAX_GOAL_EXTENT hw }
     requires height { IsUpTo MAX_GOAL_EXTENT hh }
-    ensures value { result ≡ 32768 * squared_length main other + 65536 * (unsigned_abs hw * unsigned_abs main + unsigned_abs hh * unsigned_abs other) }
+    ensures value { result
+        ≡ 32768 * squared_length main other
+        + 65536 * (unsigned_abs hw * unsigned_abs main + unsigned_abs hh * unsigned_abs other) }
     ensures bounded { result ≤ 2 ^ 63 }
 {
     let sides = turned_side(hw, main) + turned_side(hh, other);

@@ -13,7 +13,7 @@ use Rattle.nav_types.specs.Walks.{Joined}
 use Rattle.nav_types.specs.Regions.{passes_in, InOneRegion, IsAreaBefore, HasArea, IsAreaFirst}
 use Rattle.chunk_regions.specs.Labelling.{Labelling}
 use Rattle.nav_types.proofs.CellOrder.{IsChunkBefore-irrefl, IsAreaBefore-asym, IsAreaBefore-cases, IsAreaBefore-trans}
-use Rattle.nav_types.proofs.Walking.{Joined-from_straight}
+use Rattle.nav_types.proofs.Walking.{Joined-from_straight, Joined-passes}
 use Rattle.nav_types.proofs.Items.{Contains-from_slice_get}
 use Rattle.region_edges.specs.Edges.{PassesInside}
 use Rattle.reach_sets.specs.declared.regions.RegionId.{RegionId}
@@ -26,7 +26,7 @@ use Rattle.grid_versions.specs.inner.Tables.{Tables, AreTables, region_counts, r
 use Rattle.nav_types.proofs.Items.{from_map, Contains-map, AllPairs-map}
 use Rattle.grid_versions.proofs.ChunkLemmas.{one_place, before_place, chunk_inside, lies_in}
 use Rattle.grid_versions.proofs.RegionLemmas.{has_region, region_exists, joined_from_same, HasFirst, has_first}
-use Rattle.grid_versions.proofs.LinkLemmas.{JoinedStraight-from_region, Joined-passes, regions_joined, cells_joined}
+use Rattle.grid_versions.proofs.LinkLemmas.{JoinedStraight-from_region, regions_joined, cells_joined}
 
 IsRegionBefore-cases : (a b : RegionId) → (a ≡ b) ⊎ (IsRegionBefore a b ⊎ IsRegionBefore b a)
 IsRegionBefore-cases a b = elim (cases_order a.chunk b.chunk) [

@@ -80,7 +80,7 @@ edges_stay before now here there edges agree_here agree_there are =
 
 -- ---- where the marks say that two maps agree
 
-same_unless : (x y : Bool) → ((x ≢ y) → ⊥) → x ≡ y
+pub same_unless : (x y : Bool) → ((x ≢ y) → ⊥) → x ≡ y
 same_unless true true not_apart = refl
 same_unless true false not_apart = absurd (not_apart (λ same. absurd (cc)))
 same_unless false true not_apart = absurd (not_apart (λ same. absurd (cc)))

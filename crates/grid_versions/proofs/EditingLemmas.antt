@@ -17,14 +17,14 @@ use Rattle.grid_versions.specs.Editing.{edit_reply, after_edit, after_edits, is_
 use Rattle.grid_versions.proofs.FittingLemmas.{fits_decides}
 
 -- what an add leaves is what stood, or what stands with a shape that fits
-after_add : (P : Standing → Type 0) (id : ℕ) (old new : Standing) (fit known full : Bool) → P old → (fit ≡ true → P new)
+pub after_add : (P : Standing → Type 0) (id : ℕ) (old new : Standing) (fit known full : Bool) → P old → (fit ≡ true → P new)
     → P (cond (is_refused (cond (not fit) (Refused BadShape) (cond known (Refused DuplicateId) (cond full (Refused StoreFull) (Added id))))) old new)
 after_add P id old new false known full kept added = kept
 after_add P id old new true true full kept added = kept
 after_add P id old new true false true kept added = kept
 after_add P id old new true false false kept added = added refl
 
-after_remove : (P : Standing → Type 0) (id : ℕ) (old new : Standing) (known : Bool) → P old → P new
+pub after_remove : (P : Standing → Type 0) (id : ℕ) (old new : Standing) (known : Bool) → P old → P new
     → P (cond (is_refused (cond known (Removed id) (Refused UnknownId))) old new)
 after_remove P id old new true kept removed = removed
 after_remove P id old new false kept removed = kept
@@ -34,7 +34,7 @@ after_fit_move : (P : Standing → Type 0) (id : ℕ) (old new : Standing) (fit 
 after_fit_move P id old new true kept placed = placed refl
 after_fit_move P id old new false kept placed = kept
 
-after_move : (P : Standing → Type 0) (map : Map) (old : Standing) (id : ℕ) (x z : ℤ) (found : Option Obstruction) → P old
+pub after_move : (P : Standing → Type 0) (map : Map) (old : Standing) (id : ℕ) (x z : ℤ) (found : Option Obstruction) → P old
     → (IsSomeAnd found (λ obstruction. FitsMap map.size (moved_to obstruction.shape x z)) → P (with_placed old id x z found))
     → P (cond (is_refused (move_reply map found id x z)) old (with_placed old id x z found))
 after_move P map old id x z None kept placed = kept

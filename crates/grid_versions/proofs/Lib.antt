@@ -1,3 +1,4 @@
+pub mod BlockLemmas
 pub mod ChunkLemmas
 pub mod RegionLemmas
 pub mod LinkLemmas
@@ -8,6 +9,7 @@ pub mod FittingLemmas
 pub mod PassingLemmas
 pub mod EditingLemmas
 pub mod PaintLemmas
-pub mod CellLists
+pub mod ReachLemmas
 pub mod VersionLemmas
 pub mod ChangeLemmas
+pub mod NextLemmas

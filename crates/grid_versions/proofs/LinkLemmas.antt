@@ -13,7 +13,7 @@ use Rattle.nav_types.specs.Directions.{is_straight, Leads}
 use Rattle.nav_types.specs.Walks.{IsWalk, Joined}
 use Rattle.nav_types.specs.Regions.{passes_in, JoinedStraight, InOneRegion, HasRegion, IsNextChunk, IsBeside}
 use Rattle.nav_types.proofs.CellOrder.{same_chunk}
-use Rattle.nav_types.proofs.Walking.{IsWalk-passes, IsBeside-back, JoinedStraight-refl, JoinedStraight-beside, JoinedStraight-trans, JoinedStraight-from_Joined, Joined-from_straight}
+use Rattle.nav_types.proofs.Walking.{IsBeside-back, JoinedStraight-refl, JoinedStraight-beside, JoinedStraight-trans, JoinedStraight-from_Joined, Joined-from_straight}
 use Rattle.region_edges.specs.Edges.{PassesInside}
 use Rattle.reach_sets.specs.declared.regions.RegionId.{RegionId}
 use Rattle.reach_sets.specs.Chains.{Either, IsChain}
@@ -49,10 +49,6 @@ walk_of_more few more kept (dir ∷ dirs) a b walk =
 pub JoinedStraight-from_region : (passes : Cell → Bool) (chunk : Chunk) (a b : Cell) → InOneRegion passes chunk a b → JoinedStraight passes a b
 JoinedStraight-from_region passes chunk a b joined =
     (joined.0, (joined.1.0, walk_of_more (passes_in passes chunk) passes (λ cell here. (lies_in passes chunk cell here).passable) joined.0 a b joined.1.1))
-
--- what is joined to a passable cell is passable
-pub Joined-passes : (passes : Cell → Bool) (a b : Cell) → IsTrue (passes a) → Joined passes a b → IsTrue (passes b)
-Joined-passes passes a b start joined = IsWalk-passes passes joined.0 a b start joined.1
 
 -- ---- a straight step stays in its chunk or leads to a neighbour
 

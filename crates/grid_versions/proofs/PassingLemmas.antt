@@ -54,7 +54,7 @@ in_rect_to rect cell inside =
 
 -- ---- what no item meets
 
-none_meets : {X : Type 0} (p : X → Bool) (xs : List X) → list_any p xs ≡ false → (x : X) → Contains xs x → p x ≡ false
+pub none_meets : {X : Type 0} (p : X → Bool) (xs : List X) → list_any p xs ≡ false → (x : X) → Contains xs x → p x ≡ false
 none_meets p [] none x has = absurd (Contains-none x has)
 none_meets p (y ∷ ys) none x has =
     let parts = or_parts (p y) (list_any p ys) none in
@@ -63,7 +63,7 @@ none_meets p (y ∷ ys) none x has =
       | inr later ↦ none_meets p ys parts.1 x later
     ]
 
-any_none : {X : Type 0} (p : X → Bool) (xs : List X) → ((x : X) → Contains xs x → p x ≡ false) → list_any p xs ≡ false
+pub any_none : {X : Type 0} (p : X → Bool) (xs : List X) → ((x : X) → Contains xs x → p x ≡ false) → list_any p xs ≡ false
 any_none p [] each = refl
 any_none p (y ∷ ys) each =
     or_from (p y) (list_any p ys) (each y (Contains-head y ys)) (any_none p ys (λ x has. each x (Contains-tail y ys x has)))

@@ -1,9 +1,9 @@
 -- What the parts of a version say of its map and its obstructions.
-use Rattle.std.proofs.Common.{◌≡◌, ℕ, zero, suc, ◌+◌, ◌-◌, ◌<◌, ◌≤◌, ◌↔◌, Bool, true, false, ◌&&◌, not, cond, List, [], ◌∷◌, ◌++◌, length, map as each_of, get_or, refl, sym, ap, subst, ◌∙◌, inl, inr, ⊎_elim, arith, Some, option_map, length-append}
+use Rattle.std.proofs.Common.{◌≡◌, ℕ, zero, suc, ◌+◌, ◌-◌, ◌<◌, ◌≤◌, ◌↔◌, Bool, true, false, ◌&&◌, not, cond, List, [], ◌∷◌, ◌++◌, length, map as each_of, get_or, refl, sym, ap, subst, ◌∙◌, inl, inr, arith, Some, option_map, length-append}
 use Rattle.std.specs.Prelude.{nat_lt, IsTrue, IsFalse, slice_get}
 use Rattle.std.specs.List.{count_by, sum_by, range_with_len}
 use Rattle.std.specs.Int.{bit_at}
-use Rattle.std.proofs.lemmas.Bool.{and_parts, and_from, and_left, and_right, not-true, not_from_false, cases_Bool, lt-ltb, eqb-true, eq-eqb}
+use Rattle.std.proofs.lemmas.Bool.{and_parts, and_from, not-true, not_from_false, lt-ltb, eqb-true, eq-eqb}
 use Rattle.std.proofs.lemmas.Option.{same_Some, slice_get-map, slice_get_within, slice_get-get_or, get_or_from_slice_get}
 use Rattle.std.proofs.lemmas.List.{length-map}
 use Rattle.std.proofs.lemmas.List.FromFn.{length-map-range_with_len, get_or-map-range_with_len, sum_by-map-range_with_len_more}
@@ -16,7 +16,7 @@ use Rattle.nav_types.specs.Cells.{IsInside, IsInRect, chunk_of}
 use Rattle.nav_types.specs.Counting.{Counts}
 use Rattle.nav_types.specs.Regions.{HasRelabelled}
 use Rattle.lane_rows.specs.Rows.{has_class}
-use Rattle.navcell_grid.specs.Grids.{GridCells, number_at, is_passable}
+use Rattle.navcell_grid.specs.Patches.{DiffersIn, free_count}
 use Rattle.nav_types.specs.Numbering.{Numbering, number_of}
 use Rattle.chunk_regions.specs.Labelling.{chunk_rect}
 use Rattle.nav_types.proofs.CellOrder.{same_chunk}
@@ -25,9 +25,10 @@ use Rattle.region_edges.specs.Edges.{PassesInside}
 use Rattle.obstruction_store.specs.Standing.{Standing, AllFit}
 use Rattle.grid_versions.specs.Maps.{Map}
 use Rattle.grid_versions.specs.Passing.{passable_at, is_inside}
-use Rattle.grid_versions.specs.inner.Painting.{is_covered, IsPainted, IsReadFrom, IsPaintedChunk, ArePaintedChunks, free_count, DiffersIn, AreDiffering, SameExtents}
+use Rattle.grid_versions.specs.Versions.{MapState, map_state, passes_of}
+use Rattle.grid_versions.specs.inner.Painting.{is_covered, IsPaintedChunk, AreBaseChunks, ArePaintedChunks, AreDiffering}
 use Rattle.grid_versions.specs.Chunks.{chunk_count, chunk_place}
-use Rattle.grid_versions.specs.inner.ChunkLists.{chunk_numbered, IsChunkInside, AreOfChunks}
+use Rattle.grid_versions.specs.inner.ChunkLists.{chunk_numbered, IsChunkInside}
 use Rattle.grid_versions.specs.inner.Tables.{Tables, AreTables}
 use Rattle.grid_versions.specs.inner.Tallying.{AreTablesOf, Differs, AreMarks}
 use Rattle.grid_versions.specs.inner.Changing.{AreChanges}
@@ -37,7 +38,7 @@ use Rattle.nav_types.proofs.Counting.{Counts-carried}
 use Rattle.grid_versions.proofs.ChunkLemmas.{AreOfChunks-at, chunk_inside, item_at, numbered_inside}
 use Rattle.grid_versions.proofs.TallyLemmas.{Counts-chunks, all_relabelled, differing_inside}
 use Rattle.grid_versions.proofs.PassingLemmas.{inside_from, inside_to}
-use Rattle.grid_versions.proofs.CellLists.{free_counted}
+use Rattle.navcell_grid.proofs.PatchCells.{free_counted}
 
 -- ---- one more table
 
@@ -76,60 +77,12 @@ module _ (map : Map) (standing : Standing) where
       let all = and_parts (nat_lt k (length map.classes) && is_inside map.size cell) (not (is_covered map standing k cell)) passes in
       inside_from map.size cell (and_parts (nat_lt k (length map.classes)) (is_inside map.size cell) all.0).1
 
-  -- the bits of a painted grid say which cells are passable
-  painted-passes : (grid : GridCells) (k : ℕ) (cell : Cell) → IsPainted map standing grid → k < length map.classes
-      → is_passable grid k cell ≡ passable_at map standing k cell
-  unfolding passable_at
-  painted-passes grid k cell painted class = ⊎_elim
-      (λ (inside : is_inside map.size cell ≡ true).
-      ap (λ (s : Size). is_inside s cell && not (has_class k (number_at grid cell))) painted.size
-      ∙ ap (λ b. is_inside map.size cell && not b) (painted.bits k cell (inside_from map.size cell inside))
-      ∙ ap (λ b. b && is_inside map.size cell && not (is_covered map standing k cell)) (sym (lt-ltb k (length map.classes) class)))
-      (λ (out : is_inside map.size cell ≡ false).
-      ap (λ (s : Size). is_inside s cell && not (has_class k (number_at grid cell))) painted.size
-      ∙ and_left (is_inside map.size cell) (not (has_class k (number_at grid cell))) out
-      ∙ sym (and_left (nat_lt k (length map.classes) && is_inside map.size cell) (not (is_covered map standing k cell))
-      (and_right (nat_lt k (length map.classes)) (is_inside map.size cell) out)))
-      (cases_Bool (is_inside map.size cell))
-
-  -- the tables of a painted grid are those of the map
-  pub tables_painted : (grid : GridCells) (classes : ℕ) (all : List Tables) → IsPainted map standing grid → classes ≡ length map.classes
-      → AreTablesOf classes (is_passable grid) grid.size all → AreTablesOf (length map.classes) (passable_at map standing) map.size all
-  tables_painted grid classes all painted count of =
-      let each = of.each in
-      record {
-        each = each ∙ count;
-        are = λ class tables at.
-            let low : class < length map.classes = omega (arith, slice_get_within all class tables at) in
-            let same : is_passable grid class ≡ passable_at map standing class = λ i cell. painted-passes grid class cell painted low i in
-            subst (λ (passes : Cell → Bool). AreTables passes map.size tables) same
-            (subst (λ (s : Size). AreTables (is_passable grid class) s tables) painted.size (of.are class tables at));
-      }
-
   -- a cell of a chunk's rectangle lies in the map
   pub rect_inside : (size : Size) (chunk : Chunk) (cell : Cell) → IsInRect (chunk_rect size chunk) cell → IsInside size cell
   rect_inside size chunk cell inside =
       let east = inside.east in let north = inside.north in
       let wide = size.wide.some in let high = size.high.some in
       record { column = omega arith; row = omega arith }
-
-  -- what is read from a painted grid is painted
-  pub cells_painted : (grid : GridCells) (all : List Numbering) → IsPainted map standing grid
-      → AreOfChunks grid.size (chunk_count grid.size) (IsReadFrom grid) all → ArePaintedChunks map standing all
-  cells_painted grid all painted of = record {
-    each = of.each ∙ ap (λ (s : Size). chunk_count s) painted.size;
-    are = λ place item at.
-        let read = of.are place item at in
-        let extent : item.rect ≡ chunk_rect map.size (chunk_numbered map.size place) =
-        read.extent ∙ ap (λ (s : Size). chunk_rect s (chunk_numbered s place)) painted.size in
-        record {
-          extent = extent;
-          whole = read.whole;
-          bits = λ k cell inside.
-              ap (λ n. has_class k n) (read.numbers cell inside)
-              ∙ painted.bits k cell (rect_inside map.size (chunk_numbered map.size place) cell (subst (λ (r : Rect). IsInRect r cell) extent inside));
-        };
-  }
 
   -- a cell lies in its own chunk's rectangle
   pub own_rect : (cell : Cell) → IsInside map.size cell → IsInRect (chunk_rect map.size (chunk_of cell)) cell
@@ -221,17 +174,9 @@ marks_at marks classes k ms low at =
     ∙ get_or_from_slice_get (each_of marks (range_with_len 0 classes)) k ms ms at
 
 module _ (map : Map) (old new : Standing) (before now : List Numbering) (were : ArePaintedChunks map old before) (are : ArePaintedChunks map new now) where
-  pub same_extents : SameExtents before now
-  same_extents =
-      let one = were.each in let two = are.each in
-      record {
-        each = one ∙ sym two;
-        rects = λ place a b at_a at_b. (were.are place a at_a).extent ∙ sym (are.are place b at_b).extent;
-      }
-
   -- a bit of a chunk differs exactly where a cell is passable in one of the two and not in the other
   differs_where : (k : ℕ) (chunk : Chunk) (a b : Numbering) → k < length map.classes → IsPaintedChunk map old chunk a → IsPaintedChunk map new chunk b
-      → DiffersIn k a b ↔ Differs (passable_at map old k) (passable_at map new k) chunk
+      → DiffersIn k b.rect a b ↔ Differs (passable_at map old k) (passable_at map new k) chunk
   differs_where k chunk a b class was is = (
     λ differs.
         let inside = subst (λ (r : Rect). IsInRect r differs.cell) is.extent differs.inside in
@@ -285,14 +230,6 @@ module _ (map : Map) (old new : Standing) (before now : List Numbering) (were : 
     marks = marks_of bits k differing class;
   }
 
-  -- the bits are those of what differs between the old map and a grid of the new one
-  pub grid_changes : (grid : GridCells) (bits : List ℕ) (k : ℕ) → IsPainted map new grid → AreDiffering before now bits → k < length map.classes
-      → AreChanges (passable_at map old k) (is_passable grid k) grid.size k bits
-  grid_changes grid bits k painted differing class =
-      let same : is_passable grid k ≡ passable_at map new k = λ i cell. painted-passes map new grid k cell painted class i in
-      subst (λ (s : Size). AreChanges (passable_at map old k) (is_passable grid k) s k bits) (sym painted.size)
-      (subst (λ (P : Cell → Bool). AreChanges (passable_at map old k) P map.size k bits) (sym same) (changes_of bits k differing class))
-
   pub relabelled_counted : (bits : List ℕ) (classes : ℕ) → AreDiffering before now bits → classes ≡ length map.classes
       → HasRelabelled (length map.classes) (passable_at map old) (passable_at map new) (sum_by (λ k. count_by (has_class k) bits) (range_with_len 0 classes))
   relabelled_counted bits classes differing count =
@@ -336,49 +273,53 @@ sum_range_most f m n low =
 -- each chunk before place n is compared
 abbrev pub AreCompared : List Numbering → List Numbering → List ℕ → Type 0
 AreCompared before now bits = (place : ℕ) (a b : Numbering) (set : ℕ) → slice_get before place ≡ Some a → slice_get now place ≡ Some b
-    → slice_get bits place ≡ Some set → (k : ℕ) → (bit_at set k ≡ 1) ↔ DiffersIn k a b
+    → slice_get bits place ≡ Some set → (k : ℕ) → (bit_at set k ≡ 1) ↔ DiffersIn k b.rect a b
 
-pub compared_more : (before now : List Numbering) (bits : List ℕ) (n set : ℕ) (a b : Numbering) → length bits ≡ n → AreCompared before now bits
-    → slice_get before n ≡ Some a → slice_get now n ≡ Some b → ((k : ℕ) → (bit_at set k ≡ 1) ↔ DiffersIn k a b)
-    → AreCompared before now (bits ++ set ∷ [])
-compared_more before now bits n set a b long each at_a at_b is place c d other at_c at_d at k = elim (slice_get-push_cases bits set place other at) [
-  | inl here ↦ each place c d other at_c at_d here k
-  | inr last ↦
-      let same : n ≡ place = omega (arith, last.0) in
-      let first : a ≡ c = same_Some a c (sym at_a ∙ ap (λ i. slice_get before i) same ∙ at_c) in
-      let second : b ≡ d = same_Some b d (sym at_b ∙ ap (λ i. slice_get now i) same ∙ at_d) in
-      subst (λ (s : ℕ). (bit_at s k ≡ 1) ↔ DiffersIn k c d) last.1
-      (subst (λ (y : Numbering). (bit_at set k ≡ 1) ↔ DiffersIn k c y) second
-      (subst (λ (x : Numbering). (bit_at set k ≡ 1) ↔ DiffersIn k x b) first (is k)))
-]
+pub compared_more : (before now : List Numbering) (bits : List ℕ) (n set : ℕ) (b : Numbering) → length bits ≡ n
+    → length now ≡ n → AreCompared before now bits
+    → ((a : Numbering) → slice_get before n ≡ Some a → (k : ℕ) → (bit_at set k ≡ 1) ↔ DiffersIn k b.rect a b)
+    → AreCompared before (now ++ b ∷ []) (bits ++ set ∷ [])
+compared_more before now bits n set b long each so_far is place c d other at_c at_d at k =
+    elim (slice_get-push_cases bits set place other at) [
+      | inl here ↦
+          let low : place < n = omega (arith, slice_get_within bits place other here) in
+          elim (slice_get-push_cases now b place d at_d) [
+            | inl there ↦ so_far place c d other at_c there here k
+            | inr end ↦ absurd (omega (arith, end.0))
+          ]
+      | inr last ↦
+          let same : n ≡ place = omega (arith, last.0) in
+          elim (slice_get-push_cases now b place d at_d) [
+            | inl there ↦ absurd (omega (arith, slice_get_within now place d there))
+            | inr end ↦
+                subst (λ (s : ℕ). (bit_at s k ≡ 1) ↔ DiffersIn k d.rect c d) last.1
+                (subst (λ (y : Numbering). (bit_at set k ≡ 1) ↔ DiffersIn k y.rect c y) end.1
+                (is c (ap (λ i. slice_get before i) same ∙ at_c) k))
+          ]
+    ]
 
 -- ---- a version from its parts
 
-pub parts_of : (map : Map) (standing : Standing) (grid : GridCells) (classes : ℕ) (cells : List Numbering) (tables : List Tables)
-    → AllFit map.size standing → IsPainted map standing grid → AreOfChunks grid.size (chunk_count grid.size) (IsReadFrom grid) cells
-    → classes ≡ length map.classes → classes ≤ 16 → AreTablesOf classes (is_passable grid) grid.size tables → AreParts map standing cells tables
-parts_of map standing grid classes cells tables fit painted read count few made =
-    let each = made.each in
-    record {
-      fit = fit;
-      cells_are = cells_painted map standing grid cells painted read;
-      tables_are = tables_painted map standing grid classes tables painted count made;
-      few = omega arith;
-    }
-
 -- the tables at a class's place are those of the class
-pub class_table : (map : Map) (standing : Standing) (cells : List Numbering) (tables : List Tables) → AreParts map standing cells tables
+pub class_table : (map : Map) (standing : Standing) (base cells : List Numbering) (tables : List Tables) → AreParts map standing base cells tables
     → (class index : ℕ) (found : Tables) → index ≡ class → slice_get tables index ≡ Some found → AreTables (passable_at map standing class) map.size found
-class_table map standing cells tables parts class index found same at =
+class_table map standing base cells tables parts class index found same at =
     parts.tables_are.are class found (ap (λ i. slice_get tables i) (sym same) ∙ at)
 
 -- the numbers at the place of a cell's chunk are the chunk's
-pub cell_chunk : (map : Map) (standing : Standing) (cells : List Numbering) (tables : List Tables) → AreParts map standing cells tables
+pub painted_chunk : (map : Map) (standing : Standing) (cells : List Numbering) → ArePaintedChunks map standing cells
+    → (cell : Cell) (place : ℕ) (found : Numbering) → IsInside map.size cell → place ≡ chunk_place map.size (chunk_of cell)
+    → slice_get cells place ≡ Some found → IsPaintedChunk map standing (chunk_of cell) found
+painted_chunk map standing cells are cell place found inside same at =
+    AreOfChunks-at map.size (chunk_count map.size) (IsPaintedChunk map standing) cells (chunk_of cell) found are
+    (chunk_inside map.size cell inside) (ap (λ i. slice_get cells i) (sym same) ∙ at)
+
+-- the same, from a version's parts
+pub cell_chunk : (map : Map) (standing : Standing) (base cells : List Numbering) (tables : List Tables) → AreParts map standing base cells tables
     → (cell : Cell) (place : ℕ) (found : Numbering) → IsInside map.size cell → place ≡ chunk_place map.size (chunk_of cell) → slice_get cells place ≡ Some found
     → IsPaintedChunk map standing (chunk_of cell) found
-cell_chunk map standing cells tables parts cell place found inside same at =
-    AreOfChunks-at map.size (chunk_count map.size) (IsPaintedChunk map standing) cells (chunk_of cell) found parts.cells_are (chunk_inside map.size cell inside)
-    (ap (λ i. slice_get cells i) (sym same) ∙ at)
+cell_chunk map standing base cells tables parts cell place found inside same at =
+    painted_chunk map standing cells parts.cells_are cell place found inside same at
 
 pub in_own_rect : (map : Map) (standing : Standing) (cell : Cell) (found : Numbering) → IsInside map.size cell → IsPaintedChunk map standing (chunk_of cell) found
     → IsInRect found.rect cell
@@ -393,3 +334,21 @@ free_is_passable map standing cell found k inside class painted =
 -- two versions of one map have the chunks of one another
 pub chunks_of_one_map : (one other : Map) (standing : Standing) (cells : List Numbering) → one ≡ other → ArePaintedChunks one standing cells → ArePaintedChunks other standing cells
 chunks_of_one_map one other standing cells same of = subst (λ (m : Map). ArePaintedChunks m standing cells) same of
+
+-- ---- a version from its parts
+
+pub parts_of : (map spec : Map) (standing : Standing) (painted : MapState) (count : ℕ) (base cells : List Numbering) (tables : List Tables)
+    → spec ≡ map → painted ≡ map_state spec standing → AllFit map.size standing → AreBaseChunks map base
+    → ArePaintedChunks spec standing cells → count ≡ length spec.classes → count ≤ 16
+    → AreTablesOf count (passes_of painted) painted.map.size tables → AreParts map standing base cells tables
+parts_of map spec standing painted count base cells tables same is fit under are many few of =
+    let each = of.each in
+    let one = subst (λ (s : MapState). AreTablesOf count (passes_of s) s.map.size tables) is of in
+    let two = subst (λ (n : ℕ). AreTablesOf n (passable_at spec standing) spec.size tables) many one in
+    record {
+      fit = fit;
+      base_are = under;
+      cells_are = chunks_of_one_map spec map standing cells same are;
+      tables_are = subst (λ (m : Map). AreTablesOf (length m.classes) (passable_at m standing) m.size tables) same two;
+      few = omega arith;
+    }

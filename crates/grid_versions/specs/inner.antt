@@ -1,8 +1,10 @@
 -- Definitions that only private contracts cite.
 pub mod ChunkLists
 pub mod Tables
+pub mod Blocks
 pub mod Building
 pub mod Tallying
 pub mod Painting
+pub mod Reaching
 pub mod Parts
 pub mod Changing

@@ -1,5 +1,7 @@
 //! Edits of the standing obstructions, and their replies.
-ghost use Rattle.std.specs.Prelude.{Some, codes};
+ghost use Rattle.std.specs.Prelude.{◌≡◌, Some, codes};
+ghost use Rattle.grid_versions.specs.Editing.{is_refused};
+ghost use Rattle.grid_versions.specs.inner.Reaching.{edited_id};
 
 use fixed_point::Fixed;
 use nav_types::Sequence;
@@ -18,6 +20,17 @@ pub enum Edit {
     Move { id: u32, x: Fixed, z: Fixed },
 }
 
+impl Edit {
+    /// The number of the obstruction that the edit names.
+    pub(crate) fn id(&self) -> u32
+        ensures { result ≡ edited_id self.now }
+    {
+        match *self {
+            Edit::Add { id, .. } | Edit::Remove { id } | Edit::Move { id, .. } => id,
+        }
+    }
+}
+
 /// A list of edits.
 pub type Edits = Sequence<Edit>;
 
@@ -32,6 +45,15 @@ pub enum EditReply {
     Moved(u32),
     /// The edit was refused, and the same obstructions stand.
     Refused(Refusal),
+}
+
+impl EditReply {
+    /// Whether the edit was refused.
+    pub(crate) fn is_refused(&self) -> bool
+        ensures { result ≡ is_refused self.now }
+    {
+        matches!(self, EditReply::Refused(_))
+    }
 }
 
 /// The replies to a list of edits, in its order.

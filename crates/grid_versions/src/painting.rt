@@ -1,78 +1,179 @@
-//! The numbers of all cells of a map, from its base rectangles and its obstructions.
-ghost use Rattle.std.specs.Prelude.{ℕ, ◌≡◌, ◌≤◌, ◌&&◌, Bool, IfOk};
-ghost use Rattle.nav_types.specs.Cells.{IsRectInside};
+//! The numbers of a map's cells, chunk by chunk, from its base rectangles and its obstructions.
+ghost use Rattle.std.specs.Prelude.{ℕ, ◌≡◌, ◌<◌, ◌*◌, ◌&&◌, ◌||◌, length, IfOk};
+ghost use Rattle.nav_types.specs.declared.cells.Cell.{Cell};
+ghost use Rattle.nav_types.specs.Cells.{IsInRect, IsRectInside};
+ghost use Rattle.nav_types.specs.Numbering.{IsPatch, columns, rows, number_of};
 ghost use Rattle.lane_rows.specs.Rows.{has_class};
-ghost use Rattle.clearance_raster.specs.inner.TestRasters.{IsRaster};
+ghost use Rattle.navcell_grid.specs.Patches.{IsPartOf};
+ghost use Rattle.obstruction_shapes.specs.Shapes.{FitsMap};
+ghost use Rattle.clearance_raster.specs.Rasters.{blocks_class};
+ghost use Rattle.clearance_raster.specs.inner.TestRasters.{IsRasterIn};
 ghost use Rattle.obstruction_store.specs.Standing.{AllFit};
 ghost use Rattle.grid_versions.specs.Passing.{is_in_rect, has_base, is_blocked};
-ghost use Rattle.grid_versions.specs.Chunks.{chunk_count};
-ghost use Rattle.grid_versions.specs.inner.ChunkLists.{AreOfChunks};
-ghost use Rattle.grid_versions.specs.inner.Painting.{IsPainted, IsReadFrom};
+ghost use Rattle.grid_versions.specs.inner.Painting.{AreBaseChunks, ArePaintedChunks};
 
-use crate::chunk_cells::{ChunkCells, cells_of};
+use crate::chunk_cells::ChunkCells;
 use crate::chunks;
 use crate::maps::MapSpec;
+use crate::parts::common;
 use crate::shared_list::SharedList;
-use clearance_raster::raster;
+use clearance_raster::{raster_in, reach_of};
 use nav_types::{NoMemory, Rect};
-use navcell_grid::Grid;
+use navcell_grid::Patch;
+use obstruction_shapes::Obstruction;
 use obstruction_store::Store;
 use std::alloc::Global;
 
-/// The grid of a map with these obstructions: bit k of a cell's number is set exactly where a base rectangle or an
-/// obstruction covers the cell for class k. The work grows with the map's cells and with the covered ones.
-pub fn painted(alloc: Global, map: &MapSpec, shapes: &Store) -> Result<Grid, NoMemory>
-    requires { AllFit map.now.size shapes.now }
-    ensures { IfOk result (IsPainted map.now shapes.now) }
+/// The numbers of each chunk's cells under the base rectangles alone: bit k is set exactly where a base rectangle
+/// covers the cell for class k.
+pub fn base_patches(alloc: Global, map: &MapSpec) -> Result<SharedList<Patch>, NoMemory>
+    ensures { IfOk result (AreBaseChunks map.now) }
 {
-    let mut grid = Grid::new(alloc, map.size())?;
-    paint_base(&mut grid, map);
-    paint_shapes(&mut grid, map, shapes);
-    Ok(grid)
-}
-
-/// Sets the bits of all base rectangles.
-fn paint_base(grid: &mut Grid, map: &MapSpec)
-    requires { grid.old.size ≡ map.now.size }
-    ensures { IsRaster (has_base map.now) grid.old grid.new }
-{
-    let base = map.base().as_slice();
-    for entry in base {
-        paint_rect(grid, entry.0, entry.1);
-    }
-}
-
-/// Sets the mask's bits in each cell of the rectangle.
-fn paint_rect(grid: &mut Grid, rect: Rect, mask: u16)
-    requires { IsRectInside grid.old.size rect }
-    ensures { IsRaster (λ k cell. has_class k mask && is_in_rect rect cell) grid.old grid.new }
-{
-    for j in rect.j0..rect.j1 + 1 {
-        grid.or_span(j, rect.i0, rect.i1, mask);
-    }
-}
-
-/// Sets the bits of all obstructions.
-fn paint_shapes(grid: &mut Grid, map: &MapSpec, shapes: &Store)
-    requires size { grid.old.size ≡ map.now.size }
-    requires fit { AllFit map.now.size shapes.now }
-    ensures { IsRaster (is_blocked map.now shapes.now) grid.old grid.new }
-{
-    'shapes: for (_, obstruction) in shapes.entries() {
-        raster(grid, obstruction, map.classes());
-    }
-}
-
-/// The numbers that the grid has in each chunk.
-pub fn chunk_cells(alloc: Global, grid: &Grid) -> Result<SharedList<ChunkCells>, NoMemory>
-    ensures { IfOk result (AreOfChunks grid.now.size (chunk_count grid.now.size) (IsReadFrom grid.now)) }
-{
-    let size = grid.size();
+    let size = map.size();
     let count = chunks::count(size);
     let mut all = SharedList::with_capacity(alloc, count as usize)?;
     for place in 0..count {
-        let rect = cells_of(size, chunks::numbered(size, place));
-        all.push(alloc, ChunkCells::read(alloc, grid, rect)?)?;
+        let rect = chunks::cells_of(size, chunks::numbered(size, place));
+        all.push(alloc, base_patch(alloc, map, rect)?)?;
     }
     Ok(all)
+}
+
+/// The numbers of each chunk's cells: bit k is set exactly where a base rectangle or an obstruction covers the cell for
+/// class k.
+pub fn painted_patches(
+    alloc: Global,
+    map: &MapSpec,
+    shapes: &Store,
+    base: &SharedList<Patch>,
+) -> Result<SharedList<ChunkCells>, NoMemory>
+    requires fit { AllFit map.now.size shapes.now }
+    requires base { AreBaseChunks map.now base.now }
+    ensures { IfOk result (ArePaintedChunks map.now shapes.now) }
+{
+    let size = map.size();
+    let count = chunks::count(size);
+    let mut all = SharedList::with_capacity(alloc, count as usize)?;
+    for place in 0..count {
+        let under = base.at(place as usize);
+        let rect = chunks::cells_of(size, chunks::numbered(size, place));
+        let patch = repainted(alloc, map, shapes, under, under, rect)?;
+        all.push(alloc, ChunkCells::new(alloc, patch)?)?;
+    }
+    Ok(all)
+}
+
+/// The numbers of the rectangle's cells under the base rectangles alone.
+fn base_patch(alloc: Global, map: &MapSpec, rect: Rect) -> Result<Patch, NoMemory>
+    requires { IsPatch rect }
+    ensures rect { IfOk result (λ patch. patch.rect ≡ rect) }
+    ensures whole { IfOk result (λ patch. length patch.numbers ≡ columns patch.rect * rows patch.rect) }
+    ensures bits { IfOk result (λ patch. (k : ℕ) (cell : Cell) → IsInRect rect cell
+        → has_class k (number_of patch cell) ≡ has_base map.now k cell) }
+{
+    let mut patch = Patch::new(alloc, rect)?;
+    paint_base(&mut patch, rect, map);
+    let _ = patch.rect();
+    Ok(patch)
+}
+
+/// Sets the bits of all base rectangles in a patch of this rectangle.
+fn paint_base(patch: &mut Patch, rect: Rect, map: &MapSpec)
+    requires patch { IsPatch rect }
+    requires rect { patch.old.rect ≡ rect }
+    ensures rect { patch.new.rect ≡ rect }
+    ensures set { IsRasterIn rect rect (has_base map.now) (number_of patch.old) (number_of patch.new) }
+{
+    let base = map.base().as_slice();
+    for entry in base {
+        paint_area(patch, rect, entry.0, entry.1);
+    }
+}
+
+/// Sets the mask's bits in each cell of a patch of this rectangle that lies in the area.
+fn paint_area(patch: &mut Patch, rect: Rect, area: Rect, mask: u16)
+    requires patch { IsPatch rect }
+    requires rect { patch.old.rect ≡ rect }
+    ensures rect { patch.new.rect ≡ rect }
+    ensures set { IsRasterIn rect rect (λ k cell. has_class k mask && is_in_rect area cell)
+        (number_of patch.old) (number_of patch.new) }
+{
+    if let Some(part) = common(area, rect) {
+        paint_part(patch, rect, part, mask);
+    }
+}
+
+/// Sets the mask's bits in each cell of a part of a patch of this rectangle.
+fn paint_part(patch: &mut Patch, rect: Rect, part: Rect, mask: u16)
+    requires patch { IsPatch rect }
+    requires rect { patch.old.rect ≡ rect }
+    requires part { IsPartOf rect part }
+    ensures rect { patch.new.rect ≡ rect }
+    ensures set { IsRasterIn rect rect (λ k cell. has_class k mask && is_in_rect part cell)
+        (number_of patch.old) (number_of patch.new) }
+{
+    for j in part.j0..part.j1 + 1 {
+        patch.or_span(j, part.i0, part.i1, mask);
+    }
+}
+
+/// A copy of a patch in which the cells of a part are painted anew: each has the number that it has under the base
+/// rectangles, with the bits of the obstructions. The part lies in the patch and in the map.
+pub fn repainted(
+    alloc: Global,
+    map: &MapSpec,
+    shapes: &Store,
+    base: &Patch,
+    old: &Patch,
+    part: Rect,
+) -> Result<Patch, NoMemory>
+    requires fit { AllFit map.now.size shapes.now }
+    requires base { base.now.rect ≡ old.now.rect }
+    requires inside { IsRectInside map.now.size part }
+    requires part { IsPartOf old.now.rect part }
+    ensures rect { IfOk result (λ patch. patch.rect ≡ old.now.rect) }
+    ensures whole { IfOk result (λ patch. length patch.numbers ≡ columns patch.rect * rows patch.rect) }
+    ensures bits { IfOk result (λ patch. (k : ℕ) (cell : Cell) → IsInRect part cell
+        → has_class k (number_of patch cell)
+        ≡ (has_class k (number_of base.now cell) || is_blocked map.now shapes.now k cell)) }
+    ensures others { IfOk result (λ patch. (cell : Cell) → IsInRect old.now.rect cell → ¬ IsInRect part cell
+        → number_of patch cell ≡ number_of old.now cell) }
+{
+    let mut patch = old.copy(alloc)?;
+    patch.copy_rect(base, part);
+    paint_shapes(&mut patch, part, map, shapes);
+    let _ = patch.rect();
+    Ok(patch)
+}
+
+/// Sets the bits of all obstructions in a part of a patch.
+fn paint_shapes(patch: &mut Patch, part: Rect, map: &MapSpec, shapes: &Store)
+    requires fit { AllFit map.now.size shapes.now }
+    requires inside { IsRectInside map.now.size part }
+    requires part { IsPartOf patch.old.rect part }
+    ensures rect { patch.new.rect ≡ patch.old.rect }
+    ensures set { IsRasterIn patch.old.rect part (is_blocked map.now shapes.now)
+        (number_of patch.old) (number_of patch.new) }
+{
+    'shapes: for (_, obstruction) in shapes.entries() {
+        paint_shape(patch, part, obstruction, map);
+    }
+}
+
+/// Sets the bits of one obstruction in a part of a patch. One whose reach is elsewhere is passed over.
+fn paint_shape(patch: &mut Patch, part: Rect, obstruction: &Obstruction, map: &MapSpec)
+    requires fits { FitsMap map.now.size obstruction.now.shape }
+    requires inside { IsRectInside map.now.size part }
+    requires part { IsPartOf patch.old.rect part }
+    ensures rect { patch.new.rect ≡ patch.old.rect }
+    ensures set { IsRasterIn patch.old.rect part (blocks_class obstruction.now map.now.classes)
+        (number_of patch.old) (number_of patch.new) }
+{
+    let Some(reach) = reach_of(obstruction, map.classes(), map.size()) else {
+        return;
+    };
+    let Some(_) = common(reach, part) else {
+        return;
+    };
+    raster_in(patch, part, obstruction, map.classes(), map.size());
 }

@@ -1,29 +1,9 @@
 //! Which chunks differ between two versions of a map.
-ghost use Rattle.std.specs.Prelude.{◌≡◌, ◌≤◌, ◌<◌, length, map, sum_by, count_by, slice_get, Some, IfOk};
+ghost use Rattle.std.specs.Prelude.{◌≡◌, ◌≤◌, ◌<◌, length, map, sum_by, count_by, slice_get, Some};
 ghost use Rattle.std.specs.List.{range_with_len};
 ghost use Rattle.lane_rows.specs.Rows.{has_class};
-ghost use Rattle.grid_versions.specs.inner.Painting.{AreDiffering, SameExtents};
 
-use crate::chunk_cells::ChunkCells;
-use crate::shared_list::SharedList;
-use nav_types::{Class, NoMemory};
-use std::alloc::Global;
-
-/// The bits that differ in each chunk, in the order of chunks. The lists are of the same chunks.
-pub fn differing_bits(
-    alloc: Global,
-    before: &SharedList<ChunkCells>,
-    now: &SharedList<ChunkCells>,
-) -> Result<Vec<u16>, NoMemory>
-    requires { SameExtents before.now now.now }
-    ensures { IfOk result (λ bits. AreDiffering before.now now.now bits.items) }
-{
-    let mut bits = Vec::with_capacity(alloc, now.len())?;
-    for place in 0..now.len() {
-        bits.push(before.at(place).differs(now.at(place)))?;
-    }
-    Ok(bits)
-}
+use nav_types::Class;
 
 /// How many of the bits below `classes` are set in all numbers together.
 pub fn marks_below(bits: &[u16], classes: u8) -> u32

@@ -1,34 +1,47 @@
 //! A list of items that other lists may share.
-ghost use Rattle.std.specs.Prelude.{◌≡◌, ◌++◌, ◌∷◌, ◌<◌, [], length, slice_get, Some, IfOk, OnOk, OnErr};
+ghost use Rattle.std.specs.Prelude.{◌≡◌, ◌++◌, ◌∷◌, ◌<◌, [], length, slice_get, slice_set, Some, IfOk, OnOk, OnErr};
 ghost use Rattle.std.specs.Arc.{arc_value};
 
+mod blocks;
+
+use blocks::{BLOCK, Block, MOST_BLOCKS, replace};
 use nav_types::NoMemory;
 use std::alloc::Global;
 use std::marker::Model;
 use std::sync::Arc;
 
 /// A list of items that other lists may share. Contracts see the list.
+///
+/// The items lie in blocks of 32, and fewer behind them. Two lists that were one hold the same blocks, but for those
+/// in which an item was replaced since.
 #[derive(Drop)]
 pub struct SharedList<T> {
-    items: Vec<Arc<T, Global>>,
+    blocks: Vec<Arc<Block<T>, Global>>,
+    rest: Block<T>,
 }
 
 impl<T> Model for SharedList<T> {
     ghost use Rattle.std.specs.Prelude.{List, map};
     ghost use Rattle.std.specs.Arc.{arc_value};
+    ghost use Rattle.grid_versions.specs.inner.Blocks.{AreBlocks, in_blocks};
 
     ghost Value = { List T };
 
-    ghost view = { λ s. map arc_value s.items.items };
+    ghost view = { λ s. in_blocks (map arc_value s.blocks.items) s.rest };
+
+    ghost invariant = { λ s. AreBlocks (map arc_value s.blocks.items) s.rest };
 }
 
 impl<T> SharedList<T> {
     /// The empty list, with room for so many items.
     pub fn with_capacity(alloc: Global, count: usize) -> Result<SharedList<T>, NoMemory>
+    where
+        T: Drop,
         ensures { IfOk result (λ list. list ≡ []) }
     {
         Ok(SharedList {
-            items: Vec::with_capacity(alloc, count)?,
+            blocks: Vec::with_capacity(alloc, count / BLOCK)?,
+            rest: Block::new(alloc),
         })
     }
 
@@ -39,39 +52,71 @@ impl<T> SharedList<T> {
         ensures ok { OnOk result (self.new ≡ self.old ++ item ∷ []) }
         ensures err { OnErr result (self.new ≡ self.old) }
     {
-        self.items.push(Arc::new(alloc, item)?)?;
-        Ok(())
+        self.push_shared(alloc, Arc::new(alloc, item)?)
     }
 
-    /// Appends an item that others may hold. Where there is no memory the list stays.
-    pub fn push_shared(&mut self, item: Arc<T, Global>) -> Result<(), NoMemory>
+    /// Appends an item that others may hold. Where there is no memory, or the list has 2 ^ 32 items, it stays.
+    pub fn push_shared(&mut self, alloc: Global, item: Arc<T, Global>) -> Result<(), NoMemory>
     where
         T: Drop,
         ensures ok { OnOk result (self.new ≡ self.old ++ arc_value item ∷ []) }
         ensures err { OnErr result (self.new ≡ self.old) }
     {
-        self.items.push(item)?;
+        if self.rest.len() + 1 < BLOCK {
+            return self.rest.push(item);
+        }
+        if self.blocks.len() >= MOST_BLOCKS {
+            return Err(NoMemory);
+        }
+        let mut block = self.rest.share(alloc)?;
+        block.push(item)?;
+        self.blocks.push(Arc::new(alloc, block)?)?;
+        self.rest = Block::new(alloc);
         Ok(())
     }
 
-    /// The same list, whose items both hold from then on.
+    /// The same list, whose blocks both hold from then on.
     pub fn share(&self, alloc: Global) -> Result<SharedList<T>, NoMemory>
     where
         T: Drop,
         ensures { IfOk result (λ list. list ≡ self.now) }
     {
-        let mut all = SharedList::with_capacity(alloc, self.len())?;
-        for place in 0..self.len() {
-            all.push_shared(self.shared(place)?)?;
+        let mut blocks = Vec::with_capacity(alloc, self.blocks.len())?;
+        for block in &self.blocks {
+            blocks.push(Arc::try_clone(block)?)?;
         }
-        Ok(all)
+        Ok(SharedList {
+            blocks,
+            rest: self.rest.share(alloc)?,
+        })
+    }
+
+    /// Puts the item at a place, counted from 0, where it replaces what stood there. The block in which it lies is made
+    /// anew; other lists keep theirs. Where there is no memory the list stays.
+    pub fn set(&mut self, alloc: Global, at: usize, item: T) -> Result<(), NoMemory>
+    where
+        T: Drop,
+        requires { at < length self.old }
+        ensures ok { OnOk result (self.new ≡ slice_set self.old at item) }
+        ensures err { OnErr result (self.new ≡ self.old) }
+    {
+        let item = Arc::new(alloc, item)?;
+        let place = at / BLOCK;
+        if place < self.blocks.len() {
+            let mut block = self.blocks[place].share(alloc)?;
+            block.set(at % BLOCK, item);
+            replace(&mut self.blocks, place, Arc::new(alloc, block)?);
+        } else {
+            self.rest.set(at - self.blocks.len() * BLOCK, item);
+        }
+        Ok(())
     }
 
     /// The number of items.
     pub fn len(&self) -> usize
         ensures { result ≡ length self.now }
     {
-        self.items.len()
+        self.blocks.len() * BLOCK + self.rest.len()
     }
 
     /// The item at a place, counted from 0.
@@ -79,7 +124,7 @@ impl<T> SharedList<T> {
         requires { at < length self.now }
         ensures { slice_get self.now at ≡ Some result.now }
     {
-        &self.items[at]
+        self.item(at)
     }
 
     /// The item at a place, counted from 0, which the caller holds too from then on.
@@ -87,6 +132,19 @@ impl<T> SharedList<T> {
         requires { at < length self.now }
         ensures { IfOk result (λ item. slice_get self.now at ≡ Some (arc_value item)) }
     {
-        Ok(Arc::try_clone(&self.items[at])?)
+        Ok(Arc::try_clone(self.item(at))?)
+    }
+
+    /// The item at a place, counted from 0.
+    fn item(&self, at: usize) -> &Arc<T, Global>
+        requires { at < length self.now }
+        ensures { slice_get self.now at ≡ Some (arc_value result.now) }
+    {
+        let place = at / BLOCK;
+        if place < self.blocks.len() {
+            self.blocks[place].item(at % BLOCK)
+        } else {
+            self.rest.item(at - self.blocks.len() * BLOCK)
+        }
     }
 }

@@ -1,14 +1,21 @@
 //! Edits applied to the standing obstructions.
-ghost use Rattle.std.specs.Prelude.{◌≡◌, ◌++◌, IfOk, OnOk};
+ghost use Rattle.std.specs.Prelude.{◌≡◌, ◌++◌, option_to_list, IfOk, OnOk};
+ghost use Rattle.obstruction_store.specs.Standing.{Standing, AllFit};
 ghost use Rattle.grid_versions.specs.Fitting.{fits};
-ghost use Rattle.grid_versions.specs.Editing.{edit_reply, after_edit, add_reply, remove_reply, after_edits, edit_replies};
+ghost use Rattle.grid_versions.specs.Editing.{edit_reply, after_edit, add_reply, remove_reply};
+ghost use Rattle.grid_versions.specs.Editing.{after_edits, edit_replies};
+ghost use Rattle.grid_versions.specs.inner.Reaching.{CoverChanges, HoldsReach};
 
 use crate::edits::{Edit, EditReplies, EditReply, Refusal};
 use crate::maps::MapSpec;
-use nav_types::{NoMemory, Size};
+use clearance_raster::reach_of;
+use nav_types::{NoMemory, Rect, Sequence, Size};
 use obstruction_shapes::{Shape, check};
 use obstruction_store::{AddRefusal, MoveRefusal, Store};
 use std::alloc::Global;
+
+/// Rectangles in which obstructions can block cells.
+pub type Reaches = Sequence<Rect>;
 
 /// Whether the shape fits a map of this size.
 fn fits(shape: Shape, size: Size) -> bool
@@ -18,7 +25,7 @@ fn fits(shape: Shape, size: Size) -> bool
 }
 
 /// Applies one edit to the standing obstructions, and replies to it.
-pub fn apply(map: &MapSpec, shapes: &mut Store, edit: Edit) -> Result<EditReply, NoMemory>
+fn apply(map: &MapSpec, shapes: &mut Store, edit: Edit) -> Result<EditReply, NoMemory>
     ensures reply { IfOk result (λ reply. reply ≡ edit_reply map.now shapes.old edit) }
     ensures standing { OnOk result (shapes.new ≡ after_edit map.now shapes.old edit) }
 {
@@ -46,19 +53,69 @@ pub fn apply(map: &MapSpec, shapes: &mut Store, edit: Edit) -> Result<EditReply,
     }
 }
 
-/// Applies the edits one after another, and replies to each.
+/// The cells that the obstruction of the number can block. None where nothing stands under the number, or what stands
+/// there blocks no cell.
+fn reach_under(map: &MapSpec, shapes: &Store, id: u32) -> Option<Rect>
+    requires { AllFit map.now.size shapes.now }
+    ensures { HoldsReach map.now shapes.now id result }
+{
+    let obstruction = shapes.get(id)?;
+    reach_of(obstruction, map.classes(), map.size())
+}
+
+/// Appends the rectangle, if there is one.
+fn list(reaches: &mut Reaches, reach: Option<Rect>) -> Result<(), NoMemory>
+    ensures { OnOk result (reaches.new ≡ reaches.old ++ option_to_list reach) }
+{
+    if let Some(rect) = reach {
+        reaches.push(rect)?;
+    }
+    Ok(())
+}
+
+/// Applies one edit, replies to it, and lists where its obstruction can block cells before and after: the rectangles
+/// that covered what has changed since some earlier time cover it then, too. A refused edit lists nothing.
+fn apply_listed(
+    map: &MapSpec,
+    shapes: &mut Store,
+    edit: Edit,
+    reaches: &mut Reaches,
+) -> Result<EditReply, NoMemory>
+    requires { AllFit map.now.size shapes.old }
+    ensures reply { IfOk result (λ reply. reply ≡ edit_reply map.now shapes.old edit) }
+    ensures standing { OnOk result (shapes.new ≡ after_edit map.now shapes.old edit) }
+    ensures covers { OnOk result ((first : Standing) → CoverChanges map.now first shapes.old reaches.old
+        → CoverChanges map.now first shapes.new reaches.new) }
+{
+    let id = edit.id();
+    let before = reach_under(map, shapes, id);
+    let reply = apply(map, shapes, edit)?;
+    if reply.is_refused() {
+        return Ok(reply);
+    }
+    let after = reach_under(map, shapes, id);
+    list(reaches, before)?;
+    list(reaches, after)?;
+    Ok(reply)
+}
+
+/// Applies the edits one after another, replies to each, and lists rectangles that cover what changes.
 pub fn apply_all(
     alloc: Global,
     map: &MapSpec,
     shapes: &mut Store,
     edits: &[Edit],
+    reaches: &mut Reaches,
 ) -> Result<EditReplies, NoMemory>
+    requires { AllFit map.now.size shapes.old }
     ensures replies { IfOk result (λ replies. replies ≡ edit_replies map.now shapes.old edits.now) }
     ensures standing { OnOk result (shapes.new ≡ after_edits map.now shapes.old edits.now) }
+    ensures covers { OnOk result ((first : Standing) → CoverChanges map.now first shapes.old reaches.old
+        → CoverChanges map.now first shapes.new reaches.new) }
 {
     let mut replies = EditReplies::new(alloc);
     for edit in edits {
-        replies.push(apply(map, shapes, *edit)?)?;
+        replies.push(apply_listed(map, shapes, *edit, reaches)?)?;
     }
     Ok(replies)
 }

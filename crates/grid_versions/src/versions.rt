@@ -13,12 +13,15 @@ use crate::chunks;
 use crate::class_tables::{class_tables, next_tables};
 use crate::edits::{EditReplies, Edits};
 use crate::maps::MapSpec;
-use crate::painting::{chunk_cells, painted};
-use crate::relabelling::{differing_bits, marks_below};
+use crate::next_cells::next_patches;
+use crate::painted_map::PaintedMap;
+use crate::painting::{base_patches, painted_patches};
+use crate::relabelling::marks_below;
 use crate::shared_list::SharedList;
-use crate::standing_edits::apply_all;
+use crate::standing_edits::{Reaches, apply_all};
 use crate::tables::ClassTables;
-use nav_types::{Areas, Cell, Class, NoMemory, Size, Ticks, View};
+use nav_types::{Areas, Cell, Class, NoMemory, Rect, Size, Ticks, View};
+use navcell_grid::Patch;
 use obstruction_store::Store;
 use reach_sets::RegionId;
 use std::alloc::Global;
@@ -42,6 +45,8 @@ pub struct Tallies {
 pub struct Version {
     map: Arc<MapSpec, Global>,
     shapes: Arc<Store, Global>,
+    // The cells under the base rectangles alone.
+    base: SharedList<Patch>,
     cells: SharedList<ChunkCells>,
     tables: SharedList<ClassTables>,
 }
@@ -74,13 +79,14 @@ impl Model for Version {
 
     ghost view = { λ v. map_state (arc_value v.map) (arc_value v.shapes) };
 
-    ghost invariant = { λ v. AreParts (arc_value v.map) (arc_value v.shapes) v.cells v.tables };
+    ghost invariant = { λ v. AreParts (arc_value v.map) (arc_value v.shapes) v.base v.cells v.tables };
 }
 
 impl Version {
     ghost use Rattle.grid_versions.specs.Editing.{after_edits, edit_replies};
     ghost use Rattle.grid_versions.specs.Versions.{map_state, passes_of};
     ghost use Rattle.grid_versions.specs.inner.Parts.{AreParts};
+    ghost use Rattle.grid_versions.specs.inner.Reaching.{CoverChanges};
 
     /// The version of this map and these obstructions, all of which fit the map. It is made from nothing: each chunk is
     /// labelled once for each class, which is one tick, and the work grows with the map's cells and classes. It refuses for want of memory alone.
@@ -116,13 +122,16 @@ impl Version {
         ensures most { ticks.new
             ≤ ticks.old + length (arc_value map).classes * chunk_count (arc_value map).size }
     {
-        let grid = painted(alloc, &map, &shapes)?;
-        let cells = chunk_cells(alloc, &grid)?;
-        let tables = class_tables(alloc, &grid, map.classes().count(), ticks)?;
+        let spec: &MapSpec = &map;
+        let base = base_patches(alloc, spec)?;
+        let cells = painted_patches(alloc, spec, &shapes, &base)?;
+        let painted = PaintedMap::new(spec, &shapes, &cells);
+        let tables = class_tables(alloc, &painted, spec.classes().count(), ticks)?;
         let shapes = Arc::new(alloc, shapes)?;
         Ok(Version {
             map,
             shapes,
+            base,
             cells,
             tables,
         })
@@ -155,8 +164,15 @@ impl Version {
             return self.unchanged(alloc);
         }
         let mut shapes = self.shapes.copy(alloc)?;
-        let replies = apply_all(alloc, &self.map, &mut shapes, edits.as_slice())?;
-        let (version, relabelled) = self.updated(alloc, shapes, ticks)?;
+        let mut reaches = Reaches::new(alloc);
+        let replies = apply_all(
+            alloc,
+            &self.map,
+            &mut shapes,
+            edits.as_slice(),
+            &mut reaches,
+        )?;
+        let (version, relabelled) = self.updated(alloc, shapes, reaches.as_slice(), ticks)?;
         Ok(Next {
             version,
             replies,
@@ -174,6 +190,7 @@ impl Version {
             version: Version {
                 map: Arc::try_clone(&self.map)?,
                 shapes: Arc::try_clone(&self.shapes)?,
+                base: self.base.share(alloc)?,
                 cells: self.cells.share(alloc)?,
                 tables: self.tables.share(alloc)?,
             },
@@ -183,28 +200,32 @@ impl Version {
     }
 
     /// The version of this map and other obstructions, all of which fit the map, and in how many pairs of chunk and
-    /// class it differs from this one. Each of these is labelled once; what lies elsewhere is shared.
+    /// class it differs from this one. The rectangles cover what has changed. Only their cells are painted, each pair
+    /// that differs is labelled once, and what lies elsewhere is shared.
     fn updated<L: Ledger>(
         &self,
         alloc: Global,
         shapes: Store,
+        reaches: &[Rect],
         ticks: &mut Ticks<L>,
     ) -> Result<(Version, u32), NoMemory>
-        requires { AllFit self.now.map.size shapes }
+        requires fit { AllFit self.now.map.size shapes }
+        requires covers { CoverChanges self.now.map self.now.standing shapes reaches.now }
         ensures version { IfOk result (λ next. next.0 ≡ map_state self.now.map shapes) }
         ensures relabelled { IfOk result (λ next. HasRelabelled (length self.now.map.classes) (passes_of self.now)
             (passes_of (map_state self.now.map shapes)) next.1) }
         ensures most { (count : ℕ) → HasRelabelled (length self.now.map.classes) (passes_of self.now)
             (passes_of (map_state self.now.map shapes)) count → ticks.new ≤ ticks.old + count }
     {
-        let grid = painted(alloc, &self.map, &shapes)?;
-        let cells = chunk_cells(alloc, &grid)?;
-        let changed = differing_bits(alloc, &self.cells, &cells)?;
-        let tables = next_tables(alloc, &grid, &self.tables, &changed, ticks)?;
-        let relabelled = marks_below(&changed, self.map.classes().count());
+        let map: &MapSpec = &self.map;
+        let (cells, changed) = next_patches(alloc, map, &shapes, &self.base, &self.cells, reaches)?;
+        let painted = PaintedMap::new(map, &shapes, &cells);
+        let tables = next_tables(alloc, &painted, &self.tables, &changed, ticks)?;
+        let relabelled = marks_below(&changed, map.classes().count());
         let version = Version {
             map: Arc::try_clone(&self.map)?,
             shapes: Arc::new(alloc, shapes)?,
+            base: self.base.share(alloc)?,
             cells,
             tables,
         };

@@ -2,8 +2,9 @@
 use Rattle.std.specs.Prelude.{ℕ, Bool, ◌≡◌, ◌+◌, ◌≤◌, min, List, [], length, Contains}
 use Rattle.io_edges.specs.Counts.{raised, faults_after}
 
--- How the calls of a source or sink in memory go: the most bytes that one call takes; the numbers of the calls that fail,
--- counted from 1; how many calls were made, where the last value of a count stands for that many or more; the faults met.
+-- How the calls of a source or sink in memory go: the most bytes that one call takes; the numbers of the calls that
+-- fail, counted from 1; how many calls were made, where the last value of a count stands for that many or more; the
+-- faults met.
 pub record Calls : Type 0 where
   pub piece : ℕ
   pub fails : List ℕ

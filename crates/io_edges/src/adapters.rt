@@ -61,9 +61,9 @@ impl<R: Read> Source for StdSource<R> {
 /// A sink over a writer of std, which it flushes after each write. Each error of the writer is a fault, and so is a
 /// write of which the writer takes nothing although the piece has some.
 ///
-/// Contracts see the bytes kept, where the writer tells its own, and the count of faults. Bytes that the writer took and
-/// whose flush failed are in doubt: they do not count as kept (`undoubted`), and each later write fails. A failed flush
-/// behind no bytes fails its own write alone.
+/// Contracts see the bytes kept, where the writer tells its own, and the count of faults. Bytes that the writer took
+/// and whose flush failed are in doubt: they do not count as kept (`undoubted`), and each later write fails. A failed
+/// flush behind no bytes fails its own write alone.
 #[derive(Drop)]
 pub struct StdSink<W: Write> {
     writer: W,
@@ -108,8 +108,8 @@ impl<W: Write> Sink for StdSink<W> {
 
     ghost faults = { λ s. s.faults };
 
-    /// Writes once and flushes. It fails where the writer or the flush fails, or where bytes are in doubt, and one fault
-    /// is counted there; one is counted too where the writer takes nothing of a piece that has some.
+    /// Writes once and flushes. It fails where the writer or the flush fails, or where bytes are in doubt, and one
+    /// fault is counted there; one is counted too where the writer takes nothing of a piece that has some.
     fn write(&mut self, piece: &[u8]) -> Result<usize, WriteRefusal>
         ensures count { WritesAtMost result piece.now }
         ensures bytes { WriteAppends self.old.bytes self.new.bytes result piece.now }

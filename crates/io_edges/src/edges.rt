@@ -38,7 +38,8 @@ pub trait Source {
 
 /// Where bytes go to.
 ///
-/// `kept` has the bytes taken, where the sink tells them: a write leaves those kept before it at the front (`HasTaken`).
+/// `kept` has the bytes taken, where the sink tells them: a write leaves those kept before it at the front
+/// (`HasTaken`).
 /// `faults` counts the faults that the sink met, as for a source.
 pub trait Sink {
     ghost use Rattle.std.specs.Prelude.{ℕ, List, Option};

@@ -44,7 +44,7 @@ place_below NW = omega arith
 abbrev pub HasFirst : (Dir → Type 0) → ℕ → DirSet → Type 0
 HasFirst Wanted count set = (dir : Dir) → IsTrue (holds set dir) ↔ ((place_of_dir dir < count) × Wanted dir)
 
-same_place : (a b : Dir) → place_of_dir a ≡ place_of_dir b → a ≡ b
+pub same_place : (a b : Dir) → place_of_dir a ≡ place_of_dir b → a ≡ b
 same_place a b same = sym (at_its_place a) ∙ ap dir_at same ∙ at_its_place b
 
 pub HasFirst-none : (Wanted : Dir → Type 0) (set : DirSet) → ((dir : Dir) → holds set dir ≡ false) → HasFirst Wanted 0 set

@@ -12,13 +12,13 @@ use Rattle.nav_types.proofs.Walking.{leads_to_same}
 use Rattle.jump_scan.specs.Stops.{IsRun, IsStop}
 
 -- one step more at the end of a run
-run_more : (passes : Cell → Bool) (dir : Dir) (count : ℕ) (from cell next : Cell) → IsRun passes dir count from cell → Step passes dir cell next
+pub run_more : (passes : Cell → Bool) (dir : Dir) (count : ℕ) (from cell next : Cell) → IsRun passes dir count from cell → Step passes dir cell next
     → IsRun passes dir (suc count) from next
 run_more passes dir zero from cell next run step = (next, (subst (λ (c : Cell). Step passes dir c next) (sym run) step, refl))
 run_more passes dir (suc count) from cell next run step = (run.0, (run.1.0, run_more passes dir count run.0 cell next run.1.1 step))
 
 -- so many steps lead to one cell
-run_once : (passes : Cell → Bool) (dir : Dir) (count : ℕ) (from a b : Cell) → IsRun passes dir count from a → IsRun passes dir count from b → a ≡ b
+pub run_once : (passes : Cell → Bool) (dir : Dir) (count : ℕ) (from a b : Cell) → IsRun passes dir count from a → IsRun passes dir count from b → a ≡ b
 run_once passes dir zero from a b one two = sym one ∙ two
 run_once passes dir (suc count) from a b one two =
     let same = leads_to_same dir from one.0 two.0 one.1.0.leads two.1.0.leads in

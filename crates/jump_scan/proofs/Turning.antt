@@ -102,7 +102,7 @@ aside_part side SW straight = absurd (false≢true straight)
 aside_part side NW straight = absurd (false≢true straight)
 
 -- a legal turn to a side needs the cell aside
-free_aside : (passes : Cell → Bool) (cell : Cell) (arrived dir : Dir) (side : Side) → is_straight arrived ≡ true → IsTurn side arrived dir
+pub free_aside : (passes : Cell → Bool) (cell : Cell) (arrived dir : Dir) (side : Side) → is_straight arrived ≡ true → IsTurn side arrived dir
     → IsLegalFrom passes cell dir → IsFreeBeside passes cell (aside_to side arrived)
 free_aside passes cell arrived dir side straight turn legal =
     let free = legal_is_free passes dir cell legal in

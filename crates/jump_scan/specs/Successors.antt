@@ -10,7 +10,8 @@ use Rattle.jump_scan.specs.Turns.{aside_to, IsNatural, IsTurn}
 
 -- the cell to that side of the one just before is not passable; off the map no cell is
 abbrev pub IsBlockedBefore : (Cell → Bool) → Cell → Dir → Side → Type 0
-IsBlockedBefore passes cell arrived side = (before : Cell) → Leads arrived before cell → IsFreeBeside passes before (aside_to side arrived) → ⊥
+IsBlockedBefore passes cell arrived side = (before : Cell) → Leads arrived before cell
+    → IsFreeBeside passes before (aside_to side arrived) → ⊥
 
 -- The turns to that side are forced: the step that came to the cell is straight, and the cell to that side of the one
 -- just before is blocked.
@@ -24,7 +25,8 @@ IsForced passes cell arrived dir = (side : Side) × (IsForcing passes cell arriv
 -- a search goes on in the direction: by any legal step from a start, and else by a legal one that is natural or forced
 abbrev pub IsSuccessor : (Cell → Bool) → Cell → Option Dir → Dir → Type 0
 IsSuccessor passes cell None dir = IsLegalFrom passes cell dir
-IsSuccessor passes cell (Some arrived) dir = IsLegalFrom passes cell dir × (IsNatural arrived dir ⊎ IsForced passes cell arrived dir)
+IsSuccessor passes cell (Some arrived) dir = IsLegalFrom passes cell dir
+    × (IsNatural arrived dir ⊎ IsForced passes cell arrived dir)
 
 -- some forced step is legal
 abbrev pub HasForced : (Cell → Bool) → Cell → Dir → Type 0

@@ -20,5 +20,6 @@ pub fn one_stop()
 /// passable. So three rows of cells show where a straight run along the middle one has forced successors.
 pub fn forced_where_a_side_opens()
     ensures { (passes : Cell → Bool) (cell : Cell) (arrived : Dir) → IsTrue (passes cell)
-        → HasForced passes cell arrived ↔ ((side : Side) × (IsForcing passes cell arrived side × IsFreeBeside passes cell (aside_to side arrived))) }
+        → HasForced passes cell arrived
+        ↔ ((side : Side) × (IsForcing passes cell arrived side × IsFreeBeside passes cell (aside_to side arrived))) }
 {}

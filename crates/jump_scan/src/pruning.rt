@@ -26,7 +26,9 @@ fn is_forcing<V: View>(view: &V, class: Class, cell: Cell, arrived: Dir, side: S
 fn is_forced_to<V: View>(view: &V, class: Class, cell: Cell, arrived: Dir, side: Side) -> bool
     requires class { class < V.class_count view.now }
     requires inside { IsInside (V.extent view.now) cell }
-    ensures { IsTrue result ↔ (IsForcing (V.passes view.now class) cell arrived side × IsFreeBeside (V.passes view.now class) cell (aside_to side arrived)) }
+    ensures { IsTrue result
+        ↔ (IsForcing (V.passes view.now class) cell arrived side
+        × IsFreeBeside (V.passes view.now class) cell (aside_to side arrived)) }
 {
     // the step ahead to the side is legal only where the one aside is
     is_forcing(view, class, cell, arrived, side)

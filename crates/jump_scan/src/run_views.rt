@@ -16,8 +16,11 @@ pub trait Runs: View {
         requires start { IsTrue (Self.passes self.now class from) }
         requires straight { IsTrue (is_straight dir) }
         requires aim { A.sound aim.now (Self.extent self.now) }
-        ensures some { IfSome result (IsStraightStop (Self.passes self.now class) (A.hit aim.now (Self.extent self.now)) dir from) }
-        ensures none { IfNone result ((stop : Cell) → ¬ IsStraightStop (Self.passes self.now class) (A.hit aim.now (Self.extent self.now)) dir from stop) };
+        ensures some { IfSome result
+            (IsStraightStop (Self.passes self.now class) (A.hit aim.now (Self.extent self.now)) dir from) }
+        ensures none { IfNone result
+            ((stop : Cell) → ¬ IsStraightStop (Self.passes self.now class) (A.hit aim.now (Self.extent self.now)) dir
+            from stop) };
 
     /// The stop of the diagonal run from the cell, as the function `diagonal` gives it.
     fn diagonal<A: Aim>(&self, class: Class, from: Cell, dir: Dir, aim: &A) -> Option<Cell>
@@ -25,6 +28,9 @@ pub trait Runs: View {
         requires start { IsTrue (Self.passes self.now class from) }
         requires diagonal { IsFalse (is_straight dir) }
         requires aim { A.sound aim.now (Self.extent self.now) }
-        ensures some { IfSome result (IsDiagonalStop (Self.passes self.now class) (A.hit aim.now (Self.extent self.now)) dir from) }
-        ensures none { IfNone result ((stop : Cell) → ¬ IsDiagonalStop (Self.passes self.now class) (A.hit aim.now (Self.extent self.now)) dir from stop) };
+        ensures some { IfSome result
+            (IsDiagonalStop (Self.passes self.now class) (A.hit aim.now (Self.extent self.now)) dir from) }
+        ensures none { IfNone result
+            ((stop : Cell) → ¬ IsDiagonalStop (Self.passes self.now class) (A.hit aim.now (Self.extent self.now)) dir
+            from stop) };
 }

@@ -33,8 +33,10 @@ pub fn straight<V: View, A: Aim>(
     requires start { IsTrue (V.passes view.now class from) }
     requires straight { IsTrue (is_straight dir) }
     requires aim { A.sound aim.now (V.extent view.now) }
-    ensures some { IfSome result (IsStraightStop (V.passes view.now class) (A.hit aim.now (V.extent view.now)) dir from) }
-    ensures none { IfNone result ((stop : Cell) → ¬ IsStraightStop (V.passes view.now class) (A.hit aim.now (V.extent view.now)) dir from stop) }
+    ensures some { IfSome result
+        (IsStraightStop (V.passes view.now class) (A.hit aim.now (V.extent view.now)) dir from) }
+    ensures none { IfNone result
+        ((stop : Cell) → ¬ IsStraightStop (V.passes view.now class) (A.hit aim.now (V.extent view.now)) dir from stop) }
 {
     let mut cell = from;
     'run: while let Some(next) = step(view, class, cell, dir) {
@@ -62,7 +64,8 @@ fn has_stop_aside<V: View, A: Aim>(view: &V, class: Class, cell: Cell, dir: Dir,
     requires class { class < V.class_count view.now }
     requires passable { IsTrue (V.passes view.now class cell) }
     requires aim { A.sound aim.now (V.extent view.now) }
-    ensures { IsTrue result ↔ (HasStraightStop (V.passes view.now class) (A.hit aim.now (V.extent view.now)) (row_part dir) cell
+    ensures { IsTrue result
+        ↔ (HasStraightStop (V.passes view.now class) (A.hit aim.now (V.extent view.now)) (row_part dir) cell
         ⊎ HasStraightStop (V.passes view.now class) (A.hit aim.now (V.extent view.now)) (column_part dir) cell) }
 {
     has_straight_stop(view, class, cell, row_part(dir), aim)
@@ -94,8 +97,10 @@ pub fn diagonal<V: View, A: Aim>(
     requires start { IsTrue (V.passes view.now class from) }
     requires diagonal { IsFalse (is_straight dir) }
     requires aim { A.sound aim.now (V.extent view.now) }
-    ensures some { IfSome result (IsDiagonalStop (V.passes view.now class) (A.hit aim.now (V.extent view.now)) dir from) }
-    ensures none { IfNone result ((stop : Cell) → ¬ IsDiagonalStop (V.passes view.now class) (A.hit aim.now (V.extent view.now)) dir from stop) }
+    ensures some { IfSome result
+        (IsDiagonalStop (V.passes view.now class) (A.hit aim.now (V.extent view.now)) dir from) }
+    ensures none { IfNone result
+        ((stop : Cell) → ¬ IsDiagonalStop (V.passes view.now class) (A.hit aim.now (V.extent view.now)) dir from stop) }
 {
     let mut cell = from;
     'run: while let Some(next) = step(view, class, cell, dir) {

@@ -85,12 +85,17 @@ same_pair {A} {B} a b first second =
 pub Contains-from_slice_get : {A : Type 0} (xs : List A) (k : ℕ) (x : A) → slice_get xs k ≡ Some x → Contains xs x
 Contains-from_slice_get xs k x at_k = (k, slice_get_within xs k x at_k, get_or_from_slice_get xs k x x at_k)
 
+-- what is put behind a list leaves what stands in it
+pub slice_get-before : {A : Type 0} (xs ys : List A) (k : ℕ) → k < length xs
+    → slice_get (xs ++ ys) k ≡ slice_get xs k
+slice_get-before [] ys k within = absurd (omega (arith, within))
+slice_get-before (x ∷ xs) ys zero within = refl
+slice_get-before (x ∷ xs) ys (suc k) within = slice_get-before xs ys k (omega (arith, within))
+
 -- an item at a place stays there where the list goes on
-pub slice_get-append_left : {A : Type 0} (xs ys : List A) (k : ℕ) (x : A) → slice_get xs k ≡ Some x → slice_get (xs ++ ys) k ≡ Some x
-slice_get-append_left xs ys k x found =
-    let bound = slice_get_within xs k x found in
-    let wide : k < length (xs ++ ys) = omega (arith, length-append xs ys) in
-    slice_get-get_or (xs ++ ys) k x wide ∙ ap (λ z. Some z) (get_or_append_left xs ys x k bound ∙ get_or_from_slice_get xs k x x found)
+pub slice_get-append_left : {A : Type 0} (xs ys : List A) (k : ℕ) (x : A) → slice_get xs k ≡ Some x
+    → slice_get (xs ++ ys) k ≡ Some x
+slice_get-append_left xs ys k x found = slice_get-before xs ys k (slice_get_within xs k x found) ∙ found
 
 -- the item that is put behind a list stands at the place of the list's length
 pub slice_get-push_last : {A : Type 0} (xs : List A) (x : A) → slice_get (xs ++ x ∷ []) (length xs) ≡ Some x

@@ -1,4 +1,5 @@
 pub mod Items
+pub mod NumberTies
 pub mod Counting
 pub mod FirstCells
 pub mod CellOrder

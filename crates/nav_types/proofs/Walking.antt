@@ -98,7 +98,7 @@ two_ways SE a b diagonal leads = (record { columns = leads.columns; rows = refl 
 two_ways SW a b diagonal leads = (record { columns = leads.columns; rows = refl }, record { columns = refl; rows = leads.rows })
 two_ways NW a b diagonal leads = (record { columns = leads.columns; rows = refl }, record { columns = refl; rows = leads.rows })
 
-ways_straight : (dir : Dir) → (is_straight (row_part dir) ≡ true) × (is_straight (column_part dir) ≡ true)
+pub ways_straight : (dir : Dir) → (is_straight (row_part dir) ≡ true) × (is_straight (column_part dir) ≡ true)
 ways_straight N = (refl, refl)
 ways_straight E = (refl, refl)
 ways_straight S = (refl, refl)
@@ -160,6 +160,10 @@ walk_cost-push dirs dir = sum_by_push step_cost dirs dir
 pub IsWalk-passes : (passes : Cell → Bool) (dirs : List Dir) (from to : Cell) → IsTrue (passes from) → IsWalk passes from dirs to → IsTrue (passes to)
 IsWalk-passes passes [] from to free walk = let P = λ (cell : Cell). IsTrue (passes cell) in subst P walk free
 IsWalk-passes passes (dir ∷ dirs) from to free walk = IsWalk-passes passes dirs walk.0 to walk.1.0.next walk.1.1
+
+-- what is joined to a passable cell is passable
+pub Joined-passes : (passes : Cell → Bool) (a b : Cell) → IsTrue (passes a) → Joined passes a b → IsTrue (passes b)
+Joined-passes passes a b free joined = IsWalk-passes passes joined.0 a b free joined.1
 
 -- two cells have one distance
 pub IsDistance-unique : (passes : Cell → Bool) (from to : Cell) (a b : ℕ) → IsDistance passes from to a → IsDistance passes from to b → a ≡ b
@@ -244,7 +248,7 @@ column_first SW a b diagonal leads = record { columns = refl; rows = leads.rows 
 column_first NW a b diagonal leads = record { columns = refl; rows = leads.rows }
 
 -- a straight direction is both of its parts
-own_parts : (dir : Dir) → is_straight dir ≡ true → (row_part dir ≡ dir) × (column_part dir ≡ dir)
+pub own_parts : (dir : Dir) → is_straight dir ≡ true → (row_part dir ≡ dir) × (column_part dir ≡ dir)
 own_parts N straight = (refl, refl)
 own_parts E straight = (refl, refl)
 own_parts S straight = (refl, refl)

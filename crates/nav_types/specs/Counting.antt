@@ -25,7 +25,9 @@ pub record AreFirsts (passes : Cell → Bool) (Together Before : Cell → Cell �
 
 -- A passable cell's number is 1 plus the place of its group's first cell among the first cells of all groups, in order.
 -- The number of an impassable cell is 0.
-pub record HasNumber (passes : Cell → Bool) (Together Before : Cell → Cell → Type 0) (cell : Cell) (number : ℕ) : Type 0 where
+pub record HasNumber (passes : Cell → Bool) (Together Before : Cell → Cell → Type 0)
+    (cell : Cell) (number : ℕ) : Type 0 where
   pub blocked : IsFalse (passes cell) → number ≡ 0
   pub placed : IsTrue (passes cell) → (firsts : List Cell) × (AreFirsts passes Together Before firsts
-      × ((place : ℕ) × ((first : Cell) × ((slice_get firsts place ≡ Some first) × (Together cell first × (number ≡ place + 1))))))
+      × ((place : ℕ) × ((first : Cell)
+      × ((slice_get firsts place ≡ Some first) × (Together cell first × (number ≡ place + 1))))))

@@ -21,17 +21,20 @@ JoinedStraight passes from to = (dirs : List Dir) × (AllPass is_straight dirs �
 abbrev pub InOneRegion : (Cell → Bool) → Chunk → Cell → Cell → Type 0
 InOneRegion passes chunk from to = JoinedStraight (passes_in passes chunk) from to
 
--- the number of the cell's region in the chunk, in the order of first cells; 0 for a cell that is not passable in the chunk
+-- the number of the cell's region in the chunk, in the order of first cells; 0 for a cell that is not passable in the
+-- chunk
 abbrev pub HasRegion : (Cell → Bool) → Chunk → Cell → ℕ → Type 0
 HasRegion passes chunk cell number = HasNumber (passes_in passes chunk) (InOneRegion passes chunk) IsBefore cell number
 
 -- the cell is the first of its region
 abbrev pub IsRegionFirst : (Cell → Bool) → Cell → Type 0
-IsRegionFirst passes cell = IsFirst (passes_in passes (chunk_of cell)) (InOneRegion passes (chunk_of cell)) IsBefore cell
+IsRegionFirst passes cell =
+    IsFirst (passes_in passes (chunk_of cell)) (InOneRegion passes (chunk_of cell)) IsBefore cell
 
 -- the chunk there is the east or the north neighbour of the chunk here
 abbrev pub IsNextChunk : Chunk → Chunk → Type 0
-IsNextChunk here there = ((there.ci ≡ here.ci + 1) × (there.cj ≡ here.cj)) ⊎ ((there.ci ≡ here.ci) × (there.cj ≡ here.cj + 1))
+IsNextChunk here there = ((there.ci ≡ here.ci + 1) × (there.cj ≡ here.cj))
+    ⊎ ((there.ci ≡ here.ci) × (there.cj ≡ here.cj + 1))
 
 -- one straight step leads from one cell to the other
 abbrev pub IsBeside : Cell → Cell → Type 0
@@ -62,10 +65,12 @@ IsAreaFirst passes cell = IsFirst passes (Joined passes) IsAreaBefore cell
 -- how many regions, region edges and areas all classes of a map have together
 pub record HasTallies (classes : ℕ) (passes : ℕ → Cell → Bool) (regions edges areas : ℕ) : Type 0 where
   pub region_count : Counts (λ (r : ℕ × Cell). (r.0 < classes) × IsRegionFirst (passes r.0) r.1) regions
-  pub edge_count : Counts (λ (e : ℕ × Chunk × Chunk × ℕ × ℕ). (e.0 < classes) × (IsNextChunk e.1 e.2 × IsEdge (passes e.0) e.1 e.2 e.3 e.4)) edges
+  pub edge_count : Counts (λ (e : ℕ × Chunk × Chunk × ℕ × ℕ). (e.0 < classes)
+      × (IsNextChunk e.1 e.2 × IsEdge (passes e.0) e.1 e.2 e.3 e.4)) edges
   pub area_count : Counts (λ (a : ℕ × Cell). (a.0 < classes) × IsAreaFirst (passes a.0) a.1) areas
 
 -- how many pairs of class and chunk have a cell that is passable before and not now, or now and not before
 abbrev pub HasRelabelled : ℕ → (ℕ → Cell → Bool) → (ℕ → Cell → Bool) → ℕ → Type 0
 HasRelabelled classes before now count =
-    Counts (λ (p : ℕ × Chunk). (p.0 < classes) × ((cell : Cell) × ((chunk_of cell ≡ p.1) × (before p.0 cell ≢ now p.0 cell)))) count
+    Counts (λ (p : ℕ × Chunk). (p.0 < classes)
+    × ((cell : Cell) × ((chunk_of cell ≡ p.1) × (before p.0 cell ≢ now p.0 cell)))) count

@@ -12,4 +12,5 @@ bit_of passable = if passable then 0 else 1
 -- the numbers are those of row j of a map of this size with so many classes
 pub record AreRowBits (size : Size) (classes : ℕ) (passes : ℕ → Cell → Bool) (j : ℕ) (bits : List ℕ) : Type 0 where
   pub long : length bits ≡ size.w
-  pub each : (class i : ℕ) → class < classes → i < size.w → bit_at (slice_index bits i) class ≡ bit_of (passes class (cell_at i j))
+  pub each : (class i : ℕ) → class < classes → i < size.w
+      → bit_at (slice_index bits i) class ≡ bit_of (passes class (cell_at i j))

@@ -173,7 +173,8 @@ impl DirSet {
 
     /// The directions of the set whose straight parts are in it, too.
     pub(crate) fn with_parts(self) -> DirSet
-        ensures { (dir : Dir) → holds result dir ≡ (holds self dir && (holds self (row_part dir) && holds self (column_part dir))) }
+        ensures { (dir : Dir) → holds result dir
+            ≡ (holds self dir && (holds self (row_part dir) && holds self (column_part dir))) }
     {
         DirSet {
             ne: all_three(self.ne, self.e, self.n),

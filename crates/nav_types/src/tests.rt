@@ -19,7 +19,8 @@ impl View for Ring {
 
     ghost class_count = { λ _. 1 };
 
-    ghost passes = { λ r _ cell. nat_lt cell.i r.size.w && nat_lt cell.j r.size.h && not ((cell.i == 1) && (cell.j == 1)) };
+    ghost passes = { λ r _ cell. nat_lt cell.i r.size.w && nat_lt cell.j r.size.h
+        && not ((cell.i == 1) && (cell.j == 1)) };
 
     ghost within = { λ r class cell passes. Prim.search rules };
 

@@ -39,7 +39,8 @@ pub trait View {
         ensures { result ≡ passes self.now class cell };
 
     // Only cells inside the map pass.
-    ghost within: { (view : Self) (class : ℕ) (cell : Cell) → IsTrue (passes view class cell) → IsInside (extent view) cell };
+    ghost within: { (view : Self) (class : ℕ) (cell : Cell) → IsTrue (passes view class cell)
+        → IsInside (extent view) cell };
 }
 
 /// A map that hands out the bits of a whole row at once.
@@ -70,10 +71,12 @@ pub trait Areas: View {
         ensures { has_area self.now class cell result };
 
     // 0 goes with an impassable cell.
-    ghost blocked: { (map : Self) (class : ℕ) (cell : Cell) (area : ℕ) → has_area map class cell area → (area ≡ 0) ↔ IsFalse (Self.passes map class cell) };
+    ghost blocked: { (map : Self) (class : ℕ) (cell : Cell) (area : ℕ) → has_area map class cell area
+        → (area ≡ 0) ↔ IsFalse (Self.passes map class cell) };
 
     // Two passable cells have one number exactly where a legal walk joins them.
-    ghost joined: { (map : Self) (class : ℕ) (a b : Cell) (m n : ℕ) → IsTrue (Self.passes map class a) → IsTrue (Self.passes map class b)
+    ghost joined: { (map : Self) (class : ℕ) (a b : Cell) (m n : ℕ) → IsTrue (Self.passes map class a)
+        → IsTrue (Self.passes map class b)
         → has_area map class a m → has_area map class b n → (m ≡ n) ↔ Joined (Self.passes map class) a b };
 }
 

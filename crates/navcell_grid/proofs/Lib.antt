@@ -1,2 +1,4 @@
 pub mod RectLemmas
 pub mod GridLemmas
+pub mod PatchLemmas
+pub mod PatchCells

@@ -1,6 +1,6 @@
 -- A grid: the size of a map, and one number of 16 bits for each of its navcells. Bit k of a number is
 -- set where the navcell is impassable for the passability class k.
-use Rattle.std.specs.Prelude.{ℕ, ◌≡◌, ◌≤◌, ◌+◌, ◌*◌, Bool, ◌&&◌, not, nat_lt, List, length, slice_index}
+use Rattle.std.specs.Prelude.{ℕ, ◌≡◌, ◌≤◌, ◌*◌, Bool, ◌&&◌, not, nat_lt, List, length, slice_index}
 use Rattle.nav_types.specs.declared.cells.Cell.{Cell}
 use Rattle.nav_types.specs.declared.cells.Size.{Size}
 use Rattle.nav_types.specs.Places.{place_of}

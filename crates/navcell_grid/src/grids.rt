@@ -1,4 +1,4 @@
-ghost use Rattle.std.specs.Prelude.{◌≡◌, ◌≤◌, ◌<◌, ◌+◌, ◌*◌, ◌⊎◌, ℕ, length, replicate, slice_index, slice_range, bit_or, IfOk};
+ghost use Rattle.std.specs.Prelude.{◌≡◌, ◌≤◌, ◌<◌, ◌+◌, ◌-◌, ◌*◌, ◌⊎◌, ℕ, length, replicate, slice_index, slice_range, bit_or, IfOk};
 ghost use Rattle.nav_types.specs.Cells.{cell_at, IsInside, IsInRect, IsRectInside};
 ghost use Rattle.nav_types.specs.Places.{place_of};
 ghost use Rattle.navcell_grid.specs.Grids.{GridCells, IsWholeGrid, number_at, IsInSpan, is_passable};
@@ -38,6 +38,26 @@ impl Grid {
             cells: vec![in alloc; 0; count]?,
             size,
         })
+    }
+
+    /// A grid of the same size and the same numbers.
+    pub(crate) fn copy(&self, alloc: Global) -> Result<Grid, NoMemory>
+        ensures { IfOk result (λ grid. grid ≡ self.now) }
+    {
+        let mut cells = Vec::with_capacity(alloc, self.cells.len())?;
+        cells.extend_from_slice(&self.cells)?;
+        Ok(Grid {
+            cells,
+            size: self.size,
+        })
+    }
+
+    /// The numbers of all cells in their order.
+    pub(crate) fn numbers(&self) -> &[u16]
+        ensures cells { result.now ≡ self.now.cells }
+        ensures whole { IsWholeGrid self.now }
+    {
+        &self.cells
     }
 
     /// The size of the map, in navcells. The grid has exactly one number for each cell of it
@@ -134,9 +154,22 @@ impl Grid {
         ensures span { (cell : Cell) → IsInSpan j i0 i1 cell → number_at self.new cell ≡ number_at other.now cell }
         ensures others { (cell : Cell) → IsInside self.old.size cell → ¬ IsInSpan j i0 i1 cell → number_at self.new cell ≡ number_at self.old cell }
     {
+        let row = other.row(j);
+        self.write_span(j, i0, i1, &row[usize::from(i0)..usize::from(i1) + 1]);
+    }
+
+    /// Gives the cells of row `j` from column `i0` to column `i1` the numbers of the list, one after another.
+    pub(crate) fn write_span(&mut self, j: u16, i0: u16, i1: u16, numbers: &[u16])
+        requires ordered { i0 ≤ i1 }
+        requires column { i1 < self.old.size.w }
+        requires row { j < self.old.size.h }
+        requires each { length numbers.now ≡ i1 - i0 + 1 }
+        ensures size { self.new.size ≡ self.old.size }
+        ensures span { (cell : Cell) → IsInSpan j i0 i1 cell → number_at self.new cell ≡ slice_index numbers.now (cell.i - i0) }
+        ensures others { (cell : Cell) → IsInside self.old.size cell → ¬ IsInSpan j i0 i1 cell → number_at self.new cell ≡ number_at self.old cell }
+    {
         let from = place(self.size, i0, j);
-        let to = place(self.size, i1, j) + 1;
-        copy_places(&mut self.cells, &other.cells, from, to);
+        write_places(&mut self.cells, from, numbers);
     }
 }
 
@@ -194,13 +227,11 @@ fn clear_places(cells: &mut [u16], from: usize, to: usize)
     cells[from..to].fill(0);
 }
 
-/// Copies the numbers of the places from `from` up to and without `to` from the other list.
-fn copy_places(cells: &mut [u16], other: &[u16], from: usize, to: usize)
-    requires ordered { from ≤ to }
-    requires within { to ≤ length cells.old }
-    requires other { to ≤ length other.now }
-    ensures inside { (k : ℕ) → from ≤ k → k < to → slice_index cells.new k ≡ slice_index other.now k }
-    ensures outside { (k : ℕ) → (k < from) ⊎ (to ≤ k) → slice_index cells.new k ≡ slice_index cells.old k }
+/// Writes the numbers to the places from `from` on.
+fn write_places(cells: &mut [u16], from: usize, numbers: &[u16])
+    requires { from + length numbers.now ≤ length cells.old }
+    ensures inside { (k : ℕ) → k < length numbers.now → slice_index cells.new (from + k) ≡ slice_index numbers.now k }
+    ensures outside { (k : ℕ) → (k < from) ⊎ (from + length numbers.now ≤ k) → slice_index cells.new k ≡ slice_index cells.old k }
 {
-    cells[from..to].copy_from_slice(&other[from..to]);
+    cells[from..from + numbers.len()].copy_from_slice(numbers);
 }

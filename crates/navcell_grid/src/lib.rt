@@ -5,8 +5,10 @@
 #![tactic(auto)]
 
 mod grids;
+mod patches;
 
 pub use grids::{Grid, one_grid};
+pub use patches::Patch;
 
 #[cfg(test)]
 mod tests;

@@ -42,3 +42,46 @@ fn each_call_writes_what_it_names(rt: HostRuntime) -> Result<(), Fail> {
     assert_eq!(rt; grid.row(2), [0, 0, 0, 1].as_slice());
     Ok(())
 }
+
+/// Two patches, whose rectangles share two columns and two rows.
+#[test]
+fn a_patch_is_written_and_compared(rt: HostRuntime) -> Result<(), Fail> {
+    let rect = Rect {
+        i0: 96,
+        j0: 192,
+        i1: 98,
+        j1: 193,
+    };
+    let other_rect = Rect {
+        i0: 97,
+        j0: 191,
+        i1: 98,
+        j1: 193,
+    };
+    let mut patch = Patch::new(rt.alloc(), rect)?;
+    let mut other = Patch::new(rt.alloc(), other_rect)?;
+    assert!(rt; patch.rect() == rect && other.rect() == other_rect);
+    patch.or_span(192, 96, 97, 5);
+    other.or_span(193, 97, 98, 6);
+    let copy = patch.copy(rt.alloc())?;
+    assert!(rt; copy.rect() == rect);
+    assert_eq!(rt; copy.row(192), [5, 5, 0].as_slice());
+    let shared = Rect {
+        i0: 98,
+        j0: 193,
+        i1: 98,
+        j1: 193,
+    };
+    patch.copy_rect(&other, shared);
+    assert!(rt; patch.rect() == rect);
+    assert_eq!(rt; patch.row(193), [0, 0, 6].as_slice());
+    assert_eq!(rt; patch.at(Cell::new(97, 192)), 5);
+    assert_eq!(rt; patch.is_free(Class::new(2), Cell::new(98, 193)), false);
+    assert_eq!(rt; patch.is_free(Class::new(0), Cell::new(98, 193)), true);
+    assert_eq!(rt; patch.free(Class::new(2)), 3);
+    assert_eq!(rt; patch.differs(&copy), 6);
+    assert_eq!(rt; patch.differs_in(&other, shared), 0);
+    let both = Rect { i0: 97, ..shared };
+    assert_eq!(rt; patch.differs_in(&other, both), 6);
+    Ok(())
+}

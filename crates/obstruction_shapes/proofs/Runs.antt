@@ -10,6 +10,7 @@ use Rattle.obstruction_shapes.specs.Blocking.{blocked}
 use Rattle.std.proofs.lemmas.Int.{ints}
 use Rattle.std.proofs.lemmas.Bool.{cases_lt}
 use Rattle.std.proofs.Math.Nat.{mul-le-mul, mul-le-mul_left, le_of_mul-le-mul_left}
+use Rattle.fixed_point.proofs.Squares.{twice_le}
 
 -- a value between two others, whose distances from it are the steps s and t: on one side it moves away from 0, or on the other
 pub record Away (a far near s t : ℕ) : Type 0 where
@@ -43,19 +44,6 @@ past_mean a b c w n m mean =
     let none : b - w ≡ 0 = omega arith in
     rw none (omega arith))
     (cases_lt w b)
-
--- twice a product is at most the sum of the squares
-twice_ordered : (c d : ℕ) → 2 * ((c + d) * c) ≤ (c + d) * (c + d) + c * c
-twice_ordered c d = omega arith
-
-twice_le : (a c : ℕ) → 2 * (a * c) ≤ a * a + c * c
-twice_le a c =
-    ⊎_elim
-    (λ (more : c < a). let whole : c + (a - c) ≡ a = omega arith in
-    let h = subst (λ (t : ℕ). 2 * (t * c) ≤ t * t + c * c) whole (twice_ordered c (a - c)) in h)
-    (λ (less : a ≤ c). let whole : a + (c - a) ≡ c = omega arith in
-    let h = subst (λ (t : ℕ). 2 * (t * a) ≤ t * t + a * a) whole (twice_ordered a (c - a)) in omega arith)
-    (cases_lt c a)
 
 -- the square of a weighted mean is at most the weighted mean of the squares
 pub square_mean : (a b c n m : ℕ) → (m + n) * b ≤ m * a + n * c → (m + n) * ((m + n) * (b * b)) ≤ (m + n) * (m * (a * a) + n * (c * c))

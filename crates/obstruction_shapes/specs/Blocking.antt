@@ -15,7 +15,8 @@ abbrev pub extent : Shape → ℤ → ℕ
 extent shape clearance =
     unsigned_abs (turned_of shape).hw + unsigned_abs (turned_of shape).hh + 2 * unsigned_abs clearance
 
--- how far from the shape's middle, along either axis, a cell can be blocked: the extent, a 64th of it and the raw number 1
+-- how far from the shape's middle, along either axis, a cell can be blocked: the extent, a 64th of it and the raw
+-- number 1
 unfoldable pub reach : Shape → ℤ → ℕ
 reach shape clearance = let t = extent shape clearance in t + t / 64 + 1
 

@@ -17,10 +17,13 @@ use nav_types::{Rect, Size};
 pub fn reach_rect(shape: &Shape, clearance: Fixed, size: Size) -> Option<Rect>
     requires { FitsMap size shape.now }
     ensures inside { IfSome result (λ rect. IsRectInside size rect) }
-    ensures near { IfSome result (λ rect. (cell : Cell) → IsInside size cell → (IsInRect rect cell ↔ IsNear shape.now clearance cell)) }
+    ensures near { IfSome result
+        (λ rect. (cell : Cell) → IsInside size cell → (IsInRect rect cell ↔ IsNear shape.now clearance cell)) }
     ensures none_near { IfNone result ((cell : Cell) → IsInside size cell → ¬ IsNear shape.now clearance cell) }
-    ensures blocked { IfSome result (λ rect. (cell : Cell) → IsInside size cell → IsTrue (blocked shape.now clearance cell) → IsInRect rect cell) }
-    ensures none_blocked { IfNone result ((cell : Cell) → IsInside size cell → ¬ IsTrue (blocked shape.now clearance cell)) }
+    ensures blocked { IfSome result
+        (λ rect. (cell : Cell) → IsInside size cell → IsTrue (blocked shape.now clearance cell) → IsInRect rect cell) }
+    ensures none_blocked { IfNone result
+        ((cell : Cell) → IsInside size cell → ¬ IsTrue (blocked shape.now clearance cell)) }
 {
     let turned = shape.turned();
     let reach = reach_of(shape, clearance);

@@ -69,7 +69,8 @@ impl Shape {
 }
 
 /// Hands the shape back where it fits a map of this size (`FitsMap`): its middle lies on the map, its half
-/// sides are from 0 to 256 navcells, and the squared raw length of its unit vector is 2^32 within 2^25. `BadShape` exactly where it does not.
+/// sides are from 0 to 256 navcells, and the squared raw length of its unit vector is 2^32 within 2^25. `BadShape`
+/// exactly where it does not.
 pub fn check(shape: Shape, size: Size) -> Result<Shape, BadShape>
     ensures { OkIff result (FitsMap size shape) shape }
 {

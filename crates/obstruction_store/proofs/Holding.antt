@@ -19,7 +19,7 @@ use Rattle.slab.specs.Slab.{Slab, Updates}
 use Rattle.obstruction_store.specs.inner.Held.{slot_at, with_entry, held_entries, held_standing, HaveFullSlots, IsHeld}
 use Rattle.obstruction_store.specs.Standing.{Standing, Stands, IsFull}
 use Rattle.obstruction_store.proofs.Changes.{Changes, same_changes, reads, Holds, reads-add, Holds-add, reads-remove, Holds-remove, reads-write, Holds-write}
-use Rattle.obstruction_store.proofs.Listing.{ties_at, same_at, apart_by}
+use Rattle.nav_types.proofs.NumberTies.{ties_at, same_at, apart_at}
 
 none_from_test : {A : Type 0} (o : Option A) → is_some o ≡ false → o ≡ None
 none_from_test None is = refl
@@ -166,14 +166,14 @@ on_insert : (m : Standing) (number : ℕ) (v : Obstruction) → Changes (map.get
 on_insert m number v = record {
   here = map.get-insert nat_cmp_total m number v number ∙ ap (λ b. cond b (Some v) (map.get m number)) (ties_at number number refl);
   others = λ other differs. map.get-insert nat_cmp_total m number v other
-      ∙ ap (λ b. cond b (Some v) (map.get m other)) (apart_by other number differs);
+      ∙ ap (λ b. cond b (Some v) (map.get m other)) (apart_at other number differs);
 }
 
 on_remove : (m : Standing) (number : ℕ) → Changes (map.get m) (map.get (map.remove m number)) number None
 on_remove m number = record {
   here = map.get-remove nat_cmp_total m number number ∙ ap (λ b. cond b None (map.get m number)) (ties_at number number refl);
   others = λ other differs. map.get-remove nat_cmp_total m number other
-      ∙ ap (λ b. cond b None (map.get m other)) (apart_by other number differs);
+      ∙ ap (λ b. cond b None (map.get m other)) (apart_at other number differs);
 }
 
 -- two maps that change one map alike are equal

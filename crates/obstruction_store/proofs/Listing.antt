@@ -1,40 +1,20 @@
 -- Entries in the order of their numbers: what is among them, and lists of numbers that rise.
-use Rattle.std.proofs.Common.{◌≡◌, ◌≢◌, ◌↔◌, ℕ, ◌<◌, Bool, true, false, ◌&&◌, cond, T, List, [], ◌∷◌, map, Some, Contains, refl, sym, ap, inl, inr, ◌∙◌, arith}
+use Rattle.std.proofs.Common.{◌≡◌, ◌↔◌, ℕ, ◌<◌, Bool, true, false, ◌&&◌, cond, T, List, [], ◌∷◌, map, Some, Contains, refl, sym, ap, inl, inr, ◌∙◌, arith}
 use Rattle.std.proofs.lemmas.Map.Keys.{IsStrictlyIncreasing-from_sorted, sorted_from_strictly_increasing, below_from_sorted}
 use Rattle.std.proofs.lemmas.Option.{same_Some}
-use Rattle.std.specs.Cmp.{ranked, nat_cmp_is}
+use Rattle.std.specs.Cmp.{ranked}
 use Rattle.std.specs.FinMap as finite
 use Rattle.std.specs.FinMap.{FinMap, find, is_sorted}
 use Rattle.std.specs.FinMap.Entries.{below_all}
 use Rattle.std.specs.List.{AllByRecursion}
 use Rattle.std.specs.List.Sorted.{IsStrictlySortedBy, IsStrictlyIncreasing}
-use Rattle.std.specs.Ordering.{nat_cmp, eq_by_cmp, is_lt, is_eq}
+use Rattle.std.specs.Ordering.{nat_cmp, eq_by_cmp, is_lt}
 use Rattle.std.specs.declared.cmp.Ordering.{Ordering}
 use Rattle.std.specs.declared.cmp.Ordering.TheVariants.{Less, Equal, Greater}
+use Rattle.nav_types.proofs.NumberTies.{ties_at, same_at, apart_at}
 use Rattle.nav_types.proofs.Items.{Contains-cons_cases, Contains-tail, same_ordered}
 
 -- ---- comparing numbers
-pub ties_at : (a b : ℕ) → a ≡ b → eq_by_cmp nat_cmp a b ≡ true
-ties_at a b same = ap is_eq (sym (nat_cmp_is a b Equal same))
-
-apart_at : (a b : ℕ) → b < a → eq_by_cmp nat_cmp a b ≡ false
-apart_at a b above = ap is_eq (sym (nat_cmp_is a b Greater above))
-
-same_by : (a b : ℕ) (r : Ordering) → r ≡ nat_cmp a b → is_eq r ≡ true → a ≡ b
-same_by a b Less e is = absurd (cc)
-same_by a b Equal e is = ranked a b Equal e
-same_by a b Greater e is = absurd (cc)
-
-pub same_at : (a b : ℕ) → eq_by_cmp nat_cmp a b ≡ true → a ≡ b
-same_at a b is = same_by a b (nat_cmp a b) refl is
-
--- two numbers that differ do not tie
-pub apart_by : (a b : ℕ) → a ≢ b → eq_by_cmp nat_cmp a b ≡ false
-apart_by a b differs = elim (eq_by_cmp nat_cmp a b) as (λ r. eq_by_cmp nat_cmp a b ≡ r → r ≡ false) [
-  | true ↦ λ ties. absurd (differs (same_at a b ties))
-  | false ↦ λ ties. refl
-] refl
-
 less_by : (a b : ℕ) (r : Ordering) → r ≡ nat_cmp a b → T (is_lt r) → a < b
 less_by a b Less e is = ranked a b Less e
 less_by a b Equal e is = absurd is
@@ -72,7 +52,7 @@ found_from_listed n v (e ∷ es) sorted listed = elim (Contains-cons_cases e es 
       ap (λ b. cond b (Some e.1) (find nat_cmp n es)) (ties_at n e.0 at) ∙ ap (λ p. Some p.1) here
   | inr later ↦
       let above = below_listed e.0 n v es (first _ _ sorted) later in
-      ap (λ b. cond b (Some e.1) (find nat_cmp n es)) (apart_at n e.0 above) ∙ found_from_listed n v es (second _ _ sorted) later
+      ap (λ b. cond b (Some e.1) (find nat_cmp n es)) (apart_at n e.0 (λ same. omega arith)) ∙ found_from_listed n v es (second _ _ sorted) later
 ]
 
 listed_from_found : {X : Type 0} (n : ℕ) (v : X) (es : List (ℕ × X)) → find nat_cmp n es ≡ Some v → Contains es (n, v)

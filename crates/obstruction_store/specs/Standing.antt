@@ -34,4 +34,5 @@ moved standing number x z = with_placed standing number x z (map.get standing nu
 
 -- each standing shape fits a map of this size
 pub record AllFit (size : Size) (standing : Standing) : Type 0 where
-  pub each : (number : ℕ) (obstruction : Obstruction) → map.get standing number ≡ Some obstruction → FitsMap size obstruction.shape
+  pub each : (number : ℕ) (obstruction : Obstruction) → map.get standing number ≡ Some obstruction
+      → FitsMap size obstruction.shape

@@ -37,7 +37,8 @@ pub fn all_fit_after_add()
 
 /// A law: all shapes fit after one is removed.
 pub fn all_fit_after_remove()
-    ensures { (size : Size) (standing : Standing) (number : ℕ) → AllFit size standing → AllFit size (map.remove standing number) }
+    ensures { (size : Size) (standing : Standing) (number : ℕ) → AllFit size standing
+        → AllFit size (map.remove standing number) }
 {}
 
 /// A law: all shapes fit after one is moved to where it fits.
@@ -58,5 +59,6 @@ pub fn what_blocks_touches()
 /// A law: two lists of the numbers that touch one rectangle are equal.
 pub fn one_list_touches()
     ensures { (size : Size) (rect : Rect) (clearance : ℤ) (standing : Standing) (first second : List ℕ)
-        → AreTouching size rect clearance standing first → AreTouching size rect clearance standing second → first ≡ second }
+        → AreTouching size rect clearance standing first → AreTouching size rect clearance standing second
+        → first ≡ second }
 {}

@@ -101,7 +101,8 @@ impl Store {
     /// memory.
     pub fn move_to(&mut self, id: u32, x: Fixed, z: Fixed, size: Size) -> Result<(), MoveRefusal>
         ensures moves { OnOk result (self.new ≡ moved self.old id x z) }
-        ensures fits { OnOk result (IsSomeAnd (map.get self.old id) (λ obstruction. FitsMap size (moved_to obstruction.shape x z))) }
+        ensures fits { OnOk result
+            (IsSomeAnd (map.get self.old id) (λ obstruction. FitsMap size (moved_to obstruction.shape x z))) }
         ensures kept { OnErr result (self.new ≡ self.old) }
         ensures unknown { (result ≡ Err MoveRefusal.UnknownId) ↔ (map.get self.old id ≡ None) }
         ensures bad_shape { (result ≡ Err MoveRefusal.BadShape)

@@ -1,15 +1,14 @@
 -- The finite map of entries whose keys differ.
-use Rattle.std.proofs.Common.{ℕ, suc, set, slice_index, ◌≡◌, ◌≢◌, ◌<◌, ◌+◌, ◌⊎◌, ◌↔◌, Bool, true, false, cond, List, [], ◌∷◌, ◌++◌, length, map, Option, None, Some, is_some, IfSome, Contains, refl, ap, inl, inr, sym, subst, ◌∙◌, arith}
+use Rattle.std.proofs.Common.{ℕ, suc, set, slice_index, ◌≡◌, ◌≢◌, ◌<◌, ◌+◌, ◌↔◌, Bool, false, cond, List, [], ◌∷◌, ◌++◌, length, map, Option, None, Some, is_some, IfSome, Contains, refl, ap, inl, inr, sym, subst, ◌∙◌, arith}
 use Rattle.std.specs.List.{slice_get}
 use Rattle.std.proofs.lemmas.Option.{same_Some}
 use Rattle.std.proofs.lemmas.List.{get_or-set_same, get_or-set_other, length-set}
 use Rattle.std.proofs.lemmas.List.Elements.{Contains-get_or, Contains-append_left, Contains-push, Contains-push_cases}
-use Rattle.std.specs.Cmp.{ranked, nat_cmp_is, nat_cmp_total}
+use Rattle.std.specs.Cmp.{nat_cmp_total}
 use Rattle.std.specs.FinMap as map
 use Rattle.std.specs.FinMap.{find}
-use Rattle.std.specs.Ordering.{nat_cmp, eq_by_cmp, is_eq}
-use Rattle.std.specs.declared.cmp.Ordering.{Ordering}
-use Rattle.std.specs.declared.cmp.Ordering.TheVariants.{Less, Equal, Greater}
+use Rattle.std.specs.Ordering.{nat_cmp, eq_by_cmp}
+use Rattle.nav_types.proofs.NumberTies.{ties_at, tie_cases}
 use Rattle.nav_types.proofs.Items.{Contains-head, Contains-tail, Contains-cons_cases, Contains-none}
 use Rattle.open_heap.specs.declared.entries.Entry.{Entry}
 use Rattle.open_heap.specs.declared.entries.Priority.{Priority}
@@ -17,25 +16,6 @@ use Rattle.open_heap.specs.Queue.{Queue, IsNotLater, IsLeast, entry_of}
 use Rattle.open_heap.specs.inner.Trees.{blank, entry_at, pair_of, queue_of, Lacks, IsHeap, HasSame}
 use Rattle.open_heap.proofs.EntryOrder.{top_is_first}
 use Rattle.open_heap.proofs.Gaps.{Contains-at, at_place}
-
--- ---- comparing keys
-ties_at : (a b : ℕ) → a ≡ b → eq_by_cmp nat_cmp a b ≡ true
-ties_at a b same = ap is_eq (sym (nat_cmp_is a b Equal same))
-
-same_by : (a b : ℕ) (r : Ordering) → r ≡ nat_cmp a b → is_eq r ≡ true → a ≡ b
-same_by a b Less e is = absurd (cc)
-same_by a b Equal e is = ranked a b Equal e
-same_by a b Greater e is = absurd (cc)
-
-same_at : (a b : ℕ) → eq_by_cmp nat_cmp a b ≡ true → a ≡ b
-same_at a b is = same_by a b (nat_cmp a b) refl is
-
--- two keys are one or tie nowhere
-key_cases : (a b : ℕ) → ((a ≡ b) × (eq_by_cmp nat_cmp a b ≡ true)) ⊎ ((a ≢ b) × (eq_by_cmp nat_cmp a b ≡ false))
-key_cases a b = elim (eq_by_cmp nat_cmp a b) as (λ r. eq_by_cmp nat_cmp a b ≡ r → ((a ≡ b) × (r ≡ true)) ⊎ ((a ≢ b) × (r ≡ false))) [
-  | true ↦ λ ties. inl (same_at a b ties, refl)
-  | false ↦ λ ties. inr (λ same. let tied = ties_at a b same in absurd (cc), refl)
-] refl
 
 -- ---- keys that differ
 abbrev pub KeysDiffer : List Entry → Type 0
@@ -48,7 +28,7 @@ same_entry a b key priority = ap (λ (p : Priority). entry_of a.key p) priority 
 found_back : (entries : List Entry) (key : ℕ) (priority : Priority) → find nat_cmp key (map pair_of entries) ≡ Some priority
     → Contains entries (entry_of key priority)
 found_back [] key priority is = absurd (cc)
-found_back (e ∷ es) key priority is = elim (key_cases key e.key) [
+found_back (e ∷ es) key priority is = elim (tie_cases key e.key) [
   | inl same ↦
       let found : Some e.priority ≡ Some priority =
       ap (λ (b : Bool). cond b (Some e.priority) (find nat_cmp key (map pair_of es))) (sym same.1) ∙ is in
@@ -63,7 +43,7 @@ found_back (e ∷ es) key priority is = elim (key_cases key e.key) [
 found_in : (entries : List Entry) (entry : Entry) → KeysDiffer entries → Contains entries entry
     → find nat_cmp entry.key (map pair_of entries) ≡ Some entry.priority
 found_in [] entry differ has = absurd (Contains-none entry has)
-found_in (e ∷ es) entry differ has = elim (key_cases entry.key e.key) [
+found_in (e ∷ es) entry differ has = elim (tie_cases entry.key e.key) [
   | inl same ↦
       let one : e ≡ entry = differ e entry (Contains-head e es) has (sym same.0) in
       ap (λ (b : Bool). cond b (Some e.priority) (find nat_cmp entry.key (map pair_of es))) same.1 ∙ ap (λ (x : Entry). Some x.priority) one
@@ -153,12 +133,12 @@ pub queue_put : (old new : List Entry) (entry : Entry) → KeysDiffer old → Ke
     → ((other : Entry) → other.key ≢ entry.key → Contains old other ↔ Contains new other)
     → queue_of new ≡ map.insert (queue_of old) entry.key entry.priority
 queue_put old new entry differ differ_new has others = queue_is new (map.insert (queue_of old) entry.key entry.priority) differ_new
-    (λ other in_new. elim (key_cases other.key entry.key) [
+    (λ other in_new. elim (tie_cases other.key entry.key) [
       | inl same ↦ put_same (queue_of old) entry.key entry.priority other.key same.0
           ∙ ap (λ (x : Entry). Some x.priority) (differ_new entry other has in_new (sym same.0))
       | inr apart ↦ put_other (queue_of old) entry.key entry.priority other.key apart.1 ∙ listed old other differ ((others other apart.0).1 in_new)
     ])
-    (λ key priority is. elim (key_cases key entry.key) [
+    (λ key priority is. elim (tie_cases key entry.key) [
       | inl same ↦
           let found : Some entry.priority ≡ Some priority = sym (put_same (queue_of old) entry.key entry.priority key same.0) ∙ is in
           subst (λ (x : Entry). Contains new x) (same_entry entry (entry_of key priority) (sym same.0) (same_Some entry.priority priority found)) has
@@ -172,14 +152,14 @@ pub queue_removed : (old new : List Entry) (entry : Entry) → KeysDiffer old �
     → ((other : Entry) → other.key ≢ entry.key → Contains old other ↔ Contains new other)
     → queue_of new ≡ map.remove (queue_of old) entry.key
 queue_removed old new entry differ differ_new gone others = queue_is new (map.remove (queue_of old) entry.key) differ_new
-    (λ other in_new. elim (key_cases other.key entry.key) [
+    (λ other in_new. elim (tie_cases other.key entry.key) [
       | inl same ↦ absurd (gone other in_new same.0)
       | inr apart ↦ map.get-remove nat_cmp_total (queue_of old) entry.key other.key
           ∙ ap (λ (b : Bool). cond b None (map.get (queue_of old) other.key)) apart.1 ∙ listed old other differ ((others other apart.0).1 in_new)
     ])
     (λ key priority is.
     let was = sym (map.get-remove nat_cmp_total (queue_of old) entry.key key) ∙ is in
-    elim (key_cases key entry.key) [
+    elim (tie_cases key entry.key) [
       | inl same ↦
           let found : None ≡ Some priority = ap (λ (b : Bool). cond b None (map.get (queue_of old) key)) (sym same.1) ∙ was in
           absurd (cc)

@@ -25,4 +25,5 @@ entry_of key priority = record { priority = priority; key = key }
 -- the list has the entry, and none of its entries comes before it
 pub record IsLeast (queue : Queue) (entry : Entry) : Type 0 where
   pub present : map.get queue entry.key ≡ Some entry.priority
-  pub first : (key : ℕ) (priority : Priority) → map.get queue key ≡ Some priority → IsNotLater entry (entry_of key priority)
+  pub first : (key : ℕ) (priority : Priority) → map.get queue key ≡ Some priority
+      → IsNotLater entry (entry_of key priority)

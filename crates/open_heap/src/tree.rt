@@ -35,7 +35,9 @@ impl Tree {
     /// The place right above the gap, where the entry comes before the one that stands there.
     fn later_above(&self, gap: usize, entry: &Entry) -> Option<usize>
         requires { gap < length self.now.entries.items }
-        ensures some { IfSome result (λ above. (0 < gap) × ((above ≡ parent gap) × IsNotLater entry.now (entry_at self.now.entries.items above))) }
+        ensures some { IfSome result
+            (λ above. (0 < gap)
+            × ((above ≡ parent gap) × IsNotLater entry.now (entry_at self.now.entries.items above))) }
         ensures none { IfNone result (0 < gap → IsNotLater (entry_at self.now.entries.items (parent gap)) entry.now) }
     {
         if gap == 0 {
@@ -167,7 +169,8 @@ impl Tree {
         requires { IsHeap self.old.entries.items self.old.places.items }
         ensures some { IfSome result (λ entry. HasSame self.old.entries.items (entry ∷ self.new.entries.items)) }
         ensures gone { IfSome result (λ entry. Lacks self.new.entries.items entry.key) }
-        ensures first { IfSome result (λ entry. (0 < length self.old.entries.items) × (entry ≡ entry_at self.old.entries.items 0)) }
+        ensures first { IfSome result
+            (λ entry. (0 < length self.old.entries.items) × (entry ≡ entry_at self.old.entries.items 0)) }
         ensures none { IfNone result (self.old.entries.items ≡ []) }
         ensures kept { IfNone result (self.new.entries.items ≡ []) }
         ensures heap { IsHeap self.new.entries.items self.new.places.items }

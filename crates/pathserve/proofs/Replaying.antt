@@ -15,7 +15,7 @@ use Rattle.script_text.specs.Script.{Item, begins, ends_turn, map_after, beginni
 use Rattle.script_text.proofs.ReadTold.{told-same, told-then}
 use Rattle.script_text.proofs.ReadCalls.{goes_then, stuck_then}
 use Rattle.pathserve.specs.declared.status.Status.{Status}
-use Rattle.pathserve.specs.declared.status.Status.TheVariants.{Done, BadLine, ReadFault, WriteFault, NoMemory, TooLong}
+use Rattle.pathserve.specs.declared.status.Status.TheVariants.{Done, Usage, BadLine, ReadFault, WriteFault, NoMemory, TooLong}
 use Rattle.pathserve.specs.Output.{Said, unsaid, with_map, with_turn, IsTurnText, Says, Gives, stop_text, IsOut, IsBeginning, Replays, ReplaysTold, stop_status, ComesByStop}
 use Rattle.pathserve.specs.declared.bad_lines.BadLine as reason
 use Rattle.pathserve.specs.Reasons.{IsWhyBad}
@@ -271,6 +271,18 @@ pub stop_refused : (reads reading_now writes writing_now : ℕ) (ends : Ends) (r
     → (refused ≡ refusal.Failed → Rose writes writing_now) → ComesByStop reads reading_now writes writing_now ends (refused_status refused)
 stop_refused reads reading_now writes writing_now ends refusal.Failed rose = inr (inr (inr (refl, rose refl)))
 stop_refused reads reading_now writes writing_now ends refusal.NoMemory rose = inr (inl refl)
+
+-- the status of a refused write is never that of other words or of a fault of reading, and that of writing only where it failed
+pub refused_by : (refused : WriteRefusal) (status : Status) → status ≡ refused_status refused
+    → (status ≡ Usage → ⊥) × ((status ≡ ReadFault → ⊥) × (status ≡ WriteFault → refused ≡ refusal.Failed))
+refused_by refusal.Failed status is = (
+  λ words. let both : WriteFault ≡ Usage = sym is ∙ words in cc,
+  (λ reading. let both : WriteFault ≡ ReadFault = sym is ∙ reading in cc, λ writing. refl),
+)
+refused_by refusal.NoMemory status is = (
+  λ words. let both : NoMemory ≡ Usage = sym is ∙ words in cc,
+  (λ reading. let both : NoMemory ≡ ReadFault = sym is ∙ reading in cc, λ writing. let both : NoMemory ≡ WriteFault = sym is ∙ writing in cc),
+)
 
 stop_bad_line : (reads reading_now writes writing_now : ℕ) (ends : Ends) (n : ℕ) (written : Result (Unit {0}) WriteRefusal) (status : Status)
     → status ≡ status_after written BadLine → ends ≡ stuck_by (bad_line n) → (status ≡ WriteFault → Rose writes writing_now)

@@ -15,7 +15,8 @@ pub fn one_out()
 
 /// A beginning of the output text is a prefix of it.
 pub fn beginning_is_prefix()
-    ensures { (bytes out whole : List ℕ) → IsBeginning bytes out → IsOut bytes whole → (rest : List ℕ) × (whole ≡ out ++ rest) }
+    ensures { (bytes out whole : List ℕ) → IsBeginning bytes out → IsOut bytes whole → (rest : List ℕ)
+        × (whole ≡ out ++ rest) }
 {}
 
 /// The text of the turns taken is one, and it is a beginning of the output text.
@@ -27,7 +28,8 @@ pub fn taken_text()
 /// The line that stops an input does not lie among the full lines taken: no beginning of them stops, and a bad line
 /// comes after them.
 pub fn stop_is_not_taken()
-    ensures no_stop { (bytes rest out : List ℕ) (text : IsTakenText bytes rest out) (front back : List (List ℕ)) (stop : Stop)
+    ensures no_stop { (bytes rest out : List ℕ) (text : IsTakenText bytes rest out) (front back : List (List ℕ))
+        (stop : Stop)
         → full_lines text.taken ≡ front ++ back → (walk front beginning).ends ≢ stuck_by stop }
     ensures later { (bytes rest out : List ℕ) (text : IsTakenText bytes rest out) (n : ℕ)
         → (reading bytes beginning).ends ≡ stuck_by (bad_line n) → length (full_lines text.taken) < n }
@@ -37,7 +39,10 @@ pub fn stop_is_not_taken()
 pub fn text_is_one_thread()
     ensures told { (bytes text : List ℕ) (m : Map) → map_after None (reading bytes beginning).items ≡ Some m
         → IsText (reading bytes beginning).items text
-        → (all : List TurnReplies) × (IsOneThread m (turns_of (reading bytes beginning).items) all × (text ≡ turn_texts 1 all)) }
-    ensures text { (bytes : List ℕ) (m : Map) (all : List TurnReplies) → map_after None (reading bytes beginning).items ≡ Some m
-        → IsOneThread m (turns_of (reading bytes beginning).items) all → IsText (reading bytes beginning).items (turn_texts 1 all) }
+        → (all : List TurnReplies) × (IsOneThread m (turns_of (reading bytes beginning).items) all
+        × (text ≡ turn_texts 1 all)) }
+    ensures text { (bytes : List ℕ) (m : Map) (all : List TurnReplies)
+        → map_after None (reading bytes beginning).items ≡ Some m
+        → IsOneThread m (turns_of (reading bytes beginning).items) all
+        → IsText (reading bytes beginning).items (turn_texts 1 all) }
 {}

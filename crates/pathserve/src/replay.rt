@@ -1,5 +1,7 @@
 //! The program's work: a script is read and answered turn by turn.
-ghost use Rattle.std.specs.Prelude.{◌≡◌, ◌≢◌, ◌^◌, ◌<◌, ◌≤◌, ◌⊎◌, ◌↔◌, ℕ, IfOk, IfSome, IsSome, List, Option, Some, None, length};
+ghost use Rattle.std.specs.Prelude.{◌≡◌, ◌≢◌, ◌^◌, ◌<◌, ◌≤◌, ◌⊎◌, ◌↔◌, ℕ, IfOk, IfSome, IsSome, List, Option, Some};
+ghost use Rattle.std.specs.Prelude.{None, length};
+ghost use Rattle.nav_types.specs.declared.limits.TheConstants.{MAX_WORKERS};
 ghost use Rattle.io_edges.specs.Faults.{Rose};
 ghost use Rattle.io_edges.specs.Passing.{HasGiven, HasTaken};
 ghost use Rattle.pathserve.specs.declared.commands.Command.TheVariants.{Replay};
@@ -55,8 +57,10 @@ pub fn run<R: Threads + Wait + Sync, S: Source, K: Sink, G: Gate + Sync>(
     ensures untouched { result ≡ Status.Usage → (source.new ≡ source.old) × (sink.new ≡ sink.old) }
     ensures replay { (workers : ℕ) → command_of words.now ≡ Some (Replay workers)
         → ReplaysTold (S.left source.old) (S.left source.new) (K.kept sink.old) (K.kept sink.new) result }
-    ensures stop { (workers : ℕ) (bytes : List ℕ) → command_of words.now ≡ Some (Replay workers) → S.left source.old ≡ Some bytes
-        → ComesByStop (S.faults source.old) (S.faults source.new) (K.faults sink.old) (K.faults sink.new) (reading bytes beginning).ends result }
+    ensures stop { (workers : ℕ) (bytes : List ℕ) → command_of words.now ≡ Some (Replay workers)
+        → S.left source.old ≡ Some bytes
+        → ComesByStop (S.faults source.old) (S.faults source.new) (K.faults sink.old) (K.faults sink.new)
+        (reading bytes beginning).ends result }
     ensures given { HasGiven (S.left source.old) (S.left source.new) }
     ensures taken { HasTaken (K.kept sink.old) (K.kept sink.new) }
     ensures source_later { S.faults source.old ≤ S.faults source.new }
@@ -79,8 +83,8 @@ pub fn run<R: Threads + Wait + Sync, S: Source, K: Sink, G: Gate + Sync>(
 /// nobody. What was written is the output text of the input (`IsOut`) where the reading of it stops, and else a
 /// beginning of that (`IsBeginning`).
 ///
-/// So many workers, 1 to 64, answer the jobs of a turn, and each passes the gate once before it solves a job. The answers
-/// are the same for any number of them. It returns where the gate returns.
+/// So many workers, 1 to 64, answer the jobs of a turn, and each passes the gate once before it solves a job. The
+/// answers are the same for any number of them. It returns where the gate returns.
 ///
 /// `why` has at the end what it has behind `run`.
 pub fn run_replay<R: Threads + Sync, S: Source, K: Sink, G: Gate + Sync>(
@@ -93,10 +97,11 @@ pub fn run_replay<R: Threads + Sync, S: Source, K: Sink, G: Gate + Sync>(
     why: &mut Option<BadLine>,
 ) -> Status
     requires some { 1 ≤ workers }
-    requires few { workers ≤ 64 }
+    requires few { workers ≤ MAX_WORKERS }
     ensures told { ReplaysTold (S.left source.old) (S.left source.new) (K.kept sink.old) (K.kept sink.new) result }
     ensures stop { (bytes : List ℕ) → S.left source.old ≡ Some bytes
-        → ComesByStop (S.faults source.old) (S.faults source.new) (K.faults sink.old) (K.faults sink.new) (reading bytes beginning).ends result }
+        → ComesByStop (S.faults source.old) (S.faults source.new) (K.faults sink.old) (K.faults sink.new)
+        (reading bytes beginning).ends result }
     ensures usage { result ≢ Status.Usage }
     ensures given { HasGiven (S.left source.old) (S.left source.new) }
     ensures taken { HasTaken (K.kept sink.old) (K.kept sink.new) }
@@ -182,11 +187,12 @@ fn answered<R: Threads + Sync, G: Gate + Sync>(
     gate: &G,
 ) -> Result<Told, NoMemory>
     requires some { 1 ≤ workers }
-    requires most { workers ≤ 64 }
+    requires most { workers ≤ MAX_WORKERS }
     requires few { length (jobs posts) < 2 ^ 32 }
     ensures text { IfOk result (λ told. IsTurnText version.now.map version.now.standing turn posts told.text) }
     ensures map { IfOk result (λ told. told.after.map ≡ version.now.map) }
-    ensures standing { IfOk result (λ told. told.after.standing ≡ after_turn version.now.map version.now.standing posts) }
+    ensures standing { IfOk result (λ told. told.after.standing
+        ≡ after_turn version.now.map version.now.standing posts) }
 {
     let ready = match ReadyTurn::new(alloc, version, posts) {
         Ok(ready) => ready,

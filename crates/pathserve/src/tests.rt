@@ -10,6 +10,7 @@ use std::test::Fail;
 use std::thread::Threads;
 
 mod scripts;
+mod side_by_side;
 mod turn_by_turn;
 
 use scripts::{COVER, COVER_ANSWERS, SCRIPTS};

@@ -31,13 +31,15 @@ pub record IsFirstRegion (regions : List ℕ) (links : List (RegionId × RegionI
   pub earliest : (other : RegionId) → IsRegion regions other → AreJoined links id other → IsRegionBefore other id → ⊥
 
 -- the first regions of all areas, in order
-pub record AreFirstRegions (regions : List ℕ) (links : List (RegionId × RegionId)) (firsts : List RegionId) : Type 0 where
+pub record AreFirstRegions (regions : List ℕ) (links : List (RegionId × RegionId))
+    (firsts : List RegionId) : Type 0 where
   pub each : (id : RegionId) → Contains firsts id → IsFirstRegion regions links id
   pub all : (id : RegionId) → IsFirstRegion regions links id → Contains firsts id
   pub rising : AllPairs IsRegionBefore firsts
 
 -- the number is 1 plus the place of the first region of this one's area among the first regions of all areas
-pub record HasAreaNumber (links : List (RegionId × RegionId)) (firsts : List RegionId) (id : RegionId) (number : ℕ) : Type 0 where
+pub record HasAreaNumber (links : List (RegionId × RegionId)) (firsts : List RegionId) (id : RegionId)
+    (number : ℕ) : Type 0 where
   pub place : ℕ
   pub first : RegionId
   pub at : slice_get firsts place ≡ Some first

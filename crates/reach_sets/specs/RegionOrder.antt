@@ -2,7 +2,8 @@
 use Rattle.std.specs.Prelude.{ℕ, ◌≡◌, ◌<◌, ◌≤◌, ◌+◌, ◌-◌, ◌⊎◌, List, length, take, sum, slice_index}
 use Rattle.reach_sets.specs.declared.regions.RegionId.{RegionId}
 
--- the region exists: its chunk is one of those whose numbers of regions are listed, and its own number is from 1 to that
+-- the region exists: its chunk is one of those whose numbers of regions are listed, and its own number is from 1 to
+-- that
 pub record IsRegion (regions : List ℕ) (id : RegionId) : Type 0 where
   pub chunk : id.chunk < length regions
   pub first : 1 ≤ id.region

@@ -1,4 +1,5 @@
--- What a clause sees of a lane: its two ends, and the whole that they come back to. Items are in the order in which they were posted.
+-- What a clause sees of a lane: its two ends, and the whole that they come back to. Items are in the order in which
+-- they were posted.
 use Rattle.std.specs.Prelude.{◌≡◌, ℕ, List, ◌++◌}
 
 -- which lane it is

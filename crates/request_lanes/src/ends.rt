@@ -112,8 +112,8 @@ pub fn lane<T: Drop>(_rt: &impl Wait, alloc: Global) -> Result<(LaneIn<T>, LaneO
 }
 
 impl<T: Drop> LaneIn<T> {
-    /// Posts the item, and answers its place: how many were posted before. Where there is no memory nothing is posted and
-    /// the item is handed back. A lane takes 2^62 items at most. It may wait for the other end.
+    /// Posts the item, and answers its place: how many were posted before. Where there is no memory nothing is posted
+    /// and the item is handed back. A lane takes 2^62 items at most. It may wait for the other end.
     pub fn post(&mut self, rt: &impl Wait, item: T) -> Result<u64, (NoMemory, T)>
         requires room { length self.old.posted < 2 ^ 62 }
         ensures lane { self.new.lane ≡ self.old.lane }

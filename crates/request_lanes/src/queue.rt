@@ -23,10 +23,13 @@ impl<T: Drop> Queue<T> {
         ensures own { IsSegPassOf self.now.ruled pass.new }
         ensures item { IfSome result (λ item. pass.new.me.view.client ≡ taking pass.old.me.view.client item) }
         ensures few { IfSome result (λ _. length pass.new.me.view.client.taken ≤ 2 ^ 62) }
-        ensures next { IfSome result (λ item. pass.old.me.view.client.posts ≡ true → (left : List T) × (pass.old.me.view.client.posted ≡ pass.old.me.view.client.taken ++ item ∷ left)) }
+        ensures next { IfSome result
+            (λ item. pass.old.me.view.client.posts ≡ true
+            → (left : List T) × (pass.old.me.view.client.posted ≡ pass.old.me.view.client.taken ++ item ∷ left)) }
         ensures none { IfNone result (pass.new.me.view.client ≡ pass.old.me.view.client) }
         ensures told { IfNone result (pass.old.me.view.client.told ≤ length pass.old.me.view.client.taken) }
-        ensures empty { IfNone result (pass.old.me.view.client.posts ≡ true → pass.old.me.view.client.posted ≡ pass.old.me.view.client.taken) }
+        ensures empty { IfNone result
+            (pass.old.me.view.client.posts ≡ true → pass.old.me.view.client.posted ≡ pass.old.me.view.client.taken) }
     {
         self.ruled.pop_as::<Taken, _>(rt, pass)
     }

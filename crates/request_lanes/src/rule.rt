@@ -83,9 +83,11 @@ impl<T> Outcome<T, Log<T>> for Posted {
 pub struct Taken;
 
 impl<T> Outcome<T, Log<T>> for Taken {
-    ghost then = { λ v item w. (w ≡ taking v item) × (length w.taken ≤ 2 ^ 62) × (v.posts ≡ true → (left : List T) × (v.posted ≡ v.taken ++ item ∷ left)) };
+    ghost then = { λ v item w. (w ≡ taking v item) × (length w.taken ≤ 2 ^ 62)
+        × (v.posts ≡ true → (left : List T) × (v.posted ≡ v.taken ++ item ∷ left)) };
 }
 
 impl<T> Lesson<T, Log<T>> for Taken {
-    ghost fact = { λ v queued. (v.told ≤ length v.taken + length queued) × (v.posts ≡ true → v.posted ≡ v.taken ++ queued) };
+    ghost fact = { λ v queued. (v.told ≤ length v.taken + length queued)
+        × (v.posts ≡ true → v.posted ≡ v.taken ++ queued) };
 }

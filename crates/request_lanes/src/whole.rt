@@ -30,12 +30,14 @@ impl<T> Model for Whole<T> {
 
     ghost view = { λ w. both_ends w.pass.me.view.client };
 
-    ghost invariant = { λ w. IsSegPassOf (arc_value w.queue).ruled w.pass × (w.pass.me.view.client.posts ≡ true) × MayTake w.pass.me.view.client w.taken };
+    ghost invariant = { λ w. IsSegPassOf (arc_value w.queue).ruled w.pass × (w.pass.me.view.client.posts ≡ true)
+        × MayTake w.pass.me.view.client w.taken };
 }
 
 impl<T: Drop> Whole<T> {
     pub(crate) fn new(queue: Arc<Queue<T>, Global>, pass: LanePass<T>, taken: u64) -> Whole<T>
-        requires { IsSegPassOf (arc_value queue).ruled pass × (pass.me.view.client.posts ≡ true) × MayTake pass.me.view.client taken }
+        requires { IsSegPassOf (arc_value queue).ruled pass × (pass.me.view.client.posts ≡ true)
+            × MayTake pass.me.view.client taken }
         ensures { result ≡ both_ends pass.me.view.client }
     {
         Whole { queue, pass, taken }

@@ -1,6 +1,9 @@
 //! The lines of a source, one after another: the next one is held until it is used.
-ghost use Rattle.std.specs.Prelude.{◌≡◌, ◌+◌, ◌≤◌, [], length, false, ℕ, IsTrue, IfErr, IfOk, IsErrOf, IsSome, None, Ok, OnOk};
+ghost use Rattle.std.specs.Prelude.{◌≡◌, ◌+◌, ◌≤◌, [], length, false, ℕ, IsTrue, IfErr, IfOk, IsErrOf, IsSome, None};
+ghost use Rattle.std.specs.Prelude.{Ok, OnOk};
+ghost use Rattle.nav_types.specs.declared.limits.TheConstants.{MAX_LINE_BYTES};
 ghost use Rattle.io_edges.specs.Faults.{Rose};
+ghost use Rattle.script_text.specs.declared.intake.TheConstants.{READ_SIZE};
 
 mod first_lines;
 
@@ -35,7 +38,8 @@ impl HeldLines {
 
     /// Nothing is taken yet. The buffer of one read is taken here, once.
     pub fn new(alloc: Global) -> Result<HeldLines, NoMemory>
-        ensures { IfOk result (λ made. made ≡ record { line = []; line_end = None; rest = record { bytes = []; ended = false } }) }
+        ensures { IfOk result (λ made. made
+            ≡ record { line = []; line_end = None; rest = record { bytes = []; ended = false } }) }
     {
         let intake = Intake::new(alloc)?;
         Ok(HeldLines {
@@ -48,7 +52,7 @@ impl HeldLines {
     /// How many bytes are held.
     pub fn held(&self) -> usize
         ensures bytes { result ≡ length (bytes_of self.now) }
-        ensures few { result ≤ 8454144 }
+        ensures few { result ≤ MAX_LINE_BYTES + READ_SIZE }
     {
         let behind = self.intake.len();
         match self.line_end {
@@ -69,7 +73,7 @@ impl HeldLines {
     /// Lets go of the line that is held, and of its newline.
     pub fn use_line(&mut self)
         ensures used { self.new ≡ record { line = []; line_end = None; rest = self.old.rest } }
-        ensures behind { length self.old.rest.bytes ≤ 65536 }
+        ensures behind { length self.old.rest.bytes ≤ READ_SIZE }
     {
         self.line.clear();
         self.line_end = None;
@@ -86,7 +90,8 @@ impl HeldLines {
         ensures kept { IsSome self.old.line_end → self.new ≡ self.old }
         ensures told { NextTold self.old self.new (S.left source.old) (S.left source.new) room result }
         ensures still { HasLine (bytes_of self.old) → source.new ≡ source.old }
-        ensures reads { ReadsByNeedTold (bytes_of self.old) self.old.rest.ended (S.left source.old) (S.left source.new) }
+        ensures reads { ReadsByNeedTold (bytes_of self.old) self.old.rest.ended (S.left source.old)
+            (S.left source.new) }
         ensures held { HasLine (bytes_of self.old) → OnOk result (bytes_of self.new ≡ bytes_of self.old) }
         ensures finds { IfOk result (FindsLine self.new) }
         ensures plain { IsPlain self.new.line }
@@ -111,7 +116,8 @@ impl HeldLines {
         requires between { self.old.line_end ≡ None }
         ensures told { NextTold self.old self.new (S.left source.old) (S.left source.new) room result }
         ensures still { HasLine (bytes_of self.old) → source.new ≡ source.old }
-        ensures reads { ReadsByNeedTold (bytes_of self.old) self.old.rest.ended (S.left source.old) (S.left source.new) }
+        ensures reads { ReadsByNeedTold (bytes_of self.old) self.old.rest.ended (S.left source.old)
+            (S.left source.new) }
         ensures held { HasLine (bytes_of self.old) → OnOk result (bytes_of self.new ≡ bytes_of self.old) }
         ensures finds { IfOk result (FindsLine self.new) }
         ensures plain { IsPlain self.new.line }

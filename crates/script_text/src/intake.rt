@@ -1,7 +1,9 @@
 //! What is taken from a source: its bytes, cut into lines.
-ghost use Rattle.std.specs.Prelude.{◌≡◌, ◌≢◌, ◌+◌, ◌++◌, ◌∷◌, ◌≤◌, ◌<◌, ◌↔◌, ◌==◌, [], length, false, position, ℕ, IsTrue, IfErr, IfOk, IfSome, OnOk, OnErr, IsErrOf, vec_len, Ok};
+ghost use Rattle.std.specs.Prelude.{◌≡◌, ◌≢◌, ◌+◌, ◌++◌, ◌∷◌, ◌≤◌, ◌<◌, ◌↔◌, ◌==◌, [], length, false, position, ℕ};
+ghost use Rattle.std.specs.Prelude.{IsTrue, IfErr, IfOk, IfSome, OnOk, OnErr, IsErrOf, vec_len, Ok};
 ghost use Rattle.std.specs.Io.{ReadsAtMost};
 ghost use Rattle.std.specs.Io.KnownBytes.{ReadConsumes};
+ghost use Rattle.nav_types.specs.declared.limits.TheConstants.{MAX_LINE_BYTES};
 ghost use Rattle.io_edges.specs.Faults.{Rose, ReadHasCause};
 
 use crate::faults::ScriptFault;
@@ -12,7 +14,7 @@ use std::alloc::Global;
 use std::marker::Model;
 
 /// The most bytes of one read.
-const READ_SIZE: usize = 65_536;
+pub const READ_SIZE: usize = 65_536;
 
 /// Where a line ended.
 #[derive(Clone, Copy, Debug, PartialEq, Eq)]
@@ -34,20 +36,22 @@ pub struct Intake {
 
 impl Model for Intake {
     ghost use Rattle.std.specs.Prelude.{◌≡◌, ◌≤◌, drop, take, vec_len};
+    ghost use Rattle.script_text.specs.declared.intake.TheConstants.{READ_SIZE};
     ghost use Rattle.script_text.specs.inner.Taking.{Taken};
 
     ghost Value = { Taken };
 
     ghost view = { λ i. record { bytes = drop i.from (take i.to i.buffer.items); ended = i.ended } };
 
-    ghost invariant = { λ i. (i.from ≤ i.to) × (i.to ≤ 65536) × (vec_len i.buffer ≡ 65536) };
+    ghost invariant = { λ i. (i.from ≤ i.to) × (i.to ≤ READ_SIZE) × (vec_len i.buffer ≡ READ_SIZE) };
 }
 
 impl Intake {
     ghost use Rattle.script_text.specs.declared.intake.LineEnd.TheVariants.{Newline, Input};
     ghost use Rattle.script_text.specs.Reader.{WhereTold};
     ghost use Rattle.script_text.specs.Lines.{IsPlain};
-    ghost use Rattle.script_text.specs.inner.Taking.{Taken, RefillAnswer, ReadsByNeedTold, MovesLine, LineTold, HasLine};
+    ghost use Rattle.script_text.specs.inner.Taking.{Taken, RefillAnswer, ReadsByNeedTold, MovesLine, LineTold};
+    ghost use Rattle.script_text.specs.inner.Taking.{HasLine};
 
     /// Nothing is taken yet. The buffer of one read is taken here, once.
     pub fn new(alloc: Global) -> Result<Intake, NoMemory>
@@ -103,9 +107,10 @@ impl Intake {
         ensures good { IfErr result (λ fault. (n : ℕ) → fault ≡ ScriptFault.BadLine n → ⊥) }
         ensures plain { IsPlain line.new.items }
         ensures at_end { result ≡ Ok Input → (self.new.bytes ≡ []) × IsTrue self.new.ended }
-        ensures behind { length self.new.bytes ≤ 65536 }
-        ensures size { length line.new.items + length self.new.bytes ≤ 8454144 }
-        ensures newline { result ≡ Ok Newline → length line.new.items + 1 + length self.new.bytes ≤ 8454144 }
+        ensures behind { length self.new.bytes ≤ READ_SIZE }
+        ensures size { length line.new.items + length self.new.bytes ≤ MAX_LINE_BYTES + READ_SIZE }
+        ensures newline { result ≡ Ok Newline
+            → length line.new.items + 1 + length self.new.bytes ≤ MAX_LINE_BYTES + READ_SIZE }
     {
         'parts: loop {
             self.refill(source)?;
@@ -132,7 +137,7 @@ impl Intake {
         ensures ended { OnOk result (self.new.bytes ≡ [] → IsTrue self.new.ended) }
         ensures stays { IsTrue self.old.ended → IsTrue self.new.ended }
         ensures going { OnOk result (0 < length self.new.bytes → self.new.ended ≡ self.old.ended) }
-        ensures few { length self.new.bytes ≤ 65536 }
+        ensures few { length self.new.bytes ≤ READ_SIZE }
         ensures failed { IfErr result (λ fault. fault ≡ ScriptFault.ReadFault) }
         ensures later { S.faults source.old ≤ S.faults source.new }
         ensures fault { IsErrOf result ScriptFault.ReadFault → Rose (S.faults source.old) (S.faults source.new) }

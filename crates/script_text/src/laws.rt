@@ -24,7 +24,8 @@ pub fn map_lines()
 
 /// A law: the form of a base line gives rectangles exactly where the value is a base line that says them.
 pub fn base_lines()
-    ensures { (size : Size) (d : Data) (rects : List (Rect × ℕ)) → (form.base_of size d ≡ Some rects) ↔ IsBaseLine size rects d }
+    ensures { (size : Size) (d : Data) (rects : List (Rect × ℕ)) → (form.base_of size d ≡ Some rects)
+        ↔ IsBaseLine size rects d }
 {}
 
 /// A law: the form of a post line gives a caller and a post exactly where the value is a post line that says them.
@@ -46,12 +47,14 @@ pub fn one_line()
 
 /// A law: a line has a cause exactly where it is bad in its place.
 pub fn line_causes()
-    ensures { (p : Place) (line : List ℕ) → (placed p (reading_of line) ≡ bad p) ↔ IsSome (cause p.part (p.turns + 1) (reading_of line)) }
+    ensures { (p : Place) (line : List ℕ) → (placed p (reading_of line) ≡ bad p)
+        ↔ IsSome (cause p.part (p.turns + 1) (reading_of line)) }
 {}
 
 /// A law: a value that a cause names as wrong is not what is wanted.
 pub fn wrong_values()
-    ensures { (part : Part) (turn : ℕ) (d : Data) (key : Key) (wanted : Wanted) → cause part turn (Some d) ≡ Some (WrongValue key wanted)
+    ensures { (part : Part) (turn : ℕ) (d : Data) (key : Key) (wanted : Wanted)
+        → cause part turn (Some d) ≡ Some (WrongValue key wanted)
         → IsWrongIn key wanted d }
 {}
 

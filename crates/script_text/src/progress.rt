@@ -1,5 +1,6 @@
 //! How far a script was read, and what its next line gives.
-ghost use Rattle.std.specs.Prelude.{◌≡◌, ◌+◌, ◌≤◌, ◌<◌, length, ℕ, All, IfErr, IfOk, IfSome, IsFalse, IsSome, OnOk, OnErr, option_and_then, option_map, Some};
+ghost use Rattle.std.specs.Prelude.{◌≡◌, ◌+◌, ◌≤◌, ◌<◌, length, ℕ, All, IfErr, IfOk, IfSome, IsFalse, IsSome, OnOk};
+ghost use Rattle.std.specs.Prelude.{OnErr, option_and_then, option_map, Some};
 ghost use Rattle.std.specs.List.{list_all};
 ghost use Rattle.serde_json.specs.View.{view};
 ghost use Rattle.nav_types.specs.Cells.{IsRectInside};
@@ -35,16 +36,20 @@ impl Model for Progress {
 
     ghost Value = { Place };
 
-    ghost view = { λ p. record { bytes = p.bytes; lines = p.lines; part = p.part; turns = p.turns; posts = p.posts.items } };
+    ghost view = { λ p.
+        record { bytes = p.bytes; lines = p.lines; part = p.part; turns = p.turns; posts = p.posts.items } };
 
-    ghost invariant = { λ p. IsReadTo (record { bytes = p.bytes; lines = p.lines; part = p.part; turns = p.turns; posts = p.posts.items }) };
+    ghost invariant = { λ p.
+        IsReadTo (record { bytes = p.bytes; lines = p.lines; part = p.part; turns = p.turns; posts = p.posts.items }) };
 }
 
 impl Progress {
-    ghost use Rattle.script_text.specs.Script.{beginning, rules_of, accept, counted, end_line, finish, is_long, map_line, placed_in_turn, with_post};
+    ghost use Rattle.script_text.specs.Script.{beginning, rules_of, accept, counted, end_line, finish, is_long};
+    ghost use Rattle.script_text.specs.Script.{map_line, placed_in_turn, with_post};
     ghost use Rattle.script_text.specs.Reader.{callers_of, post_count, rules_at};
     ghost use Rattle.script_text.specs.Causes.{cause, end_cause};
-    ghost use Rattle.script_text.specs.inner.Judging.{AddsBase, BeginsMap, CountsPosts, GivesTurn, IsBadAt, IsBase, IsInTurns, IsInsideAt, IsNoBaseAt, IsObject, Stops};
+    ghost use Rattle.script_text.specs.inner.Judging.{AddsBase, BeginsMap, CountsPosts, GivesTurn, IsBadAt, IsBase};
+    ghost use Rattle.script_text.specs.inner.Judging.{IsInTurns, IsInsideAt, IsNoBaseAt, IsObject, Stops};
 
     /// Nothing is read yet.
     pub fn new(alloc: Global) -> Progress
@@ -248,7 +253,8 @@ impl Progress {
     ) -> Result<Option<TurnPosts>, ScriptFault>
         requires begun { IsSome (rules_at self.old.part) }
         requires counted { self.old.turns < self.old.lines }
-        ensures gives { IfSome (rules_at self.old.part) (λ rules. GivesTurn (placed_in_turn self.old rules (Some (view value.now))) self.new result) }
+        ensures gives { IfSome (rules_at self.old.part)
+            (λ rules. GivesTurn (placed_in_turn self.old rules (Some (view value.now))) self.new result) }
         ensures bytes { self.new.bytes ≡ self.old.bytes }
         ensures rules { rules_at self.new.part ≡ rules_at self.old.part }
         ensures part { OnOk result (IsInTurns self.new.part) }
@@ -283,7 +289,8 @@ impl Progress {
     fn keep_post(&mut self, rules: Rules, said: CallerPost) -> Result<(), NoMemory>
         requires rules { rules_at self.old.part ≡ Some rules }
         requires caller { said.caller < rules.callers }
-        ensures ok { OnOk result (self.new ≡ record self.old { part = Part.InTurns rules; posts = with_post self.old.posts said }) }
+        ensures ok { OnOk result (self.new
+            ≡ record self.old { part = Part.InTurns rules; posts = with_post self.old.posts said }) }
         ensures err { OnErr result (self.new ≡ self.old) }
         ensures counts { OnOk result (post_count self.new.posts ≡ post_count self.old.posts + 1) }
     {

@@ -1,12 +1,17 @@
 //! Scripts, read turn by turn.
-ghost use Rattle.std.specs.Prelude.{◌≡◌, ◌+◌, ◌*◌, ◌≤◌, ℕ, IfErr, IfOk, IfSome, IsErrOf, IsFalse, IsSome, IsTrue, None, OnErr, OnOk, Some, is_err, length, [], ◌∷◌};
-ghost use Rattle.nav_types.specs.declared.limits.TheConstants.{MAX_INPUT_BYTES};
+ghost use Rattle.std.specs.Prelude.{◌≡◌, ◌+◌, ◌*◌, ◌≤◌, ℕ, IfErr, IfOk, IfSome, IsErrOf, IsFalse, IsSome, IsTrue, None};
+ghost use Rattle.std.specs.Prelude.{OnErr, OnOk, Some, is_err, length, [], ◌∷◌};
+ghost use Rattle.nav_types.specs.declared.limits.TheConstants.{MAX_INPUT_BYTES, MAX_LINE_BYTES};
 ghost use Rattle.io_edges.specs.Faults.{Rose};
 ghost use Rattle.io_edges.specs.Passing.{HasGiven};
+ghost use Rattle.script_text.specs.declared.intake.TheConstants.{READ_SIZE};
 ghost use Rattle.script_text.specs.declared.parts.Part.TheVariants.{InBase};
 ghost use Rattle.script_text.specs.Script.{accept, beginning, counted, rules_of};
-ghost use Rattle.script_text.specs.Reader.{HoldsRefused, HoldsTurn, IsWholeMap, MapTold, TakesNoneAhead, TurnTold, callers_of, held_cause, is_last, post_count, rules_at};
-ghost use Rattle.script_text.specs.inner.Judging.{BaseTold, BeginsMap, CountsPosts, GivesTurn, IsBadAt, IsBase, IsBetweenTurns, IsInTurns, IsNoBaseAt, IsNoBaseNext, TakesBase, held_at};
+ghost use Rattle.script_text.specs.Reader.{HoldsRefused, HoldsTurn, IsWholeMap, MapTold, TakesNoneAhead, TurnTold};
+ghost use Rattle.script_text.specs.Reader.{callers_of, held_cause, is_last, post_count, rules_at};
+ghost use Rattle.script_text.specs.inner.Judging.{BaseTold, BeginsMap, CountsPosts, GivesTurn, IsBadAt, IsBase};
+ghost use Rattle.script_text.specs.inner.Judging.{IsBetweenTurns, IsInTurns, IsNoBaseAt, IsNoBaseNext, TakesBase};
+ghost use Rattle.script_text.specs.inner.Judging.{held_at};
 ghost use Rattle.script_text.specs.Lines.{IsPlain};
 ghost use Rattle.script_text.specs.inner.Taking.{HeldLine, IsWholeLine, bytes_of};
 
@@ -50,7 +55,8 @@ impl Model for ScriptReader {
 
     ghost Value = { Held };
 
-    ghost view = { λ r. record { place = r.progress; bytes = bytes_of r.lines; ended = r.lines.rest.ended; over = r.over; failed = r.failed } };
+    ghost view = { λ r.
+        record { place = r.progress; bytes = bytes_of r.lines; ended = r.lines.rest.ended; over = r.over; failed = r.failed } };
 
     ghost invariant = { λ r. IsFalse r.over → IsBetweenTurns r.progress r.lines };
 }
@@ -124,9 +130,10 @@ impl ScriptReader {
         ensures later { S.faults source.old ≤ S.faults source.new }
         ensures fault { IsErrOf result ScriptFault.ReadFault → Rose (S.faults source.old) (S.faults source.new) }
         ensures rules { rules_at self.new.place.part ≡ rules_at self.old.place.part }
-        ensures few { IfOk result (λ next. IfSome next (λ turn. length self.new.bytes ≤ 65536)) }
+        ensures few { IfOk result (λ next. IfSome next (λ turn. length self.new.bytes ≤ READ_SIZE)) }
         ensures lists { IfOk result (λ next. IfSome next (λ turn. length turn ≡ callers_of self.old.place.part)) }
-        ensures used { IfOk result (λ next. IfSome next (λ turn. self.old.place.bytes + 2 * post_count turn + 2 ≤ self.new.place.bytes)) }
+        ensures used { IfOk result (λ next. IfSome next
+            (λ turn. self.old.place.bytes + 2 * post_count turn + 2 ≤ self.new.place.bytes)) }
         ensures limit { self.new.place.bytes ≤ MAX_INPUT_BYTES }
         ensures stays { IsTrue self.old.ended → IsTrue self.new.ended }
         ensures over { self.new.over ≡ is_last result }
@@ -142,7 +149,7 @@ impl ScriptReader {
     /// How many bytes are held: those that were taken and that no line has used yet.
     pub fn held(&self) -> usize
         ensures bytes { result ≡ length self.now.bytes }
-        ensures few { result ≤ 8454144 }
+        ensures few { result ≤ MAX_LINE_BYTES + READ_SIZE }
     {
         self.lines.held()
     }
@@ -198,7 +205,8 @@ fn read_lines_of_map<S: Source>(
 ) -> Result<MapSpec, ScriptFault>
     requires first { progress.old ≡ beginning }
     requires between { lines.old.line_end ≡ None → lines.old.line ≡ [] }
-    ensures told { MapTold (held_at progress.old lines.old) (held_at progress.new lines.new) (S.left source.old) (S.left source.new) result }
+    ensures told { MapTold (held_at progress.old lines.old) (held_at progress.new lines.new) (S.left source.old)
+        (S.left source.new) result }
     ensures given { HasGiven (S.left source.old) (S.left source.new) }
     ensures later { S.faults source.old ≤ S.faults source.new }
     ensures fault { IsErrOf result ScriptFault.ReadFault → Rose (S.faults source.old) (S.faults source.new) }
@@ -223,7 +231,8 @@ fn read_first_line<S: Source>(
 ) -> Result<MapSpec, ScriptFault>
     requires first { progress.old ≡ beginning }
     requires between { lines.old.line_end ≡ None → lines.old.line ≡ [] }
-    ensures told { MapTold (held_at progress.old lines.old) (held_at progress.new lines.new) (S.left source.old) (S.left source.new) result }
+    ensures told { MapTold (held_at progress.old lines.old) (held_at progress.new lines.new) (S.left source.old)
+        (S.left source.new) result }
     ensures given { HasGiven (S.left source.old) (S.left source.new) }
     ensures later { S.faults source.old ≤ S.faults source.new }
     ensures fault { IsErrOf result ScriptFault.ReadFault → Rose (S.faults source.old) (S.faults source.new) }
@@ -279,7 +288,8 @@ fn read_base_lines<S: Source>(
     requires part { progress.old.part ≡ InBase (rules_of map.old) }
     requires posts { post_count progress.old.posts ≡ 0 }
     requires between { lines.old.line_end ≡ None → lines.old.line ≡ [] }
-    ensures told { BaseTold (held_at progress.old lines.old) (held_at progress.new lines.new) map.old map.new (S.left source.old) (S.left source.new) result }
+    ensures told { BaseTold (held_at progress.old lines.old) (held_at progress.new lines.new) map.old map.new
+        (S.left source.old) (S.left source.new) result }
     ensures given { HasGiven (S.left source.old) (S.left source.new) }
     ensures later { S.faults source.old ≤ S.faults source.new }
     ensures fault { IsErrOf result ScriptFault.ReadFault → Rose (S.faults source.old) (S.faults source.new) }
@@ -337,15 +347,17 @@ fn read_turn<S: Source>(
 ) -> Result<Option<TurnPosts>, ScriptFault>
     requires map { IsSome (rules_at progress.old.part) }
     requires ready { IsBetweenTurns progress.old lines.old }
-    ensures told { TurnTold (held_at progress.old lines.old) (held_at progress.new lines.new) (S.left source.old) (S.left source.new) result }
+    ensures told { TurnTold (held_at progress.old lines.old) (held_at progress.new lines.new) (S.left source.old)
+        (S.left source.new) result }
     ensures still { HoldsTurn (held_at progress.old lines.old) → source.new ≡ source.old }
     ensures ahead { TakesNoneAhead (held_at progress.old lines.old) (S.left source.old) (S.left source.new) }
     ensures later { S.faults source.old ≤ S.faults source.new }
     ensures fault { IsErrOf result ScriptFault.ReadFault → Rose (S.faults source.old) (S.faults source.new) }
     ensures rules { rules_at progress.new.part ≡ rules_at progress.old.part }
-    ensures few { IfOk result (λ next. IfSome next (λ turn. length (bytes_of lines.new) ≤ 65536)) }
+    ensures few { IfOk result (λ next. IfSome next (λ turn. length (bytes_of lines.new) ≤ READ_SIZE)) }
     ensures lists { IfOk result (λ next. IfSome next (λ turn. length turn ≡ callers_of progress.old.part)) }
-    ensures used { IfOk result (λ next. IfSome next (λ turn. progress.old.bytes + 2 * post_count turn + 2 ≤ progress.new.bytes)) }
+    ensures used { IfOk result (λ next. IfSome next
+        (λ turn. progress.old.bytes + 2 * post_count turn + 2 ≤ progress.new.bytes)) }
     ensures ready { IfOk result (λ next. IfSome next (λ turn. IsBetweenTurns progress.new lines.new)) }
     ensures limit { progress.new.bytes ≤ MAX_INPUT_BYTES }
     ensures stays { IsTrue lines.old.rest.ended → IsTrue lines.new.rest.ended }
@@ -375,7 +387,7 @@ fn take_turn_line(
     requires whole { IsWholeLine lines.old size }
     ensures gives { GivesTurn (accept size lines.old.line progress.old) progress.new result }
     ensures line { OnOk result (lines.new ≡ record { line = []; line_end = None; rest = lines.old.rest }) }
-    ensures few { OnOk result (length (bytes_of lines.new) ≤ 65536) }
+    ensures few { OnOk result (length (bytes_of lines.new) ≤ READ_SIZE) }
     ensures rest { lines.new.rest ≡ lines.old.rest }
     ensures used { OnOk result (progress.new.bytes ≡ progress.old.bytes + size) }
     ensures two_bytes { OnOk result (2 ≤ size) }

@@ -9,6 +9,7 @@ pub mod FilledReplies
 pub mod StagedTurns
 pub mod TurnEdits
 pub mod DeliveredReplies
+pub mod ReplyPlaces
 pub mod Answering
 pub mod Keeping
 pub mod OneRun

@@ -1,12 +1,14 @@
 -- What the machine of the code holds, through its events.
-use Rattle.std.proofs.Common.{◌≡◌, ℕ, ◌<◌, List, [], ◌∷◌, ◌++◌, Option, None, Some, length, set, replicate, slice_index, slice_index_or, refl, sym, ap, ◌∙◌, subst, arith}
+use Rattle.std.proofs.Common.{◌≡◌, ℕ, ◌<◌, List, [], ◌∷◌, ◌++◌, Option, None, Some, length, set, replicate, slice_index}
+use Rattle.std.proofs.Common.{slice_index_or, refl, sym, ap, ◌∙◌, subst, arith}
 use Rattle.std.specs.Prelude.{nat_lt, slice_get, IsSome, ◌↔◌}
 use Rattle.std.proofs.lemmas.List.{map_push}
 use Rattle.std.proofs.lemmas.Option.{slice_get-get_or}
 use Rattle.grid_versions.specs.Maps.{Map}
 use Rattle.grid_versions.specs.Versions.{map_state}
 use Rattle.turn_core.specs.declared.events.Event.{Event}
-use Rattle.turn_core.specs.declared.events.Event.TheVariants.{Post as Posting, Stage, Start, Claim, Finish, Deliver, Collect}
+use Rattle.turn_core.specs.declared.events.Event.TheVariants.{Post as Posting, Stage, Start, Claim, Finish, Deliver}
+use Rattle.turn_core.specs.declared.events.Event.TheVariants.{Collect}
 use Rattle.turn_core.specs.declared.events.Why.{Why}
 use Rattle.turn_core.specs.declared.posts.Post.{Post}
 use Rattle.turn_core.specs.declared.posts.Request.{Request}
@@ -23,10 +25,15 @@ use Rattle.turn_core.specs.Words.{Standing, MapState, bare}
 use Rattle.turn_core.specs.Turns.{after_turn, standing, jobs, IsTurnTold}
 use Rattle.turn_core.specs.ReadyTurns.{Ready, after_edits_of}
 use Rattle.turn_core.specs.States.{State, Run, list_of, stands_after_done, stands_in_run}
-use Rattle.turn_core.specs.Table.{unless, or_else, why_not, why_none_staged, why_running, running_turn, why_no_caller, why_no_claim, why_no_finish, why_unanswered, why_no_delivery, why_collected, last_turn}
-use Rattle.turn_core.specs.Effects.{joined_up, known, given_turn, started, claimed, finished, delivered, collected, AnswersJob, IsStep, IsCollect}
+use Rattle.turn_core.specs.Table.{unless, or_else, why_not, why_none_staged, why_running, running_turn, why_no_caller}
+use Rattle.turn_core.specs.Table.{why_no_claim, why_no_finish, why_unanswered, why_no_delivery, why_collected}
+use Rattle.turn_core.specs.Table.{last_turn}
+use Rattle.turn_core.specs.Effects.{joined_up, known, given_turn, started, claimed, finished, delivered, collected}
+use Rattle.turn_core.specs.Effects.{AnswersJob, IsStep, IsCollect}
 use Rattle.turn_core.specs.Facts.{WhileRunning, Facts}
-use Rattle.turn_core.specs.inner.Runs.{run_of, option_run_of, option_posts_of, base_of, IsReadyOn, posts_in, gathered, replies_to, with_claim, IsHeldOn, HasUnclaimed, HasJob, HasPlace, AnswersAfter, AnswersHeld, PutsIn, PutsAnswer}
+use Rattle.turn_core.specs.inner.Runs.{run_of, option_run_of, option_posts_of, base_of, IsReadyOn, posts_in, gathered}
+use Rattle.turn_core.specs.inner.Runs.{replies_to, with_claim, IsHeldOn, HasUnclaimed, HasJob, HasPlace, AnswersAfter}
+use Rattle.turn_core.specs.inner.Runs.{AnswersHeld, PutsIn, PutsAnswer, HaveCome}
 use Rattle.turn_core.specs.inner.Machines.{state_of, HoldsRun, HoldsStaged, HoldsState}
 use Rattle.turn_core.proofs.CallerLists.{none_at}
 use Rattle.turn_core.proofs.Threads.{standing_more, one_turn}
@@ -67,6 +74,7 @@ claimed_holds a holds = record {
   standing = holds.standing;
   running = claim_holds a.version a.running holds.running;
   staged = subst (λ (v : MapState). HoldsStaged v a.staged) (sym (claim_stays a.version a.running)) holds.staged;
+  come = holds.come;
 }
 
 -- Finishes
@@ -103,6 +111,7 @@ finished_holds a new job answer puts holds = record {
   standing = holds.standing;
   running = put_holds a.version a.running new job answer puts holds.running;
   staged = subst (λ (v : MapState). HoldsStaged v a.staged) (sym (put_stays a.version a.running new job answer puts)) holds.staged;
+  come = holds.come;
 }
 
 put_run : (old new : RunningTurn) (job : ℕ) (answer : Answer) → PutsIn old new job answer → run_of new ≡ record (run_of old) { answers = set old.answers.items job (Some answer) }
@@ -151,8 +160,9 @@ start_none s why o e =
     not_running (running_turn s) o
     (ap (why_running (running_turn s)) (sym e) ∙ second_none (why_none_staged (last_turn s) s.staged) (why_running (running_turn s) s.running) why)
 
-pub started_holds : (a : Inside) (ready : RunningTurn) → HoldsState a → a.staged ≡ Some ready → a.running ≡ None → (b : Inside) → b.version ≡ a.version → b.delivered ≡ a.delivered → b.running ≡ Some ready → b.staged ≡ None → HoldsState b
-started_holds a ready holds is none b version delivered running staged =
+pub started_holds : (a : Inside) (ready : RunningTurn) → HoldsState a → a.staged ≡ Some ready → a.running ≡ None → (b : Inside) → b.version ≡ a.version → b.delivered ≡ a.delivered → b.running ≡ Some ready → b.staged ≡ None
+    → HaveCome b.delivered.items b.collected.items b.places.items → HoldsState b
+started_holds a ready holds is none b version delivered running staged come =
     let ready_on : IsReadyOn a.version ready =
     subst (λ (o : Option RunningTurn). HoldsStaged (base_of a.version o) (Some ready)) none (subst (HoldsStaged (base_of a.version a.running)) is holds.staged) in
     record {
@@ -161,6 +171,7 @@ started_holds a ready holds is none b version delivered running staged =
           ∙ ap (λ (d : _). standing b.version.map bare (posts_in d.items)) (sym delivered);
       running = subst (HoldsRun b.version) (sym running) (subst (λ (v : MapState). IsHeldOn v ready) (sym version) ready_on.held_on);
       staged = subst (HoldsStaged (base_of b.version b.running)) (sym staged) tt;
+      come = come;
     }
 
 pub started_is : (a b : Inside) (ready : RunningTurn) → HoldsState a → a.staged ≡ Some ready → a.running ≡ None
@@ -260,6 +271,14 @@ reply_left s c why none =
 
 pub caller_is : (s : State) (c : ℕ) (rest : Option Why) → or_else (why_no_caller s.map.callers c) rest ≡ None → c < s.map.callers
 caller_is s c rest why = is_less c s.map.callers (unless_none (nat_lt c s.map.callers) _ (first_none (why_no_caller s.map.callers c) rest why))
+
+-- a caller who can collect has a place
+pub place_within : (a : Inside) (c i : ℕ) → HoldsState a → Facts (state_of a) → why_not (state_of a) (Collect c) ≡ None → i ≡ c
+    → i < length a.places.items
+place_within a c i holds f why is =
+    let within : c < a.version.map.callers = caller_is (state_of a) c _ why in
+    let wide : length a.collected.items ≡ a.version.map.callers = f.wide.collected in
+    omega (arith, within, wide, is, holds.come.wide)
 
 -- Replies handed out
 

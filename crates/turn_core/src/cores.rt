@@ -49,7 +49,8 @@ impl Core {
         ensures handed { IfOk result (λ handed. IsSome handed ↔ IsCollect event.now) }
         ensures refused { OnErr result (self.new ≡ self.old) }
         ensures facts { Facts self.new }
-        ensures named { (why : Cause) → (result ≡ Err (StepRefusal.NotEnabled why)) ↔ (why_not self.old event.now ≡ Some why) }
+        ensures named { (why : Cause) → (result ≡ Err (StepRefusal.NotEnabled why))
+            ↔ (why_not self.old event.now ≡ Some why) }
 
         // A start and a claim take no memory.
         ensures free { TakesNoMemory event.now → why_not self.old event.now ≡ None → IsOk result }

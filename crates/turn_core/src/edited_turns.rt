@@ -53,7 +53,8 @@ impl EditedTurn {
         base: &Version,
         turn: &TurnPosts,
     ) -> Result<EditedTurn, NoMemory>
-        ensures { IfOk result (λ edited. edited ≡ record { map = base.now.map; before = base.now.standing; turn = turn.now }) }
+        ensures { IfOk result (λ edited.
+            edited ≡ record { map = base.now.map; before = base.now.standing; turn = turn.now }) }
     {
         let Advanced {
             version,
@@ -98,7 +99,8 @@ impl EditedTurn {
 
     /// The number of pairs of class and chunk of which the edits changed some cell.
     pub(crate) fn relabelled(&self) -> u32
-        ensures { HasRelabelled (length self.now.map.classes) (passable_at self.now.map self.now.before) (passable_at self.now.map (after_edits_of self.now)) result }
+        ensures { HasRelabelled (length self.now.map.classes) (passable_at self.now.map self.now.before)
+            (passable_at self.now.map (after_edits_of self.now)) result }
     {
         self.relabelled
     }

@@ -45,7 +45,8 @@ pub fn answer_turn(
     turn: &TurnPosts,
 ) -> Result<AnsweredTurn, NoMemory>
     ensures map { IfOk result (λ answered. answered.after.map ≡ version.now.map) }
-    ensures standing { IfOk result (λ answered. answered.after.standing ≡ after_turn version.now.map version.now.standing turn.now) }
+    ensures standing { IfOk result (λ answered.
+        answered.after.standing ≡ after_turn version.now.map version.now.standing turn.now) }
     ensures told { IfOk result (λ answered. IsTurnTold version.now.map version.now.standing turn.now answered.replies) }
 {
     let edited = EditedTurn::new(alloc, version, turn)?;

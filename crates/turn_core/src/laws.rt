@@ -10,11 +10,13 @@ ghost use Rattle.turn_core.specs.declared.replies.Reply.{Reply};
 ghost use Rattle.turn_core.specs.declared.replies.TurnReplies.{TurnReplies};
 ghost use Rattle.turn_core.specs.Solving.{IsAnswerTo, AreAnswersTo};
 ghost use Rattle.turn_core.specs.Words.{Standing, bare};
-ghost use Rattle.turn_core.specs.Turns.{after_turn, jobs, standing, AreTurnReplies, IsTurnTold, OneThread, IsOneThread, of_caller};
+ghost use Rattle.turn_core.specs.Turns.{after_turn, jobs, standing, AreTurnReplies, IsTurnTold, OneThread, IsOneThread};
+ghost use Rattle.turn_core.specs.Turns.{of_caller};
 ghost use Rattle.turn_core.specs.States.{State, opening, list_of, stands_after_done};
 ghost use Rattle.turn_core.specs.Effects.{IsStep, IsRun, joined_up};
 ghost use Rattle.turn_core.specs.Facts.{Facts};
-ghost use Rattle.turn_core.specs.Arrival.{post_events, answering, arrival, CanStage, answered_run, in_stage, in_run, at_end, CanArrive, HasArrived};
+ghost use Rattle.turn_core.specs.Arrival.{post_events, answering, arrival, CanStage, answered_run, in_stage, in_run};
+ghost use Rattle.turn_core.specs.Arrival.{at_end, CanArrive, HasArrived};
 
 /// A law: a request has one answer on a map with what stands on it.
 pub fn one_answer()
@@ -42,13 +44,16 @@ pub fn one_thread_answers_once()
 
 /// A law: the answer to a journal and that to one turn more are the answer to the longer journal.
 pub fn one_turn_more()
-    ensures { (m : Map) (journal : List (List (List Post))) (turn : List (List Post)) (all : List TurnReplies) (told : TurnReplies)
-        → IsOneThread m journal all → IsTurnTold m (standing m bare journal) turn told → IsOneThread m (journal ++ turn ∷ []) (all ++ told ∷ []) }
+    ensures { (m : Map) (journal : List (List (List Post))) (turn : List (List Post)) (all : List TurnReplies)
+        (told : TurnReplies)
+        → IsOneThread m journal all → IsTurnTold m (standing m bare journal) turn told
+        → IsOneThread m (journal ++ turn ∷ []) (all ++ told ∷ []) }
 {}
 
 /// A law: each caller gets as many replies as it posts.
 pub fn replies_are_as_many_as_posts()
-    ensures { (m : Map) (standing : Standing) (journal : List (List (List Post))) (all : List (List (List Reply))) (caller : ℕ)
+    ensures { (m : Map) (standing : Standing) (journal : List (List (List Post))) (all : List (List (List Reply)))
+        (caller : ℕ)
         → OneThread m standing journal all → length (of_caller caller all) ≡ length (of_caller caller journal) }
 {}
 
@@ -77,20 +82,23 @@ pub fn facts_hold_after_runs()
 
 /// A law: a run and one from the state that it leaves are one run.
 pub fn runs_join()
-    ensures { (old : State) (events : List Event) (handed : List (Option Reply)) (mid : State) (more : List Event) (rest : List (Option Reply)) (new : State)
+    ensures { (old : State) (events : List Event) (handed : List (Option Reply)) (mid : State) (more : List Event) (rest : List (Option Reply))
+        (new : State)
         → IsRun old events handed mid → IsRun mid more rest new → IsRun old (events ++ more) (handed ++ rest) new }
 {}
 
 /// A law: each caller can post its list, caller by caller, and then has it behind what it posted before.
 pub fn lists_are_posted()
     ensures { (s : State) (posted : List (List Post)) → length s.posted ≡ s.map.callers → length posted ≡ s.map.callers
-        → (handed : List (Option Reply)) × IsRun s (post_events 0 posted) handed (record s { posted = joined_up s.posted posted }) }
+        → (handed : List (Option Reply)) × IsRun s (post_events 0 posted) handed
+        (record s { posted = joined_up s.posted posted }) }
 {}
 
 /// A law: where no turn is staged, a turn can be staged that holds the next posts of each caller. A turn may run beside
 /// it.
 pub fn posted_turns_are_staged()
-    ensures { (s : State) (turn : List (List Post)) → Facts s → s.staged ≡ None → length turn ≡ s.map.callers → CanStage s turn
+    ensures { (s : State) (turn : List (List Post)) → Facts s → s.staged ≡ None → length turn ≡ s.map.callers
+        → CanStage s turn
         → IsStep s (Stage (map length turn)) None (in_stage s turn) }
 {}
 
@@ -104,7 +112,8 @@ pub fn staged_turns_are_answered()
 
 /// A law: a running turn whose jobs are answered can be delivered, with the replies of one thread to it.
 pub fn answered_turns_are_delivered()
-    ensures { (s : State) (turn : List (List Post)) (answers : List Answer) (replies : List (List Reply)) → s.running ≡ Some (answered_run turn answers)
+    ensures { (s : State) (turn : List (List Post)) (answers : List Answer) (replies : List (List Reply))
+        → s.running ≡ Some (answered_run turn answers)
         → AreAnswersTo s.map (after_turn s.map (stands_after_done s) turn) (jobs turn) answers
         → AreTurnReplies s.map (after_turn s.map (stands_after_done s) turn) (stands_after_done s) turn replies
         → IsStep s Deliver None (at_end s turn replies) }
@@ -122,10 +131,13 @@ pub fn one_run()
 /// journal are the first of its list, and it is to collect no more replies than these, each event of the
 /// arrival is enabled in its turn, and the state that they leave is the one wanted.
 pub fn each_journal_is_reached()
-    ensures reached { (m : Map) (journal : List (List (List Post))) (posted : List (List Post)) (counts : List ℕ) (all : List (List (List Reply)))
+    ensures reached { (m : Map) (journal : List (List (List Post))) (posted : List (List Post)) (counts : List ℕ)
+        (all : List (List (List Reply)))
         → CanArrive m journal posted counts → OneThread m bare journal all
-        → (handed : List (Option Reply)) × ((new : State) × (IsRun (opening m) (arrival journal posted counts) handed new × HasArrived m new journal posted counts all)) }
-    ensures each { (m : Map) (journal : List (List (List Post))) (posted : List (List Post)) (counts : List ℕ) (all : List (List (List Reply)))
+        → (handed : List (Option Reply)) × ((new : State)
+        × (IsRun (opening m) (arrival journal posted counts) handed new × HasArrived m new journal posted counts all)) }
+    ensures each { (m : Map) (journal : List (List (List Post))) (posted : List (List Post)) (counts : List ℕ)
+        (all : List (List (List Reply)))
         (handed : List (Option Reply)) (new : State)
         → CanArrive m journal posted counts → OneThread m bare journal all
         → IsRun (opening m) (arrival journal posted counts) handed new → HasArrived m new journal posted counts all }

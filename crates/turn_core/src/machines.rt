@@ -16,7 +16,7 @@ use crate::posts::{Post, Posts, empty_lists, push_post};
 use crate::ready_turns::AnsweredTurn;
 use crate::replies::Reply;
 use crate::turn_versions::bare_version;
-use delivered::DeliveredTurn;
+use delivered::{DeliveredTurn, ReplyPlace};
 use grid_versions::{MapSpec, Version};
 use nav_types::NoMemory;
 use running::RunningTurn;
@@ -25,7 +25,8 @@ use std::alloc::Global;
 use std::marker::Model;
 
 /// The turn machine: the version after the turns that are delivered, and what the callers posted, have
-/// taken from them, and collected. Contracts see a state (`State`).
+/// taken from them, and collected, with the place that each has come to among the turns. Contracts see a state
+/// (`State`).
 #[derive(Drop)]
 pub(crate) struct Machine {
     alloc: Global,
@@ -36,6 +37,7 @@ pub(crate) struct Machine {
     running: Option<RunningTurn>,
     delivered: Vec<DeliveredTurn>,
     collected: Vec<u64>,
+    places: Vec<ReplyPlace>,
 }
 
 impl Model for Machine {
@@ -66,6 +68,7 @@ impl Machine {
             running: None,
             delivered: Vec::new(alloc),
             collected: vec![in alloc; 0; callers]?,
+            places: vec![in alloc; ReplyPlace::beginning(); callers]?,
         })
     }
 
@@ -235,7 +238,8 @@ impl Machine {
         Ok(None)
     }
 
-    /// The running turn is done, and its replies go to their callers. All memory is taken before the turn is taken apart.
+    /// The running turn is done, and its replies go to their callers. All memory is taken before the turn is taken
+    /// apart.
     fn deliver(&mut self) -> Result<Option<Reply>, NoMemory>
         requires facts { Facts self.old }
         requires enabled { why_not self.old Event.Deliver ≡ None }
@@ -270,16 +274,19 @@ impl Machine {
         ensures err { OnErr result (self.new ≡ self.old) }
     {
         let at = usize::from(caller);
-        let count = staging::number_at(self.collected.as_slice(), at);
-        let Some(reply) = delivered::reply_at(self.delivered.as_slice(), at, count) else {
+        let place = delivered::place_of(self.places.as_slice(), at);
+        let Some((reply, behind)) = delivered::next_reply(self.delivered.as_slice(), at, place)
+        else {
             return Ok(None);
         };
         let reply = reply.copy(self.alloc)?;
         // Memory ends long before a caller has so many replies.
+        let count = staging::number_at(self.collected.as_slice(), at);
         let Some(next) = count.checked_add(1) else {
             return Err(NoMemory);
         };
         put_number(&mut self.collected, at, next);
+        delivered::put_place(&mut self.places, at, behind);
         Ok(Some(reply))
     }
 }

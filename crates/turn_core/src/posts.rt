@@ -136,7 +136,8 @@ pub fn empty_lists(alloc: Global, callers: usize) -> Result<Vec<Posts>, NoMemory
 /// Appends a post to those of a caller.
 pub fn push_post(posted: &mut Vec<Posts>, caller: usize, post: Post) -> Result<(), NoMemory>
     requires { caller < length posted.old.items }
-    ensures ok { OnOk result (posted.new.items ≡ slice_set posted.old.items caller (list_of posted.old.items caller ++ post ∷ [])) }
+    ensures ok { OnOk result (posted.new.items
+        ≡ slice_set posted.old.items caller (list_of posted.old.items caller ++ post ∷ [])) }
     ensures err { OnErr result (posted.new.items ≡ posted.old.items) }
 {
     let posts = &mut posted[caller];

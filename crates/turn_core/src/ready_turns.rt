@@ -52,7 +52,8 @@ impl ReadyTurn {
         base: &Version,
         posts: TurnPosts,
     ) -> Result<ReadyTurn, (NoMemory, TurnPosts)>
-        ensures ready { IfOk result (λ ready. ready ≡ record { map = base.now.map; before = base.now.standing; turn = posts }) }
+        ensures ready { IfOk result (λ ready.
+            ready ≡ record { map = base.now.map; before = base.now.standing; turn = posts }) }
         ensures posts { IfErr result (λ refused. refused.1 ≡ posts) }
     {
         match EditedTurn::new(alloc, base, &posts) {
@@ -85,7 +86,8 @@ impl ReadyTurn {
 
     /// The number of pairs of class and chunk of which the edits changed some cell, over the map's classes alone.
     pub fn relabelled(&self) -> u32
-        ensures { HasRelabelled (length self.now.map.classes) (passable_at self.now.map self.now.before) (passable_at self.now.map (after_edits_of self.now)) result }
+        ensures { HasRelabelled (length self.now.map.classes) (passable_at self.now.map self.now.before)
+            (passable_at self.now.map (after_edits_of self.now)) result }
     {
         self.edited.relabelled()
     }

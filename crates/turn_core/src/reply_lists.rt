@@ -1,7 +1,10 @@
 //! The lists of replies to a turn: made with the replies to its edits, and filled with the answers to its requests.
 ghost use Rattle.std.specs.Prelude.{◌≡◌, IfOk, OnOk};
 ghost use Rattle.std.specs.Vec.Iter.{into_iter_items};
-ghost use Rattle.turn_core.specs.inner.ReplyLists.{ahead, edits_past, HasEdit, list_ahead, edits_past_list, HaveEdits, lists_ahead, AllHaveEdits, filled, answers_past, HasAnswer, list_filled, answers_past_list, HaveAnswers, lists_filled, AllHaveAnswers};
+ghost use Rattle.turn_core.specs.inner.ReplyLists.{ahead, edits_past, HasEdit, list_ahead, edits_past_list, HaveEdits};
+ghost use Rattle.turn_core.specs.inner.ReplyLists.{lists_ahead, AllHaveEdits, filled, answers_past, HasAnswer};
+ghost use Rattle.turn_core.specs.inner.ReplyLists.{list_filled, answers_past_list, HaveAnswers, lists_filled};
+ghost use Rattle.turn_core.specs.inner.ReplyLists.{AllHaveAnswers};
 
 use crate::posts::{Post, Posts};
 use crate::replies::{Answer, Answers, CallerReplies, Replies, Reply};

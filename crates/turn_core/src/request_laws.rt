@@ -30,7 +30,8 @@ pub fn answers_by_place()
     ensures { (map : Map) (standing : Standing) (requests : List Request) (answers : List Answer)
         → AreAnswersTo map standing requests answers
         ↔ ((length answers ≡ length requests)
-        × ((place : ℕ) (request : Request) (answer : Answer) → slice_get requests place ≡ Some request → slice_get answers place ≡ Some answer
+        × ((place : ℕ) (request : Request) (answer : Answer) → slice_get requests place ≡ Some request
+        → slice_get answers place ≡ Some answer
         → IsAnswerTo map standing request answer)) }
 {}
 

@@ -218,15 +218,9 @@ fn a_later_caller_blocks_the_path_of_a_turn(rt: HostRuntime) -> Result<(), Fail>
     Ok(())
 }
 
-/// The same value, which threads may share.
-fn shared<T: Send + Sync>(value: T) -> T {
-    value
-}
-
 /// The replies to the turn of both callers, once more.
 fn copied_replies(alloc: Global) -> Option<AllReplies> {
-    let all = shared(replies_to_two(alloc)?);
-    all.copy(alloc).ok()
+    replies_to_two(alloc)?.copy(alloc).ok()
 }
 
 #[test]
@@ -481,8 +475,8 @@ fn run_jobs<R: Runner>(runner: &R, alloc: Global, version: &Version, jobs: &Jobs
 
 /// The answers to two jobs on a row of three cells, by a runner that solves them one after another.
 fn two_answers(alloc: Global) -> Option<Answers> {
-    let version = shared(row_version(alloc, 3, None)?);
-    let jobs = shared(two_jobs(alloc)?.copy(alloc).ok()?);
+    let version = row_version(alloc, 3, None)?;
+    let jobs = two_jobs(alloc)?.copy(alloc).ok()?;
     let run = |version: &Version, jobs: &Jobs| -> Result<Answers, NoMemory>
         ensures { IfOk result (AreAnswersTo version.now.map version.now.standing jobs.now) }
     { journals::answers_to(alloc, version, jobs) };
@@ -491,7 +485,7 @@ fn two_answers(alloc: Global) -> Option<Answers> {
         run: &run,
         staged: &staged,
     };
-    run_jobs(&runner, alloc, &version, &jobs).map(|answers| shared(answers))
+    run_jobs(&runner, alloc, &version, &jobs)
 }
 
 #[test]

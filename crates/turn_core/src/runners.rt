@@ -40,7 +40,8 @@ impl<'a, F: Fn(&Version, &Jobs) -> Result<Answers, NoMemory>, G: Fn(u64)> Runner
 
     ghost ready = { λ by.
         ((version jobs : _) → length jobs.now < 2 ^ 32 → F.pre by.run.now version jobs)
-        × ((version jobs result : _) → F.post by.run.now version jobs result → IfOk result (AreAnswersTo version.now.map version.now.standing jobs.now))
+        × ((version jobs result : _) → F.post by.run.now version jobs result
+        → IfOk result (AreAnswersTo version.now.map version.now.standing jobs.now))
         × ((posts : ℕ) → posts < 2 ^ 64 → G.pre by.staged.now posts) };
 
     fn run(&self, _alloc: Global, version: &Version, jobs: &Jobs) -> Result<Answers, NoMemory> {

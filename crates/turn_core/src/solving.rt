@@ -1,12 +1,16 @@
 //! The answers to requests on a version.
-ghost use Rattle.std.specs.Prelude.{◌≡◌, ◌<◌, ℤ, IfOk, length};
+ghost use Rattle.std.specs.Prelude.{◌≡◌, ◌<◌, ℤ, IfOk, IsTrue, length};
 ghost use Rattle.fixed_point.specs.Plane.{IsOnAxis};
 ghost use Rattle.nav_types.specs.Cells.{IsInside};
+ghost use Rattle.nav_types.specs.Walks.{CanReach};
 ghost use Rattle.goal_shapes.specs.Goals.{HoldsPoint};
 ghost use Rattle.goal_shapes.specs.Limits.{IsSoundGoal};
+ghost use Rattle.walks.specs.Chosen.{IsAnswer};
 ghost use Rattle.grid_versions.specs.Passing.{passable_at};
+ghost use Rattle.grid_versions.specs.Versions.{passes_of};
 ghost use Rattle.turn_core.specs.NamedGoals.{class_named, is_on_map, goal_found};
-ghost use Rattle.turn_core.specs.Solving.{is_near, IsPathTo, IsPathFound, IsRegionAnswer, IsRegionAt, IsAnswerAt, IsAnswerTo};
+ghost use Rattle.turn_core.specs.Solving.{is_near, IsPathTo, IsPathFound, IsRegionAnswer, IsRegionAt, IsAnswerAt};
+ghost use Rattle.turn_core.specs.Solving.{IsAnswerTo};
 
 use crate::named_goals::goal_of;
 use crate::posts::Request;
@@ -16,9 +20,12 @@ use fixed_point::Fixed;
 use goal_reach::{Target, made_reachable, nearest_passable};
 use goal_shapes::{Goal, GoalSpec, cell_of_point};
 use grid_versions::{Refusal, Version};
-use nav_types::{Areas, Cell, Class, NoMemory};
+use jump_search::jump_find;
+use nav_types::{Aim, Areas, Cell, Class, NoMemory, Ticks};
 use std::alloc::Global;
-use walks::{Found, plain_search};
+use std::marker::Brand;
+use std::sync::ledger::{Blank, Ledger};
+use walks::Found;
 
 /// The answer to a request on a version (`IsAnswerTo`). It refuses for want of memory alone.
 ///
@@ -44,7 +51,8 @@ fn path_asked(
     goal: &GoalSpec,
 ) -> Result<Answer, NoMemory>
     ensures { IfOk result (IsAnswerAt (class_named version.now.map name.now) (is_on_map version.now.map.size x z)
-        (λ class. IsPathFound (passable_at version.now.map version.now.standing class) x z (goal_found version.now.map version.now.standing goal.now))) }
+        (λ class. IsPathFound (passable_at version.now.map version.now.standing class) x z
+        (goal_found version.now.map version.now.standing goal.now))) }
 {
     let Some(class) = version.map().classes().find(name) else {
         return Ok(Answer::Refused(Refusal::UnknownClass));
@@ -85,7 +93,7 @@ fn path_to(
         end,
         cost,
         waypoints,
-    } = plain_search(alloc, version, class, start, &target)?;
+    } = found(alloc, version, class, start, &target)?;
     Ok(Answer::Path(PathAnswer {
         start,
         end,
@@ -93,6 +101,53 @@ fn path_to(
         cost,
         waypoints,
     }))
+}
+
+/// The chosen walk from the start to the first in cell order of the nearest cells that the aim hits, by jumps.
+fn found<A: Aim>(
+    alloc: Global,
+    version: &Version,
+    class: Class,
+    start: Cell,
+    aim: &A,
+) -> Result<Found, NoMemory>
+    requires class { class < length version.now.map.classes }
+    requires start { IsTrue (passes_of version.now class start) }
+    requires aim { A.sound aim.now version.now.map.size }
+    requires reach { CanReach (passes_of version.now class) start (A.hit aim.now version.now.map.size) }
+    ensures { IfOk result (λ found. IsAnswer (passes_of version.now class) start (A.hit aim.now version.now.map.size)
+        found.end found.cost.0 found.waypoints) }
+{
+    found_counted::<A, Brand>(alloc, version, class, start, aim, Blank::new(1))
+}
+
+/// The same walk, with the opened jump states counted in a ledger of their own.
+fn found_counted<A: Aim, L: Ledger>(
+    alloc: Global,
+    version: &Version,
+    class: Class,
+    start: Cell,
+    aim: &A,
+    blank: Blank,
+) -> Result<Found, NoMemory>
+    requires name { blank.name ≡ L.name }
+    requires parts { blank.parts ≡ L.parts }
+    requires some { 0 < L.parts }
+    requires class { class < length version.now.map.classes }
+    requires start { IsTrue (passes_of version.now class start) }
+    requires aim { A.sound aim.now version.now.map.size }
+    requires reach { CanReach (passes_of version.now class) start (A.hit aim.now version.now.map.size) }
+    ensures { IfOk result (λ found. IsAnswer (passes_of version.now class) start (A.hit aim.now version.now.map.size)
+        found.end found.cost.0 found.waypoints) }
+{
+    jump_find(
+        alloc,
+        version,
+        class,
+        start,
+        aim,
+        &mut Ticks::<L>::new(blank),
+    )
 }
 
 /// Whether the target is a near cell.
@@ -123,7 +178,8 @@ fn region_asked(version: &Version, name: &ClassName, x: Fixed, z: Fixed) -> Answ
 fn region_at(version: &Version, class: Class, cell: Cell) -> RegionAnswer
     requires class { class < length version.now.map.classes }
     requires inside { IsInside version.now.map.size cell }
-    ensures { (x : ℤ) (z : ℤ) → HoldsPoint x z cell → IsRegionAnswer (passable_at version.now.map version.now.standing class) x z result }
+    ensures { (x : ℤ) (z : ℤ) → HoldsPoint x z cell
+        → IsRegionAnswer (passable_at version.now.map version.now.standing class) x z result }
 {
     let chunk = cell.chunk();
     RegionAnswer {

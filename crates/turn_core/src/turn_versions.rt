@@ -58,9 +58,11 @@ pub(crate) fn after_turn(
     turn: &TurnPosts,
 ) -> Result<Advanced, NoMemory>
     ensures map { IfOk result (λ made. made.version.map ≡ version.now.map) }
-    ensures standing { IfOk result (λ made. made.version.standing ≡ after_turn version.now.map version.now.standing turn.now) }
+    ensures standing { IfOk result (λ made. made.version.standing
+        ≡ after_turn version.now.map version.now.standing turn.now) }
     ensures edits { IfOk result (λ made. made.edits ≡ edits_told_in version.now.map version.now.standing turn.now) }
-    ensures relabelled { IfOk result (λ made. HasRelabelled (length version.now.map.classes) (passes_of version.now) (passes_of made.version) made.relabelled) }
+    ensures relabelled { IfOk result (λ made. HasRelabelled (length version.now.map.classes) (passes_of version.now)
+        (passes_of made.version) made.relabelled) }
 {
     let edits = edits_of(alloc, turn)?;
     let Next {
@@ -86,9 +88,11 @@ fn next_counted<L: Ledger>(
     requires parts { blank.parts ≡ L.parts }
     requires some { 0 < L.parts }
     ensures map { IfOk result (λ next. next.version.map ≡ version.now.map) }
-    ensures standing { IfOk result (λ next. next.version.standing ≡ after_edits version.now.map version.now.standing edits.now) }
+    ensures standing { IfOk result (λ next. next.version.standing
+        ≡ after_edits version.now.map version.now.standing edits.now) }
     ensures replies { IfOk result (λ next. next.replies ≡ edit_replies version.now.map version.now.standing edits.now) }
-    ensures relabelled { IfOk result (λ next. HasRelabelled (length version.now.map.classes) (passes_of version.now) (passes_of next.version) next.relabelled) }
+    ensures relabelled { IfOk result (λ next. HasRelabelled (length version.now.map.classes) (passes_of version.now)
+        (passes_of next.version) next.relabelled) }
 {
     version.next(alloc, edits, &mut Ticks::<L>::new(blank))
 }

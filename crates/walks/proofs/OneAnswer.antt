@@ -18,7 +18,7 @@ one_first Within (first ∷ rest) d e (inl p) (inr q) = absurd (q.0 p.0)
 one_first Within (first ∷ rest) d e (inr p) (inl q) = absurd (p.0 q.0)
 one_first Within (first ∷ rest) d e (inr p) (inr q) = one_first Within rest d e p.1 q.1
 
-some_same : (d e : Dir) → Some d ≡ Some e → d ≡ e
+pub some_same : (d e : Dir) → Some d ≡ Some e → d ≡ e
 some_same d e p = cc
 
 -- the picked direction is one

@@ -182,7 +182,7 @@ chosen_push passes start end cell before next dir back so_far away picked leads 
     let P = λ (dirs : List Dir). IsChosenBack passes start None dirs end in
     subst P (sym (append_assoc back (dir ∷ []) rest)) (so_far (dir ∷ rest) (away, (picked, (before, (leads, chosen)))))
 
-turned : (dir : Dir) (dirs : List Dir) → reverse dirs ++ dir ∷ [] ≡ reverse (dir ∷ dirs)
+pub turned : (dir : Dir) (dirs : List Dir) → reverse dirs ++ dir ∷ [] ≡ reverse (dir ∷ dirs)
 turned dir dirs = sym (reverse-append (dir ∷ []) dirs)
 
 chosen_back_walk : (passes : Cell → Bool) (start : Cell) (back : List Dir) (next : Option Dir) (cell : Cell) → IsChosenBack passes start next back cell → IsWalk passes start (reverse back) cell

@@ -32,21 +32,26 @@ CanGoStraight Within (Some next) = IsTrue (is_straight next) × Within next
 
 -- the direction of the step that follows, where that can go straight; else the first by preference
 abbrev pub IsPicked : (Dir → Type 0) → Option Dir → Dir → Type 0
-IsPicked Within next dir = (CanGoStraight Within next × (next ≡ Some dir)) ⊎ ((CanGoStraight Within next → ⊥) × IsFirstIn Within preference dir)
+IsPicked Within next dir = (CanGoStraight Within next × (next ≡ Some dir))
+    ⊎ ((CanGoStraight Within next → ⊥) × IsFirstIn Within preference dir)
 
 -- the chosen steps into the cell, given from the cell backwards to the start; `next` is the step that follows them
 abbrev pub IsChosenBack : (Cell → Bool) → Cell → Option Dir → List Dir → Cell → Type 0
 IsChosenBack passes start next [] cell = start ≡ cell
 IsChosenBack passes start next (dir ∷ dirs) cell =
-    (start ≢ cell) × (IsPicked (Enters passes start cell) next dir × ((before : Cell) × (Leads dir before cell × IsChosenBack passes start (Some dir) dirs before)))
+    (start ≢ cell) × (IsPicked (Enters passes start cell) next dir
+    × ((before : Cell) × (Leads dir before cell × IsChosenBack passes start (Some dir) dirs before)))
 
 -- the chosen walk from the start to the end
 abbrev pub IsChosen : (Cell → Bool) → Cell → List Dir → Cell → Type 0
 IsChosen passes start dirs end = IsChosenBack passes start None (reverse dirs) end
 
 -- the first in cell order of the nearest hit cells, with the cost and the waypoints of the chosen walk to it
-pub record IsAnswer (passes : Cell → Bool) (start : Cell) (hit : Cell → Bool) (end : Cell) (cost : ℕ) (points : List Cell) : Type 0 where
+pub record IsAnswer (passes : Cell → Bool) (start : Cell) (hit : Cell → Bool) (end : Cell) (cost : ℕ)
+    (points : List Cell) : Type 0 where
   pub is_hit : IsTrue (hit end)
-  pub walk : (dirs : List Dir) × (IsChosen passes start dirs end × ((walk_cost dirs ≡ cost) × (points ≡ waypoints start dirs)))
-  pub nearest : (target : Cell) (dirs : List Dir) → IsTrue (hit target) → IsWalk passes start dirs target → cost ≤ walk_cost dirs
+  pub walk : (dirs : List Dir)
+      × (IsChosen passes start dirs end × ((walk_cost dirs ≡ cost) × (points ≡ waypoints start dirs)))
+  pub nearest : (target : Cell) (dirs : List Dir) → IsTrue (hit target) → IsWalk passes start dirs target
+      → cost ≤ walk_cost dirs
   pub first : (target : Cell) → IsTrue (hit target) → IsDistance passes start target cost → IsNotAfter end target

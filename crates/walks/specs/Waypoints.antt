@@ -21,7 +21,8 @@ is_corner dir (next ∷ dirs) = not (is_same_way dir next)
 -- the cells where the direction changes, then the last cell; none for the empty walk
 abbrev pub waypoints : Cell → List Dir → List Cell
 waypoints from [] = []
-waypoints from (dir ∷ dirs) = (if is_corner dir dirs then cell_after dir from ∷ [] else []) ++ waypoints (cell_after dir from) dirs
+waypoints from (dir ∷ dirs) = (if is_corner dir dirs then cell_after dir from ∷ [] else [])
+    ++ waypoints (cell_after dir from) dirs
 
 -- the cell lies in the largest map
 abbrev pub IsInGrid : Cell → Type 0

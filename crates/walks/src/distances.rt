@@ -49,13 +49,19 @@ impl Distances {
     pub fn nearest<V: View, A: Aim>(&self, view: &V, aim: &A) -> Cell
         requires covers { CoversMap (V.extent view.now) self.now.costs.items }
         requires sound { A.sound aim.now (V.extent view.now) }
-        requires some { (cell : Cell) × (IsTrue (A.hit aim.now (V.extent view.now) cell) × IsReachedCell (V.extent view.now) self.now.costs.items cell) }
+        requires some { (cell : Cell)
+            × (IsTrue (A.hit aim.now (V.extent view.now) cell)
+            × IsReachedCell (V.extent view.now) self.now.costs.items cell) }
         ensures reached { IsReachedCell (V.extent view.now) self.now.costs.items result }
         ensures hit { IsTrue (A.hit aim.now (V.extent view.now) result) }
-        ensures nearest { (target : Cell) → IsInside (V.extent view.now) target → IsTrue (A.hit aim.now (V.extent view.now) target)
-            → entry (V.extent view.now) self.now.costs.items result ≤ entry (V.extent view.now) self.now.costs.items target }
-        ensures first { (target : Cell) → IsInside (V.extent view.now) target → IsTrue (A.hit aim.now (V.extent view.now) target)
-            → entry (V.extent view.now) self.now.costs.items target ≡ entry (V.extent view.now) self.now.costs.items result → IsNotAfter result target }
+        ensures nearest { (target : Cell) → IsInside (V.extent view.now) target
+            → IsTrue (A.hit aim.now (V.extent view.now) target)
+            → entry (V.extent view.now) self.now.costs.items result
+            ≤ entry (V.extent view.now) self.now.costs.items target }
+        ensures first { (target : Cell) → IsInside (V.extent view.now) target
+            → IsTrue (A.hit aim.now (V.extent view.now) target)
+            → entry (V.extent view.now) self.now.costs.items target
+            ≡ entry (V.extent view.now) self.now.costs.items result → IsNotAfter result target }
     {
         // places stand in cell order, so a later cell counts only where it is nearer
         let mut least = UNREACHED;
@@ -74,10 +80,13 @@ impl Distances {
     /// The arrival at the cell in the direction. None exactly where no walk of least cost enters the cell so.
     fn arrival<V: View>(&self, view: &V, class: Class, cell: Cell, dir: Dir) -> Option<Arrival>
         requires class { class < V.class_count view.now }
-        requires exact { HasDistances (V.passes view.now class) self.now.start (V.extent view.now) self.now.costs.items }
+        requires exact { HasDistances (V.passes view.now class) self.now.start (V.extent view.now)
+            self.now.costs.items }
         requires reached { IsReachedCell (V.extent view.now) self.now.costs.items cell }
         ensures dir { IfSome result (λ arrival. arrival.dir ≡ dir) }
-        ensures some { IfSome result (λ arrival. Arrives (V.passes view.now class) self.now.start (V.extent view.now) self.now.costs.items cell arrival.dir arrival.before) }
+        ensures some { IfSome result
+            (λ arrival. Arrives (V.passes view.now class) self.now.start (V.extent view.now) self.now.costs.items cell
+            arrival.dir arrival.before) }
         ensures none { IfNone result (Enters (V.passes view.now class) self.now.start cell dir → ⊥) }
     {
         let Some(before) = step(view, class, cell, dir.opposite()) else {
@@ -99,11 +108,15 @@ impl Distances {
         next: Option<Dir>,
     ) -> Option<Arrival>
         requires class { class < V.class_count view.now }
-        requires exact { HasDistances (V.passes view.now class) self.now.start (V.extent view.now) self.now.costs.items }
+        requires exact { HasDistances (V.passes view.now class) self.now.start (V.extent view.now)
+            self.now.costs.items }
         requires reached { IsReachedCell (V.extent view.now) self.now.costs.items cell }
         ensures dir { IfSome result (λ arrival. next ≡ Some arrival.dir) }
-        ensures straight { IfSome result (λ arrival. CanGoStraight (Enters (V.passes view.now class) self.now.start cell) next) }
-        ensures some { IfSome result (λ arrival. Arrives (V.passes view.now class) self.now.start (V.extent view.now) self.now.costs.items cell arrival.dir arrival.before) }
+        ensures straight { IfSome result
+            (λ arrival. CanGoStraight (Enters (V.passes view.now class) self.now.start cell) next) }
+        ensures some { IfSome result
+            (λ arrival. Arrives (V.passes view.now class) self.now.start (V.extent view.now) self.now.costs.items cell
+            arrival.dir arrival.before) }
         ensures none { IfNone result (CanGoStraight (Enters (V.passes view.now class) self.now.start cell) next → ⊥) }
     {
         let Some(dir) = next else {
@@ -119,11 +132,13 @@ impl Distances {
     /// The arrival in the direction that is preferred.
     fn preferred<V: View>(&self, view: &V, class: Class, cell: Cell) -> Arrival
         requires class { class < V.class_count view.now }
-        requires exact { HasDistances (V.passes view.now class) self.now.start (V.extent view.now) self.now.costs.items }
+        requires exact { HasDistances (V.passes view.now class) self.now.start (V.extent view.now)
+            self.now.costs.items }
         requires reached { IsReachedCell (V.extent view.now) self.now.costs.items cell }
         requires away { self.now.start ≢ cell }
         ensures first { IsFirstIn (Enters (V.passes view.now class) self.now.start cell) preference result.dir }
-        ensures arrives { Arrives (V.passes view.now class) self.now.start (V.extent view.now) self.now.costs.items cell result.dir result.before }
+        ensures arrives { Arrives (V.passes view.now class) self.now.start (V.extent view.now) self.now.costs.items cell
+            result.dir result.before }
     {
         for dir in Dir::ALL {
             if let Some(arrival) = self.arrival(view, class, cell, dir) {
@@ -136,11 +151,13 @@ impl Distances {
     /// The arrival of the chosen walk, by the step that follows: straight on where it can, else as is preferred.
     fn picked<V: View>(&self, view: &V, class: Class, cell: Cell, next: Option<Dir>) -> Arrival
         requires class { class < V.class_count view.now }
-        requires exact { HasDistances (V.passes view.now class) self.now.start (V.extent view.now) self.now.costs.items }
+        requires exact { HasDistances (V.passes view.now class) self.now.start (V.extent view.now)
+            self.now.costs.items }
         requires reached { IsReachedCell (V.extent view.now) self.now.costs.items cell }
         requires away { self.now.start ≢ cell }
         ensures picked { IsPicked (Enters (V.passes view.now class) self.now.start cell) next result.dir }
-        ensures arrives { Arrives (V.passes view.now class) self.now.start (V.extent view.now) self.now.costs.items cell result.dir result.before }
+        ensures arrives { Arrives (V.passes view.now class) self.now.start (V.extent view.now) self.now.costs.items cell
+            result.dir result.before }
     {
         match self.straight_on(view, class, cell, next) {
             Some(arrival) => arrival,
@@ -157,7 +174,8 @@ impl Distances {
         end: Cell,
     ) -> Result<Walk, NoMemory>
         requires class { class < V.class_count view.now }
-        requires exact { HasDistances (V.passes view.now class) self.now.start (V.extent view.now) self.now.costs.items }
+        requires exact { HasDistances (V.passes view.now class) self.now.start (V.extent view.now)
+            self.now.costs.items }
         requires reached { IsReachedCell (V.extent view.now) self.now.costs.items end }
         ensures { IfOk result (λ back. IsChosenBack (V.passes view.now class) self.now.start None back end) }
     {
@@ -182,7 +200,8 @@ impl Distances {
         end: Cell,
     ) -> Result<Walk, NoMemory>
         requires class { class < V.class_count view.now }
-        requires exact { HasDistances (V.passes view.now class) self.now.start (V.extent view.now) self.now.costs.items }
+        requires exact { HasDistances (V.passes view.now class) self.now.start (V.extent view.now)
+            self.now.costs.items }
         requires reached { IsReachedCell (V.extent view.now) self.now.costs.items end }
         ensures { IfOk result (λ walk. IsChosen (V.passes view.now class) self.now.start walk end) }
     {
@@ -193,7 +212,7 @@ impl Distances {
 }
 
 /// The directions of a walk from the last to the first.
-fn reversed(alloc: Global, walk: &Walk) -> Result<Walk, NoMemory>
+pub fn reversed(alloc: Global, walk: &Walk) -> Result<Walk, NoMemory>
     ensures { IfOk result (λ turned. turned ≡ reverse walk.now) }
 {
     let dirs: Vec<Dir> = walk.as_slice().iter().rev().copied().collect(alloc)?;

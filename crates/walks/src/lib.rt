@@ -10,6 +10,7 @@ mod sweeps;
 #[cfg(test)]
 mod tests;
 
+pub use distances::reversed;
 pub use found_walk::{Found, Walk, Waypoints};
 pub use measures::{cost, waypoints};
 pub use search::{one_answer, plain_search};

@@ -10,8 +10,8 @@ use crate::sweeps::settled;
 use nav_types::{Aim, Cell, Class, Cost, NoMemory, View};
 use std::alloc::Global;
 
-/// The chosen walk from the start to the first in cell order of the nearest cells that the aim hits, by its end, its cost
-/// and its waypoints. The start must be passable, and some hit cell must be joined to it.
+/// The chosen walk from the start to the first in cell order of the nearest cells that the aim hits, by its end, its
+/// cost and its waypoints. The start must be passable, and some hit cell must be joined to it.
 ///
 /// The walk prefers diagonal steps early, as Harabor and Grastien, "Online Graph Pruning for Pathfinding on Grid Maps",
 /// AAAI 2011, do; the rule for ties is the chosen walk's own.
@@ -26,7 +26,9 @@ pub fn plain_search<V: View, A: Aim>(
     requires start { IsTrue (V.passes view.now class start) }
     requires aim { A.sound aim.now (V.extent view.now) }
     requires reach { CanReach (V.passes view.now class) start (A.hit aim.now (V.extent view.now)) }
-    ensures { IfOk result (λ found. IsAnswer (V.passes view.now class) start (A.hit aim.now (V.extent view.now)) found.end found.cost.0 found.waypoints) }
+    ensures { IfOk result
+        (λ found. IsAnswer (V.passes view.now class) start (A.hit aim.now (V.extent view.now)) found.end found.cost.0
+        found.waypoints) }
 {
     let costs = settled(alloc, view, class, start)?;
     let distances = Distances { start, costs };

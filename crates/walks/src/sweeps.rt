@@ -16,7 +16,8 @@ pub const UNREACHED: u64 = 1_099_511_627_776;
 /// The table where a walk has reached the start alone.
 fn blank<V: View>(alloc: Global, view: &V, start: Cell) -> Result<Vec<u64>, NoMemory>
     requires { IsInside (V.extent view.now) start }
-    ensures { IfOk result (λ costs. (passes : Cell → Bool) → IsSoundTable passes start (V.extent view.now) costs.items) }
+    ensures { IfOk result
+        (λ costs. (passes : Cell → Bool) → IsSoundTable passes start (V.extent view.now) costs.items) }
 {
     let mut costs = vec![in alloc; UNREACHED; cell_count(view)]?;
     costs[place(view, start)] = 0;
@@ -37,7 +38,8 @@ fn lower<V: View>(view: &V, costs: &mut Vec<u64>, cell: Cell, cost: u64) -> bool
     requires covers { CoversMap (V.extent view.now) costs.old.items }
     requires inside { IsInside (V.extent view.now) cell }
     ensures fell { result ≡ nat_lt cost (entry (V.extent view.now) costs.old.items cell) }
-    ensures table { costs.new.items ≡ (if result then slice_set costs.old.items (place_of (V.extent view.now) cell) cost else costs.old.items) }
+    ensures table { costs.new.items
+        ≡ (if result then slice_set costs.old.items (place_of (V.extent view.now) cell) cost else costs.old.items) }
 {
     let at = place(view, cell);
     if cost < costs[at] {
@@ -53,7 +55,8 @@ fn relax_along<V: View>(view: &V, class: Class, costs: &mut Vec<u64>, cell: Cell
     requires class { class < V.class_count view.now }
     requires inside { IsInside (V.extent view.now) cell }
     requires table { IsSoundForSome (V.passes view.now class) (V.extent view.now) costs.old.items }
-    ensures { Relaxes (V.passes view.now class) (V.extent view.now) (IsSettledAlong (V.passes view.now class) (V.extent view.now) cell dir) costs.old.items costs.new.items result }
+    ensures { Relaxes (V.passes view.now class) (V.extent view.now)
+        (IsSettledAlong (V.passes view.now class) (V.extent view.now) cell dir) costs.old.items costs.new.items result }
 {
     let Some(next) = step(view, class, cell, dir) else {
         return false;
@@ -67,7 +70,8 @@ fn relax<V: View>(view: &V, class: Class, costs: &mut Vec<u64>, cell: Cell) -> b
     requires class { class < V.class_count view.now }
     requires inside { IsInside (V.extent view.now) cell }
     requires table { IsSoundForSome (V.passes view.now class) (V.extent view.now) costs.old.items }
-    ensures { Relaxes (V.passes view.now class) (V.extent view.now) (IsSettledAt (V.passes view.now class) (V.extent view.now) cell) costs.old.items costs.new.items result }
+    ensures { Relaxes (V.passes view.now class) (V.extent view.now)
+        (IsSettledAt (V.passes view.now class) (V.extent view.now) cell) costs.old.items costs.new.items result }
 {
     let mut fell = false;
     for dir in Dir::ALL {
@@ -80,7 +84,8 @@ fn relax<V: View>(view: &V, class: Class, costs: &mut Vec<u64>, cell: Cell) -> b
 fn sweep<V: View>(view: &V, class: Class, costs: &mut Vec<u64>, forward: bool) -> bool
     requires class { class < V.class_count view.now }
     requires table { IsSoundForSome (V.passes view.now class) (V.extent view.now) costs.old.items }
-    ensures { Relaxes (V.passes view.now class) (V.extent view.now) (IsSettled (V.passes view.now class) (V.extent view.now)) costs.old.items costs.new.items result }
+    ensures { Relaxes (V.passes view.now class) (V.extent view.now)
+        (IsSettled (V.passes view.now class) (V.extent view.now)) costs.old.items costs.new.items result }
 {
     let count = cell_count(view);
     let mut fell = false;
@@ -104,7 +109,8 @@ fn place_after(count: usize, passed: usize, forward: bool) -> usize
 fn settle<V: View>(view: &V, class: Class, costs: &mut Vec<u64>)
     requires class { class < V.class_count view.now }
     requires table { IsSoundForSome (V.passes view.now class) (V.extent view.now) costs.old.items }
-    ensures sound { (start : Cell) → IsSoundTable (V.passes view.now class) start (V.extent view.now) costs.old.items → IsSoundTable (V.passes view.now class) start (V.extent view.now) costs.new.items }
+    ensures sound { (start : Cell) → IsSoundTable (V.passes view.now class) start (V.extent view.now) costs.old.items
+        → IsSoundTable (V.passes view.now class) start (V.extent view.now) costs.new.items }
     ensures settled { IsSettled (V.passes view.now class) (V.extent view.now) costs.new.items }
 {
     // costs spread along the way of a sweep at once, so that sweeps both ways need few rounds

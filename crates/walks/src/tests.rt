@@ -73,7 +73,8 @@ impl View for Plan {
 
     ghost class_count = { λ plan. 1 };
 
-    ghost passes = { λ plan class cell. (nat_lt cell.i plan.size.w && nat_lt cell.j plan.size.h) && slice_index_or plan.free.items (place_of plan.size cell) false };
+    ghost passes = { λ plan class cell. (nat_lt cell.i plan.size.w && nat_lt cell.j plan.size.h)
+        && slice_index_or plan.free.items (place_of plan.size cell) false };
 
     fn size(&self) -> Size {
         self.size
@@ -94,7 +95,8 @@ impl View for Plan {
     }
 
     ghost within = { λ plan class cell passing.
-        let inside = (and_parts (nat_lt cell.i plan.size.w && nat_lt cell.j plan.size.h) (slice_index_or plan.free.items (place_of plan.size cell) false) passing).0 in
+        let inside = (and_parts (nat_lt cell.i plan.size.w && nat_lt cell.j plan.size.h)
+        (slice_index_or plan.free.items (place_of plan.size cell) false) passing).0 in
         let sides = and_parts (nat_lt cell.i plan.size.w) (nat_lt cell.j plan.size.h) inside in
         record { column = ltb-true cell.i plan.size.w sides.0; row = ltb-true cell.j plan.size.h sides.1 } };
 }
@@ -108,7 +110,8 @@ struct Targets {
 impl Aim for Targets {
     ghost sound = { λ targets size. Unit {0} };
 
-    ghost hit = { λ targets size cell. list_any (λ (target : Cell). nat_eq target.i cell.i && nat_eq target.j cell.j) targets.cells.items };
+    ghost hit = { λ targets size cell. list_any (λ (target : Cell). nat_eq target.i cell.i && nat_eq target.j cell.j)
+        targets.cells.items };
 
     ghost framed = { λ targets size cell. true };
 
@@ -170,7 +173,8 @@ fn can_reach<V: View, A: Aim>(
     requires class { class < V.class_count view.now }
     requires start { IsTrue (V.passes view.now class start) }
     requires aim { A.sound aim.now (V.extent view.now) }
-    ensures { IfOk result (λ found. IsTrue found → CanReach (V.passes view.now class) start (A.hit aim.now (V.extent view.now))) }
+    ensures { IfOk result
+        (λ found. IsTrue found → CanReach (V.passes view.now class) start (A.hit aim.now (V.extent view.now))) }
 {
     let costs = settled(alloc, view, class, start)?;
     for place in 0..cell_count(view) {

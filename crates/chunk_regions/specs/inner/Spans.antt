@@ -18,7 +18,8 @@ pub record AreSpans (runs : Runs) : Type 0 where
   pub all : slice_index runs.starts 96 ≡ length runs.spans
   pub few : length runs.spans ≤ 4608
   pub ordered : (k : ℕ) (span : Span) → slice_get runs.spans k ≡ Some span → (span.first ≤ span.last) × (span.last < 96)
-  pub apart : (r k l : ℕ) (west east : Span) → r < 96 → slice_index runs.starts r ≤ k → k < l → l < slice_index runs.starts (r + 1)
+  pub apart : (r k l : ℕ) (west east : Span) → r < 96 → slice_index runs.starts r ≤ k → k < l
+      → l < slice_index runs.starts (r + 1)
       → slice_get runs.spans k ≡ Some west → slice_get runs.spans l ≡ Some east → west.last + 1 < east.first
 
 -- the span at place k is one of row r and holds column x
@@ -41,11 +42,14 @@ pub record AreRuns (bits : List ℕ) (runs : Runs) : Type 0 where
 pub record IsRowTo (bits from : ℕ) (spans : List Span) (column : ℕ) : Type 0 where
   pub few : 2 * length spans ≤ 2 * from + column
   pub longer : from ≤ length spans
-  pub ordered : (k : ℕ) (span : Span) → from ≤ k → slice_get spans k ≡ Some span → (span.first ≤ span.last) × (span.last < 96) × (span.last + 1 < column)
-  pub apart : (k l : ℕ) (west east : Span) → from ≤ k → k < l → slice_get spans k ≡ Some west → slice_get spans l ≡ Some east → west.last + 1 < east.first
+  pub ordered : (k : ℕ) (span : Span) → from ≤ k → slice_get spans k ≡ Some span
+      → (span.first ≤ span.last) × (span.last < 96) × (span.last + 1 < column)
+  pub apart : (k l : ℕ) (west east : Span) → from ≤ k → k < l → slice_get spans k ≡ Some west
+      → slice_get spans l ≡ Some east → west.last + 1 < east.first
   pub holds : (x : ℕ) → x < column → bit_at bits x ≡ 1
       → (k : ℕ) × (span : Span) × (from ≤ k) × (slice_get spans k ≡ Some span) × (span.first ≤ x) × (x ≤ span.last)
-  pub set : (k x : ℕ) (span : Span) → from ≤ k → slice_get spans k ≡ Some span → span.first ≤ x → x ≤ span.last → bit_at bits x ≡ 1
+  pub set : (k x : ℕ) (span : Span) → from ≤ k → slice_get spans k ≡ Some span → span.first ≤ x → x ≤ span.last
+      → bit_at bits x ≡ 1
 
 -- the place is that of a span
 pub record IsPlace (runs : Runs) (place : Place) : Type 0 where
@@ -82,12 +86,14 @@ holds (Some span) column = nat_le span.first column && nat_le column span.last
 abbrev pub region_from : Runs → List ℕ → ℕ → ℕ → ℕ → ℕ
 region_from runs regions column zero k = 0
 region_from runs regions column (suc count) k =
-    if holds (slice_get runs.spans k) column then slice_index regions k else region_from runs regions column count (k + 1)
+    if holds (slice_get runs.spans k) column then slice_index regions k else region_from runs regions column count
+    (k + 1)
 
 -- the region of the span that holds a column of a row, 0 where none does
 abbrev pub region_at : Runs → List ℕ → ℕ → ℕ → ℕ
 region_at runs regions row column =
-    region_from runs regions column (slice_index runs.starts (row + 1) - slice_index runs.starts row) (slice_index runs.starts row)
+    region_from runs regions column (slice_index runs.starts (row + 1) - slice_index runs.starts row)
+    (slice_index runs.starts row)
 
 -- the region of the cell at a place among the cells of the chunk's rectangle, which has so many columns
 abbrev pub number_by : Runs → List ℕ → ℕ → ℕ → ℕ

@@ -35,7 +35,12 @@ total amount views = sum_by amount views
 
 -- What contracts see of a seat: its list is what it drew without the misses.
 abbrev pub seat_state : TableId → View → SeatState
-seat_state word v = record { board = record { word = word; jobs = v.jobs }; credit = v.credit; drawn = jobs_among v.jobs v.drawn; ended = v.ended }
+seat_state word v = record {
+  board = record { word = word; jobs = v.jobs };
+  credit = v.credit;
+  drawn = jobs_among v.jobs v.drawn;
+  ended = v.ended;
+}
 
 -- The start: the whole credit, and nothing drawn.
 abbrev pub first_view : ℕ → View
@@ -54,25 +59,32 @@ after_draw v n = record v { drawn = v.drawn ++ n ∷ []; ended = nat_le v.jobs n
 
 -- What a fetch-add tells: the number that was found joins the seat's, and is above each job that the seat had drawn.
 abbrev pub Draws : Me (Unit {0}) View → ℕ → Me (Unit {0}) View → Type 0
-Draws before n after = (after ≡ (after_draw before.0 n, before.1)) × All (λ job. job < n) (jobs_among before.0.jobs before.0.drawn)
+Draws before n after = (after ≡ (after_draw before.0 n, before.1))
+    × All (λ job. job < n) (jobs_among before.0.jobs before.0.drawn)
 
 -- The join: credits are added, drawn numbers put together, and the view has ended where either had. The other is spent.
 abbrev pub joined : View → View → View
-joined v w = record { credit = v.credit + w.credit; jobs = v.jobs; drawn = v.drawn ++ w.drawn; ended = v.ended || w.ended }
+joined v w = record {
+  credit = v.credit + w.credit;
+  jobs = v.jobs;
+  drawn = v.drawn ++ w.drawn;
+  ended = v.ended || w.ended;
+}
 
 abbrev pub spent_view : View
 spent_view = record { credit = 0; jobs = 0; drawn = []; ended = false }
 
 -- What holds of each view. One with a credit of 1 or more is live, and any other is spent.
--- A live view knows the number of jobs. A spent one has no numbers. Where a view has ended, the word is above the number of jobs.
+-- A live view knows the number of jobs. A spent one has no numbers. Where a view has ended, the word is above the
+-- number of jobs.
 pub record FitsSeat (jobs word : ℕ) (v : View) : Type 0 where
   pub told : 0 < v.credit → v.jobs ≡ jobs
   pub spent : v.credit ≡ 0 → v.drawn ≡ []
   pub ended : v.ended ≡ true → jobs < word
 
 -- The rule. The credits add up to the whole. The numbers below the word were drawn, each once, and no others.
--- A miss ends a view, whose credit is then of no more use: so the misses, and the credit of the views that may still draw, are at most the whole credit.
--- The word is at most the jobs and the misses together, and so never wraps.
+-- A miss ends a view, whose credit is then of no more use: so the misses, and the credit of the views that may still
+-- draw, are at most the whole credit. The word is at most the jobs and the misses together, and so never wraps.
 pub record KeepsBoard (jobs : ℕ) (s : State (Unit {0}) View) : Type 0 where
   pub one : length s.words ≡ 1
   pub few : jobs < 2 ^ 32

@@ -47,11 +47,13 @@ free_cell table cell = nat_lt cell.i table.size.w && nat_lt cell.j table.size.h 
 
 -- the bits of the rows are those of the map's free cells
 abbrev pub AreRows : RowTable → Type 0
-AreRows table = AreLines (λ j i. free_cell table (cell_at i j)) (table.size.h / 32 + 1) (table.size.w / 64 + 1) table.rows
+AreRows table = AreLines (λ j i. free_cell table (cell_at i j)) (table.size.h / 32 + 1) (table.size.w / 64 + 1)
+    table.rows
 
 -- the bits of the columns are those of the map's free cells
 abbrev pub AreColumns : RowTable → LineTable → Type 0
-AreColumns table columns = AreLines (λ i j. free_cell table (cell_at i j)) (table.size.w / 32 + 1) (table.size.h / 64 + 1) columns
+AreColumns table columns =
+    AreLines (λ i j. free_cell table (cell_at i j)) (table.size.w / 32 + 1) (table.size.h / 64 + 1) columns
 
 -- the size of the map turned
 abbrev pub turned_size : Size → Size
@@ -61,5 +63,6 @@ turned_size size = record { w = size.h; h = size.w; wide = size.high; high = siz
 abbrev pub plane_of : RowTable → PlaneCells
 plane_of table = record {
   size = table.size;
-  cells = map (λ place. free_at table.rows (cell_of table.size place).j (cell_of table.size place).i) (range_with_len 0 (table.size.w * table.size.h));
+  cells = map (λ place. free_at table.rows (cell_of table.size place).j (cell_of table.size place).i)
+      (range_with_len 0 (table.size.w * table.size.h));
 }

@@ -134,7 +134,7 @@ pub fn next_edges(
     let mut all = SharedList::with_capacity(alloc, count as usize)?;
     for place in 0..count {
         let edges = next_edges_at(alloc, size, labels, before, changed, class, place, side)?;
-        all.push_shared(edges)?;
+        all.push_shared(alloc, edges)?;
     }
     Ok(all)
 }

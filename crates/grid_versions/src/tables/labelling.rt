@@ -87,7 +87,7 @@ pub fn next_labels<V: View, L: Ledger>(
     let mut all = SharedList::with_capacity(alloc, count as usize)?;
     for place in 0..count {
         let labels = labels_at(alloc, view, class, before, changed, place, ticks)?;
-        all.push_shared(labels)?;
+        all.push_shared(alloc, labels)?;
     }
     Ok(all)
 }

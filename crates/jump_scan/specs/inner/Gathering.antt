@@ -8,7 +8,8 @@ use Rattle.jump_scan.specs.Turns.{IsNatural, IsTurn}
 
 -- the direction is natural, or a turn to a side whose turns are forced
 abbrev pub GoesOn : Dir → Bool → Bool → Dir → Type 0
-GoesOn arrived left right dir = IsNatural arrived dir ⊎ ((IsTrue left × IsTurn Left arrived dir) ⊎ (IsTrue right × IsTurn Right arrived dir))
+GoesOn arrived left right dir = IsNatural arrived dir
+    ⊎ ((IsTrue left × IsTurn Left arrived dir) ⊎ (IsTrue right × IsTurn Right arrived dir))
 
 -- the set has the direction, and a search goes on in it
 abbrev pub IsKept : DirSet → Dir → Bool → Bool → Dir → Type 0

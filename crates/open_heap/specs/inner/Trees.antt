@@ -31,7 +31,8 @@ Lacks entries key = (place : ℕ) → place < length entries → (entry_at entri
 
 -- no entry right below the gap comes before the entry
 abbrev pub IsNoneSooner : List Entry → ℕ → Entry → Type 0
-IsNoneSooner entries gap entry = (place : ℕ) → 0 < place → place < length entries → parent place ≡ gap → IsNotLater entry (entry_at entries place)
+IsNoneSooner entries gap entry = (place : ℕ) → 0 < place → place < length entries → parent place ≡ gap
+    → IsNotLater entry (entry_at entries place)
 
 -- the place of the first of the entries right below the gap, which is not later than the entry
 pub record IsSoonerBelow (entries : List Entry) (gap : ℕ) (entry : Entry) (place : ℕ) : Type 0 where
@@ -49,14 +50,16 @@ pub record IsPlaced (places : List ℕ) (entry : Entry) (place : ℕ) : Type 0 w
 -- each entry's key leads to its place, and no entry comes before the one above it
 pub record IsHeap (entries : List Entry) (places : List ℕ) : Type 0 where
   pub placed : (place : ℕ) → place < length entries → IsPlaced places (entry_at entries place) place
-  pub ordered : (place : ℕ) → 0 < place → place < length entries → IsNotLater (entry_at entries (parent place)) (entry_at entries place)
+  pub ordered : (place : ℕ) → 0 < place → place < length entries
+      → IsNotLater (entry_at entries (parent place)) (entry_at entries place)
 
 -- each key but that of the gap's entry leads to its place, and no other entry has that key
 pub record ArePlacedBut (entries : List Entry) (places : List ℕ) (gap : ℕ) : Type 0 where
   pub inside : gap < length entries
   pub others : (place : ℕ) → place < length entries → place ≢ gap → IsPlaced places (entry_at entries place) place
   pub known : (entry_at entries gap).key < length places
-  pub apart : (place : ℕ) → place < length entries → place ≢ gap → (entry_at entries place).key ≢ (entry_at entries gap).key
+  pub apart : (place : ℕ) → place < length entries → place ≢ gap
+      → (entry_at entries place).key ≢ (entry_at entries gap).key
 
 -- no entry right below the gap comes before the one above the gap
 abbrev pub ArePastGap : List Entry → ℕ → Type 0
@@ -66,13 +69,15 @@ ArePastGap entries gap = (place : ℕ) → 0 < place → place < length entries 
 -- the entry of the gap may have to go up
 pub record CanRise (entries : List Entry) (places : List ℕ) (gap : ℕ) : Type 0 where
   pub placed : ArePlacedBut entries places gap
-  pub ordered : (place : ℕ) → 0 < place → place < length entries → place ≢ gap → IsNotLater (entry_at entries (parent place)) (entry_at entries place)
+  pub ordered : (place : ℕ) → 0 < place → place < length entries → place ≢ gap
+      → IsNotLater (entry_at entries (parent place)) (entry_at entries place)
   pub past : ArePastGap entries gap
 
 -- the entry of the gap may have to go down
 pub record CanSink (entries : List Entry) (places : List ℕ) (gap : ℕ) : Type 0 where
   pub placed : ArePlacedBut entries places gap
-  pub ordered : (place : ℕ) → 0 < place → place < length entries → parent place ≢ gap → IsNotLater (entry_at entries (parent place)) (entry_at entries place)
+  pub ordered : (place : ℕ) → 0 < place → place < length entries → parent place ≢ gap
+      → IsNotLater (entry_at entries (parent place)) (entry_at entries place)
   pub past : ArePastGap entries gap
 
 -- the two lists have the same entries

@@ -42,7 +42,8 @@ pub record IsForestOf (regions : List ℕ) (links : List (RegionId × RegionId))
   pub together : (a b : RegionId) → IsRegion regions a → IsRegion regions b
       → AreInOneTree parents (place regions a) (place regions b) ↔ AreJoined links a b
 
--- the number of a place is 1 plus the place of its root among the roots; no root of a tree stands later than the tree's places
+-- the number of a place is 1 plus the place of its root among the roots; no root of a tree stands later than the tree's
+-- places
 pub record IsRootNumber (parents roots : List ℕ) (k number : ℕ) : Type 0 where
   pub place : ℕ
   pub root : ℕ

@@ -25,8 +25,10 @@ far_cell North rect at = cell_at (rect.i0 + at) rect.j0
 
 -- the numbers of the two cells that lie side by side at a place along the border
 abbrev pub numbers_at : Side → Labelling → Labelling → ℕ → ℕ × ℕ
-numbers_at side here there at =
-    (number_of here.cells (near_cell side here.cells.rect at), number_of there.cells (far_cell side there.cells.rect at))
+numbers_at side here there at = (
+  number_of here.cells (near_cell side here.cells.rect at),
+  number_of there.cells (far_cell side there.cells.rect at),
+)
 
 -- the pair of regions meets at one of the first places along the border
 pub record Meets (side : Side) (here there : Labelling) (places : ℕ) (pair : ℕ × ℕ) : Type 0 where

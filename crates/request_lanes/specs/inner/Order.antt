@@ -6,7 +6,8 @@ use Rattle.request_lanes.specs.declared.rule.Log.{Log}
 
 module _ {T : Type 0} where
   abbrev pub log : Bool → Bool → List T → List T → ℕ → Log T
-  log posts takes posted taken told = record { posts = posts; takes = takes; posted = posted; taken = taken; told = told }
+  log posts takes posted taken told =
+      record { posts = posts; takes = takes; posted = posted; taken = taken; told = told }
 
   -- the item joins what was posted
   abbrev pub posting : Log T → T → Log T
@@ -16,7 +17,8 @@ module _ {T : Type 0} where
   abbrev pub taking : Log T → T → Log T
   taking v item = log v.posts v.takes v.posted (v.taken ++ item ∷ []) v.told
 
-  -- one pass at most may post, and it has the list of what was posted. The same for what was taken. No pass was told of more than was posted
+  -- one pass at most may post, and it has the list of what was posted. The same for what was taken. No pass was told of
+  -- more than was posted
   pub record IsPassOf (poster taker : ℕ) (posted taken : List T) (pass : ℕ) (v : Log T) : Type 0 where
     pub posts : v.posts ≡ true → (pass ≡ poster) × (v.posted ≡ posted)
     pub takes : v.takes ≡ true → (pass ≡ taker) × (v.taken ≡ taken)

@@ -2,6 +2,8 @@
 ghost use Rattle.std.specs.Prelude.{◌≡◌, ◌++◌, ◌≤◌, length, map, All, IsTrue, OnOk};
 ghost use Rattle.serde_json.specs.Written.{compact_text};
 ghost use Rattle.class_config.specs.Classes.{is_table};
+ghost use Rattle.nav_types.specs.declared.limits.TheConstants.{MAX_CALLERS};
+ghost use Rattle.script_text.specs.declared.forms.TheConstants.{NEWEST_VERSION};
 ghost use Rattle.script_text.specs.Canon as canon;
 
 use crate::canon::pieces::{push_comma, push_fixed, push_numbers};
@@ -12,12 +14,13 @@ use grid_versions::MapSpec;
 use nav_types::{Bytes, Class, NoMemory, Rect};
 
 /// The most rectangles on a base line.
-const RECTANGLES_TO_A_LINE: usize = 65536;
+const RECTANGLES_TO_A_LINE: usize = 65_536;
 
 /// Appends the map line, without its newline.
 pub(crate) fn push_map(text: &mut Bytes, map: &MapSpec) -> Result<(), NoMemory>
     ensures text { OnOk result (text.new ≡ text.old ++ compact_text (canon.map_json map.now)) }
-    ensures values { OnOk result ((1 ≤ map.now.version) × (map.now.version ≤ 3) × (1 ≤ map.now.callers) × (map.now.callers ≤ 64) × IsTrue (is_table map.now.classes)) }
+    ensures values { OnOk result ((1 ≤ map.now.version) × (map.now.version ≤ NEWEST_VERSION) × (1 ≤ map.now.callers)
+        × (map.now.callers ≤ MAX_CALLERS) × IsTrue (is_table map.now.classes)) }
 {
     let size = map.size();
     text.extend(b"{\"version\":")?;
@@ -34,7 +37,8 @@ pub(crate) fn push_map(text: &mut Bytes, map: &MapSpec) -> Result<(), NoMemory>
 
 /// Appends the array of the classes.
 fn push_classes(text: &mut Bytes, classes: &ClassTable) -> Result<(), NoMemory>
-    ensures text { OnOk result (text.new ≡ text.old ++ compact_text (canon.list_json (map canon.class_json classes.now))) }
+    ensures text { OnOk result (text.new ≡ text.old
+        ++ compact_text (canon.list_json (map canon.class_json classes.now))) }
     ensures values { OnOk result (IsTrue (is_table classes.now)) }
 {
     text.push(b'[')?;
@@ -51,7 +55,8 @@ fn push_classes(text: &mut Bytes, classes: &ClassTable) -> Result<(), NoMemory>
 
 /// Appends the object of a class.
 fn push_class(text: &mut Bytes, name: &ClassName, clearance: Fixed) -> Result<(), NoMemory>
-    ensures { OnOk result (text.new ≡ text.old ++ compact_text (canon.class_json (record { name = name.now; clearance = clearance }))) }
+    ensures { OnOk result (text.new ≡ text.old
+        ++ compact_text (canon.class_json (record { name = name.now; clearance = clearance }))) }
 {
     text.extend(b"{\"name\":")?;
     push_name(text, name)?;
@@ -90,7 +95,8 @@ fn push_base(text: &mut Bytes, rects: &[(Rect, u16)]) -> Result<(), NoMemory>
 
 /// Appends the array of the rectangles.
 fn push_entries(text: &mut Bytes, rects: &[(Rect, u16)]) -> Result<(), NoMemory>
-    ensures text { OnOk result (text.new ≡ text.old ++ compact_text (canon.list_json (map canon.entry_json rects.now))) }
+    ensures text { OnOk result (text.new ≡ text.old
+        ++ compact_text (canon.list_json (map canon.entry_json rects.now))) }
     ensures values { OnOk result (All (λ entry. entry.1 ≤ 65535) rects.now) }
 {
     text.push(b'[')?;

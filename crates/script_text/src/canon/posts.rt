@@ -57,7 +57,8 @@ fn push_request(
     caller: u64,
     request: &Request,
 ) -> Result<(), NoMemory>
-    ensures text { OnOk result (text.new ≡ text.old ++ compact_text (canon.post_json version caller (kind.Ask request.now))) }
+    ensures text { OnOk result (text.new ≡ text.old
+        ++ compact_text (canon.post_json version caller (kind.Ask request.now))) }
     ensures values { OnOk result (IsPostValue (kind.Ask request.now)) }
 {
     match request {
@@ -76,7 +77,8 @@ fn push_add(
     id: u32,
     obstruction: Obstruction,
 ) -> Result<(), NoMemory>
-    ensures text { OnOk result (text.new ≡ text.old ++ compact_text (canon.post_json version caller (kind.Edit (edit.Add id obstruction)))) }
+    ensures text { OnOk result (text.new ≡ text.old
+        ++ compact_text (canon.post_json version caller (kind.Edit (edit.Add id obstruction)))) }
     ensures values { OnOk result (IsPostValue (kind.Edit (edit.Add id obstruction))) }
 {
     text.extend(b"{\"caller\":")?;
@@ -91,7 +93,8 @@ fn push_add(
 /// Appends the member of a shape.
 fn push_shape(text: &mut Bytes, shape: Shape) -> Result<(), NoMemory>
     ensures text { OnOk result (text.new ≡ text.old
-        ++ 44 ∷ (compact_text (string (shape_key shape)) ++ 58 ∷ compact_text (canon.decimals_json (shape_decimals shape)))) }
+        ++ 44 ∷ (compact_text (string (shape_key shape)) ++ 58
+        ∷ compact_text (canon.decimals_json (shape_decimals shape)))) }
     ensures values { OnOk result (AreFixed (shape_decimals shape)) }
 {
     match shape {
@@ -110,7 +113,8 @@ fn push_shape(text: &mut Bytes, shape: Shape) -> Result<(), NoMemory>
 
 /// Appends the array of a rectangle.
 fn push_rectangle(text: &mut Bytes, rectangle: Rectangle) -> Result<(), NoMemory>
-    ensures text { OnOk result (text.new ≡ text.old ++ compact_text (canon.decimals_json (rectangle_decimals rectangle))) }
+    ensures text { OnOk result (text.new ≡ text.old
+        ++ compact_text (canon.decimals_json (rectangle_decimals rectangle))) }
     ensures values { OnOk result (AreFixed (rectangle_decimals rectangle)) }
 {
     let numbers = [
@@ -126,7 +130,8 @@ fn push_rectangle(text: &mut Bytes, rectangle: Rectangle) -> Result<(), NoMemory
 
 /// Appends the member of a mask, where the version has one, and ends the object.
 fn push_mask(text: &mut Bytes, version: u8, mask: u16) -> Result<(), NoMemory>
-    ensures { OnOk result (text.new ≡ text.old ++ members_text true (canon.in_order (canon.mask_members version mask))) }
+    ensures { OnOk result (text.new ≡ text.old
+        ++ members_text true (canon.in_order (canon.mask_members version mask))) }
 {
     if version < FIRST_WITH_MASKS {
         text.push(b'}')?;
@@ -140,7 +145,8 @@ fn push_mask(text: &mut Bytes, version: u8, mask: u16) -> Result<(), NoMemory>
 
 /// Appends the text of a remove line.
 fn push_remove(text: &mut Bytes, version: u8, caller: u64, id: u32) -> Result<(), NoMemory>
-    ensures text { OnOk result (text.new ≡ text.old ++ compact_text (canon.post_json version caller (kind.Edit (edit.Remove id)))) }
+    ensures text { OnOk result (text.new ≡ text.old
+        ++ compact_text (canon.post_json version caller (kind.Edit (edit.Remove id)))) }
     ensures values { OnOk result (IsPostValue (kind.Edit (edit.Remove id))) }
 {
     text.extend(b"{\"caller\":")?;
@@ -159,7 +165,8 @@ fn push_move(
     id: u32,
     to: (Fixed, Fixed),
 ) -> Result<(), NoMemory>
-    ensures text { OnOk result (text.new ≡ text.old ++ compact_text (canon.post_json version caller (kind.Edit (edit.Move id to.0 to.1)))) }
+    ensures text { OnOk result (text.new ≡ text.old
+        ++ compact_text (canon.post_json version caller (kind.Edit (edit.Move id to.0 to.1)))) }
     ensures values { OnOk result (IsPostValue (kind.Edit (edit.Move id to.0 to.1))) }
 {
     text.extend(b"{\"caller\":")?;
@@ -181,7 +188,8 @@ fn push_path(
     from: (Fixed, Fixed),
     goal: GoalSpec,
 ) -> Result<(), NoMemory>
-    ensures text { OnOk result (text.new ≡ text.old ++ compact_text (canon.post_json version caller (kind.Ask (request.Path class.now from.0 from.1 goal)))) }
+    ensures text { OnOk result (text.new ≡ text.old
+        ++ compact_text (canon.post_json version caller (kind.Ask (request.Path class.now from.0 from.1 goal)))) }
     ensures values { OnOk result (IsPostValue (kind.Ask (request.Path class.now from.0 from.1 goal))) }
 {
     text.extend(b"{\"caller\":")?;
@@ -204,7 +212,8 @@ fn push_region(
     class: &ClassName,
     place: (Fixed, Fixed),
 ) -> Result<(), NoMemory>
-    ensures text { OnOk result (text.new ≡ text.old ++ compact_text (canon.post_json version caller (kind.Ask (request.Region class.now place.0 place.1)))) }
+    ensures text { OnOk result (text.new ≡ text.old
+        ++ compact_text (canon.post_json version caller (kind.Ask (request.Region class.now place.0 place.1)))) }
     ensures values { OnOk result (IsPostValue (kind.Ask (request.Region class.now place.0 place.1))) }
 {
     text.extend(b"{\"caller\":")?;
@@ -243,7 +252,8 @@ fn push_goal(text: &mut Bytes, goal: GoalSpec) -> Result<(), NoMemory>
 
 /// Appends the array of an obstruction number and the distance by which the obstruction grows.
 fn push_grown(text: &mut Bytes, id: u32, grow: Fixed) -> Result<(), NoMemory>
-    ensures text { OnOk result (text.new ≡ text.old ++ compact_text (canon.list_json (canon.whole_json id ∷ canon.decimal_json grow ∷ []))) }
+    ensures text { OnOk result (text.new ≡ text.old
+        ++ compact_text (canon.list_json (canon.whole_json id ∷ canon.decimal_json grow ∷ []))) }
     ensures values { OnOk result (IsGoalValue (goal_spec.Obstruction id grow)) }
 {
     text.push(b'[')?;

@@ -165,7 +165,8 @@ fn is_right(alloc: Global, field: Field, value: &Value) -> Result<bool, NoMemory
 
 /// Whether an array of rectangles of the map with their masks stands under the key.
 fn are_rectangles(alloc: Global, size: Size, value: &Value, key: &str) -> Result<bool, NoMemory>
-    ensures { IfOk result (λ right. right ≡ is_some (option_and_then (each (entry_of size)) (under array_items key.now (view value.now)))) }
+    ensures { IfOk result (λ right. right ≡ is_some
+        (option_and_then (each (entry_of size)) (under array_items key.now (view value.now)))) }
 {
     match items_under(value, key) {
         Some(items) => Ok(bases::entries_of(alloc, size, items)?.is_some()),

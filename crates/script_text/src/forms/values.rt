@@ -122,7 +122,8 @@ fn items_of(value: &Value) -> Option<&[Value]>
 
 /// The items of the array under a key.
 pub(crate) fn items_under<'v>(value: &'v Value, key: &str) -> Option<&'v [Value]>
-    ensures { option_map (λ items. map view items.now) result ≡ value_form.under value_form.array_items key.now (view value.now) }
+    ensures { option_map (λ items. map view items.now) result ≡ value_form.under value_form.array_items key.now
+        (view value.now) }
 {
     match value.get(key) {
         Some(found) => items_of(found),

@@ -6,6 +6,7 @@ use Rattle.turn_core.specs.Words.{MapState, bare}
 use Rattle.turn_core.specs.Turns.{standing}
 use Rattle.turn_core.specs.States.{State}
 use Rattle.turn_core.specs.inner.Runs.{option_run_of, option_posts_of, base_of, posts_in, gathered, IsHeldOn, IsReadyOn}
+use Rattle.turn_core.specs.inner.Runs.{HaveCome}
 
 -- the state that the machine stands for
 abbrev pub state_of : Inside → State
@@ -30,8 +31,10 @@ abbrev pub HoldsStaged : MapState → Option RunningTurn → Type 0
 HoldsStaged version None = Unit {0}
 HoldsStaged version (Some held) = IsReadyOn version held
 
--- the version that is held is the one after the turns delivered, and the staged turn is ready to run on the next one
+-- the version that is held is the one after the turns delivered, the staged turn is ready to run on the next one, and
+-- each caller has come to its place
 pub record HoldsState (a : Inside) : Type 0 where
   pub standing : a.version.standing ≡ standing a.version.map bare (posts_in a.delivered.items)
   pub running : HoldsRun a.version a.running
   pub staged : HoldsStaged (base_of a.version a.running) a.staged
+  pub come : HaveCome a.delivered.items a.collected.items a.places.items

@@ -1,5 +1,7 @@
 -- What the code holds of running and of delivered turns.
-use Rattle.std.specs.Prelude.{ℕ, ◌≡◌, ◌+◌, ◌<◌, Option, None, Some, List, [], ◌∷◌, flat_map, length, map, slice_get, slice_index_or, slice_set}
+use Rattle.std.specs.Prelude.{ℕ, ◌≡◌, ◌+◌, ◌<◌, ◌≤◌, Option, None, Some, List, [], ◌∷◌, flat_map, length, map}
+use Rattle.std.specs.Prelude.{slice_get, slice_index}
+use Rattle.std.specs.Prelude.{slice_index_or, slice_set, take}
 use Rattle.grid_versions.specs.Versions.{map_state}
 use Rattle.turn_core.specs.Words.{MapState}
 use Rattle.turn_core.specs.declared.posts.Post.{Post}
@@ -8,6 +10,7 @@ use Rattle.turn_core.specs.declared.replies.Answer.{Answer}
 use Rattle.turn_core.specs.declared.replies.Reply.{Reply}
 use Rattle.turn_core.specs.declared.machines.running.RunningTurn.{RunningTurn}
 use Rattle.turn_core.specs.declared.machines.delivered.DeliveredTurn.{DeliveredTurn}
+use Rattle.turn_core.specs.declared.machines.delivered.ReplyPlace.{ReplyPlace}
 use Rattle.turn_core.specs.Solving.{IsAnswerTo}
 use Rattle.turn_core.specs.Turns.{jobs}
 use Rattle.turn_core.specs.ReadyTurns.{Ready, after_edits_of}
@@ -55,6 +58,20 @@ gathered lists (held ∷ delivered) = gathered (joined_up lists held.replies) de
 -- the replies to a caller in delivered turns, one after another
 abbrev pub replies_to : ℕ → List DeliveredTurn → List Reply
 replies_to caller delivered = flat_map (λ held. slice_index_or held.replies caller []) delivered
+
+-- the place of the first reply in the first turn
+abbrev pub beginning : ReplyPlace
+beginning = record { turn = 0; place = 0 }
+
+-- a caller that has collected so many replies has all those in the turns before a place, and those before it in its turn
+pub record HasCome (delivered : List DeliveredTurn) (caller count : ℕ) (at : ReplyPlace) : Type 0 where
+  pub turn : at.turn ≤ length delivered
+  pub replies : count ≡ length (replies_to caller (take at.turn delivered)) + at.place
+
+-- each caller has come to its place with the number of replies that it has collected
+pub record HaveCome (delivered : List DeliveredTurn) (collected : List ℕ) (places : List ReplyPlace) : Type 0 where
+  pub wide : length places ≡ length collected
+  pub each : (caller : ℕ) → HasCome delivered caller (slice_index collected caller) (slice_index_or places caller beginning)
 
 -- the turn that is held is ready on a version
 pub record IsHeldOn (version : MapState) (held : RunningTurn) : Type 0 where

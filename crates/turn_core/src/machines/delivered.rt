@@ -1,6 +1,7 @@
-//! The turns delivered.
-ghost use Rattle.std.specs.Prelude.{◌≡◌, ◌++◌, ◌∷◌, ◌<◌, [], option_copied, slice_get, slice_index_or, vec_capacity, vec_len};
-ghost use Rattle.turn_core.specs.inner.Runs.{replies_to};
+//! The turns delivered, and how far each caller has collected the replies in them.
+ghost use Rattle.std.specs.Prelude.{◌≡◌, ◌+◌, ◌++◌, ◌∷◌, ◌<◌, ℕ, [], IfNone, IfSome, None, Some, length, slice_get};
+ghost use Rattle.std.specs.Prelude.{slice_index_or, slice_set, vec_capacity, vec_len};
+ghost use Rattle.turn_core.specs.inner.Runs.{HasCome, beginning, replies_to};
 
 use crate::posts::TurnPosts;
 use crate::replies::{CallerReplies, Reply};
@@ -12,17 +13,68 @@ pub(crate) struct DeliveredTurn {
     pub replies: CallerReplies,
 }
 
-/// The reply to a caller at a place among all replies to it.
-pub(crate) fn reply_at(delivered: &[DeliveredTurn], caller: usize, place: u64) -> Option<&Reply>
-    ensures { option_copied result ≡ slice_get (replies_to caller delivered.now) place }
+/// Where the next reply to a caller is looked for: in this one of the turns delivered, from this place on among the
+/// replies to the caller.
+#[derive(Clone, Copy)]
+pub(crate) struct ReplyPlace {
+    pub turn: usize,
+    pub place: usize,
+}
+
+impl ReplyPlace {
+    /// The place of the first reply in the first turn.
+    pub(crate) fn beginning() -> ReplyPlace
+        ensures { result ≡ beginning }
+    {
+        ReplyPlace { turn: 0, place: 0 }
+    }
+}
+
+/// The place for a caller, or the beginning where there is no such caller.
+pub(crate) fn place_of(places: &[ReplyPlace], caller: usize) -> ReplyPlace
+    ensures { result ≡ slice_index_or places.now caller beginning }
 {
-    let mut place = place as usize;
-    for turn in delivered {
-        let replies = replies_of(turn, caller);
-        if place < replies.len() {
-            return Some(&replies[place]);
+    match places.get(caller) {
+        Some(place) => *place,
+        None => ReplyPlace::beginning(),
+    }
+}
+
+/// Puts the place for a caller.
+pub(crate) fn put_place(places: &mut Vec<ReplyPlace>, caller: usize, place: ReplyPlace)
+    requires { caller < length places.old.items }
+    ensures { places.new.items ≡ slice_set places.old.items caller place }
+{
+    places[caller] = place;
+}
+
+/// The next reply to a caller who has come to a place, and the place behind it. No turn before that place is looked at.
+pub(crate) fn next_reply(
+    delivered: &[DeliveredTurn],
+    caller: usize,
+    from: ReplyPlace,
+) -> Option<(&Reply, ReplyPlace)>
+    ensures reply { IfSome result (λ next. (count : ℕ) → HasCome delivered.now caller count from
+        → Some next.0.now ≡ slice_get (replies_to caller delivered.now) count) }
+    ensures place { IfSome result (λ next. (count : ℕ) → HasCome delivered.now caller count from
+        → HasCome delivered.now caller (count + 1) next.1) }
+    ensures none { IfNone result ((count : ℕ) → HasCome delivered.now caller count from
+        → slice_get (replies_to caller delivered.now) count ≡ None) }
+{
+    let mut at = from;
+    while at.turn < delivered.len() {
+        let replies = replies_of(&delivered[at.turn], caller);
+        if at.place < replies.len() {
+            let behind = ReplyPlace {
+                turn: at.turn,
+                place: at.place + 1,
+            };
+            return Some((&replies[at.place], behind));
         }
-        place -= replies.len();
+        at = ReplyPlace {
+            turn: at.turn + 1,
+            place: at.place - replies.len(),
+        };
     }
     None
 }

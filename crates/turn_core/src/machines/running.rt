@@ -1,9 +1,11 @@
 //! Turns that are ready to run, and the running one.
-ghost use Rattle.std.specs.Prelude.{◌≡◌, ◌+◌, ◌<◌, ◌≤◌, [], IfOk, None, Some, length, replicate, slice_set, vec_capacity};
+ghost use Rattle.std.specs.Prelude.{◌≡◌, ◌+◌, ◌<◌, ◌≤◌, [], IfOk, None, Some, length, replicate, slice_set};
+ghost use Rattle.std.specs.Prelude.{vec_capacity};
 ghost use Rattle.turn_core.specs.Turns.{jobs};
 ghost use Rattle.turn_core.specs.Table.{why_unanswered};
 ghost use Rattle.turn_core.specs.Effects.{begun, known};
-ghost use Rattle.turn_core.specs.inner.Runs.{run_of, base_of, posts_held, with_claim, IsHeldOn, HasUnclaimed, HasJob, HasPlace, AnswersHeld, PutsAnswer};
+ghost use Rattle.turn_core.specs.inner.Runs.{run_of, base_of, posts_held, with_claim, IsHeldOn, HasUnclaimed, HasJob};
+ghost use Rattle.turn_core.specs.inner.Runs.{HasPlace, AnswersHeld, PutsAnswer};
 
 use crate::posts::TurnPosts;
 use crate::ready_turns::ReadyTurn;

@@ -23,7 +23,8 @@ pub(crate) fn next_turn(
 ) -> Result<NextTurn, NoMemory>
     requires { length taken.now ≡ length posted.now }
     ensures turn { IfOk result (λ next. next.turn ≡ next_posts posted.now taken.now takes.now) }
-    ensures taken { IfOk result (λ next. next.taken.items ≡ added_up taken.now (map length (next_posts posted.now taken.now takes.now))) }
+    ensures taken { IfOk result (λ next. next.taken.items
+        ≡ added_up taken.now (map length (next_posts posted.now taken.now takes.now))) }
 {
     let mut turn = Sequence::new(alloc);
     let mut raised = Vec::new(alloc);

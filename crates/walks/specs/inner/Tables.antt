@@ -28,7 +28,8 @@ pub record IsSoundTable (passes : Cell → Bool) (start : Cell) (size : Size) (c
   pub most : (place : ℕ) → slice_index costs place ≤ unreached
   pub walks : (cell : Cell) → IsInside size cell → entry size costs cell < unreached
       → (dirs : List Dir) × (IsWalk passes start dirs cell × (walk_cost dirs ≡ entry size costs cell))
-  pub few : (place : ℕ) → slice_index costs place < unreached → slice_index costs place ≤ 92682 * count_by (λ cost. nat_lt cost unreached) costs
+  pub few : (place : ℕ) → slice_index costs place < unreached
+      → slice_index costs place ≤ 92682 * count_by (λ cost. nat_lt cost unreached) costs
 
 -- the table is sound for some start
 abbrev pub IsSoundForSome : (Cell → Bool) → Size → List ℕ → Type 0
@@ -36,7 +37,8 @@ IsSoundForSome passes size costs = (start : Cell) × IsSoundTable passes start s
 
 -- no step from the cell in the direction makes a cost less
 abbrev pub IsSettledAlong : (Cell → Bool) → Size → Cell → Dir → List ℕ → Type 0
-IsSettledAlong passes size cell dir costs = (next : Cell) → Step passes dir cell next → entry size costs next ≤ entry size costs cell + step_cost dir
+IsSettledAlong passes size cell dir costs = (next : Cell) → Step passes dir cell next
+    → entry size costs next ≤ entry size costs cell + step_cost dir
 
 -- no step from the cell makes a cost less
 abbrev pub IsSettledAt : (Cell → Bool) → Size → Cell → List ℕ → Type 0
@@ -47,7 +49,8 @@ abbrev pub IsSettled : (Cell → Bool) → Size → List ℕ → Type 0
 IsSettled passes size costs = (cell : Cell) → IsInside size cell → IsSettledAt passes size cell costs
 
 -- costs fell, or the table stays and is settled there; a sound table stays sound
-pub record Relaxes (passes : Cell → Bool) (size : Size) (Settled : List ℕ → Type 0) (old new : List ℕ) (fell : Bool) : Type 0 where
+pub record Relaxes (passes : Cell → Bool) (size : Size) (Settled : List ℕ → Type 0) (old new : List ℕ)
+    (fell : Bool) : Type 0 where
   pub sound : (start : Cell) → IsSoundTable passes start size old → IsSoundTable passes start size new
   pub less : fell ≡ true → sum new < sum old
   pub same : fell ≡ false → new ≡ old
@@ -57,8 +60,10 @@ pub record Relaxes (passes : Cell → Bool) (size : Size) (Settled : List ℕ �
 pub record HasDistances (passes : Cell → Bool) (start : Cell) (size : Size) (costs : List ℕ) : Type 0 where
   pub covers : CoversMap size costs
   pub most : (place : ℕ) → slice_index costs place ≤ unreached
-  pub distance : (cell : Cell) → IsInside size cell → entry size costs cell < unreached → IsDistance passes start cell (entry size costs cell)
-  pub reached : (cell : Cell) (dirs : List Dir) → IsInside size cell → IsWalk passes start dirs cell → entry size costs cell < unreached
+  pub distance : (cell : Cell) → IsInside size cell → entry size costs cell < unreached
+      → IsDistance passes start cell (entry size costs cell)
+  pub reached : (cell : Cell) (dirs : List Dir) → IsInside size cell → IsWalk passes start dirs cell
+      → entry size costs cell < unreached
 
 -- the cell is inside, and a walk has reached it
 pub record IsReachedCell (size : Size) (costs : List ℕ) (cell : Cell) : Type 0 where
@@ -66,7 +71,8 @@ pub record IsReachedCell (size : Size) (costs : List ℕ) (cell : Cell) : Type 0
   pub walked : entry size costs cell < unreached
 
 -- a step in the direction arrives at the cell from the one before, on a walk of least cost
-pub record Arrives (passes : Cell → Bool) (start : Cell) (size : Size) (costs : List ℕ) (cell : Cell) (dir : Dir) (before : Cell) : Type 0 where
+pub record Arrives (passes : Cell → Bool) (start : Cell) (size : Size) (costs : List ℕ) (cell : Cell) (dir : Dir)
+    (before : Cell) : Type 0 where
   pub leads : Leads dir before cell
   pub enters : Enters passes start cell dir
   pub reached : IsReachedCell size costs before

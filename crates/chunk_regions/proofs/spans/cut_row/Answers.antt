@@ -3,7 +3,8 @@ use Rattle.std.specs.Int.{bit_at}
 use Rattle.std.specs.Prelude.{slice_get}
 use Rattle.chunk_regions.specs.declared.spans.Span.{Span}
 use Rattle.chunk_regions.specs.inner.Spans.{IsRowTo}
-use Rattle.chunk_regions.proofs.RowLemmas.{IsRowTo-start, IsRowTo-push, IsRowTo-end, slice_get-before}
+use Rattle.chunk_regions.proofs.RowLemmas.{IsRowTo-start, IsRowTo-push, IsRowTo-end}
+use Rattle.nav_types.proofs.Items.{slice_get-before}
 use Rattle.chunk_regions.proofs.spans.cut_row.Goals as goal
 
 pub loop-first-init : goal.loop-first-init

@@ -13,10 +13,12 @@ loop-k-preserved g c =
     let after : List ℕ = c.extend_from_slice.new.self.items in
     let stays : length c.read.new.self ≡ words = c.read.ensures.stays ∙ c.loop-k.invariant.wide in
     let appended : after ≡ before ++ c.line.result.now = c.in_ok-extend_from_slice.ensures.items in
-    let line : before ++ c.line.result.now ≡ before ++ c.read.new.self = ap (λ (xs : List ℕ). before ++ xs) c.line.ensures in
+    let line : before ++ c.line.result.now ≡ before ++ c.read.new.self = ap (λ (xs : List ℕ). before ++ xs)
+    c.line.ensures in
     let whole : after ≡ before ++ c.read.new.self = appended ∙ line in
     record {
       wide = stays;
       band = subst (IsBand free c.args.first words (c.loop-k.k + 1)) (sym whole)
-          (band_more free c.args.first words c.loop-k.k before c.read.new.self c.loop-k.invariant.band stays c.read.ensures.bits);
+          (band_more free c.args.first words c.loop-k.k before c.read.new.self c.loop-k.invariant.band stays
+          c.read.ensures.bits);
     }

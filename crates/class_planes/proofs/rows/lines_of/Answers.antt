@@ -13,5 +13,6 @@ loop-band-preserved g c =
       room = c.band_of.ensures.stays ∙ c.loop-band.invariant.room;
       lines = lines_more free c.loop-band.band words c.loop-band.lines c.push.new.self
           c.in_ok-words.words.items c.loop-band.invariant.lines c.in_ok-push.ensures.words c.in_ok-push.ensures.bands
-          (subst (λ n. IsBand free (32 * c.loop-band.band) n 32 c.in_ok-words.words.items) c.loop-band.invariant.room c.in_ok-words.ensures.band);
+          (subst (λ n. IsBand free (32 * c.loop-band.band) n 32 c.in_ok-words.words.items) c.loop-band.invariant.room
+          c.in_ok-words.ensures.band);
     }

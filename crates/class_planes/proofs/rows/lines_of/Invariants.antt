@@ -6,5 +6,6 @@ use Rattle.class_planes.proofs.rows.lines_of.Given as goal
 abbrev pub invariant-loop-band : goal.invariant-loop-band
 invariant-loop-band g l = record {
   room : length l.scratch ≡ (g.V.View.extent l.view).w / 64 + 1;
-  lines : AreLines (λ j i. g.V.View.passes l.view l.class (cell_at i j)) l.band ((g.V.View.extent l.view).w / 64 + 1) l.lines;
+  lines : AreLines (λ j i. g.V.View.passes l.view l.class (cell_at i j)) l.band ((g.V.View.extent l.view).w / 64 + 1)
+      l.lines;
 }

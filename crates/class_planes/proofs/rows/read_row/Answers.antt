@@ -17,8 +17,11 @@ returns-clause-bits g c class i known small within =
     let long : length c.row_bits.new.out ≡ w = c.row_bits.ensures.long in
     let whole : length c.fill.new.self ≡ length c.args.row.now = c.fill.ensures.len in
     let below : i < length c.args.row.now =
-    let all : i < length c.fill.new.self = joined_long c.row_bits.new.out c.fill.new.self n i (omega arith) (omega arith) within in omega arith in
-    padded_bit (g.V.View.passes view class (cell_at i c.args.j)) c.row_bits.new.out c.fill.new.self n class i small (omega arith)
+    let all : i < length c.fill.new.self = joined_long c.row_bits.new.out c.fill.new.self n i (omega arith)
+    (omega arith) within in omega arith in
+    padded_bit (g.V.View.passes view class (cell_at i c.args.j)) c.row_bits.new.out c.fill.new.self n class i small
+    (omega arith)
     (λ left. c.row_bits.ensures.each class i known (omega arith))
-    (λ past. east_of (g.V.View.extent view) (g.V.View.passes view class) i c.args.j (g.met.V.View.within view class) (omega arith))
+    (λ past. east_of (g.V.View.extent view) (g.V.View.passes view class) i c.args.j (g.met.V.View.within view class)
+    (omega arith))
     (λ past. ap (λ xs. get_or xs i 0) filled ∙ get_or-replicate (length c.args.row.now) i 65535 0 below)

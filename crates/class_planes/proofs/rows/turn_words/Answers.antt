@@ -17,5 +17,6 @@ pub returns : goal.returns
 returns c w k within small =
     let old = c.args.words.now in
     let fits : get_or old w 0 < 2 ^ 64 = Prim.search rules in
-    ap (λ xs. bit_at (get_or xs w 0) k) (all_turned old c.loop-word.words c.loop-word.word-index c.loop-word-test.false c.loop-word.invariant)
+    ap (λ xs. bit_at (get_or xs w 0) k)
+    (all_turned old c.loop-word.words c.loop-word.word-index c.loop-word-test.false c.loop-word.invariant)
     ∙ turned_bit old w k fits within small

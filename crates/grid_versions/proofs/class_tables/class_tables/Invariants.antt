@@ -1,5 +1,4 @@
 use Rattle.std.proofs.Common.{◌≡◌, ◌+◌, ◌*◌}
-use Rattle.navcell_grid.specs.Grids.{is_passable}
 use Rattle.grid_versions.specs.Chunks.{chunk_count}
 use Rattle.grid_versions.specs.inner.Tallying.{AreTablesOf}
 use Rattle.grid_versions.proofs.class_tables.class_tables.Given as goal
@@ -7,6 +6,6 @@ use Rattle.grid_versions.proofs.class_tables.class_tables.Given as goal
 -- the classes below `number` have their tables
 abbrev pub invariant-loop-number : goal.invariant-loop-number
 invariant-loop-number g l = record {
-  tables : AreTablesOf l.number (is_passable l.grid) l.grid.size l.all;
-  ticks : l.ticks ≡ l.initial.ticks + l.number * chunk_count l.grid.size;
+  tables : AreTablesOf l.number (g.V.View.passes l.view) (g.V.View.extent l.view) l.all;
+  ticks : l.ticks ≡ l.initial.ticks + l.number * chunk_count (g.V.View.extent l.view);
 }

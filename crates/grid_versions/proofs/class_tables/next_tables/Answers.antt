@@ -2,7 +2,6 @@ use Rattle.std.proofs.Common.{ℕ, List, ◌≡◌, ◌+◌, ◌≤◌, length, 
 use Rattle.std.specs.List.{count_by, sum_by, range_with_len}
 use Rattle.std.specs.Arc.{arc_value}
 use Rattle.lane_rows.specs.Rows.{has_class}
-use Rattle.navcell_grid.specs.Grids.{is_passable}
 use Rattle.grid_versions.specs.inner.Tables.{Tables, AreTables}
 use Rattle.grid_versions.specs.inner.Tallying.{AreTablesOf}
 use Rattle.grid_versions.proofs.VersionLemmas.{AreTablesOf-push, sum_range_more, sum_range_most}
@@ -41,22 +40,23 @@ returns-in_err-push_shared-clause-most g c =
 
 pub loop-number-preserved : goal.loop-number-preserved
 loop-number-preserved g c =
-    let grid = c.args.grid.now in
+    let passes = g.V.View.passes c.args.view.now in
+    let extent = g.V.View.extent c.args.view.now in
     let bits = c.args.changed.now in
     let number = c.loop-number.number in
     let tables = arc_value c.in_ok-tables.tables in
-    let own : AreTables (is_passable grid number) grid.size tables =
-    subst (λ (k : ℕ). AreTables (is_passable grid k) grid.size tables) c.new.ensures c.in_ok-tables.ensures.tables in
+    let own : AreTables (passes number) extent tables =
+    subst (λ (k : ℕ). AreTables (passes k) extent tables) c.new.ensures c.in_ok-tables.ensures.tables in
     record {
-      tables = subst (λ (all : List Tables). AreTablesOf (number + 1) (is_passable grid) grid.size all) (sym c.in_ok-push_shared.ensures.ok)
-          (AreTablesOf-push number (is_passable grid) grid.size c.loop-number.all tables c.loop-number.invariant.tables own);
+      tables = subst (λ (all : List Tables). AreTablesOf (number + 1) passes extent all) (sym c.in_ok-push_shared.ensures.ok)
+          (AreTablesOf-push number passes extent c.loop-number.all tables c.loop-number.invariant.tables own);
       ticked = ticked_more bits c.new.result number c.loop-number.ticks c.tables_at.new.ticks c.args.ticks.now c.new.ensures c.tables_at.ensures.most c.loop-number.invariant.ticked;
     }
 
 pub returns-clause-tables : goal.returns-clause-tables
 returns-clause-tables g c =
     let done : c.loop-number.number ≡ length c.args.before.now = omega arith in
-    subst (λ (n : ℕ). AreTablesOf n (is_passable c.args.grid.now) c.args.grid.now.size c.loop-number.all) done c.loop-number.invariant.tables
+    subst (λ (n : ℕ). AreTablesOf n (g.V.View.passes c.args.view.now) (g.V.View.extent c.args.view.now) c.loop-number.all) done c.loop-number.invariant.tables
 
 pub returns-clause-most : goal.returns-clause-most
 returns-clause-most g c =

@@ -1,13 +1,12 @@
 use Rattle.std.proofs.Common.{◌+◌, ◌≤◌}
 use Rattle.std.specs.List.{count_by, sum_by, range_with_len}
 use Rattle.lane_rows.specs.Rows.{has_class}
-use Rattle.navcell_grid.specs.Grids.{is_passable}
 use Rattle.grid_versions.specs.inner.Tallying.{AreTablesOf}
 use Rattle.grid_versions.proofs.class_tables.next_tables.Given as goal
 
 -- the classes below `number` have their tables
 abbrev pub invariant-loop-number : goal.invariant-loop-number
 invariant-loop-number g l = record {
-  tables : AreTablesOf l.number (is_passable l.grid) l.grid.size l.all;
+  tables : AreTablesOf l.number (g.V.View.passes l.view) (g.V.View.extent l.view) l.all;
   ticked : l.ticks ≤ l.initial.ticks + sum_by (λ k. count_by (has_class k) l.changed) (range_with_len 0 l.number);
 }

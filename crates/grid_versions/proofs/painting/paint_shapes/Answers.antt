@@ -1,13 +1,12 @@
-use Rattle.std.proofs.Common.{◌≡◌, ◌∙◌, sym, subst, List, [], ◌∷◌, ℕ, Bool}
+use Rattle.std.proofs.Common.{◌≡◌, ◌∙◌, refl, sym, subst, List, [], ◌∷◌, ℕ, Bool}
 use Rattle.std.specs.List.{Contains}
 use Rattle.std.specs.FinMap as fin_map
 use Rattle.nav_types.specs.declared.cells.Cell.{Cell}
-use Rattle.nav_types.specs.declared.cells.Size.{Size}
+use Rattle.nav_types.specs.Numbering.{number_of}
 use Rattle.obstruction_shapes.specs.declared.shapes.Obstruction.{Obstruction}
-use Rattle.obstruction_shapes.specs.Shapes.{FitsMap}
 use Rattle.class_config.specs.declared.table.PassabilityClass.{PassabilityClass}
 use Rattle.clearance_raster.specs.Rasters.{blocks_class}
-use Rattle.clearance_raster.specs.inner.TestRasters.{IsRaster}
+use Rattle.clearance_raster.proofs.Rastering.{part_moved}
 use Rattle.obstruction_store.proofs.Listing.{Contains-entries}
 use Rattle.nav_types.proofs.Items.{Contains-head, Contains-tail}
 use Rattle.grid_versions.proofs.PaintLemmas.{Ends, Ends-none, Ends-more, Ends-all}
@@ -20,41 +19,53 @@ pub shapes-init : goal.shapes-init
 shapes-init c =
     let all = fin_map.entries c.args.shapes.now in
     let classes = c.args.map.now.classes in
+    let rect = c.args.patch.now.rect in
+    let first = number_of c.args.patch.now in
     let same : all ≡ c.into_iter-obstruction-iterator.result = cc in (
       tt,
       tt,
-      subst (λ (rest : List (ℕ × Obstruction)). Ends (blocks classes) all rest c.args.grid.now c.args.grid.now) same (Ends-none (blocks classes) all c.args.grid.now),
+      subst (λ (rest : List (ℕ × Obstruction)). Ends rect c.args.part (blocks classes) all rest first first) same
+          (Ends-none rect c.args.part (blocks classes) all first),
       λ entry has. c.requires.fit.each entry.0 entry.1
           ((Contains-entries c.args.shapes.now entry.0 entry.1).0 (subst (λ (xs : List (ℕ × Obstruction)). Contains xs entry) (sym same) has)),
+      refl,
     )
 
-pub raster-requires : goal.raster-requires
-raster-requires c =
+pub paint_shape-requires-clause-fits : goal.paint_shape-requires-clause-fits
+paint_shape-requires-clause-fits c =
     let entry : ℕ × Obstruction = (c.in-Some.field-0-0, c.in-Some.obstruction.now) in
     let steps : c.shapes.obstruction-iterator ≡ entry ∷ c.next.new.self = c.in-Some.ensures.steps in
-    let fit = c.shapes.invariant.3 entry (subst (λ (xs : List (ℕ × Obstruction)). Contains xs entry) (sym steps) (Contains-head entry c.next.new.self)) in
-    subst (λ (size : Size). FitsMap size c.in-Some.obstruction.now.shape) (sym (c.shapes.invariant.2.size ∙ c.requires.size)) fit
+    c.shapes.invariant.3 entry (subst (λ (xs : List (ℕ × Obstruction)). Contains xs entry) (sym steps) (Contains-head entry c.next.new.self))
 
 pub shapes-preserved : goal.shapes-preserved
 shapes-preserved c =
     let all = fin_map.entries c.args.shapes.now in
     let classes = c.args.map.now.classes in
+    let rect = c.args.patch.now.rect in
+    let part = c.args.part in
+    let first = number_of c.args.patch.now in
+    let old = number_of c.shapes.patch in
+    let new = number_of c.paint_shape.new.patch in
     let entry : ℕ × Obstruction = (c.in-Some.field-0-0, c.in-Some.obstruction.now) in
     let rest = c.next.new.self in
-    let steps : c.shapes.obstruction-iterator ≡ entry ∷ rest = c.in-Some.ensures.steps in
-    let one = subst (λ (table : List PassabilityClass). IsRaster (λ k cell. blocks_class entry.1 table k cell) c.shapes.grid c.raster.new.grid) c.classes.ensures
-    (record { size = c.raster.ensures.size; bits = c.raster.ensures.bits }) in (
+    let steps : c.shapes.obstruction-iterator ≡ entry ∷ rest = c.in-Some.ensures.steps in (
       tt,
       tt,
-      Ends-more (blocks classes) all rest entry c.args.grid.now c.shapes.grid c.raster.new.grid
-          (subst (λ (xs : List (ℕ × Obstruction)). Ends (blocks classes) all xs c.args.grid.now c.shapes.grid) steps c.shapes.invariant.2) one,
+      Ends-more rect part (blocks classes) all rest entry first old new
+          (subst (λ (xs : List (ℕ × Obstruction)). Ends rect part (blocks classes) all xs first old) steps c.shapes.invariant.2)
+          (part_moved c.shapes.patch.rect rect part (λ k cell. blocks_class entry.1 classes k cell) old new c.shapes.invariant.4
+          c.paint_shape.ensures.set),
       λ other has. c.shapes.invariant.3 other (subst (λ (xs : List (ℕ × Obstruction)). Contains xs other) (sym steps) (Contains-tail entry rest other has)),
+      c.paint_shape.ensures.rect ∙ c.shapes.invariant.4,
     )
 
-pub returns : goal.returns
-returns c =
+pub returns-clause-set : goal.returns-clause-set
+returns-clause-set c =
     let all = fin_map.entries c.args.shapes.now in
     let classes = c.args.map.now.classes in
+    let rect = c.args.patch.now.rect in
+    let first = number_of c.args.patch.now in
     let steps : c.shapes.obstruction-iterator ≡ [] = c.in-None.ensures.steps.0 in
-    Ends-all (blocks classes) all c.args.grid.now c.shapes.grid
-    (subst (λ (xs : List (ℕ × Obstruction)). Ends (blocks classes) all xs c.args.grid.now c.shapes.grid) steps c.shapes.invariant.2)
+    Ends-all rect c.args.part (blocks classes) all first (number_of c.shapes.patch)
+    (subst (λ (xs : List (ℕ × Obstruction)). Ends rect c.args.part (blocks classes) all xs first (number_of c.shapes.patch)) steps
+    c.shapes.invariant.2)

@@ -6,7 +6,7 @@ use Rattle.turn_core.specs.declared.posts.Post.{Post}
 use Rattle.script_text.specs.declared.faults.ScriptFault.{ScriptFault}
 use Rattle.script_text.specs.Reader.{unread, TurnAnswers}
 use Rattle.pathserve.specs.Output.{Said, unsaid, with_turn}
-use Rattle.pathserve.proofs.Replaying.{Stands, stands_unread, stands_map, stands_turn, told_turn, told_done, told_no_memory, tells_nothing, told_fault, map_refusal, turn_refusal, stop_done, stop_fault, stop_refused, rose_since, why_told}
+use Rattle.pathserve.proofs.Replaying.{Stands, stands_unread, stands_map, stands_turn, told_turn, told_done, told_no_memory, tells_nothing, told_fault, map_refusal, turn_refusal, stop_done, stop_fault, stop_refused, refused_by, rose_since, why_told}
 use Rattle.io_edges.proofs.Passed.{given_none, given_more, taken_none, taken_more}
 use Rattle.pathserve.proofs.Passes.{stands_given, stands_taken, piece_taken, stop_taken}
 use Rattle.pathserve.proofs.FewJobs.{few_jobs}
@@ -121,6 +121,18 @@ returns-in-Err-write_all-clause-stop g c = λ bytes left.
     rw c.status_of.ensures
     (stop_refused _ _ _ _ _ c.in-Err-write_all.refusal
     (λ is. rose_since _ _ _ c.turns.invariant.writes (c.in-Err-write_all.ensures.fault (ap Refused is))))
+
+pub returns-in-Err-write_all-clause-usage : goal.returns-in-Err-write_all-clause-usage
+returns-in-Err-write_all-clause-usage g c = (refused_by c.in-Err-write_all.refusal _ c.status_of.ensures).0
+
+pub returns-in-Err-write_all-clause-read : goal.returns-in-Err-write_all-clause-read
+returns-in-Err-write_all-clause-read g c = λ is. absurd ((refused_by c.in-Err-write_all.refusal _ c.status_of.ensures).1.0 is)
+
+pub returns-in-Err-write_all-clause-write : goal.returns-in-Err-write_all-clause-write
+returns-in-Err-write_all-clause-write g c = λ is.
+    let Refused : WriteRefusal → Result (Unit {0}) WriteRefusal = λ refused. Err refused in
+    rose_since _ _ _ c.turns.invariant.writes
+    (c.in-Err-write_all.ensures.fault (ap Refused ((refused_by c.in-Err-write_all.refusal _ c.status_of.ensures).1.1 is)))
 
 pub turns-preserved : goal.turns-preserved
 turns-preserved g c =

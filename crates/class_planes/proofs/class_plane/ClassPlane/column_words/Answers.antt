@@ -1,7 +1,8 @@
 use Rattle.std.proofs.Common.{◌≡◌, ◌+◌, ◌/◌, ◌%◌, ◌<◌, get_or, ap, ◌∙◌, arith}
 use Rattle.std.specs.Int.{bit_at}
 use Rattle.nav_types.specs.Cells.{cell_at}
-use Rattle.class_planes.specs.Planes.{PlaneCells, free_bit}
+use Rattle.class_planes.specs.Planes.{PlaneCells}
+use Rattle.lane_rows.specs.Rows.{one_if}
 use Rattle.class_planes.specs.inner.Lines.{RowTable, free_cell}
 use Rattle.class_planes.proofs.PlaneLemmas.{line_free, free_passable}
 use Rattle.class_planes.proofs.class_plane.ClassPlane.column_words.Goals as goal
@@ -12,5 +13,6 @@ returns-clause-bits c j =
     let side : c.self.inside.size.w ≡ c.args.self.now.size.w = ap (λ (p : PlaneCells). p.size.w) c.self.view_is in
     let below : c.args.i / 32 < c.self.inside.size.w / 32 + 1 = omega (arith, c.requires.column) in
     ap (λ xs. bit_at (get_or xs (j / 64) 0) (j % 64)) c.line.ensures
-    ∙ line_free (λ i j. free_cell table (cell_at i j)) (c.self.inside.size.w / 32 + 1) (c.self.inside.size.h / 64 + 1) c.args.i c.self.inside.columns c.self.invariant.columns below j
-    ∙ ap free_bit (free_passable table c.args.self.now c.self.view_is (cell_at c.args.i j))
+    ∙ line_free (λ i j. free_cell table (cell_at i j)) (c.self.inside.size.w / 32 + 1) (c.self.inside.size.h / 64 + 1)
+    c.args.i c.self.inside.columns c.self.invariant.columns below j
+    ∙ ap one_if (free_passable table c.args.self.now c.self.view_is (cell_at c.args.i j))

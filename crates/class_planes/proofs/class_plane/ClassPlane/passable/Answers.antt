@@ -10,5 +10,6 @@ returns c =
     let wide : c.self.inside.size.w ≡ c.args.self.now.size.w = ap (λ (p : PlaneCells). p.size.w) c.self.view_is in
     let high : c.self.inside.size.h ≡ c.args.self.now.size.h = ap (λ (p : PlaneCells). p.size.h) c.self.view_is in
     c.is_free.ensures
-    ∙ sym (inside_free table c.args.cell.i c.args.cell.j (omega (arith, c.requires.column)) (omega (arith, c.requires.row)))
+    ∙ sym (inside_free table c.args.cell.i c.args.cell.j (omega (arith, c.requires.column))
+    (omega (arith, c.requires.row)))
     ∙ free_passable table c.args.self.now c.self.view_is c.args.cell

@@ -14,13 +14,16 @@ returns-then-j-size-clause-bits g c i =
     let line : List ℕ = c.free_words.new.line in
     let row : List ℕ = c.deref.result.now in
     let read : List ℕ = c.read_row.new.row in
-    let kept : (with_items c.self.inside.line line).items ≡ line = with_items_is c.self.inside.line line (c.free_words.auto.line ∙ c.deref_mut-then-j-size.ensures.len) in
-    let whole : (with_items c.self.inside.row read).items ≡ read = with_items_is c.self.inside.row read (c.read_row.auto.row ∙ c.deref_mut.ensures.len) in
+    let kept : (with_items c.self.inside.line line).items ≡ line = with_items_is c.self.inside.line line
+    (c.free_words.auto.line ∙ c.deref_mut-then-j-size.ensures.len) in
+    let whole : (with_items c.self.inside.row read).items ≡ read = with_items_is c.self.inside.row read
+    (c.read_row.auto.row ∙ c.deref_mut.ensures.len) in
     let same : row ≡ read = c.deref.ensures.value ∙ whole in
     let size : Size = g.V.View.extent view in
     let w : ℕ = size.w in
     let lines : length line ≡ w / 64 + 1 =
-    c.free_words.ensures.stays ∙ ap length c.deref_mut-then-j-size.ensures.value ∙ ap length c.self.view_is ∙ c.requires.wide in
+    c.free_words.ensures.stays ∙ ap length c.deref_mut-then-j-size.ensures.value ∙ ap length c.self.view_is ∙
+    c.requires.wide in
     let numbers : length row ≡ 64 * (w / 64 + 1) =
     ap length same ∙ c.read_row.ensures.stays ∙ ap length c.deref_mut.ensures.value ∙ c.self.invariant
     ∙ ap (λ (xs : List ℕ). 64 * length xs) c.self.view_is ∙ ap (λ (n : ℕ). 64 * n) c.requires.wide in
@@ -30,7 +33,8 @@ returns-then-j-size-clause-bits g c i =
     ap (λ xs. bit_at (get_or xs (i / 64) 0) (i % 64)) kept
     ∙ line_bits (λ i. g.V.View.passes view c.args.class (cell_at i c.args.j)) row line c.args.class i long
     (λ below. let read_there : i < length read = omega (arith, ap length same) in
-    ap (λ xs. bit_at (get_or xs i 0) c.args.class) same ∙ c.read_row.ensures.bits c.args.class i c.requires.class small read_there)
+    ap (λ xs. bit_at (get_or xs i 0) c.args.class) same ∙ c.read_row.ensures.bits c.args.class i c.requires.class small
+    read_there)
     (λ past. let east : w ≤ i = omega arith in
     east_of size (g.V.View.passes view c.args.class) i c.args.j (g.met.V.View.within view c.args.class) east)
     (λ below. c.free_words.ensures.bits i below ∙ ap (λ (n : ℕ). 1 - bit_at (get_or row i 0) n) class_is)

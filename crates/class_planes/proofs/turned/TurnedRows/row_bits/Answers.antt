@@ -43,5 +43,6 @@ loop-i-preserved c k below =
     ∙ ap (λ p. bit_of (free_cell c.args.self.now (cell_at c.args.j p))) (sym same_i))
     (λ (other : k ≢ at).
     let not_i : k ≢ i = λ e. other (e ∙ sym here) in
-    ap (λ n. bit_at n 0) (get_or-set_other out at k c.blocked_number.result 0 other) ∙ c.loop-i.invariant k (omega arith))
+    ap (λ n. bit_at n 0) (get_or-set_other out at k c.blocked_number.result 0 other) ∙ c.loop-i.invariant k
+    (omega arith))
     (cases_eq k at)

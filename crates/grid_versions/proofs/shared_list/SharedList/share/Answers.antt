@@ -1,15 +1,13 @@
-use Rattle.std.proofs.Common.{◌++◌, ◌∷◌, [], ◌∙◌, take, ap, sym}
+use Rattle.std.proofs.Common.{map, ap, ◌∙◌, arith}
 use Rattle.std.specs.Arc.{arc_value}
-use Rattle.std.proofs.lemmas.List.{take_more}
-use Rattle.std.proofs.lemmas.Option.{get_or_from_slice_get, slice_get_within}
+use Rattle.std.proofs.lemmas.List.{take_all}
+use Rattle.grid_versions.specs.inner.Blocks.{in_blocks}
 use Rattle.grid_versions.proofs.shared_list.SharedList.share.Goals as goal
 
-pub loop-place-preserved : goal.loop-place-preserved
-loop-place-preserved g c =
-    let xs = c.args.self.now in
-    let place = c.loop-place.place in
-    let item = arc_value c.in_ok-shared.field-0 in
-    let at = c.in_ok-shared.ensures in
-    c.in_ok-push_shared.ensures.ok ∙ ap (λ ys. ys ++ item ∷ []) c.loop-place.invariant
-    ∙ ap (λ x. take place xs ++ x ∷ []) (sym (get_or_from_slice_get xs place item item at))
-    ∙ sym (take_more xs place item (slice_get_within xs place item at))
+pub returns : goal.returns
+returns g c =
+    ap (λ bs. in_blocks bs c.in_ok-share.field-0)
+    (c.loop-block.invariant
+    ∙ ap (λ bs. map arc_value bs) (take_all c.loop-block.block-index c.deref-block-items.result.now (omega
+    arith) ∙ c.deref-block-items.ensures.value))
+    ∙ ap (λ rest. in_blocks (map arc_value c.self.inside.blocks.items) rest) c.in_ok-share.ensures ∙ c.self.view_is

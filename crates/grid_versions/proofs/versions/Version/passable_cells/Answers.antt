@@ -7,7 +7,7 @@ use Rattle.std.proofs.lemmas.Option.{get_or_from_slice_get, slice_get_within}
 use Rattle.nav_types.specs.declared.cells.Cell.{Cell}
 use Rattle.nav_types.specs.Counting.{Counts}
 use Rattle.nav_types.specs.Numbering.{Numbering}
-use Rattle.grid_versions.specs.inner.Painting.{free_count}
+use Rattle.navcell_grid.specs.Patches.{free_count}
 use Rattle.grid_versions.specs.Passing.{passable_at}
 use Rattle.grid_versions.specs.Versions.{MapState, passes_of}
 use Rattle.grid_versions.proofs.VersionLemmas.{passable_counted}

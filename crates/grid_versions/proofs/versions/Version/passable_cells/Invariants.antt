@@ -1,6 +1,6 @@
 use Rattle.std.proofs.Common.{◌≡◌, ◌*◌, ◌≤◌, take}
 use Rattle.std.specs.List.{sum_by}
-use Rattle.grid_versions.specs.inner.Painting.{free_count}
+use Rattle.navcell_grid.specs.Patches.{free_count}
 use Rattle.grid_versions.proofs.versions.Version.passable_cells.Given as goal
 
 abbrev pub invariant-loop-place : goal.invariant-loop-place

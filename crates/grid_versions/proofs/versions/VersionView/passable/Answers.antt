@@ -17,7 +17,7 @@ is_free-requires c =
     let place : c.place_of-place.result ≡ chunk_place map.size (chunk_of c.args.cell) =
     c.place_of-place.ensures.value ∙ ap (λ (s : Size). chunk_place s c.chunk.result) (c.size.ensures ∙ ap (λ (m : Map). m.size) c.deref.ensures) ∙ ap (λ (chunk : Chunk). chunk_place map.size chunk) c.chunk.ensures in
     in_own_rect map standing c.args.cell c.at.result.now inside
-    (cell_chunk map standing c.self.inside.cells c.self.inside.tables c.self.invariant c.args.cell c.place_of-place.result c.at.result.now inside place c.at.ensures)
+    (cell_chunk map standing c.self.inside.base c.self.inside.cells c.self.inside.tables c.self.invariant c.args.cell c.place_of-place.result c.at.result.now inside place c.at.ensures)
 
 pub returns : goal.returns
 returns c =
@@ -27,6 +27,6 @@ returns c =
     let low = subst (λ (s : MapState). c.args.class < length s.map.classes) (sym c.self.view_is) c.requires.class in
     let place : c.place_of-place.result ≡ chunk_place map.size (chunk_of c.args.cell) =
     c.place_of-place.ensures.value ∙ ap (λ (s : Size). chunk_place s c.chunk.result) (c.size.ensures ∙ ap (λ (m : Map). m.size) c.deref.ensures) ∙ ap (λ (chunk : Chunk). chunk_place map.size chunk) c.chunk.ensures in
-    let painted = cell_chunk map standing c.self.inside.cells c.self.inside.tables c.self.invariant c.args.cell c.place_of-place.result c.at.result.now inside place c.at.ensures in
+    let painted = cell_chunk map standing c.self.inside.base c.self.inside.cells c.self.inside.tables c.self.invariant c.args.cell c.place_of-place.result c.at.result.now inside place c.at.ensures in
     c.is_free.ensures ∙ free_is_passable map standing c.args.cell c.at.result.now c.args.class inside low painted
     ∙ ap (λ (s : MapState). passes_of s c.args.class c.args.cell) c.self.view_is

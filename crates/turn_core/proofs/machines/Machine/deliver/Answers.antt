@@ -15,6 +15,7 @@ use Rattle.turn_core.specs.Facts.{Facts}
 use Rattle.turn_core.specs.inner.Runs.{base_of}
 use Rattle.turn_core.specs.inner.Machines.{HoldsRun, HoldsStaged}
 use Rattle.turn_core.proofs.MachineSteps.{answers_given, delivered_holds, delivered_is, version_is}
+use Rattle.turn_core.proofs.ReplyPlaces.{come_still}
 use Rattle.turn_core.proofs.machines.Machine.deliver.Goals as goal
 
 pub answered-posts-requires : goal.answered-posts-requires
@@ -43,6 +44,7 @@ invariant_of-self-2 c =
       staged = subst (λ (o : Option RunningTurn). HoldsStaged (base_of after o) a.staged) (sym c.in-Some.ensures.after)
           (subst (λ (v : MapState). HoldsStaged v a.staged) (sym (version_is after run.ready told.map told.standing))
           (subst (λ (o : Option RunningTurn). HoldsStaged (base_of a.version o) a.staged) is c.self.invariant.staged));
+      come = come_still a.delivered.items c.push_turn.new.delivered.items turn a.collected.items a.places.items pushed c.self.invariant.come;
     }
 
 pub returns-clause-ok : goal.returns-clause-ok

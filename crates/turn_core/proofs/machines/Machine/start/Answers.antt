@@ -14,7 +14,7 @@ invariant_of-self-2 c =
     let ready : RunningTurn = c.in-Some.ready in
     let is : a.staged ≡ Some ready = sym c.in-Some.ensures.value in
     let none : a.running ≡ None = start_none (state_of a) (subst (λ (s : State). why_not s Start ≡ None) (sym c.self.view_is) c.requires) a.running refl in
-    started_holds a ready c.self.invariant is none (record a { running = Some ready; staged = c.take.new.self }) refl refl refl c.in-Some.ensures.after
+    started_holds a ready c.self.invariant is none (record a { running = Some ready; staged = c.take.new.self }) refl refl refl c.in-Some.ensures.after c.self.invariant.come
 
 pub returns : goal.returns
 returns c =

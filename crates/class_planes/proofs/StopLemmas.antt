@@ -1,0 +1,101 @@
+-- Where straight runs over a plane stop.
+use Rattle.std.proofs.Common.{◌≡◌, ℕ, zero, suc, ◌-◌, ◌<◌, ◌≤◌, Bool, true, IsTrue, IsFalse, inl, inr, sym, ◌∙◌, subst, arith}
+use Rattle.std.proofs.lemmas.Bool.{cases_lt, false≢true, false_from_ne_true}
+use Rattle.nav_types.specs.declared.cells.Cell.{Cell}
+use Rattle.nav_types.specs.declared.cells.Rect.{Rect}
+use Rattle.nav_types.specs.declared.cells.Size.{Size}
+use Rattle.nav_types.specs.declared.directions.Dir.{Dir}
+use Rattle.nav_types.specs.Cells.{IsInside, IsInRect}
+use Rattle.nav_types.specs.declared.directions.Dir.TheVariants.{N, E, S, W, NE, SE, SW, NW}
+use Rattle.nav_types.specs.Directions.{is_straight}
+use Rattle.nav_types.specs.Frames.{IsFrame}
+use Rattle.jump_scan.specs.Successors.{HasForced}
+use Rattle.jump_scan.specs.Stops.{HaltsStraight, IsStraightStop}
+use Rattle.jump_scan.proofs.Running.{HasPassed, HasPassed-none, HasPassed-more, IsStop-next, no_stop}
+use Rattle.class_planes.specs.inner.Runs.{Far, RunsFar, IsFirstHit, cell_along, HasRoom}
+
+-- a run has halted nowhere on its first steps
+passed : (passes hit : Cell → Bool) (dir : Dir) (from : Cell) (far : Far) → RunsFar passes dir from far → (m : ℕ)
+    → m ≤ far.count
+    → ((n : ℕ) → 0 < n → n ≤ m → IsFalse (hit (cell_along dir from n)))
+    → ((n : ℕ) → suc n ≤ m → HasForced passes (cell_along dir from (suc n)) dir → ⊥)
+    → HasPassed passes (HaltsStraight passes hit dir) dir from (cell_along dir from m)
+passed passes hit dir from far runs zero within misses plain =
+    subst (HasPassed passes (HaltsStraight passes hit dir) dir from) runs.start
+    (HasPassed-none passes (HaltsStraight passes hit dir) dir from)
+passed passes hit dir from far runs (suc m) within misses plain =
+    HasPassed-more passes (HaltsStraight passes hit dir) dir from (cell_along dir from m) (cell_along dir from (suc m))
+    (passed passes hit dir from far runs m (omega (arith, within)) (λ n some few. misses n some (omega (arith, few)))
+    (λ n few. plain n (omega (arith, few))))
+    (runs.steps m within)
+    (λ halts. elim halts [
+      | inl hits ↦ let miss = misses (suc m) (omega arith) (omega arith) in absurd (false≢true (sym miss ∙ hits))
+      | inr forced ↦ plain m (omega arith) forced
+    ])
+
+-- the first hit is the stop
+pub stop_hit : (passes hit : Cell → Bool) (dir : Dir) (from : Cell) (far : Far) (steps : ℕ)
+    → RunsFar passes dir from far
+    → IsFirstHit hit dir from far.count steps → IsStraightStop passes hit dir from (cell_along dir from steps)
+stop_hit passes hit dir from far steps runs first =
+    let some = first.some in
+    let most = first.most in
+    let m : ℕ = steps - 1 in
+    let all : suc m ≡ steps = omega (arith, some) in
+    subst (λ n. IsStraightStop passes hit dir from (cell_along dir from n)) all
+    (IsStop-next passes (HaltsStraight passes hit dir) dir from (cell_along dir from m) (cell_along dir from (suc m))
+    (passed passes hit dir from far runs m (omega (arith, most))
+    (λ n there few. first.none n there (omega (arith, few, some)))
+    (λ n few. runs.plain n (omega (arith, few, most, some))))
+    (runs.steps m (omega (arith, all, most)))
+    (inl (subst (λ n. IsTrue (hit (cell_along dir from n))) (sym all) first.hits)))
+
+-- where nothing is hit, a side that opens makes the stop
+pub stop_end : (passes hit : Cell → Bool) (dir : Dir) (from : Cell) (far : Far) → RunsFar passes dir from far
+    → ((n : ℕ) → 0 < n → n ≤ far.count → IsFalse (hit (cell_along dir from n))) → IsTrue far.forced
+    → IsStraightStop passes hit dir from (cell_along dir from far.count)
+stop_end passes hit dir from far runs misses is =
+    let forced = runs.forced is in
+    let m : ℕ = forced.0 in
+    let all : suc m ≡ far.count = forced.1.0 in
+    subst (λ n. IsStraightStop passes hit dir from (cell_along dir from n)) all
+    (IsStop-next passes (HaltsStraight passes hit dir) dir from (cell_along dir from m) (cell_along dir from (suc m))
+    (passed passes hit dir from far runs m (omega (arith, all))
+    (λ n there few. misses n there (omega (arith, few, all)))
+    (λ n few. runs.plain n (omega (arith, few, all))))
+    (runs.steps m (omega (arith, all)))
+    (inr forced.1.1))
+
+-- and where none opens, there is no stop
+pub stop_none : (passes hit : Cell → Bool) (dir : Dir) (from : Cell) (far : Far) → RunsFar passes dir from far
+    → ((n : ℕ) → 0 < n → n ≤ far.count → IsFalse (hit (cell_along dir from n))) → IsFalse far.forced
+    → (stop : Cell) → IsStraightStop passes hit dir from stop → ⊥
+stop_none passes hit dir from far runs misses is =
+    no_stop passes (HaltsStraight passes hit dir) dir from (cell_along dir from far.count)
+    (passed passes hit dir from far runs far.count (omega arith) misses
+    (λ n few. elim (cases_lt (suc n) far.count) [
+      | inl less ↦ runs.plain n less
+      | inr all ↦ runs.last is n (omega (arith, all, few))
+    ]))
+    (runs.ends is)
+
+-- a cell out of the aim's rectangle is not hit
+pub misses_outside : (hit framed : Cell → Bool) (size : Size) (rect : Rect) (cell : Cell) → IsFrame framed size rect
+    → IsInside size cell
+    → (IsTrue (hit cell) → IsTrue (framed cell)) → (IsInRect rect cell → ⊥) → IsFalse (hit cell)
+misses_outside hit framed size rect cell frame inside within outside =
+    false_from_ne_true (hit cell) (λ hits. outside ((frame.exact cell inside).1 (within hits)))
+
+-- a run in a map has few steps
+pub few_steps : (size : Size) (dir : Dir) (from : Cell) (count : ℕ) → is_straight dir ≡ true → HasRoom dir from count
+    → size.w ≤ 2048 → size.h ≤ 2048
+    → IsInside size (cell_along dir from 0) → IsInside size (cell_along dir from count) → count ≤ 2048
+few_steps size N from count straight room wide high first last = let row = last.row in omega (arith, row, high)
+few_steps size E from count straight room wide high first last = let column = last.column in omega (arith, column, wide)
+few_steps size S from count straight room wide high first last = let row = first.row in omega (arith, room, row, high)
+few_steps size W from count straight room wide high first last =
+    let column = first.column in omega (arith, room, column, wide)
+few_steps size NE from count straight room wide high first last = absurd (false≢true straight)
+few_steps size SE from count straight room wide high first last = absurd (false≢true straight)
+few_steps size SW from count straight room wide high first last = absurd (false≢true straight)
+few_steps size NW from count straight room wide high first last = absurd (false≢true straight)

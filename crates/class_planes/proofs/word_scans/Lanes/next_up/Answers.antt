@@ -1,0 +1,45 @@
+use Rattle.std.proofs.Common.{◌≡◌, ◌*◌, ◌^◌, ◌<◌, length, sym, ap, subst, arith, rules}
+use Rattle.class_planes.specs.inner.Runs.{LaneWords, end_up}
+use Rattle.class_planes.proofs.WordLemmas.{next_here, none_here, next_in, none_in, end_past}
+use Rattle.class_planes.proofs.word_scans.Lanes.next_up.Goals as goal
+
+pub returns-then-after-ne0 : goal.returns-then-after-ne0
+returns-then-after-ne0 c =
+    let fits : c.ends_up.result < 2 ^ 64 = Prim.search rules in
+    next_here (end_up c.args.self.now) c.args.from c.lowest.result c.ends_up.result c.bits_after-after.result fits
+    c.ends_up.ensures c.bits_after-after.ensures c.lowest.ensures.set c.lowest.ensures.none
+
+pub loop-w-init : goal.loop-w-init
+loop-w-init c = record {
+  beyond = omega arith;
+  none = none_here (end_up c.args.self.now) c.args.from c.ends_up.result c.bits_after-after.result c.ends_up.ensures
+      c.bits_after-after.ensures (omega arith);
+}
+
+pub returns-then-ends-ne0 : goal.returns-then-ends-ne0
+returns-then-ends-ne0 c =
+    let beyond = c.loop-w.invariant.beyond in
+    next_in (end_up c.args.self.now) c.args.from c.loop-w.w c.lowest-then-ends-ne0.result c.ends_up-ends.result
+    c.lowest-then-ends-ne0.ensures.small (omega (arith, beyond))
+    c.loop-w.invariant.none c.ends_up-ends.ensures c.lowest-then-ends-ne0.ensures.set
+    c.lowest-then-ends-ne0.ensures.none
+
+pub loop-w-preserved : goal.loop-w-preserved
+loop-w-preserved c =
+    let beyond = c.loop-w.invariant.beyond in
+    record {
+      beyond = omega (arith, beyond);
+      none = none_in (end_up c.args.self.now) c.args.from c.loop-w.w c.ends_up-ends.result (omega (arith, beyond))
+          c.loop-w.invariant.none c.ends_up-ends.ensures c.if-ends-ne0.false;
+    }
+
+pub returns : goal.returns
+returns c =
+    let lanes = c.args.self.now in
+    let same : length c.self.inside.mid.now ≡ length lanes.mid = ap (λ (l : LaneWords). length l.mid) c.self.view_is in
+    let end = c.loop-w-test.false in
+    record {
+      after = omega (arith, same, c.requires);
+      set = subst (λ n. end_up lanes (64 * n) ≡ 1) (sym same) (end_past lanes);
+      none = λ i past below. c.loop-w.invariant.none i past (omega (arith, below, end));
+    }

@@ -1,0 +1,358 @@
+//! Runs over the plane of one class.
+ghost use Rattle.std.specs.Prelude.{◌≡◌, ◌<◌, ◌≤◌, ◌+◌, ◌-◌, ◌/◌, ◌↔◌, ◌⊎◌, ℕ, IsTrue, IsFalse, IfSome, IfNone, length};
+ghost use Rattle.nav_types.specs.declared.cells.Cell.{Cell};
+ghost use Rattle.nav_types.specs.declared.directions.Dir.TheVariants as Dir;
+ghost use Rattle.nav_types.specs.Cells.{IsInside, IsInRect, cell_at};
+ghost use Rattle.nav_types.specs.Directions.{is_straight, row_part, column_part};
+ghost use Rattle.nav_types.specs.Frames.{IsFrame};
+ghost use Rattle.jump_scan.specs.Stops.{HaltsDiagonal, IsStraightStop, HasStraightStop, IsDiagonalStop};
+ghost use Rattle.lane_rows.specs.Rows.{one_if};
+ghost use Rattle.class_planes.specs.Planes.{is_passable};
+ghost use Rattle.class_planes.specs.inner.Runs.{AreLanesOf, cell_along, RunsFar, IsFirstHit, HasRoom, HoldsSteps};
+
+use crate::class_plane::ClassPlane;
+use crate::word_scans::{Lanes, Reach};
+use nav_types::{Aim, Cell, Class, Dir, Rect, Size, View, step};
+use std::marker::Model;
+
+/// The map of one class whose passable cells are those of a plane.
+#[derive(Drop)]
+struct PlaneView<'a> {
+    plane: &'a ClassPlane,
+}
+
+impl<'a> View for PlaneView<'a> {
+    ghost use Rattle.class_planes.specs.Planes.{is_passable};
+    ghost use Rattle.std.proofs.Common.{rules};
+
+    ghost extent = { λ map. map.plane.now.size };
+
+    ghost class_count = { λ _. 1 };
+
+    ghost passes = { λ map class. is_passable map.plane.now };
+
+    ghost within = { λ map class cell passing. Prim.search rules };
+
+    fn size(&self) -> Size {
+        self.plane.size()
+    }
+
+    fn classes(&self) -> u8 {
+        1
+    }
+
+    fn passable(&self, _class: Class, cell: Cell) -> bool {
+        self.plane.passable(cell)
+    }
+}
+
+/// The row `j` with the rows beside it.
+fn rows_at(plane: &ClassPlane, j: u16) -> Lanes<'_>
+    requires { j < plane.now.size.h }
+    ensures words { length result.mid ≡ plane.now.size.w / 64 + 1 }
+    ensures bits { AreLanesOf (λ j i. is_passable plane.now (cell_at i j)) j result }
+{
+    let before = if j == 0 { plane.size().h } else { j - 1 };
+    Lanes {
+        mid: plane.row_words(j),
+        left: plane.row_words(j + 1),
+        right: plane.row_words(before),
+    }
+}
+
+/// The column `i` with the columns beside it.
+fn columns_at(plane: &ClassPlane, i: u16) -> Lanes<'_>
+    requires { i < plane.now.size.w }
+    ensures words { length result.mid ≡ plane.now.size.h / 64 + 1 }
+    ensures bits { AreLanesOf (λ i j. is_passable plane.now (cell_at i j)) i result }
+{
+    let before = if i == 0 { plane.size().w } else { i - 1 };
+    Lanes {
+        mid: plane.column_words(i),
+        left: plane.column_words(i + 1),
+        right: plane.column_words(before),
+    }
+}
+
+/// How far the run to the north goes.
+fn reach_north(plane: &ClassPlane, from: Cell) -> Reach
+    requires { IsTrue (is_passable plane.now from) }
+    ensures { RunsFar (is_passable plane.now) Dir.N from result }
+{
+    columns_at(plane, from.i).reach_up(from.j)
+}
+
+/// How far the run to the east goes.
+fn reach_east(plane: &ClassPlane, from: Cell) -> Reach
+    requires { IsTrue (is_passable plane.now from) }
+    ensures { RunsFar (is_passable plane.now) Dir.E from result }
+{
+    rows_at(plane, from.j).reach_up(from.i)
+}
+
+/// How far the run to the south goes.
+fn reach_south(plane: &ClassPlane, from: Cell) -> Reach
+    requires { IsTrue (is_passable plane.now from) }
+    ensures { RunsFar (is_passable plane.now) Dir.S from result }
+{
+    columns_at(plane, from.i).reach_down(from.j)
+}
+
+/// How far the run to the west goes.
+fn reach_west(plane: &ClassPlane, from: Cell) -> Reach
+    requires { IsTrue (is_passable plane.now from) }
+    ensures { RunsFar (is_passable plane.now) Dir.W from result }
+{
+    rows_at(plane, from.j).reach_down(from.i)
+}
+
+/// How far the straight run from the cell goes.
+fn reach(plane: &ClassPlane, from: Cell, dir: Dir) -> Reach
+    requires start { IsTrue (is_passable plane.now from) }
+    requires straight { IsTrue (is_straight dir) }
+    ensures { RunsFar (is_passable plane.now) dir from result }
+{
+    match dir {
+        Dir::N => reach_north(plane, from),
+        Dir::E => reach_east(plane, from),
+        Dir::W => reach_west(plane, from),
+        Dir::S | Dir::NE | Dir::SE | Dir::SW | Dir::NW => reach_south(plane, from),
+    }
+}
+
+/// The cell so many steps away.
+fn cell_along(from: Cell, dir: Dir, steps: u16) -> Cell
+    requires straight { IsTrue (is_straight dir) }
+    requires column { (cell_along dir from steps).i < 2048 }
+    requires row { (cell_along dir from steps).j < 2048 }
+    ensures { result ≡ cell_along dir from steps }
+{
+    match dir {
+        Dir::N => Cell::new(from.i, from.j + steps),
+        Dir::E => Cell::new(from.i + steps, from.j),
+        Dir::W => Cell::new(from.i.saturating_sub(steps), from.j),
+        Dir::S | Dir::NE | Dir::SE | Dir::SW | Dir::NW => {
+            Cell::new(from.i, from.j.saturating_sub(steps))
+        }
+    }
+}
+
+/// The first and the last number of steps.
+#[derive(Drop)]
+struct Steps {
+    first: u16,
+    last: u16,
+}
+
+impl Model for Steps {
+    ghost use Rattle.class_planes.specs.inner.Runs.{StepRange};
+
+    ghost Value = { StepRange };
+
+    ghost view = { λ s. record { first = s.first; last = s.last } };
+}
+
+/// The steps, from 1 to `count`, that lead from a place up to one from `low` to `high`.
+fn steps_up(place: u16, low: u16, high: u16, count: u16) -> Steps
+    ensures { HoldsSteps (λ n. (low ≤ place + n) × (place + n ≤ high)) count result }
+{
+    Steps {
+        first: low.saturating_sub(place).max(1),
+        last: high.saturating_sub(place).min(count),
+    }
+}
+
+/// The steps, from 1 to `count`, that lead from a place down to one from `low` to `high`.
+fn steps_down(place: u16, low: u16, high: u16, count: u16) -> Steps
+    requires { count ≤ place }
+    ensures { HoldsSteps (λ n. (low ≤ place - n) × (place - n ≤ high)) count result }
+{
+    Steps {
+        first: place.saturating_sub(high).max(1),
+        last: place.saturating_sub(low).min(count),
+    }
+}
+
+/// The steps, from 1 to `count`, that lead into the rectangle.
+fn steps_into(rect: Rect, from: Cell, dir: Dir, count: u16) -> Steps
+    requires straight { IsTrue (is_straight dir) }
+    requires room { HasRoom dir from count }
+    ensures { HoldsSteps (λ n. IsInRect rect (cell_along dir from n)) count result }
+{
+    match dir {
+        Dir::N => steps_up(from.j, rect.j0, rect.j1, count),
+        Dir::E => steps_up(from.i, rect.i0, rect.i1, count),
+        Dir::W => steps_down(from.i, rect.i0, rect.i1, count),
+        Dir::S | Dir::NE | Dir::SE | Dir::SW | Dir::NW => {
+            steps_down(from.j, rect.j0, rect.j1, count)
+        }
+    }
+}
+
+/// Whether the line of the run meets the rectangle.
+fn meets(rect: Rect, from: Cell, dir: Dir) -> bool
+    requires straight { IsTrue (is_straight dir) }
+    ensures { IsFalse result → (n : ℕ) → IsInRect rect (cell_along dir from n) → ⊥ }
+{
+    match dir {
+        Dir::E | Dir::W => rect.j0 <= from.j && from.j <= rect.j1,
+        Dir::N | Dir::S | Dir::NE | Dir::SE | Dir::SW | Dir::NW => {
+            rect.i0 <= from.i && from.i <= rect.i1
+        }
+    }
+}
+
+/// The first number of steps, from 1 to `count`, after which the run is at a cell that is hit. Only the cells in the
+/// rectangle are asked for.
+fn first_hit<A: Aim>(
+    size: Size,
+    from: Cell,
+    dir: Dir,
+    count: u16,
+    rect: Rect,
+    aim: &A,
+) -> Option<u16>
+    requires straight { IsTrue (is_straight dir) }
+    requires room { HasRoom dir from count }
+    requires inside { (n : ℕ) → n ≤ count → IsInside size (cell_along dir from n) }
+    requires aim { A.sound aim.now size }
+    requires frame { IsFrame (A.framed aim.now size) size rect }
+    ensures some { IfSome result (IsFirstHit (A.hit aim.now size) dir from count) }
+    ensures none { IfNone result
+        ((n : ℕ) → 0 < n → n ≤ count → IsFalse (A.hit aim.now size (cell_along dir from n))) }
+{
+    if !meets(rect, from, dir) {
+        return None;
+    }
+    let Steps { first, last } = steps_into(rect, from, dir, count);
+    for steps in first..last + 1 {
+        if aim.hits(size, cell_along(from, dir, steps)) {
+            return Some(steps);
+        }
+    }
+    None
+}
+
+/// The stop of the straight run from the cell, where the aim has the rectangle.
+pub fn straight<A: Aim>(
+    plane: &ClassPlane,
+    from: Cell,
+    dir: Dir,
+    rect: Rect,
+    aim: &A,
+) -> Option<Cell>
+    requires start { IsTrue (is_passable plane.now from) }
+    requires straight { IsTrue (is_straight dir) }
+    requires aim { A.sound aim.now plane.now.size }
+    requires frame { IsFrame (A.framed aim.now plane.now.size) plane.now.size rect }
+    ensures some { IfSome result
+        (IsStraightStop (is_passable plane.now) (A.hit aim.now plane.now.size) dir from) }
+    ensures none { IfNone result
+        ((stop : Cell) → ¬ IsStraightStop (is_passable plane.now) (A.hit aim.now plane.now.size) dir from stop) }
+{
+    let Reach { count, forced } = reach(plane, from, dir);
+    match first_hit(plane.size(), from, dir, count, rect, aim) {
+        Some(steps) => Some(cell_along(from, dir, steps)),
+        None => end_of(from, dir, count, forced),
+    }
+}
+
+/// The last cell of the run, where a side opens there.
+fn end_of(from: Cell, dir: Dir, count: u16, forced: bool) -> Option<Cell>
+    requires straight { IsTrue (is_straight dir) }
+    requires column { (cell_along dir from count).i < 2048 }
+    requires row { (cell_along dir from count).j < 2048 }
+    ensures some { IfSome result (λ cell. IsTrue forced × (cell ≡ cell_along dir from count)) }
+    ensures none { IfNone result (IsFalse forced) }
+{
+    if forced {
+        Some(cell_along(from, dir, count))
+    } else {
+        None
+    }
+}
+
+/// Whether the straight run from the cell has a stop.
+fn has_straight_stop<A: Aim>(plane: &ClassPlane, cell: Cell, dir: Dir, rect: Rect, aim: &A) -> bool
+    requires passable { IsTrue (is_passable plane.now cell) }
+    requires straight { IsTrue (is_straight dir) }
+    requires aim { A.sound aim.now plane.now.size }
+    requires frame { IsFrame (A.framed aim.now plane.now.size) plane.now.size rect }
+    ensures { IsTrue result ↔ HasStraightStop (is_passable plane.now) (A.hit aim.now plane.now.size) dir cell }
+{
+    straight(plane, cell, dir, rect, aim).is_some()
+}
+
+/// The straight part of the direction along the row.
+fn row_part(dir: Dir) -> Dir
+    ensures { result ≡ row_part dir }
+{
+    match dir {
+        Dir::NE | Dir::SE => Dir::E,
+        Dir::NW | Dir::SW => Dir::W,
+        Dir::N | Dir::E | Dir::S | Dir::W => dir,
+    }
+}
+
+/// The straight part of the direction along the column.
+fn column_part(dir: Dir) -> Dir
+    ensures { result ≡ column_part dir }
+{
+    match dir {
+        Dir::NE | Dir::NW => Dir::N,
+        Dir::SE | Dir::SW => Dir::S,
+        Dir::N | Dir::E | Dir::S | Dir::W => dir,
+    }
+}
+
+/// Whether the straight run in one of the two straight parts of the direction has a stop.
+fn has_stop_aside<A: Aim>(plane: &ClassPlane, cell: Cell, dir: Dir, rect: Rect, aim: &A) -> bool
+    requires passable { IsTrue (is_passable plane.now cell) }
+    requires aim { A.sound aim.now plane.now.size }
+    requires frame { IsFrame (A.framed aim.now plane.now.size) plane.now.size rect }
+    ensures { IsTrue result
+        ↔ (HasStraightStop (is_passable plane.now) (A.hit aim.now plane.now.size) (row_part dir) cell
+        ⊎ HasStraightStop (is_passable plane.now) (A.hit aim.now plane.now.size) (column_part dir) cell) }
+{
+    has_straight_stop(plane, cell, row_part(dir), rect, aim)
+        || has_straight_stop(plane, cell, column_part(dir), rect, aim)
+}
+
+/// Whether a diagonal run in the direction stops at the cell.
+fn halts_diagonal<A: Aim>(plane: &ClassPlane, cell: Cell, dir: Dir, rect: Rect, aim: &A) -> bool
+    requires passable { IsTrue (is_passable plane.now cell) }
+    requires inside { IsInside plane.now.size cell }
+    requires aim { A.sound aim.now plane.now.size }
+    requires frame { IsFrame (A.framed aim.now plane.now.size) plane.now.size rect }
+    ensures { IsTrue result ↔ HaltsDiagonal (is_passable plane.now) (A.hit aim.now plane.now.size) dir cell }
+{
+    aim.hits(plane.size(), cell) || has_stop_aside(plane, cell, dir, rect, aim)
+}
+
+/// The stop of the diagonal run from the cell, where the aim has the rectangle.
+pub fn diagonal<A: Aim>(
+    plane: &ClassPlane,
+    from: Cell,
+    dir: Dir,
+    rect: Rect,
+    aim: &A,
+) -> Option<Cell>
+    requires start { IsTrue (is_passable plane.now from) }
+    requires diagonal { IsFalse (is_straight dir) }
+    requires aim { A.sound aim.now plane.now.size }
+    requires frame { IsFrame (A.framed aim.now plane.now.size) plane.now.size rect }
+    ensures some { IfSome result
+        (IsDiagonalStop (is_passable plane.now) (A.hit aim.now plane.now.size) dir from) }
+    ensures none { IfNone result
+        ((stop : Cell) → ¬ IsDiagonalStop (is_passable plane.now) (A.hit aim.now plane.now.size) dir from stop) }
+{
+    let map = PlaneView { plane };
+    let mut cell = from;
+    'run: while let Some(next) = step(&map, Class::new(0), cell, dir) {
+        if halts_diagonal(plane, next, dir, rect, aim) {
+            return Some(next);
+        }
+        cell = next;
+    }
+    None
+}

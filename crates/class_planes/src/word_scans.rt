@@ -1,0 +1,244 @@
+//! Where a run over the set bits of a line halts, 64 places at a time.
+ghost use Rattle.std.specs.Prelude.{◌≡◌, ◌<◌, ◌≤◌, ◌+◌, ◌-◌, ◌*◌, ◌/◌, ◌==◌, ℕ, length, max, IfSome, IfNone, slice_index};
+ghost use Rattle.std.specs.Int.{bit_at};
+ghost use Rattle.class_planes.specs.inner.Runs.{bit_in, opening, end_up, end_down, IsNext, IsLast, up_bits, down_bits, GoesFar};
+
+use std::marker::Model;
+
+/// How far a run goes: the steps to the last place where it may go on, and whether a side opens there. Contracts see
+/// both.
+#[derive(Drop)]
+pub struct Reach {
+    pub count: u16,
+    pub forced: bool,
+}
+
+impl Model for Reach {
+    ghost use Rattle.class_planes.specs.inner.Runs.{Far};
+
+    ghost Value = { Far };
+
+    ghost view = { λ r. record { count = r.count; forced = r.forced } };
+}
+
+/// Three lines of equally many words: the one along which a run goes, and those to its two sides. Contracts see the
+/// words.
+#[derive(Drop)]
+pub struct Lanes<'a> {
+    pub mid: &'a [u64],
+    pub left: &'a [u64],
+    pub right: &'a [u64],
+}
+
+impl<'a> Model for Lanes<'a> {
+    ghost use Rattle.class_planes.specs.inner.Runs.{LaneWords, AreLanes};
+
+    ghost Value = { LaneWords };
+
+    ghost view = { λ l. record { mid = l.mid.now; left = l.left.now; right = l.right.now } };
+
+    ghost invariant = { λ l. AreLanes (record { mid = l.mid.now; left = l.left.now; right = l.right.now }) };
+}
+
+/// Word `w` of the line, with each bit a place up.
+fn moved_up(line: &[u64], w: usize) -> u64
+    requires { w < length line.now }
+    ensures { (k : ℕ) → k < 64 → 0 < 64 * w + k → bit_at result k ≡ bit_in line.now (64 * w + k - 1) }
+{
+    let carry = if w == 0 { 0 } else { line[w - 1] >> 63 };
+    line[w] << 1 | carry
+}
+
+/// Word `w` of the line, and 0 past its end.
+fn word_at(line: &[u64], w: usize) -> u64
+    ensures { result ≡ slice_index line.now w }
+{
+    match line.get(w) {
+        Some(word) => *word,
+        None => 0,
+    }
+}
+
+/// Word `w` of the line, with each bit a place down.
+fn moved_down(line: &[u64], w: usize) -> u64
+    requires { w < length line.now }
+    ensures { (k : ℕ) → k < 64 → bit_at result k ≡ bit_in line.now (64 * w + k + 1) }
+{
+    line[w] >> 1 | word_at(line, w + 1) << 63
+}
+
+/// The bits after bit `k`, moved down to the lowest place.
+fn bits_after(word: u64, k: u16) -> u64
+    requires { k < 64 }
+    ensures { (m : ℕ) → bit_at result m ≡ bit_at word (k + 1 + m) }
+{
+    word >> k >> 1
+}
+
+/// The bits before bit `k`.
+fn bits_before(word: u64, k: u16) -> u64
+    requires { k < 64 }
+    ensures kept { (m : ℕ) → m < k → bit_at result m ≡ bit_at word m }
+    ensures none { (m : ℕ) → k ≤ m → bit_at result m ≡ 0 }
+{
+    word & ((1 << k) - 1)
+}
+
+/// The places where a run halts: those that are not free, and those where a side is free that was not before.
+fn halting(mid: u64, left: u64, left_before: u64, right: u64, right_before: u64) -> u64
+    ensures { (k : ℕ) → k < 64 → bit_at result k ≡ max (1 - bit_at mid k)
+        (max (opening (bit_at left_before k) (bit_at left k)) (opening (bit_at right_before k) (bit_at right k))) }
+{
+    !mid | (left & !left_before | right & !right_before)
+}
+
+impl<'a> Lanes<'a> {
+    /// The places of word `w` at which an upward run halts.
+    fn ends_up(&self, w: usize) -> u64
+        requires { w < length self.now.mid }
+        ensures { (k : ℕ) → k < 64 → 0 < 64 * w + k → bit_at result k ≡ end_up self.now (64 * w + k) }
+    {
+        let left_before = moved_up(self.left, w);
+        let right_before = moved_up(self.right, w);
+        halting(
+            self.mid[w],
+            self.left[w],
+            left_before,
+            self.right[w],
+            right_before,
+        )
+    }
+
+    /// The places of word `w` at which a downward run halts.
+    fn ends_down(&self, w: usize) -> u64
+        requires { w < length self.now.mid }
+        ensures { (k : ℕ) → k < 64 → bit_at result k ≡ end_down self.now (64 * w + k) }
+    {
+        let left_before = moved_down(self.left, w);
+        let right_before = moved_down(self.right, w);
+        halting(
+            self.mid[w],
+            self.left[w],
+            left_before,
+            self.right[w],
+            right_before,
+        )
+    }
+
+    /// The first place after `from` at which an upward run halts. Past the last word no place is free.
+    fn next_up(&self, from: u16) -> u16
+        requires { from / 64 < length self.now.mid }
+        ensures { IsNext (end_up self.now) from result }
+    {
+        let _ = &self.mid;
+        let first = from as usize / 64;
+        let after = bits_after(self.ends_up(first), from % 64);
+        if after != 0 {
+            return from + 1 + lowest(after);
+        }
+        for w in first + 1..self.mid.len() {
+            let ends = self.ends_up(w);
+            if ends != 0 {
+                return 64 * w as u16 + lowest(ends);
+            }
+        }
+        64 * self.mid.len() as u16
+    }
+
+    /// The last place before `from` at which a downward run halts.
+    fn last_down(&self, from: u16) -> Option<u16>
+        requires { from / 64 < length self.now.mid }
+        ensures some { IfSome result (IsLast (end_down self.now) from) }
+        ensures none { IfNone result ((i : ℕ) → i < from → end_down self.now i ≡ 0) }
+    {
+        let _ = &self.mid;
+        let mut w = from as usize / 64;
+        let before = bits_before(self.ends_down(w), from % 64);
+        if before != 0 {
+            return Some(64 * w as u16 + highest(before));
+        }
+        'down: while w > 0 {
+            w -= 1;
+            let ends = self.ends_down(w);
+            if ends != 0 {
+                return Some(64 * w as u16 + highest(ends));
+            }
+        }
+        None
+    }
+
+    /// Whether the place of the middle line is free.
+    fn is_free(&self, i: u16) -> bool
+        ensures { result ≡ (bit_in self.now.mid i == 1) }
+    {
+        (word_at(self.mid, i as usize / 64) >> (i % 64)) & 1 == 1
+    }
+
+    /// How far an upward run from the place goes.
+    pub fn reach_up(&self, from: u16) -> Reach
+        requires line { from / 64 < length self.now.mid }
+        requires free { bit_in self.now.mid from ≡ 1 }
+        ensures { GoesFar (up_bits self.now.mid from) (up_bits self.now.left from) (up_bits self.now.right from)
+            result }
+    {
+        let _ = &self.mid;
+        let end = self.next_up(from);
+        if self.is_free(end) {
+            Reach {
+                count: end - from,
+                forced: true,
+            }
+        } else {
+            Reach {
+                count: end - from - 1,
+                forced: false,
+            }
+        }
+    }
+
+    /// How far a downward run from the place goes.
+    pub fn reach_down(&self, from: u16) -> Reach
+        requires line { from / 64 < length self.now.mid }
+        requires free { bit_in self.now.mid from ≡ 1 }
+        ensures { GoesFar (down_bits self.now.mid from) (down_bits self.now.left from)
+            (down_bits self.now.right from) result }
+    {
+        let _ = &self.mid;
+        let Some(end) = self.last_down(from) else {
+            return Reach {
+                count: from,
+                forced: false,
+            };
+        };
+        if self.is_free(end) {
+            return Reach {
+                count: from - end,
+                forced: true,
+            };
+        }
+        Reach {
+            count: from - end - 1,
+            forced: false,
+        }
+    }
+}
+
+/// The place of the lowest set bit.
+fn lowest(word: u64) -> u16
+    requires { 0 < word }
+    ensures small { result < 64 }
+    ensures set { bit_at word result ≡ 1 }
+    ensures none { (k : ℕ) → k < result → bit_at word k ≡ 0 }
+{
+    word.trailing_zeros() as u16
+}
+
+/// The place of the highest set bit.
+fn highest(word: u64) -> u16
+    requires { 0 < word }
+    ensures small { result < 64 }
+    ensures set { bit_at word result ≡ 1 }
+    ensures none { (k : ℕ) → result < k → bit_at word k ≡ 0 }
+{
+    63 - word.leading_zeros() as u16
+}

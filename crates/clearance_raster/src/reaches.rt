@@ -1,0 +1,101 @@
+//! Where an obstruction can block cells at all.
+ghost use Rattle.std.specs.Prelude.{◌≡◌, ◌≤◌, ◌↔◌, ◌⊎◌, ℕ, ℤ, unsigned_abs, IfSome, IfNone, IsTrue, Some};
+ghost use Rattle.nav_types.specs.declared.cells.Cell.{Cell};
+ghost use Rattle.nav_types.specs.Cells.{IsInside, IsInRect, IsRectInside};
+ghost use Rattle.lane_rows.specs.Rows.{has_class};
+ghost use Rattle.navcell_grid.specs.Patches.{IsPartOf};
+ghost use Rattle.obstruction_shapes.specs.Shapes.{FitsMap};
+ghost use Rattle.obstruction_shapes.specs.Blocking.{blocked, IsNear};
+ghost use Rattle.class_config.specs.Classes.{clearance_at};
+ghost use Rattle.clearance_raster.specs.Rasters.{blocks_class, IsGreatestClearance};
+
+use crate::masks::includes;
+use class_config::ClassTable;
+use fixed_point::{Fixed, magnitude};
+use nav_types::{Class, Rect, Size};
+use obstruction_shapes::{Obstruction, Shape, reach_rect};
+
+/// The cells of a map that an obstruction can block for some class of its mask: those that are near enough to its shape
+/// for the greatest clearance of these classes (`IsGreatestClearance`, `IsNear`). They are a rectangle, and it holds each
+/// cell of the map that the obstruction blocks for a class. None exactly where the mask has no class of the table, or no
+/// cell of the map is near enough.
+///
+/// The shape fits the map.
+pub fn reach_of(obstruction: &Obstruction, classes: &ClassTable, size: Size) -> Option<Rect>
+    requires { FitsMap size obstruction.now.shape }
+    ensures inside { IfSome result (λ rect. IsRectInside size rect) }
+    ensures near { IfSome result (λ rect. (greatest : ℤ)
+        × (IsGreatestClearance obstruction.now.mask classes.now greatest
+        × ((cell : Cell) → IsInside size cell → (IsInRect rect cell ↔ IsNear obstruction.now.shape greatest cell)))) }
+    ensures none_near { IfNone result ((greatest : ℤ) → IsGreatestClearance obstruction.now.mask classes.now greatest
+        → (cell : Cell) → IsInside size cell → ¬ IsNear obstruction.now.shape greatest cell) }
+    ensures blocked { IfSome result (λ rect. (k : ℕ) (cell : Cell) → IsInside size cell
+        → IsTrue (blocks_class obstruction.now classes.now k cell) → IsInRect rect cell) }
+    ensures none_blocked { IfNone result ((k : ℕ) (cell : Cell) → IsInside size cell
+        → ¬ IsTrue (blocks_class obstruction.now classes.now k cell)) }
+{
+    let greatest = greatest_clearance(classes, obstruction.mask)?;
+    reach_rect(&obstruction.shape, greatest, size)
+}
+
+/// The greatest clearance among the classes of the mask. None exactly where the table has none of them.
+fn greatest_clearance(classes: &ClassTable, mask: u16) -> Option<Fixed>
+    ensures greatest { IfSome result (IsGreatestClearance mask classes.now) }
+    ensures none { IfNone result ((k : ℕ) (clearance : ℤ) → IsTrue (has_class k mask)
+        → ¬ (clearance_at classes.now k ≡ Some clearance)) }
+{
+    let mut greatest = None;
+    for number in 0..classes.count() {
+        let class = Class::new(number);
+        if includes(mask, class) {
+            greatest = Some(greater(greatest, classes.clearance(class)));
+        }
+    }
+    greatest
+}
+
+/// The greater of a clearance that may be there and another one.
+fn greater(found: Option<Fixed>, clearance: Fixed) -> Fixed
+    ensures first { IfNone found (result ≡ clearance) }
+    ensures same { IfSome found (λ other. (result ≡ clearance) ⊎ (result ≡ other)) }
+    ensures most { IfSome found (λ other. unsigned_abs other ≤ unsigned_abs result) }
+    ensures least { unsigned_abs clearance ≤ unsigned_abs result }
+{
+    match found {
+        Some(other) if magnitude(clearance) <= magnitude(other) => other,
+        _ => clearance,
+    }
+}
+
+/// A rectangle of the part that holds each cell of it that the shape blocks with this clearance. None only where there is
+/// no such cell.
+pub fn reach_in(shape: &Shape, clearance: Fixed, part: Rect, size: Size) -> Option<Rect>
+    requires fits { FitsMap size shape.now }
+    requires inside { IsRectInside size part }
+    ensures part { IfSome result (λ rect. IsPartOf part rect) }
+    ensures blocked { IfSome result (λ rect. (cell : Cell) → IsInRect part cell
+        → IsTrue (blocked shape.now clearance cell) → IsInRect rect cell) }
+    ensures none { IfNone result ((cell : Cell) → IsInRect part cell → ¬ IsTrue (blocked shape.now clearance cell)) }
+{
+    let reach = reach_rect(shape, clearance, size)?;
+    common(reach, part)
+}
+
+/// The cells that lie in both rectangles. None exactly where there is none.
+fn common(a: Rect, b: Rect) -> Option<Rect>
+    ensures part { IfSome result (λ rect. IsPartOf b rect) }
+    ensures cells { IfSome result (λ rect. (cell : Cell) → (IsInRect rect cell ↔ (IsInRect a cell × IsInRect b cell))) }
+    ensures none { IfNone result ((cell : Cell) → IsInRect a cell → ¬ IsInRect b cell) }
+{
+    let rect = Rect {
+        i0: a.i0.max(b.i0),
+        j0: a.j0.max(b.j0),
+        i1: a.i1.min(b.i1),
+        j1: a.j1.min(b.j1),
+    };
+    if rect.i0 <= rect.i1 && rect.j0 <= rect.j1 {
+        Some(rect)
+    } else {
+        None
+    }
+}

@@ -1,0 +1,188 @@
+-- Lists in blocks of 32 items: their length, their items, and an item replaced.
+use Rattle.std.proofs.Common.{ℕ, zero, suc, ◌≡◌, ◌+◌, ◌*◌, ◌/◌, ◌%◌, ◌-◌, ◌^◌, ◌<◌, List, [], ◌∷◌, ◌++◌, length, map}
+use Rattle.std.proofs.Common.{set, get_or, refl, ap, sym, subst, ◌∙◌, arith, Some, length-append}
+use Rattle.std.specs.List.{All, flat_map, slice_get}
+use Rattle.std.proofs.lemmas.List.{set-append_left, set-append_right, append_assoc, append-nil, get_or-append-add}
+use Rattle.std.proofs.lemmas.List.{get_or_append_left, get_or-map, length-set, length-map, map-set}
+use Rattle.std.proofs.lemmas.List.Concat.{flat_map-cons}
+use Rattle.std.proofs.lemmas.List.Elements.{All-set, All-push}
+use Rattle.std.proofs.lemmas.Grind.{flat_map-append}
+use Rattle.std.proofs.lemmas.Option.{slice_get_within, slice_get-get_or, get_or_from_slice_get}
+use Rattle.grid_versions.specs.inner.Blocks.{AreBlocks, in_blocks}
+
+module _ {A : Type 0} where
+  -- the item at a place of a list that stands behind another
+  behind : (xs ys : List A) (k at : ℕ) (a : A) → at ≡ length xs + k → slice_get ys k ≡ Some a
+      → slice_get (xs ++ ys) at ≡ Some a
+  behind xs ys k at a is here =
+      let low = slice_get_within ys k a here in
+      let long = length-append xs ys in
+      let got : get_or (xs ++ ys) at a ≡ a = ap (λ (n : ℕ). get_or (xs ++ ys) n a) is ∙ get_or-append-add xs ys k a
+      ∙ get_or_from_slice_get ys k a a here in
+      slice_get-get_or (xs ++ ys) at a (omega (arith, long, low, is)) ∙ ap (λ (x : A). Some x) got
+
+  -- the item at a place of a list that stands before another
+  before : (xs ys : List A) (at : ℕ) (a : A) → slice_get xs at ≡ Some a → slice_get (xs ++ ys) at ≡ Some a
+  before xs ys at a here =
+      let low = slice_get_within xs at a here in
+      let long = length-append xs ys in
+      let got : get_or (xs ++ ys) at a ≡ a = get_or_append_left xs ys a at low
+      ∙ get_or_from_slice_get xs at a a here in
+      slice_get-get_or (xs ++ ys) at a (omega (arith, long, low)) ∙ ap (λ (x : A). Some x) got
+
+  abbrev all_of : List (List A) → List A
+  all_of blocks = flat_map (λ block. block) blocks
+
+  abbrev Whole : List (List A) → Type 0
+  Whole blocks = All (λ block. length block ≡ 32) blocks
+
+  joined : (x : List A) (xs : List (List A)) → all_of (x ∷ xs) ≡ x ++ all_of xs
+  joined x xs = flat_map-cons (λ (block : List A). block) x xs
+
+  first_whole : (x : List A) (xs : List (List A)) → Whole (x ∷ xs) → length x ≡ 32
+  first_whole x xs whole = whole 0 x (omega arith)
+
+  others_whole : (x : List A) (xs : List (List A)) → Whole (x ∷ xs) → Whole xs
+  others_whole x xs whole = λ k d low. whole (suc k) d (omega (arith, low))
+
+  length_blocks : (xs : List (List A)) → Whole xs → length (all_of xs) ≡ 32 * length xs
+  length_blocks [] whole = refl
+  length_blocks (x ∷ xs) whole =
+      let first = first_whole x xs whole in
+      let rest = length_blocks xs (others_whole x xs whole) in
+      let one : length (all_of (x ∷ xs)) ≡ length x + length (all_of xs) = ap length (joined x xs)
+      ∙ length-append x (all_of xs) in
+      omega (arith, one, first, rest)
+
+  in_block : (xs : List (List A)) (i j at : ℕ) (x : List A) (a : A) → Whole xs → at ≡ 32 * i + j
+      → slice_get xs i ≡ Some x → slice_get x j ≡ Some a
+      → slice_get (all_of xs) at ≡ Some a
+  in_block [] i j at x a whole is block item = absurd (let low = slice_get_within [] i x block in omega (arith, low))
+  in_block (y ∷ ys) zero j at x a whole is block item =
+      let same : y ≡ x = get_or_from_slice_get (y ∷ ys) 0 x x block in
+      let at_is : at ≡ j = omega (arith, is) in
+      ap (λ (xs : List A). slice_get xs at) (joined y ys)
+      ∙ before y (all_of ys) at a
+      (subst (λ (n : ℕ). slice_get y n ≡ Some a) (sym at_is) (subst (λ (b : List A). slice_get b j ≡ Some a)
+      (sym same) item))
+  in_block (y ∷ ys) (suc i) j at x a whole is block item =
+      let first = first_whole y ys whole in
+      let low = slice_get_within (y ∷ ys) (suc i) x block in
+      let next : slice_get ys i ≡ Some x =
+      slice_get-get_or ys i x (omega (arith, low))
+      ∙ ap (λ (b : List A). Some b) (get_or_from_slice_get (y ∷ ys) (suc i) x x block) in
+      ap (λ (xs : List A). slice_get xs at) (joined y ys)
+      ∙ behind y (all_of ys) (32 * i + j) at a (omega (arith, first, is)) (in_block ys i j (32 * i + j) x a
+      (others_whole y ys whole) refl next item)
+
+  set_block : (xs : List (List A)) (i j at : ℕ) (new : List A) (a : A) → Whole xs → i < length xs → j < 32
+      → at ≡ 32 * i + j
+      → ((d : List A) → new ≡ set (get_or xs i d) j a) → set (all_of xs) at a ≡ all_of (set xs i new)
+  set_block [] i j at new a whole low few is made = absurd (omega (arith, low))
+  set_block (y ∷ ys) zero j at new a whole low few is made =
+      let first = first_whole y ys whole in
+      let at_is : at ≡ j = omega (arith, is) in
+      ap (λ (xs : List A). set xs at a) (joined y ys) ∙ ap (λ (n : ℕ). set (y ++ all_of ys) n a) at_is
+      ∙ set-append_left y (all_of ys) j a (omega (arith, first, few))
+      ∙ ap (λ (xs : List A). xs ++ all_of ys) (sym (made y))
+      ∙ sym (joined new ys)
+  set_block (y ∷ ys) (suc i) j at new a whole low few is made =
+      let first = first_whole y ys whole in
+      let down : at - 32 ≡ 32 * i + j = omega (arith, is) in
+      ap (λ (xs : List A). set xs at a) (joined y ys)
+      ∙ set-append_right y (all_of ys) 32 at a first (omega (arith, is))
+      ∙ ap (λ (n : ℕ). y ++ set (all_of ys) n a) down
+      ∙ ap (λ (xs : List A). y ++ xs) (set_block ys i j (32 * i + j) new a (others_whole y ys whole) (omega
+      (arith, low)) few refl (λ d. made d))
+      ∙ sym (joined y (set ys i new))
+
+  -- the length of the whole list
+  pub blocks_length : (blocks : List (List A)) (rest : List A) → AreBlocks blocks rest
+      → length (in_blocks blocks rest) ≡ 32 * length blocks + length rest
+  blocks_length blocks rest are =
+      let whole = length_blocks blocks are.whole in
+      length-append (all_of blocks) rest ∙ ap (λ (n : ℕ). n + length rest) whole
+
+  -- an item of a block, and one behind the blocks
+  pub block_item : (blocks : List (List A)) (rest : List A) (at : ℕ) (block : List A) (a : A)
+      → AreBlocks blocks rest → slice_get blocks (at / 32) ≡ Some block
+      → slice_get block (at % 32) ≡ Some a → slice_get (in_blocks blocks rest) at ≡ Some a
+  block_item blocks rest at block a are here item =
+      before (all_of blocks) rest at a (in_block blocks (at / 32) (at % 32) at block a are.whole (omega arith)
+      here item)
+
+  pub rest_item : (blocks : List (List A)) (rest : List A) (at k : ℕ) (a : A) → AreBlocks blocks rest
+      → at ≡ 32 * length blocks + k
+      → slice_get rest k ≡ Some a → slice_get (in_blocks blocks rest) at ≡ Some a
+  rest_item blocks rest at k a are is item =
+      let whole = length_blocks blocks are.whole in
+      behind (all_of blocks) rest k at a (omega (arith, whole, is)) item
+
+  -- an item replaced in its block, or behind the blocks
+  pub block_set : (blocks : List (List A)) (rest : List A) (at : ℕ) (new : List A) (a : A) → AreBlocks blocks rest
+      → at / 32 < length blocks
+      → ((d : List A) → new ≡ set (get_or blocks (at / 32) d) (at % 32) a)
+      → in_blocks (set blocks (at / 32) new) rest ≡ set (in_blocks blocks rest) at a
+  block_set blocks rest at new a are low made =
+      let whole = length_blocks blocks are.whole in
+      sym (set-append_left (all_of blocks) rest at a (omega (arith, whole, low))
+      ∙ ap (λ (xs : List A). xs ++ rest) (set_block blocks (at / 32) (at % 32) at new a are.whole low (omega
+      arith) (omega arith) made))
+
+  pub rest_set : (blocks : List (List A)) (rest new : List A) (at k : ℕ) (a : A) → AreBlocks blocks rest
+      → at ≡ 32 * length blocks + k
+      → new ≡ set rest k a → in_blocks blocks new ≡ set (in_blocks blocks rest) at a
+  rest_set blocks rest new at k a are is made =
+      let down : at - 32 * length blocks ≡ k = omega (arith, is) in
+      ap (λ (xs : List A). all_of blocks ++ xs) (made ∙ ap (λ (n : ℕ). set rest n a) (sym down))
+      ∙ sym (set-append_right (all_of blocks) rest (32 * length blocks) at a (length_blocks blocks are.whole)
+      (omega (arith, is)))
+
+  -- the blocks stay whole
+  pub set_whole : (blocks : List (List A)) (rest : List A) (i j : ℕ) (new : List A) (a : A) → AreBlocks blocks rest
+      → i < length blocks
+      → ((d : List A) → new ≡ set (get_or blocks i d) j a) → AreBlocks (set blocks i new) rest
+  set_whole blocks rest i j new a are low made = record {
+    whole = All-set (λ (block : List A). length block ≡ 32) blocks i new
+        (ap length (made new) ∙ length-set (get_or blocks i new) j a ∙ are.whole i new low) are.whole;
+    behind = are.behind;
+    few = omega (arith, length-set blocks i new, are.few);
+  }
+
+  -- a block more, of what stood behind the blocks and an item
+  pub block_more : (blocks : List (List A)) (rest new : List A) (a : A) → new ≡ rest ++ a ∷ []
+      → in_blocks (blocks ++ new ∷ []) [] ≡ in_blocks blocks rest ++ a ∷ []
+  block_more blocks rest new a made =
+      append-nil (all_of (blocks ++ new ∷ [])) ∙ flat_map-append (λ (block : List A). block) blocks (new ∷ [])
+      ∙ ap (λ (xs : List A). all_of blocks ++ xs) (joined new [] ∙ append-nil new ∙ made)
+      ∙ sym (append_assoc (all_of blocks) rest (a ∷ []))
+
+  pub more_whole : (blocks : List (List A)) (rest new : List A) (a : A) → AreBlocks blocks rest
+      → new ≡ rest ++ a ∷ [] → length rest ≡ 31
+      → length blocks < 2 ^ 27 → AreBlocks (blocks ++ new ∷ []) []
+  more_whole blocks rest new a are made full few = record {
+    whole = All-push (λ (block : List A). length block ≡ 32) blocks new (are.whole) (let long = length-append
+        rest (a ∷ []) in let same = ap length made in omega (arith, long, same, full));
+    behind = omega arith;
+    few = omega (arith, length-append blocks (new ∷ []), few);
+  }
+
+  -- a block by the holder that the list has of it: its length, and what it becomes
+  pub block_long : {B : Type 0} (f : B → List A) (xs : List B) (rest : List A) (k : ℕ) (x : B)
+      → AreBlocks (map f xs) rest → k < length xs
+      → x ≡ get_or xs k x → length (f x) ≡ 32
+  block_long {B} f xs rest k x are low is =
+      ap (λ (y : B). length (f y)) is ∙ sym (ap length (get_or-map f xs k x (f x) low))
+      ∙ are.whole k (f x) (omega (arith, low, length-map xs f))
+
+  pub block_made : {B : Type 0} (f : B → List A) (xs : List B) (k j : ℕ) (x : B) (new : List A) (a : A)
+      → k < length xs → x ≡ get_or xs k x
+      → new ≡ set (f x) j a → (d : List A) → new ≡ set (get_or (map f xs) k d) j a
+  block_made f xs k j x new a low is made d = made ∙ ap (λ (ys : List A). set ys j a) (ap f is
+      ∙ sym (get_or-map f xs k x d low))
+
+  pub held_set : {B : Type 0} (f : B → List A) (xs ys : List B) (k : ℕ) (y : B) (new : List A) → ys ≡ set xs k y
+      → f y ≡ new
+      → map f ys ≡ set (map f xs) k new
+  held_set f xs ys k y new replaced held = ap (λ zs. map f zs) replaced ∙ map-set f xs k y
+      ∙ ap (λ z. set (map f xs) k z) held

@@ -1,0 +1,96 @@
+use Rattle.std.proofs.Common.{ℕ, ◌≡◌, ◌↔◌, ◌∙◌, Some, ap, sym, subst}
+use Rattle.std.specs.Int.{bit_at}
+use Rattle.std.specs.Arc.{arc_value}
+use Rattle.std.proofs.lemmas.Option.{same_Some}
+use Rattle.nav_types.specs.declared.cells.Rect.{Rect}
+use Rattle.nav_types.specs.Cells.{IsInRect}
+use Rattle.nav_types.specs.Numbering.{Numbering}
+use Rattle.navcell_grid.specs.Patches.{DiffersIn, IsPartOf}
+use Rattle.grid_versions.specs.inner.ChunkLists.{chunk_numbered}
+use Rattle.grid_versions.specs.inner.Painting.{IsPaintedChunk}
+use Rattle.grid_versions.proofs.NextLemmas.{chunk_stays, chunk_repainted, chunk_kept, differs_in_part, part_inside}
+use Rattle.grid_versions.proofs.next_cells.next_patch.Goals as goal
+
+pub returns-in_default-clause-painted : goal.returns-in_default-clause-painted
+returns-in_default-clause-painted c =
+    let map = c.args.map.now in let now = c.args.shapes.now in
+    let chunk = chunk_numbered map.size c.args.place in
+    let before = c.requires.before in
+    let old = c.patch-old.result.now in
+    let same : old ≡ arc_value c.in_ok-shared.field-0 =
+    same_Some old (arc_value c.in_ok-shared.field-0) (sym (c.at-cells.ensures ∙ ap (λ (n : Numbering). Some n) (sym c.patch-old.ensures)) ∙ c.in_ok-shared.ensures) in
+    subst (λ (n : Numbering). IsPaintedChunk map now chunk n) same
+    (chunk_stays map before.earlier now c.args.reaches.now before.covered chunk old
+    (before.painted.are c.args.place old (c.at-cells.ensures ∙ ap (λ (n : Numbering). Some n) (sym c.patch-old.ensures)))
+    (λ cell inside is. c.in_default.ensures.held cell
+    (subst (λ (r : Rect). IsInRect r cell) (sym c.rect.ensures.rect) inside) is))
+
+pub repainted-requires-clause-base : goal.repainted-requires-clause-base
+repainted-requires-clause-base c =
+    let before = c.requires.before in
+    let was = before.painted.are c.args.place c.patch-old.result.now (c.at-cells.ensures ∙ ap (λ (n : Numbering). Some n) (sym c.patch-old.ensures)) in
+    let under = c.requires.base.are c.args.place c.at.result.now c.at.ensures in
+    under.extent ∙ sym was.extent
+
+pub repainted-requires-clause-inside : goal.repainted-requires-clause-inside
+repainted-requires-clause-inside c =
+    let map = c.args.map.now in
+    let before = c.requires.before in
+    let was = before.painted.are c.args.place c.patch-old.result.now (c.at-cells.ensures ∙ ap (λ (n : Numbering). Some n) (sym c.patch-old.ensures)) in
+    part_inside map.size (chunk_numbered map.size c.args.place) c.in-Some.part
+    (subst (λ (r : Rect). IsPartOf r c.in-Some.part) (c.rect.ensures.rect ∙ was.extent) c.in-Some.ensures.part)
+
+pub returns-then-bits-eq0-clause-painted : goal.returns-then-bits-eq0-clause-painted
+returns-then-bits-eq0-clause-painted c =
+    let map = c.args.map.now in let now = c.args.shapes.now in
+    let chunk = chunk_numbered map.size c.args.place in
+    let before = c.requires.before in
+    let old = c.patch-old.result.now in
+    let part = c.in-Some.part in
+    let patch = c.in_ok-patch.patch in
+    let was = before.painted.are c.args.place old (c.at-cells.ensures ∙ ap (λ (n : Numbering). Some n) (sym c.patch-old.ensures)) in
+    let under = c.requires.base.are c.args.place c.at.result.now c.at.ensures in
+    let within = subst (λ (r : Rect). IsPartOf r part) c.rect.ensures.rect c.in-Some.ensures.part in
+    let same : old ≡ arc_value c.in_ok-shared-2.field-0 =
+    same_Some old (arc_value c.in_ok-shared-2.field-0) (sym (c.at-cells.ensures ∙ ap (λ (n : Numbering). Some n) (sym c.patch-old.ensures)) ∙ c.in_ok-shared-2.ensures) in
+    subst (λ (n : Numbering). IsPaintedChunk map now chunk n) same
+    (chunk_kept map before.earlier now c.args.reaches.now before.covered chunk old was part c.at.result.now patch under within
+    (λ cell inside is. c.in-Some.ensures.held cell (subst (λ (r : Rect). IsInRect r cell) (sym c.rect.ensures.rect) inside) is)
+    c.in_ok-patch.ensures.rect c.in_ok-patch.ensures.whole c.in_ok-patch.ensures.bits c.in_ok-patch.ensures.others
+    (λ k. subst (λ (n : ℕ). (bit_at n k ≡ 1) ↔ DiffersIn k part old patch) c.if-bits-eq0.true (c.differs_in-bits.ensures k)))
+
+pub returns-clause-painted : goal.returns-clause-painted
+returns-clause-painted c =
+    let map = c.args.map.now in let now = c.args.shapes.now in
+    let chunk = chunk_numbered map.size c.args.place in
+    let before = c.requires.before in
+    let old = c.patch-old.result.now in
+    let part = c.in-Some.part in
+    let patch = c.in_ok-patch.patch in
+    let was = before.painted.are c.args.place old (c.at-cells.ensures ∙ ap (λ (n : Numbering). Some n) (sym c.patch-old.ensures)) in
+    let under = c.requires.base.are c.args.place c.at.result.now c.at.ensures in
+    let within = subst (λ (r : Rect). IsPartOf r part) c.rect.ensures.rect c.in-Some.ensures.part in
+    subst (λ (n : Numbering). IsPaintedChunk map now chunk n) (sym (c.in_ok-new.ensures.ok ∙ c.in_ok-made.ensures))
+    (chunk_repainted map before.earlier now c.args.reaches.now before.covered chunk old was part c.at.result.now patch under within
+    (λ cell inside is. c.in-Some.ensures.held cell (subst (λ (r : Rect). IsInRect r cell) (sym c.rect.ensures.rect) inside) is)
+    c.in_ok-patch.ensures.rect c.in_ok-patch.ensures.whole c.in_ok-patch.ensures.bits c.in_ok-patch.ensures.others)
+
+pub returns-clause-bits : goal.returns-clause-bits
+returns-clause-bits c = λ found at k.
+    let map = c.args.map.now in let now = c.args.shapes.now in
+    let chunk = chunk_numbered map.size c.args.place in
+    let before = c.requires.before in
+    let old = c.patch-old.result.now in
+    let part = c.in-Some.part in
+    let patch = c.in_ok-patch.patch in
+    let set = c.differs_in-bits.result in
+    let was = before.painted.are c.args.place old (c.at-cells.ensures ∙ ap (λ (n : Numbering). Some n) (sym c.patch-old.ensures)) in
+    let under = c.requires.base.are c.args.place c.at.result.now c.at.ensures in
+    let within = subst (λ (r : Rect). IsPartOf r part) c.rect.ensures.rect c.in-Some.ensures.part in
+    let same : old ≡ found = same_Some old found (sym (c.at-cells.ensures ∙ ap (λ (n : Numbering). Some n) (sym c.patch-old.ensures)) ∙ at) in
+    subst (λ (n : Numbering). (bit_at set k ≡ 1) ↔ DiffersIn k n.rect found n) (sym (c.in_ok-new.ensures.ok ∙ c.in_ok-made.ensures))
+    (subst (λ (n : Numbering). (bit_at set k ≡ 1) ↔ DiffersIn k patch.rect n patch) same
+    (differs_in_part map before.earlier now c.args.reaches.now before.covered chunk old was part c.at.result.now patch under within
+    (λ cell inside is. c.in-Some.ensures.held cell (subst (λ (r : Rect). IsInRect r cell) (sym c.rect.ensures.rect) inside) is)
+    c.in_ok-patch.ensures.rect c.in_ok-patch.ensures.whole c.in_ok-patch.ensures.bits c.in_ok-patch.ensures.others
+    k set (c.differs_in-bits.ensures k)))

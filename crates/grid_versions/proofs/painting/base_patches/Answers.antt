@@ -1,0 +1,38 @@
+use Rattle.std.proofs.Common.{◌≡◌, ◌+◌, ◌∙◌, ℕ, List, ap, sym, subst, arith}
+use Rattle.nav_types.specs.declared.cells.Chunk.{Chunk}
+use Rattle.nav_types.specs.declared.cells.Rect.{Rect}
+use Rattle.nav_types.specs.declared.cells.Size.{Size}
+use Rattle.nav_types.specs.Cells.{IsInRect}
+use Rattle.nav_types.specs.Numbering.{Numbering}
+use Rattle.chunk_regions.specs.Labelling.{chunk_rect}
+use Rattle.grid_versions.specs.Chunks.{chunk_count}
+use Rattle.grid_versions.specs.inner.ChunkLists.{chunk_numbered, AreOfChunks}
+use Rattle.grid_versions.specs.inner.Painting.{IsBaseChunk}
+use Rattle.grid_versions.proofs.ChunkLemmas.{AreOfChunks-push}
+use Rattle.grid_versions.proofs.painting.base_patches.Goals as goal
+
+pub loop-place-preserved : goal.loop-place-preserved
+loop-place-preserved c =
+    let map = c.args.map.now in
+    let size = c.size-size.result in
+    let place = c.loop-place.place in
+    let patch = c.in_ok-base_patch.field-0 in
+    let rect_is : c.cells_of-rect.result ≡ chunk_rect map.size (chunk_numbered size place) =
+    c.cells_of-rect.ensures.value ∙ ap (λ (s : Size). chunk_rect s c.numbered.result) c.size-size.ensures
+    ∙ ap (λ (chunk : Chunk). chunk_rect map.size chunk) c.numbered.ensures.value in
+    let own : IsBaseChunk map (chunk_numbered size place) patch = record {
+      extent = c.in_ok-base_patch.ensures.rect ∙ rect_is;
+      whole = c.in_ok-base_patch.ensures.whole;
+      bits = λ k cell inside. c.in_ok-base_patch.ensures.bits k cell
+          (subst (λ (r : Rect). IsInRect r cell) c.in_ok-base_patch.ensures.rect inside);
+    } in
+    subst (λ (all : List Numbering). AreOfChunks size (place + 1) (IsBaseChunk map) all) (sym c.in_ok-push.ensures.ok)
+    (AreOfChunks-push size place (IsBaseChunk map) c.loop-place.all patch c.loop-place.invariant own)
+
+pub returns : goal.returns
+returns c =
+    let map = c.args.map.now in
+    let size = c.size-size.result in
+    let done : c.loop-place.place ≡ chunk_count size = omega arith in
+    subst (λ (s : Size). AreOfChunks s (chunk_count s) (IsBaseChunk map) c.loop-place.all) c.size-size.ensures
+    (subst (λ (n : ℕ). AreOfChunks size n (IsBaseChunk map) c.loop-place.all) done c.loop-place.invariant)

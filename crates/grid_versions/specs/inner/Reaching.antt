@@ -1,0 +1,44 @@
+-- Rectangles that cover what edits change.
+use Rattle.std.specs.Prelude.{ℕ, ◌≡◌, Bool, List, Option, Some, IsTrue, IsFalse, IsSomeAnd}
+use Rattle.std.specs.List.{list_any}
+use Rattle.std.specs.FinMap as fin_map
+use Rattle.nav_types.specs.declared.cells.Cell.{Cell}
+use Rattle.nav_types.specs.declared.cells.Rect.{Rect}
+use Rattle.nav_types.specs.Cells.{IsInside, IsInRect}
+use Rattle.nav_types.specs.Numbering.{Numbering}
+use Rattle.obstruction_shapes.specs.declared.shapes.Obstruction.{Obstruction}
+use Rattle.clearance_raster.specs.Rasters.{blocks_class}
+use Rattle.obstruction_store.specs.Standing.{Standing}
+use Rattle.grid_versions.specs.declared.edits.Edit.{Edit}
+use Rattle.grid_versions.specs.declared.edits.Edit.TheVariants.{Add, Remove, Move}
+use Rattle.grid_versions.specs.Maps.{Map}
+use Rattle.grid_versions.specs.Passing.{is_in_rect, is_blocked}
+use Rattle.grid_versions.specs.inner.Painting.{ArePaintedChunks}
+
+-- the number of the obstruction that an edit names
+abbrev pub edited_id : Edit → ℕ
+edited_id (Add id obstruction) = id
+edited_id (Remove id) = id
+edited_id (Move id x z) = id
+
+-- one of the rectangles holds the cell
+abbrev pub is_in_some : List Rect → Cell → Bool
+is_in_some rects cell = list_any (λ (rect : Rect). is_in_rect rect cell) rects
+
+-- the rectangle holds each cell of the map that the obstruction of the number blocks for some class
+abbrev pub HoldsReach : Map → Standing → ℕ → Option Rect → Type 0
+HoldsReach map standing id reach = (obstruction : Obstruction) → fin_map.get standing id ≡ Some obstruction
+    → (k : ℕ) (cell : Cell) → IsInside map.size cell → IsTrue (blocks_class obstruction map.classes k cell)
+    → IsSomeAnd reach (λ (rect : Rect). IsInRect rect cell)
+
+-- The rectangles cover what changes: a cell of the map that none of them holds is blocked for each class before exactly
+-- where it is blocked after.
+pub record CoverChanges (map : Map) (before now : Standing) (rects : List Rect) : Type 0 where
+  pub same : (k : ℕ) (cell : Cell) → IsInside map.size cell → IsFalse (is_in_some rects cell)
+      → is_blocked map before k cell ≡ is_blocked map now k cell
+
+-- the numbers of all chunks under some earlier obstructions, with rectangles that cover what has changed since
+pub record AreBefore (map : Map) (now : Standing) (cells : List Numbering) (rects : List Rect) : Type 0 where
+  pub earlier : Standing
+  pub painted : ArePaintedChunks map earlier cells
+  pub covered : CoverChanges map earlier now rects

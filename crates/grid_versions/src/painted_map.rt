@@ -1,0 +1,78 @@
+//! A map whose cells are painted, before its tables are made.
+ghost use Rattle.std.specs.Prelude.{◌≡◌};
+ghost use Rattle.grid_versions.specs.Versions.{map_state};
+ghost use Rattle.grid_versions.specs.inner.Painting.{ArePaintedChunks};
+
+use crate::chunk_cells::ChunkCells;
+use crate::chunks;
+use crate::maps::MapSpec;
+use crate::shared_list::SharedList;
+use nav_types::{Cell, Class, Size, View};
+use obstruction_store::Store;
+use std::marker::Model;
+
+/// A map, its obstructions and the numbers of its chunks' cells. Contracts see the map and the obstructions.
+#[derive(Drop)]
+pub struct PaintedMap<'a> {
+    map: &'a MapSpec,
+    shapes: &'a Store,
+    cells: &'a SharedList<ChunkCells>,
+}
+
+impl<'a> Model for PaintedMap<'a> {
+    ghost use Rattle.std.specs.FinMap as fin_map;
+    ghost use Rattle.std.specs.Coded.{coded_ℕ};
+    ghost use Rattle.obstruction_shapes.specs.contracts.shapes.Obstruction.{the_row as obstruction_row};
+    ghost use Rattle.grid_versions.specs.contracts.maps.MapSpec.{the_row as map_row};
+    ghost use Rattle.grid_versions.specs.Versions.{MapState, map_state, state_code};
+    ghost use Rattle.grid_versions.specs.inner.Painting.{ArePaintedChunks};
+
+    ghost Value = { MapState };
+
+    ghost coded = { state_code map_row.coded (fin_map.code coded_ℕ obstruction_row.coded) };
+
+    ghost view = { λ p. map_state p.map.now p.shapes.now };
+
+    ghost invariant = { λ p. ArePaintedChunks p.map.now p.shapes.now p.cells.now };
+}
+
+impl<'a> PaintedMap<'a> {
+    /// The map with these obstructions, where the cells have their numbers.
+    pub fn new(
+        map: &'a MapSpec,
+        shapes: &'a Store,
+        cells: &'a SharedList<ChunkCells>,
+    ) -> PaintedMap<'a>
+        requires { ArePaintedChunks map.now shapes.now cells.now }
+        ensures { result ≡ map_state map.now shapes.now }
+    {
+        PaintedMap { map, shapes, cells }
+    }
+}
+
+impl<'a> View for PaintedMap<'a> {
+    ghost use Rattle.grid_versions.specs.Versions.{MapState, passes_of};
+    ghost use Rattle.grid_versions.specs.PassingLaws.{passes_within};
+    ghost use Rattle.std.specs.Prelude.{length};
+
+    ghost extent = { λ p. p.map.size };
+
+    ghost class_count = { λ p. length p.map.classes };
+
+    ghost passes = { passes_of };
+
+    ghost within = { passes_within };
+
+    fn size(&self) -> Size {
+        self.map.size()
+    }
+
+    fn classes(&self) -> u8 {
+        self.map.classes().count()
+    }
+
+    fn passable(&self, class: Class, cell: Cell) -> bool {
+        let place = chunks::place_of(self.map.size(), cell.chunk());
+        self.cells.at(place as usize).is_free(class, cell)
+    }
+}

@@ -1,0 +1,71 @@
+//! Parts of rectangles.
+ghost use Rattle.std.specs.Prelude.{◌↔◌, IsTrue, IfSome, IfNone, IsSomeAnd};
+ghost use Rattle.nav_types.specs.declared.cells.Cell.{Cell};
+ghost use Rattle.nav_types.specs.declared.cells.Rect.{Rect};
+ghost use Rattle.nav_types.specs.Cells.{IsInRect};
+ghost use Rattle.navcell_grid.specs.Patches.{IsPartOf};
+ghost use Rattle.grid_versions.specs.inner.Reaching.{is_in_some};
+
+use nav_types::Rect;
+
+/// The cells that lie in both rectangles. None exactly where there is none.
+pub fn common(a: Rect, b: Rect) -> Option<Rect>
+    ensures part { IfSome result (IsPartOf b) }
+    ensures cells { IfSome result (λ rect. (cell : Cell) → (IsInRect rect cell ↔ (IsInRect a cell × IsInRect b cell))) }
+    ensures none { IfNone result ((cell : Cell) → IsInRect a cell → ¬ IsInRect b cell) }
+{
+    let rect = Rect {
+        i0: a.i0.max(b.i0),
+        j0: a.j0.max(b.j0),
+        i1: a.i1.min(b.i1),
+        j1: a.j1.min(b.j1),
+    };
+    if rect.i0 <= rect.i1 && rect.j0 <= rect.j1 {
+        Some(rect)
+    } else {
+        None
+    }
+}
+
+/// The least rectangle that holds both.
+fn hull(a: Rect, b: Rect) -> Rect
+    ensures part { (whole : Rect) → IsPartOf whole a → IsPartOf whole b → IsPartOf whole result }
+    ensures first { (cell : Cell) → IsInRect a cell → IsInRect result cell }
+    ensures second { (cell : Cell) → IsInRect b cell → IsInRect result cell }
+{
+    Rect {
+        i0: a.i0.min(b.i0),
+        j0: a.j0.min(b.j0),
+        i1: a.i1.max(b.i1),
+        j1: a.j1.max(b.j1),
+    }
+}
+
+/// The least rectangle that holds the first one, if there is one, and what the second has in common with `rect`.
+fn widened(part: Option<Rect>, reach: Rect, rect: Rect) -> Option<Rect>
+    requires { IfSome part (IsPartOf rect) }
+    ensures part { IfSome result (IsPartOf rect) }
+    ensures first { (cell : Cell) → IsSomeAnd part (λ r. IsInRect r cell) → IsSomeAnd result (λ r. IsInRect r cell) }
+    ensures second { (cell : Cell) → IsInRect rect cell → IsInRect reach cell
+        → IsSomeAnd result (λ r. IsInRect r cell) }
+{
+    match (part, common(reach, rect)) {
+        (Some(a), Some(b)) => Some(hull(a, b)),
+        (None, found) => found,
+        (found, None) => found,
+    }
+}
+
+/// The least rectangle that holds all cells of `rect` that lie in one of the reaches. None only where there is no such
+/// cell.
+pub fn dirty_part(reaches: &[Rect], rect: Rect) -> Option<Rect>
+    ensures part { IfSome result (IsPartOf rect) }
+    ensures held { (cell : Cell) → IsInRect rect cell → IsTrue (is_in_some reaches.now cell)
+        → IsSomeAnd result (λ part. IsInRect part cell) }
+{
+    let mut part = None;
+    for reach in reaches {
+        part = widened(part, *reach, rect);
+    }
+    part
+}

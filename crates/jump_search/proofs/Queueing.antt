@@ -1,0 +1,89 @@
+-- An open list of which one key has been added, lowered or taken out.
+use Rattle.std.proofs.Common.{ℕ, ◌≡◌, ◌≢◌, ◌+◌, ◌-◌, ◌≤◌, ◌⊎◌, true, false, Option, Some, None, is_some, inl, inr, refl}
+use Rattle.std.proofs.Common.{ap, sym, ◌∙◌, arith}
+use Rattle.std.proofs.lemmas.Bool.{cases_lt, cond-true, cond-false}
+use Rattle.std.specs.Cmp.{ranked, nat_cmp_is, nat_cmp_total}
+use Rattle.std.specs.FinMap as map
+use Rattle.std.specs.Ordering.{nat_cmp, eq_by_cmp, is_eq}
+use Rattle.std.specs.declared.cmp.Ordering.{Ordering}
+use Rattle.std.specs.declared.cmp.Ordering.TheVariants.{Less, Equal, Greater}
+use Rattle.open_heap.specs.declared.entries.Priority.{Priority}
+use Rattle.open_heap.specs.Queue.{Queue}
+
+ties_at : (a b : ℕ) → a ≡ b → eq_by_cmp nat_cmp a b ≡ true
+ties_at a b same = ap is_eq (sym (nat_cmp_is a b Equal same))
+
+same_by : (a b : ℕ) (r : Ordering) → r ≡ nat_cmp a b → is_eq r ≡ true → a ≡ b
+same_by a b Less e is = absurd (cc)
+same_by a b Equal e is = ranked a b Equal e
+same_by a b Greater e is = absurd (cc)
+
+apart_at : (a b : ℕ) → a ≢ b → eq_by_cmp nat_cmp a b ≡ false
+apart_at a b apart = elim (eq_by_cmp nat_cmp a b) as (λ r. eq_by_cmp nat_cmp a b ≡ r → r ≡ false) [
+  | true ↦ λ ties. absurd (apart (same_by a b (nat_cmp a b) refl ties))
+  | false ↦ λ ties. refl
+] refl
+
+pub inserted_here : (queue : Queue) (key : ℕ) (priority : Priority)
+    → map.get (map.insert queue key priority) key ≡ Some priority
+inserted_here queue key priority =
+    map.get-insert nat_cmp_total queue key priority key
+    ∙ cond-true (eq_by_cmp nat_cmp key key) (Some priority) (map.get queue key) (ties_at key key refl)
+
+pub inserted_apart : (queue : Queue) (key : ℕ) (priority : Priority) (other : ℕ) → other ≢ key
+    → map.get (map.insert queue key priority) other ≡ map.get queue other
+inserted_apart queue key priority other apart =
+    map.get-insert nat_cmp_total queue key priority other
+    ∙ cond-false (eq_by_cmp nat_cmp other key) (Some priority) (map.get queue other) (apart_at other key apart)
+
+pub removed_here : (queue : Queue) (key : ℕ) → map.get (map.remove queue key) key ≡ None
+removed_here queue key =
+    map.get-remove nat_cmp_total queue key key
+    ∙ cond-true (eq_by_cmp nat_cmp key key) None (map.get queue key) (ties_at key key refl)
+
+pub removed_apart : (queue : Queue) (key other : ℕ) → other ≢ key
+    → map.get (map.remove queue key) other ≡ map.get queue other
+removed_apart queue key other apart =
+    map.get-remove nat_cmp_total queue key other
+    ∙ cond-false (eq_by_cmp nat_cmp other key) None (map.get queue other) (apart_at other key apart)
+
+pub len_added : (queue : Queue) (key : ℕ) (priority : Priority) → map.get queue key ≡ None
+    → map.len (map.insert queue key priority) ≡ map.len queue + 1
+len_added queue key priority none =
+    map.len-insert nat_cmp_total queue key priority
+    ∙ cond-false (map.contains_key queue key) (map.len queue) (map.len queue + 1) (ap is_some none)
+
+pub len_lowered : (queue : Queue) (key : ℕ) (priority old : Priority) → map.get queue key ≡ Some old
+    → map.len (map.insert queue key priority) ≡ map.len queue
+len_lowered queue key priority old found =
+    map.len-insert nat_cmp_total queue key priority
+    ∙ cond-true (map.contains_key queue key) (map.len queue) (map.len queue + 1) (ap is_some found)
+
+-- a map that has a key has a length
+pub len_some : (queue : Queue) (key : ℕ) (priority : Priority) → map.get queue key ≡ Some priority → 1 ≤ map.len queue
+len_some queue key priority found = elim (cases_lt 0 (map.len queue)) [
+  | inl more ↦ more
+  | inr none ↦
+      let zero_len : map.len queue ≡ 0 = omega (arith, none) in
+      let empty = map.empty_of_len queue zero_len in
+      let lacks : map.get queue key ≡ None = ap (λ (m : Queue). map.get m key) empty ∙ map.get-empty nat_cmp key in
+      let bad : Some priority ≡ None = sym found ∙ lacks in
+      absurd (cc)
+]
+
+pub len_taken : (queue : Queue) (key : ℕ) (priority : Priority) → map.get queue key ≡ Some priority
+    → map.len (map.remove queue key) + 1 ≡ map.len queue
+len_taken queue key priority found =
+    let less = map.len-remove nat_cmp_total queue key
+    ∙ cond-true (map.contains_key queue key) (map.len queue - 1) (map.len queue) (ap is_some found) in
+    let some = len_some queue key priority found in
+    omega (arith, less, some)
+
+none_or_some : (found : Option Priority) → (found ≡ None) ⊎ ((priority : Priority) × (found ≡ Some priority))
+none_or_some None = inl refl
+none_or_some (Some priority) = inr (priority, refl)
+
+-- what a key has
+pub get_cases : (queue : Queue) (key : ℕ) → (map.get queue key ≡ None)
+    ⊎ ((priority : Priority) × (map.get queue key ≡ Some priority))
+get_cases queue key = none_or_some (map.get queue key)

@@ -1,0 +1,97 @@
+-- The start alone, which waits.
+use Rattle.std.proofs.Common.{ℕ, ◌≡◌, ◌≤◌, Bool, false, IsFalse, [], ◌∷◌, Some, None, inl, inr, refl, ap, sym, subst}
+use Rattle.std.proofs.Common.{◌∙◌, arith}
+use Rattle.std.specs.List.{slice_get}
+use Rattle.std.specs.FinMap as map
+use Rattle.std.specs.Ordering.{nat_cmp}
+use Rattle.std.proofs.lemmas.Bool.{cases_eq, both_ways}
+use Rattle.std.proofs.lemmas.Option.{same_Some, slice_get_within}
+use Rattle.nav_types.specs.declared.cells.Cell.{Cell}
+use Rattle.nav_types.specs.declared.cells.Rect.{Rect}
+use Rattle.open_heap.specs.declared.entries.Priority.{Priority}
+use Rattle.open_heap.specs.Queue.{Queue}
+use Rattle.jump_search.specs.declared.nodes.Node.{Node}
+use Rattle.jump_search.specs.JumpStates.{start_state}
+use Rattle.jump_search.specs.inner.Searched.{AreMet}
+use Rattle.jump_search.specs.inner.Underway.{estimate_of, priority_of, IsUnderway}
+use Rattle.jump_search.proofs.Queueing.{inserted_here, inserted_apart, len_added}
+use Rattle.jump_search.proofs.Relaxing.{none_is_some}
+
+-- the node of the start
+abbrev pub start_node : Cell → Node
+start_node start = record { state = start_state start; cost = 0; run = 0; opened = false }
+
+-- the only node is the start's
+only : (start : Cell) (number : ℕ) (node : Node) → slice_get (start_node start ∷ []) number ≡ Some node
+    → (number ≡ 0) × (start_node start ≡ node)
+only start number node found =
+    let low = slice_get_within (start_node start ∷ []) number node found in
+    let zero_is : number ≡ 0 = omega (arith, low) in (
+      zero_is,
+      same_Some (start_node start) node (subst (λ (n : ℕ). slice_get (start_node start ∷ []) n ≡ Some node)
+          zero_is found),
+    )
+
+met_start : (passes hit : Cell → Bool) (start : Cell) → AreMet passes hit start (start_node start ∷ [])
+met_start passes hit start = record {
+  first = (start_node start, (refl, (refl, refl)));
+  once = λ p q a b in_p in_q same. (only start p a in_p).0 ∙ sym (only start q b in_q).0;
+  reached = λ number node found.
+      let is = (only start number node found).1 in
+      ([], (ap (λ (n : Node). n.state) (sym is), ap (λ (n : Node). n.cost) is));
+  parents = λ number node found some. let zero_is = (only start number node found).0 in
+      absurd (omega (arith, some, zero_is));
+}
+
+pub underway_start : (all : Bool) (passes hit : Cell → Bool) (start : Cell) (rect : Rect)
+    → IsUnderway all passes hit start rect 0 (start_node start ∷ [])
+    (map.insert map.empty 0 (priority_of rect (start_node start))) None
+underway_start all passes hit start rect =
+    let node = start_node start in
+    let empty : Queue = map.empty in
+    let queue = map.insert empty 0 (priority_of rect node) in
+    let none : (number : ℕ) → map.get empty number ≡ None = λ number. map.get-empty nat_cmp number in
+    let longer = len_added empty 0 (priority_of rect node) (none 0) in
+    let zero_len : map.len empty ≡ 0 = map.len-empty nat_cmp Priority in
+    record {
+      met = met_start passes hit start;
+      queued = record {
+        waits = λ number priority found. elim (cases_eq number 0) [
+          | inl here ↦
+              let is : map.get queue number ≡ Some (priority_of rect node) =
+              subst (λ (n : ℕ). map.get queue n ≡ Some (priority_of rect node)) (sym here)
+              (inserted_here empty 0 (priority_of rect node)) in
+              let same = same_Some (priority_of rect node) priority (sym is ∙ found) in
+              let at : slice_get (node ∷ []) number ≡ Some node =
+              subst (λ (n : ℕ). slice_get (node ∷ []) n ≡ Some node) (sym here) refl in (
+                node,
+                (
+                  at,
+                  (
+                    refl,
+                    subst (λ (p : Priority). (p.estimate ≡ estimate_of rect node)
+                        × ((p.order ≡ 0) × (0 ≤ p.estimate))) same (refl, (refl, omega arith)),
+                  ),
+                ),
+              )
+          | inr apart ↦ absurd (none_is_some priority (map.get queue number)
+              (inserted_apart empty 0 (priority_of rect node) number apart ∙ none number) found)
+        ];
+        taken = λ number x found lacks.
+            let zero_is = (only start number x found).0 in
+            let is : map.get queue number ≡ Some (priority_of rect node) =
+            subst (λ (n : ℕ). map.get queue n ≡ Some (priority_of rect node)) (sym zero_is)
+            (inserted_here empty 0 (priority_of rect node)) in
+            absurd (none_is_some (priority_of rect node) (map.get queue number) lacks is);
+      };
+      followed = λ number x found opened.
+          let is = (only start number x found).1 in
+          absurd (both_ways x.opened (subst (λ (n : Node). IsFalse n.opened) is refl) opened);
+      hits = λ number x found opened hit_there.
+          let is = (only start number x found).1 in
+          both_ways x.opened (subst (λ (n : Node). IsFalse n.opened) is refl) opened;
+      costs = λ number x found.
+          let cost : x.cost ≡ 0 = ap (λ (n : Node). n.cost) (sym (only start number x found).1) in
+          omega (arith, cost, longer, zero_len);
+      few = omega arith;
+    }

@@ -1,0 +1,2 @@
+pub mod JumpStates
+pub mod inner

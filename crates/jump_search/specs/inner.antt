@@ -1,0 +1,6 @@
+-- Definitions that only private contracts cite.
+pub mod Following
+pub mod Numbered
+pub mod Searched
+pub mod Traced
+pub mod Underway

@@ -1,0 +1,69 @@
+-- What is known while the chosen walk is traced back.
+use Rattle.std.specs.Prelude.{ℕ, Bool, ◌≡◌, ◌+◌, ◌*◌, ◌++◌, List, Option, None, Some, slice_get, reverse, IsTrue}
+use Rattle.nav_types.specs.declared.cells.Cell.{Cell}
+use Rattle.nav_types.specs.declared.cells.Rect.{Rect}
+use Rattle.nav_types.specs.declared.directions.Dir.{Dir}
+use Rattle.nav_types.specs.Directions.{east, west, north, south}
+use Rattle.nav_types.specs.Walks.{IsWalk, walk_cost, IsDistance}
+use Rattle.walks.specs.Chosen.{IsChosenBack}
+use Rattle.walks.specs.Waypoints.{IsInGrid}
+use Rattle.jump_search.specs.declared.nodes.Node.{Node}
+use Rattle.jump_search.specs.declared.states.JumpState.{JumpState}
+use Rattle.jump_search.specs.JumpStates.{octile_to}
+use Rattle.jump_search.specs.inner.Following.{Follows}
+use Rattle.jump_search.specs.inner.Searched.{IsSearched}
+
+-- so many steps in the direction lead from one cell to the other
+pub record Moves (dir : Dir) (count : ℕ) (from to : Cell) : Type 0 where
+  pub columns : to.i + count * west dir ≡ from.i + count * east dir
+  pub rows : to.j + count * south dir ≡ from.j + count * north dir
+
+-- the node of the cell and the direction costs so much, and its last run has so many steps
+pub record HasRun (nodes : List Node) (cell : Cell) (cost : ℕ) (dir : Dir) (run : ℕ) : Type 0 where
+  pub place : ℕ
+  pub node : Node
+  pub known : slice_get nodes place ≡ Some node
+  pub state : node.state ≡ record { cell = cell; arrived = Some dir }
+  pub costs : node.cost ≡ cost
+  pub runs : node.run ≡ run
+
+-- each state has one node
+abbrev pub AreDistinct : List Node → Type 0
+AreDistinct nodes = (p q : ℕ) (a b : Node) → slice_get nodes p ≡ Some a → slice_get nodes q ≡ Some b → a.state ≡ b.state
+    → p ≡ q
+
+-- jumps in the direction come to the cell at this cost
+abbrev pub IsExact : List Node → Cell → ℕ → Dir → Type 0
+IsExact nodes cell cost dir = (run : ℕ) × HasRun nodes cell cost dir run
+
+-- The walk has been traced back from the end, whose distance is the bound, to the cell: `next` is the step that follows
+-- the cell, and `back` has the steps from the end backwards to it. They are chosen where the chosen walk goes by jump
+-- states.
+pub record IsTraced (passes hit : Cell → Bool) (start : Cell) (nodes : List Node) (end : Cell) (bound : ℕ) (cell : Cell)
+    (cost : ℕ)
+    (next : Option Dir) (back : List Dir) : Type 0 where
+  pub place : ℕ
+  pub node : Node
+  pub known : slice_get nodes place ≡ Some node
+  pub opened : IsTrue node.opened
+  pub here : node.state.cell ≡ cell
+  pub costs : node.cost ≡ cost
+  pub distance : IsDistance passes start cell cost
+  pub walk : IsWalk passes cell (reverse back) end
+  pub sums : cost + walk_cost (reverse back) ≡ bound
+  pub chosen : ((states : List JumpState) (state : JumpState) → state.cell ≡ cell
+      → Follows passes hit start next states state
+      → ((rest : List Dir) → IsChosenBack passes start next rest cell
+      → IsChosenBack passes start None (back ++ rest) end) → ⊥) → ⊥
+
+-- a hit cell that passes lies in the rectangle
+abbrev pub IsNear : (Cell → Bool) → (Cell → Bool) → Rect → Type 0
+IsNear passes hit rect = (cell : Cell) → IsTrue (passes cell) → IsTrue (hit cell) → octile_to rect cell ≡ 0
+
+-- Nodes over which the chosen walk to the end can be traced back: those of a search that has ended there.
+pub record IsTraceable (all : Bool) (passes hit : Cell → Bool) (start : Cell) (rect : Rect) (end : Cell) (bound : ℕ)
+    (nodes : List Node) : Type 0 where
+  pub searched : IsSearched all passes hit start rect end bound nodes
+  pub passing : IsTrue (passes start)
+  pub near : IsNear passes hit rect
+  pub grid : (cell : Cell) → IsTrue (passes cell) → IsInGrid cell

@@ -1,0 +1,242 @@
+//! The nodes that a search has met, and those of them that wait.
+ghost use Rattle.std.specs.Prelude.{◌≡◌, ◌↔◌, ◌<◌, ◌≤◌, ◌⊎◌, ◌++◌, ◌∷◌, ◌+◌, [], ℕ, Bool, Some, None, length};
+ghost use Rattle.std.specs.Prelude.{slice_get, slice_set, IsTrue, IsFalse, IsSomeAnd, IfSome, IfNone, OnOk, IfOk};
+ghost use Rattle.std.specs.FinMap as map;
+ghost use Rattle.nav_types.specs.declared.cells.Cell.{Cell};
+ghost use Rattle.nav_types.specs.declared.directions.Dir.{Dir};
+ghost use Rattle.nav_types.specs.DirSets.{holds};
+ghost use Rattle.open_heap.specs.Queue.{IsNotMore};
+ghost use Rattle.jump_scan.specs.Successors.{IsSuccessor};
+ghost use Rattle.jump_search.specs.JumpStates.{IsStopOf, octile_between};
+ghost use Rattle.jump_search.specs.inner.Numbered.{HasState, LacksState};
+ghost use Rattle.jump_search.specs.inner.Searched.{IsKeptRun, IsDearer};
+ghost use Rattle.jump_search.specs.inner.Underway.{steps_over, estimate_of, priority_of, IsQueued, Relaxes};
+ghost use Rattle.jump_search.specs.inner.Underway.{IsFollowable, Follows};
+ghost use Rattle.jump_search.specs.declared.nodes.Node.{Node};
+
+use crate::nodes::{Node, Nodes};
+use crate::octile::{octile_between, octile_to, steps_between};
+use crate::states::JumpState;
+use jump_scan::{Runs, successors};
+use nav_types::{Aim, Cell, Class, Dir, DirSet, NoMemory, Rect};
+use open_heap::{OpenHeap, Priority};
+use std::alloc::Global;
+
+/// The nodes that a search has met, and the open list of those that wait.
+#[derive(Drop)]
+pub(crate) struct Front {
+    pub nodes: Nodes,
+    pub waiting: OpenHeap,
+}
+
+/// The node to which a run leads.
+fn landed(node: &Node, dir: Dir, stop: Cell) -> Node
+    requires { node.now.cost < 4611686018427387904 }
+    ensures cell { result.state.cell ≡ stop }
+    ensures arrived { result.state.arrived ≡ Some dir }
+    ensures cost { result.cost ≡ node.now.cost + octile_between node.now.state.cell stop }
+    ensures run { result.run ≡ steps_over node.now.state.cell stop }
+    ensures opened { IsFalse result.opened }
+{
+    let from = node.state.cell;
+    Node {
+        state: JumpState {
+            cell: stop,
+            arrived: Some(dir),
+        },
+        cost: node.cost + octile_between(from, stop),
+        run: steps_between(from, stop),
+        opened: false,
+    }
+}
+
+/// The one of two last runs of equal cost that is kept: the longer one where they are straight, else the shorter one.
+fn kept_run(dir: Dir, one: u16, other: u16) -> u16
+    ensures one { IsKeptRun (Some dir) result one }
+    ensures other { IsKeptRun (Some dir) result other }
+    ensures either { (result ≡ one) ⊎ (result ≡ other) }
+{
+    if dir.is_straight() {
+        one.max(other)
+    } else {
+        one.min(other)
+    }
+}
+
+/// The stop of the run from the cell in the direction. None exactly where it has none.
+fn stop_of<R: Runs, A: Aim>(runs: &R, class: Class, from: Cell, dir: Dir, aim: &A) -> Option<Cell>
+    requires class { class < R.class_count runs.now }
+    requires start { IsTrue (R.passes runs.now class from) }
+    requires aim { A.sound aim.now (R.extent runs.now) }
+    ensures some { IfSome result (IsStopOf (R.passes runs.now class) (A.hit aim.now (R.extent runs.now)) dir from) }
+    ensures none { IfNone result ((stop : Cell)
+        → ¬ IsStopOf (R.passes runs.now class) (A.hit aim.now (R.extent runs.now)) dir from stop) }
+{
+    if dir.is_straight() {
+        return runs.straight(class, from, dir, aim);
+    }
+    runs.diagonal(class, from, dir, aim)
+}
+
+/// When a node is taken from the open list: nodes of a lesser estimate come first.
+fn priority_of(rect: &Rect, node: &Node) -> Priority
+    requires { node.now.cost < 9223372036854775808 }
+    ensures { result ≡ priority_of rect.now node.now }
+{
+    Priority {
+        estimate: node.cost + octile_to(rect, node.state.cell),
+        order: 0,
+    }
+}
+
+impl Front {
+    /// No node.
+    pub(crate) fn new(alloc: Global) -> Result<Front, NoMemory>
+        ensures nodes { IfOk result (λ front. front.nodes ≡ []) }
+        ensures waiting { IfOk result (λ front. front.waiting ≡ map.empty) }
+    {
+        Ok(Front {
+            nodes: Nodes::new(alloc),
+            waiting: OpenHeap::new(alloc)?,
+        })
+    }
+
+    /// Adds a node whose state has none, and lets it wait.
+    pub(crate) fn meet(&mut self, rect: &Rect, node: Node) -> Result<(), NoMemory>
+        requires lacks { LacksState self.old.nodes node.state }
+        requires waits { map.get self.old.waiting (length self.old.nodes) ≡ None }
+        requires low { node.cost < 9223372036854775808 }
+        ensures nodes { OnOk result (self.new.nodes ≡ self.old.nodes ++ node ∷ []) }
+        ensures waiting { OnOk result (self.new.waiting ≡ map.insert self.old.waiting (length self.old.nodes)
+            (priority_of rect.now node)) }
+        ensures few { OnOk result (length self.new.nodes ≤ 4294967296) }
+    {
+        let number = self.nodes.add(node)?;
+        self.waiting.push(number, priority_of(rect, &node))?;
+        Ok(())
+    }
+
+    /// Gives a node that waits a cost that is less.
+    fn lower(&mut self, rect: &Rect, number: u32, node: Node)
+        requires same { HasState self.old.nodes node.state number }
+        requires waits { IsSomeAnd (map.get self.old.waiting number) (IsNotMore (priority_of rect.now node)) }
+        requires low { node.cost < 9223372036854775808 }
+        ensures nodes { self.new.nodes ≡ slice_set self.old.nodes number node }
+        ensures waiting { self.new.waiting ≡ map.insert self.old.waiting number (priority_of rect.now node) }
+    {
+        self.nodes.put(number, node);
+        self.waiting.lower(number, priority_of(rect, &node));
+    }
+
+    /// Notes that a jump leads to the node's state at its cost and with its last run.
+    fn relax(&mut self, rect: &Rect, dir: Dir, node: Node) -> Result<(), NoMemory>
+        requires arrived { node.state.arrived ≡ Some dir }
+        requires waiting { IsFalse node.opened }
+        requires low { node.cost < 9223372036854775808 }
+        requires queued { (all : Bool) × ((floor : ℕ)
+            × (IsQueued all rect.now floor self.old.nodes self.old.waiting × (floor ≤ estimate_of rect.now node))) }
+        ensures { OnOk result (Relaxes rect.now node self.old.nodes self.new.nodes self.old.waiting self.new.waiting) }
+    {
+        let Some(number) = self.nodes.find(node.state) else {
+            self.meet(rect, node)?;
+            return Ok(());
+        };
+        let known = *self.nodes.at(number);
+        if node.cost < known.cost {
+            self.lower(rect, number, node);
+            return Ok(());
+        }
+        if node.cost == known.cost {
+            let run = kept_run(dir, known.run, node.run);
+            self.nodes.put(number, Node { run, ..known });
+            return Ok(());
+        }
+        Ok(())
+    }
+
+    /// Follows the jump from the node in the direction, where that is one of the set and its run stops.
+    fn follow_along<R: Runs, A: Aim>(
+        &mut self,
+        runs: &R,
+        class: Class,
+        aim: &A,
+        rect: &Rect,
+        node: &Node,
+        dirs: DirSet,
+        dir: Dir,
+    ) -> Result<(), NoMemory>
+        requires class { class < R.class_count runs.now }
+        requires cell { IsTrue (R.passes runs.now class node.now.state.cell) }
+        requires successors { IsTrue (holds dirs dir) ↔ IsSuccessor (R.passes runs.now class) node.now.state.cell
+            node.now.state.arrived dir }
+        requires aim { A.sound aim.now (R.extent runs.now) }
+        requires followable { IsFollowable (R.passes runs.now class) (A.hit aim.now (R.extent runs.now)) rect.now
+            node.now.state node.now.cost self.old.nodes self.old.waiting }
+        ensures { OnOk result (Follows (R.passes runs.now class) (A.hit aim.now (R.extent runs.now)) rect.now
+            node.now.state node.now.cost
+            (λ other. other ≡ dir) self.old.nodes self.new.nodes self.old.waiting self.new.waiting) }
+    {
+        if !dirs.has(dir) {
+            return Ok(());
+        }
+        let Some(stop) = stop_of(runs, class, node.state.cell, dir, aim) else {
+            return Ok(());
+        };
+        self.relax(rect, dir, landed(node, dir, stop))?;
+        Ok(())
+    }
+
+    /// Follows each jump from the node.
+    pub(crate) fn follow<R: Runs, A: Aim>(
+        &mut self,
+        runs: &R,
+        class: Class,
+        aim: &A,
+        rect: &Rect,
+        node: &Node,
+    ) -> Result<(), NoMemory>
+        requires class { class < R.class_count runs.now }
+        requires cell { IsTrue (R.passes runs.now class node.now.state.cell) }
+        requires aim { A.sound aim.now (R.extent runs.now) }
+        requires followable { IsFollowable (R.passes runs.now class) (A.hit aim.now (R.extent runs.now)) rect.now
+            node.now.state node.now.cost self.old.nodes self.old.waiting }
+        ensures { OnOk result (Follows (R.passes runs.now class) (A.hit aim.now (R.extent runs.now)) rect.now
+            node.now.state node.now.cost
+            (λ other. Unit {0}) self.old.nodes self.new.nodes self.old.waiting self.new.waiting) }
+    {
+        let dirs = successors(runs, class, node.state.cell, node.state.arrived);
+        for dir in Dir::ALL {
+            self.follow_along(runs, class, aim, rect, node, dirs, dir)?;
+        }
+        Ok(())
+    }
+
+    /// Whether the state has a node that costs less.
+    fn has_cheaper(&self, state: JumpState, cost: u64) -> bool
+        ensures { IsTrue result → (number : ℕ) × ((other : Node)
+            × ((slice_get self.now.nodes number ≡ Some other) × ((other.state ≡ state) × (other.cost < cost)))) }
+    {
+        match self.nodes.find(state) {
+            Some(number) => self.nodes.at(number).cost < cost,
+            None => false,
+        }
+    }
+
+    /// Whether some node of the same cell costs less.
+    pub(crate) fn is_dearer(&self, node: &Node) -> bool
+        ensures { IsTrue result → IsDearer self.now.nodes node.now }
+    {
+        let cell = node.state.cell;
+        for dir in Dir::ALL {
+            let state = JumpState {
+                cell,
+                arrived: Some(dir),
+            };
+            if self.has_cheaper(state, node.cost) {
+                return true;
+            }
+        }
+        let arrived = None;
+        self.has_cheaper(JumpState { cell, arrived }, node.cost)
+    }
+}

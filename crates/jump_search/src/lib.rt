@@ -1,0 +1,20 @@
+//! Jump point search.
+//!
+//! The rules are those of Harabor and Grastien, "Online Graph Pruning for Pathfinding on Grid Maps", AAAI 2011,
+//! for legal steps, which cut no corner.
+#![tactic(auto)]
+
+mod front;
+mod laws;
+mod nodes;
+mod octile;
+mod search;
+mod searching;
+mod states;
+#[cfg(test)]
+mod tests;
+mod tracing;
+
+pub use laws::{one_opened_number, one_pruned_cost};
+pub use search::{Traced, jump_find, jump_find_with, jump_search, jump_search_with};
+pub use states::JumpState;

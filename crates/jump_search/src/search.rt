@@ -1,0 +1,179 @@
+//! The jump search, over a map that answers runs or over any view.
+ghost use Rattle.std.specs.Prelude.{ℕ, List, ◌≡◌, ◌<◌, ◌≤◌, ◌+◌, IsTrue, IfOk};
+ghost use Rattle.nav_types.specs.declared.cells.Cell.{Cell};
+ghost use Rattle.nav_types.specs.declared.cells.Rect.{Rect};
+ghost use Rattle.nav_types.specs.Counting.{Counts};
+ghost use Rattle.nav_types.specs.Frames.{IsFrame};
+ghost use Rattle.nav_types.specs.Walks.{CanReach};
+ghost use Rattle.walks.specs.Chosen.{IsAnswer};
+ghost use Rattle.jump_search.specs.JumpStates.{IsOpened};
+
+use crate::searching::searched;
+use crate::tracing::traced;
+use jump_scan::{CellRuns, Runs};
+use nav_types::{Aim, Cell, Class, Cost, NoMemory, Ticks, View};
+use std::alloc::Global;
+use std::sync::ledger::Ledger;
+use walks::{Found, waypoints};
+
+/// What a jump search finds, and how many jump states it opened.
+#[derive(Debug, Drop)]
+pub struct Traced {
+    pub found: Found,
+    pub opened: u64,
+}
+
+/// The answer of a search, which is for all jump states within the cost or not.
+fn answered<R: Runs, A: Aim, L: Ledger>(
+    alloc: Global,
+    runs: &R,
+    class: Class,
+    start: Cell,
+    aim: &A,
+    all: bool,
+    ticks: &mut Ticks<L>,
+) -> Result<Traced, NoMemory>
+    requires class { class < R.class_count runs.now }
+    requires start { IsTrue (R.passes runs.now class start) }
+    requires aim { A.sound aim.now (R.extent runs.now) }
+    requires reach { CanReach (R.passes runs.now class) start (A.hit aim.now (R.extent runs.now)) }
+    ensures answer { IfOk result (λ traced. IsAnswer (R.passes runs.now class) start (A.hit aim.now (R.extent runs.now))
+        traced.found.end traced.found.cost.0 traced.found.waypoints) }
+    ensures opened { IfOk result (λ traced. IsTrue all → (rect : Rect)
+        → IsFrame (A.framed aim.now (R.extent runs.now)) (R.extent runs.now) rect
+        → Counts (IsOpened (R.passes runs.now class) (A.hit aim.now (R.extent runs.now)) start rect traced.found.cost.0)
+        traced.opened) }
+    ensures most { (end : Cell) (cost : ℕ) (points : List Cell) (rect : Rect) (n : ℕ)
+        → IsAnswer (R.passes runs.now class) start (A.hit aim.now (R.extent runs.now)) end cost points
+        → IsFrame (A.framed aim.now (R.extent runs.now)) (R.extent runs.now) rect
+        → Counts (IsOpened (R.passes runs.now class) (A.hit aim.now (R.extent runs.now)) start rect cost) n
+        → ticks.new ≤ ticks.old + n }
+{
+    let outcome = searched(alloc, runs, class, start, aim, all, ticks)?;
+    let Some(best) = outcome.best else {
+        unreachable!()
+    };
+    let walk = traced(alloc, &outcome.nodes, start, best)?;
+    let waypoints = waypoints(alloc, start, &walk)?;
+    Ok(Traced {
+        found: Found {
+            end: best.cell,
+            cost: Cost(best.cost),
+            waypoints,
+        },
+        opened: outcome.opened,
+    })
+}
+
+/// The chosen walk from the start to the first in cell order of the nearest cells that the aim hits, and the opened
+/// number: how many jump states have a least pruned cost that, with the octile distance to the rectangle of the aim, is
+/// within the cost of the answer. The start must be passable, and some hit cell must be joined to it.
+///
+/// Each opened jump state is one tick, so there are no more than the opened number, also where memory runs out.
+pub fn jump_search_with<R: Runs, A: Aim, L: Ledger>(
+    alloc: Global,
+    runs: &R,
+    class: Class,
+    start: Cell,
+    aim: &A,
+    ticks: &mut Ticks<L>,
+) -> Result<Traced, NoMemory>
+    requires class { class < R.class_count runs.now }
+    requires start { IsTrue (R.passes runs.now class start) }
+    requires aim { A.sound aim.now (R.extent runs.now) }
+    requires reach { CanReach (R.passes runs.now class) start (A.hit aim.now (R.extent runs.now)) }
+    ensures answer { IfOk result (λ traced. IsAnswer (R.passes runs.now class) start (A.hit aim.now (R.extent runs.now))
+        traced.found.end traced.found.cost.0 traced.found.waypoints) }
+    ensures opened { IfOk result (λ traced. (rect : Rect)
+        → IsFrame (A.framed aim.now (R.extent runs.now)) (R.extent runs.now) rect
+        → Counts (IsOpened (R.passes runs.now class) (A.hit aim.now (R.extent runs.now)) start rect traced.found.cost.0)
+        traced.opened) }
+    ensures most { (end : Cell) (cost : ℕ) (points : List Cell) (rect : Rect) (n : ℕ)
+        → IsAnswer (R.passes runs.now class) start (A.hit aim.now (R.extent runs.now)) end cost points
+        → IsFrame (A.framed aim.now (R.extent runs.now)) (R.extent runs.now) rect
+        → Counts (IsOpened (R.passes runs.now class) (A.hit aim.now (R.extent runs.now)) start rect cost) n
+        → ticks.new ≤ ticks.old + n }
+{
+    answered(alloc, runs, class, start, aim, true, ticks)
+}
+
+/// As [`jump_search_with`], over any view, cell by cell.
+pub fn jump_search<V: View, A: Aim, L: Ledger>(
+    alloc: Global,
+    view: &V,
+    class: Class,
+    start: Cell,
+    aim: &A,
+    ticks: &mut Ticks<L>,
+) -> Result<Traced, NoMemory>
+    requires class { class < V.class_count view.now }
+    requires start { IsTrue (V.passes view.now class start) }
+    requires aim { A.sound aim.now (V.extent view.now) }
+    requires reach { CanReach (V.passes view.now class) start (A.hit aim.now (V.extent view.now)) }
+    ensures answer { IfOk result (λ traced. IsAnswer (V.passes view.now class) start (A.hit aim.now (V.extent view.now))
+        traced.found.end traced.found.cost.0 traced.found.waypoints) }
+    ensures opened { IfOk result (λ traced. (rect : Rect)
+        → IsFrame (A.framed aim.now (V.extent view.now)) (V.extent view.now) rect
+        → Counts (IsOpened (V.passes view.now class) (A.hit aim.now (V.extent view.now)) start rect traced.found.cost.0)
+        traced.opened) }
+    ensures most { (end : Cell) (cost : ℕ) (points : List Cell) (rect : Rect) (n : ℕ)
+        → IsAnswer (V.passes view.now class) start (A.hit aim.now (V.extent view.now)) end cost points
+        → IsFrame (A.framed aim.now (V.extent view.now)) (V.extent view.now) rect
+        → Counts (IsOpened (V.passes view.now class) (A.hit aim.now (V.extent view.now)) start rect cost) n
+        → ticks.new ≤ ticks.old + n }
+{
+    jump_search_with(alloc, &CellRuns::new(view), class, start, aim, ticks)
+}
+
+/// The chosen walk from the start to the first in cell order of the nearest cells that the aim hits. The start must be
+/// passable, and some hit cell must be joined to it.
+///
+/// It opens no jump state that is dearer than another of its cell. Each that it opens is one tick, so there are no more
+/// than the opened number of [`jump_search_with`], also where memory runs out.
+pub fn jump_find_with<R: Runs, A: Aim, L: Ledger>(
+    alloc: Global,
+    runs: &R,
+    class: Class,
+    start: Cell,
+    aim: &A,
+    ticks: &mut Ticks<L>,
+) -> Result<Found, NoMemory>
+    requires class { class < R.class_count runs.now }
+    requires start { IsTrue (R.passes runs.now class start) }
+    requires aim { A.sound aim.now (R.extent runs.now) }
+    requires reach { CanReach (R.passes runs.now class) start (A.hit aim.now (R.extent runs.now)) }
+    ensures answer { IfOk result (λ found. IsAnswer (R.passes runs.now class) start (A.hit aim.now (R.extent runs.now))
+        found.end found.cost.0 found.waypoints) }
+    ensures most { (end : Cell) (cost : ℕ) (points : List Cell) (rect : Rect) (n : ℕ)
+        → IsAnswer (R.passes runs.now class) start (A.hit aim.now (R.extent runs.now)) end cost points
+        → IsFrame (A.framed aim.now (R.extent runs.now)) (R.extent runs.now) rect
+        → Counts (IsOpened (R.passes runs.now class) (A.hit aim.now (R.extent runs.now)) start rect cost) n
+        → ticks.new ≤ ticks.old + n }
+{
+    let traced = answered(alloc, runs, class, start, aim, false, ticks)?;
+    Ok(traced.found)
+}
+
+/// As [`jump_find_with`], over any view, cell by cell.
+pub fn jump_find<V: View, A: Aim, L: Ledger>(
+    alloc: Global,
+    view: &V,
+    class: Class,
+    start: Cell,
+    aim: &A,
+    ticks: &mut Ticks<L>,
+) -> Result<Found, NoMemory>
+    requires class { class < V.class_count view.now }
+    requires start { IsTrue (V.passes view.now class start) }
+    requires aim { A.sound aim.now (V.extent view.now) }
+    requires reach { CanReach (V.passes view.now class) start (A.hit aim.now (V.extent view.now)) }
+    ensures answer { IfOk result (λ found. IsAnswer (V.passes view.now class) start (A.hit aim.now (V.extent view.now))
+        found.end found.cost.0 found.waypoints) }
+    ensures most { (end : Cell) (cost : ℕ) (points : List Cell) (rect : Rect) (n : ℕ)
+        → IsAnswer (V.passes view.now class) start (A.hit aim.now (V.extent view.now)) end cost points
+        → IsFrame (A.framed aim.now (V.extent view.now)) (V.extent view.now) rect
+        → Counts (IsOpened (V.passes view.now class) (A.hit aim.now (V.extent view.now)) start rect cost) n
+        → ticks.new ≤ ticks.old + n }
+{
+    jump_find_with(alloc, &CellRuns::new(view), class, start, aim, ticks)
+}

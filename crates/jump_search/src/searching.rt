@@ -1,0 +1,255 @@
+//! The search: jump states are opened by their estimates until none is left within the cost of the best hit.
+ghost use Rattle.std.specs.Prelude.{◌≡◌, ◌<◌, ◌≤◌, ◌+◌, ◌⊎◌, ℕ, Bool, List, None, Some, length, slice_get, IsSome};
+ghost use Rattle.std.specs.Prelude.{IsTrue, IsFalse, IfSome, IfNone, IfOk, OnOk, OnErr};
+ghost use Rattle.std.specs.FinMap as map;
+ghost use Rattle.nav_types.specs.declared.cells.Cell.{Cell};
+ghost use Rattle.nav_types.specs.declared.cells.Rect.{Rect};
+ghost use Rattle.nav_types.specs.Cells.{IsInside};
+ghost use Rattle.nav_types.specs.Frames.{IsFrame};
+ghost use Rattle.open_heap.specs.declared.entries.Priority.{Priority};
+ghost use Rattle.open_heap.specs.Queue.{IsLeast};
+ghost use Rattle.jump_search.specs.declared.nodes.Node.{Node};
+ghost use Rattle.jump_search.specs.inner.Searched.{IsDearer};
+ghost use Rattle.jump_search.specs.inner.Underway.{opened_count, IsBetter, IsNotPast, IsPast, IsTaken, IsUnderway};
+ghost use Rattle.jump_search.specs.inner.Underway.{IsHalted, HasEnded};
+
+use crate::front::Front;
+use crate::nodes::{Node, Nodes};
+use crate::states::JumpState;
+use jump_scan::Runs;
+use nav_types::{Aim, Cell, Class, NoMemory, Rect, Ticks};
+use open_heap::Entry;
+use std::alloc::Global;
+use std::sync::ledger::Ledger;
+
+/// A cell that is hit, with the cost of jumps to it.
+#[derive(Clone, Copy, Debug, PartialEq, Eq)]
+pub struct Best {
+    pub cell: Cell,
+    pub cost: u64,
+}
+
+/// A search that has ended: its nodes, the first in cell order of the nearest cells that are hit, and how many nodes
+/// it opened.
+#[derive(Drop)]
+pub(crate) struct Outcome {
+    pub nodes: Nodes,
+    pub best: Option<Best>,
+    pub opened: u64,
+}
+
+/// A search that goes on.
+#[derive(Drop)]
+struct Search {
+    front: Front,
+    best: Option<Best>,
+    opened: u64,
+}
+
+/// Whether an estimate is past the cost of the best hit.
+fn is_past(best: Option<Best>, estimate: u64) -> bool
+    ensures past { IsTrue result → IsPast best estimate }
+    ensures near { IsFalse result → IsNotPast best estimate }
+{
+    match best {
+        Some(best) => best.cost < estimate,
+        None => false,
+    }
+}
+
+/// The better of two hits: the nearer one, and of equal ones the first in cell order.
+fn better(best: Option<Best>, hit: Best) -> Best
+    ensures { IsBetter best hit result }
+{
+    let Some(best) = best else {
+        return hit;
+    };
+    if best.cost < hit.cost {
+        return best;
+    }
+    if best.cost == hit.cost && best.cell < hit.cell {
+        return best;
+    }
+    hit
+}
+
+/// The best hit after a node was opened.
+fn best_with<R: Runs, A: Aim>(runs: &R, aim: &A, best: Option<Best>, node: &Node) -> Option<Best>
+    requires aim { A.sound aim.now (R.extent runs.now) }
+    requires inside { IsInside (R.extent runs.now) node.now.state.cell }
+    ensures hit { IsTrue (A.hit aim.now (R.extent runs.now) node.now.state.cell)
+        → IfSome result (λ new. IsBetter best (record { cell = node.now.state.cell; cost = node.now.cost }) new)
+        × IsSome result }
+    ensures missed { IsFalse (A.hit aim.now (R.extent runs.now) node.now.state.cell) → result ≡ best }
+{
+    let cell = node.state.cell;
+    if aim.hits(runs.size(), cell) {
+        let cost = node.cost;
+        return Some(better(best, Best { cell, cost }));
+    }
+    best
+}
+
+impl Search {
+    /// A search in which the start waits.
+    fn new(alloc: Global, rect: &Rect, start: Cell) -> Result<Search, NoMemory>
+        ensures underway { IfOk result (λ search. (all : Bool) (passes hit : Cell → Bool)
+            → IsUnderway all passes hit start rect.now 0 search.front.nodes search.front.waiting search.best) }
+        ensures opened { IfOk result (λ search. search.opened ≡ opened_count search.front.nodes) }
+        ensures none { IfOk result (λ search. search.opened ≡ 0) }
+    {
+        let state = JumpState {
+            cell: start,
+            arrived: None,
+        };
+        let node = Node {
+            state,
+            cost: 0,
+            run: 0,
+            opened: false,
+        };
+        let mut front = Front::new(alloc)?;
+        front.meet(rect, node)?;
+        Ok(Search {
+            front,
+            best: None,
+            opened: 0,
+        })
+    }
+
+    /// Takes the next entry from the open list, where its estimate is not past the best hit's cost. None where the
+    /// search has ended.
+    fn next(&mut self) -> Option<Entry>
+        ensures nodes { self.new.front.nodes ≡ self.old.front.nodes }
+        ensures best { self.new.best ≡ self.old.best }
+        ensures opened { self.new.opened ≡ self.old.opened }
+        ensures least { IfSome result (IsLeast self.old.front.waiting) }
+        ensures rest { IfSome result (λ entry. self.new.front.waiting ≡ map.remove self.old.front.waiting entry.key) }
+        ensures near { IfSome result (λ entry. IsNotPast self.old.best entry.priority.estimate) }
+        ensures past { IfNone result ((number : ℕ) (priority : Priority)
+            → map.get self.old.front.waiting number ≡ Some priority
+            → IsPast self.old.best priority.estimate) }
+    {
+        let Some(entry) = self.front.waiting.pop_least() else {
+            return None;
+        };
+        if is_past(self.best, entry.priority.estimate) {
+            return None;
+        }
+        Some(entry)
+    }
+
+    /// What a search that has ended has found.
+    fn outcome(self) -> Outcome
+        ensures nodes { result.nodes ≡ self.front.nodes }
+        ensures best { result.best ≡ self.best }
+        ensures opened { result.opened ≡ self.opened }
+    {
+        let Search {
+            front,
+            best,
+            opened,
+        } = self;
+        let Front { nodes, waiting } = front;
+        drop(waiting);
+        Outcome {
+            nodes,
+            best,
+            opened,
+        }
+    }
+
+    /// Whether the node of a number is not opened: it is dearer than another of its cell, and the search is not for
+    /// all.
+    fn skips(&self, all: bool, number: u32) -> bool
+        requires { number < length self.now.front.nodes }
+        ensures { IsTrue result → IsFalse all × ((node : Node)
+            × ((slice_get self.now.front.nodes number ≡ Some node) × IsDearer self.now.front.nodes node)) }
+    {
+        !all && self.front.is_dearer(self.front.nodes.at(number))
+    }
+
+    /// Opens the node of an entry that was taken from the open list, with one tick, or skips it.
+    fn take<R: Runs, A: Aim, L: Ledger>(
+        &mut self,
+        runs: &R,
+        class: Class,
+        aim: &A,
+        rect: &Rect,
+        all: bool,
+        entry: Entry,
+        ticks: &mut Ticks<L>,
+    ) -> Result<(), NoMemory>
+        requires class { class < R.class_count runs.now }
+        requires aim { A.sound aim.now (R.extent runs.now) }
+        requires frame { IsFrame (A.framed aim.now (R.extent runs.now)) (R.extent runs.now) rect.now }
+        requires taken { (start : Cell) × ((floor : ℕ)
+            × (IsTrue (R.passes runs.now class start)
+            × IsTaken all (R.passes runs.now class) (A.hit aim.now (R.extent runs.now)) start rect.now floor
+            self.old.front.nodes self.old.front.waiting self.old.best entry)) }
+        requires opened { self.old.opened ≡ opened_count self.old.front.nodes }
+        ensures underway { OnOk result ((start : Cell) (floor : ℕ) → IsTrue (R.passes runs.now class start)
+            → IsTaken all (R.passes runs.now class) (A.hit aim.now (R.extent runs.now)) start rect.now floor
+            self.old.front.nodes self.old.front.waiting self.old.best entry
+            → IsUnderway all (R.passes runs.now class) (A.hit aim.now (R.extent runs.now)) start rect.now
+            entry.priority.estimate
+            self.new.front.nodes self.new.front.waiting self.new.best) }
+        ensures even { OnOk result (length self.new.front.nodes + map.len self.old.front.waiting ≡ length
+            self.old.front.nodes + map.len self.new.front.waiting) }
+        ensures opened { OnOk result (self.new.opened ≡ opened_count self.new.front.nodes) }
+        ensures ticks { OnOk result (ticks.new + self.old.opened ≡ ticks.old + self.new.opened) }
+        ensures none { OnErr result (ticks.new ≡ ticks.old) }
+    {
+        if self.skips(all, entry.key) {
+            return Ok(());
+        }
+        let node = Node {
+            opened: true,
+            ..*self.front.nodes.at(entry.key)
+        };
+        self.front.nodes.put(entry.key, node);
+        self.front.follow(runs, class, aim, rect, &node)?;
+        self.best = best_with(runs, aim, self.best, &node);
+        self.opened += 1;
+        ticks.tick();
+        Ok(())
+    }
+}
+
+/// Searches from the start until no node is left within the cost of the best hit. Where the search is for all, each
+/// node within it is opened, and else those alone that are not dearer than another of their cell.
+///
+/// Each node that is opened is one tick.
+pub(crate) fn searched<R: Runs, A: Aim, L: Ledger>(
+    alloc: Global,
+    runs: &R,
+    class: Class,
+    start: Cell,
+    aim: &A,
+    all: bool,
+    ticks: &mut Ticks<L>,
+) -> Result<Outcome, NoMemory>
+    requires class { class < R.class_count runs.now }
+    requires start { IsTrue (R.passes runs.now class start) }
+    requires aim { A.sound aim.now (R.extent runs.now) }
+    ensures frame { (rect : Rect) × IsFrame (A.framed aim.now (R.extent runs.now)) (R.extent runs.now) rect }
+    ensures ended { IfOk result (λ outcome. (rect : Rect)
+        → IsFrame (A.framed aim.now (R.extent runs.now)) (R.extent runs.now) rect
+        → HasEnded all (R.passes runs.now class) (A.hit aim.now (R.extent runs.now)) start rect outcome.nodes
+        outcome.best) }
+    ensures opened { IfOk result (λ outcome. outcome.opened ≡ opened_count outcome.nodes) }
+    ensures ticks { IfOk result (λ outcome. ticks.new ≡ ticks.old + outcome.opened) }
+    ensures halted { OnErr result ((rect : Rect)
+        → IsFrame (A.framed aim.now (R.extent runs.now)) (R.extent runs.now) rect
+        → (ticks.new ≡ ticks.old) ⊎ ((nodes : List Node)
+        × ((floor : ℕ) × (IsHalted all (R.passes runs.now class) (A.hit aim.now (R.extent runs.now)) start rect floor
+        nodes
+        × (ticks.new ≡ ticks.old + opened_count nodes))))) }
+{
+    let rect = aim.bounds(runs.size());
+    let mut search = Search::new(alloc, &rect, start)?;
+    'search: while let Some(entry) = search.next() {
+        search.take(runs, class, aim, &rect, all, entry, ticks)?;
+    }
+    Ok(search.outcome())
+}
