@@ -1,4 +1,5 @@
 pub mod Answers
+pub mod Profiles
 pub mod Summaries
 pub mod Writing
 pub mod inner

@@ -28,6 +28,25 @@ const SECOND: &str = "turn 2 regions 1 edges 0 areas 1 relabelled 1\n\
     2 1 nowhere\n\
     2 2 path 0 0 2 0 goal 250000 2 1.5,0.5 2.5,0.5\n";
 
+/// The text of the first turn with its opened numbers.
+const FIRST_PROFILE: &str = "turn 1 regions 2 edges 0 areas 2 relabelled 1\n\
+    0 0 added 1\n\
+    0 1 path 0 0 1 0 goal 65536 1 1.5,0.5\n\
+    0 1 opened 5\n\
+    0 2 path 0 0 1 0 near 65536 1 1.5,0.5\n\
+    0 2 opened 7\n\
+    0 3 refused unknown-id\n\
+    0 4 refused bad-shape\n";
+
+/// The text of the second turn with its opened numbers.
+const SECOND_PROFILE: &str = "turn 2 regions 1 edges 0 areas 1 relabelled 1\n\
+    0 0 moved 1\n\
+    0 1 removed 1\n\
+    2 0 region 0 0 0 0\n\
+    2 1 nowhere\n\
+    2 2 path 0 0 2 0 goal 250000 2 1.5,0.5 2.5,0.5\n\
+    2 2 opened 12\n";
+
 /// The summary of no turn.
 const NONE: &str =
     "summary turns 0 posts 0 added 0 removed 0 refused 0 goal 0 near 0 nowhere 0 cost 0 corners 0\n\
@@ -194,6 +213,16 @@ fn turns_are_written_caller_by_caller(rt: HostRuntime) -> Result<(), Fail> {
     assert_eq!(rt; first.as_slice(), FIRST.as_bytes());
     let second = turn_text(alloc, 2, &second_turn(alloc)?)?;
     assert_eq!(rt; second.as_slice(), SECOND.as_bytes());
+    Ok(())
+}
+
+#[test]
+fn opened_numbers_stand_behind_paths(rt: HostRuntime) -> Result<(), Fail> {
+    let alloc = rt.alloc();
+    let first = profile_text(alloc, 1, &first_turn(alloc)?, &[5, 7, 0])?;
+    assert_eq!(rt; first.as_slice(), FIRST_PROFILE.as_bytes());
+    let second = profile_text(alloc, 2, &second_turn(alloc)?, &[0, 0, 12])?;
+    assert_eq!(rt; second.as_slice(), SECOND_PROFILE.as_bytes());
     Ok(())
 }
 

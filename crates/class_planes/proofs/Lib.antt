@@ -1,7 +1,8 @@
 mod BitLemmas
 mod CellLemmas
 mod LineLemmas
-mod PlaneLemmas
+mod UpdateLemmas
+pub mod PlaneLemmas
 mod WordLemmas
 mod FarLemmas
 mod TrackLemmas

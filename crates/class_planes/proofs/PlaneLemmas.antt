@@ -1,7 +1,8 @@
 -- The cells of a plane, and the bits of its lines.
-use Rattle.std.proofs.Common.{◌≡◌, ℕ, ◌+◌, ◌*◌, ◌/◌, ◌%◌, ◌<◌, Bool, true, false, ◌&&◌, IsTrue, eqb, ltb, ◌≤◌, inl, inr, List, [], get_or, Option, Some, None, refl, sym, ap, ◌∙◌, subst, arith}
+use Rattle.std.proofs.Common.{◌≡◌, ℕ, ◌∷◌, ◌++◌, length, length-append, option_map, IfSome, ◌+◌, ◌*◌, ◌/◌, ◌%◌, ◌<◌, Bool, true, false, ◌&&◌, IsTrue, eqb, ltb, ◌≤◌, inl, inr, List, [], get_or, Option, Some, None, IsSome, is_some, refl, sym, ap, ◌∙◌, subst, arith}
 use Rattle.std.proofs.lemmas.Bool.{false≢true, ltb-true, lt-ltb, cases_lt}
-use Rattle.std.proofs.lemmas.List.{get_or_past}
+use Rattle.std.proofs.lemmas.List.{get_or_past, get_or_append_left, get_or_at}
+use Rattle.std.proofs.lemmas.Nat.Bits.{bit_at_ones}
 use Rattle.std.specs.Int.{bit_at}
 use Rattle.std.proofs.lemmas.List.FromFn.{get_or-map-range_with_len}
 use Rattle.nav_types.specs.declared.cells.Cell.{Cell}
@@ -9,7 +10,9 @@ use Rattle.nav_types.specs.declared.cells.Size.{Size}
 use Rattle.nav_types.specs.Cells.{IsInside, cell_at}
 use Rattle.nav_types.specs.Places.{place_of, cell_of}
 use Rattle.nav_types.proofs.CellPlaces.{place_of-lt, cell_of-place_of}
-use Rattle.class_planes.specs.Planes.{PlaneCells, is_passable, AreFreeBits, IsPlaneIn, ArePlanes, AreOf}
+use Rattle.class_planes.specs.Planes.{PlaneCells, is_passable, AreFreeBits, IsPlaneIn, ArePlanes, AreOf, AreOfBefore, AreOfSame}
+use Rattle.class_planes.specs.declared.changed_parts.ChangedPart.{ChangedPart}
+use Rattle.class_planes.specs.inner.Changes.{IsPlaneBefore}
 use Rattle.lane_rows.specs.Rows.{one_if}
 use Rattle.class_planes.specs.inner.Lines.{LineTable, RowTable, line_at, line_in, free_at, free_cell, plane_of, AreLines, AreRows}
 
@@ -143,3 +146,76 @@ are_of size passes mask count planes are class plane is = elim (cases_lt class c
       get_or_past planes class None (subst (λ many. many ≤ class) (sym are.many) past) in
       absurd (none_some plane (sym none ∙ is))
 ]
+
+-- ---- planes after a change
+
+-- a plane is there exactly where it is wanted
+same_wanted : (size : Size) (passes : Cell → Bool) (wanted : Bool) (plane : Option PlaneCells)
+    → IsPlaneIn size passes wanted plane → is_some plane ≡ wanted
+same_wanted size passes wanted (Some plane) is = sym is.0
+same_wanted size passes wanted None is = sym is
+
+-- planes of the same classes as planes of the wanted classes
+pub wanted_same : (size : Size) (was passes : ℕ → Cell → Bool) (mask count : ℕ) (others planes : List (Option PlaneCells))
+    → ArePlanes size was mask count others → AreOfSame size passes others planes
+    → ArePlanes size passes mask count planes
+wanted_same size was passes mask count others planes were are = record {
+  many = are.many ∙ were.many;
+  each = λ class below. subst (λ w. IsPlaneIn size (passes class) w (get_or planes class None))
+      (same_wanted size (was class) (eqb (bit_at mask class) 1) (get_or others class None) (were.each class below))
+      (are.each class (subst (λ n. class < n) (sym were.many) below));
+}
+
+there_is : (size : Size) (passes : Cell → Bool) (wanted : Bool) (plane : Option PlaneCells)
+    → IsPlaneIn size passes wanted plane → IsTrue wanted → IsSome plane
+there_is size passes wanted (Some plane) is holds = refl
+there_is size passes wanted None is holds = absurd (false≢true (sym is ∙ holds))
+
+-- each class has a plane where the planes of all 16 classes are wanted
+pub each_there : (size : Size) (passes : ℕ → Cell → Bool) (count : ℕ) (planes : List (Option PlaneCells))
+    → ArePlanes size passes 65535 count planes → count ≤ 16 → (class : ℕ) → class < count
+    → IsSome (get_or planes class None)
+each_there size passes count planes are few class below =
+    there_is size (passes class) (eqb (bit_at 65535 class) 1) (get_or planes class None) (are.each class below)
+    (ap (λ b. eqb b 1) (bit_at_ones 16 class (omega arith)))
+
+-- what holds of each place holds of one place more
+pub each_more : {X : Type 0} (Is : ℕ → X → Type 0) (xs : List X) (x d : X) (n : ℕ) → length xs ≡ n
+    → ((k : ℕ) → k < n → Is k (get_or xs k d)) → Is n x → (k : ℕ) → k < n + 1 → Is k (get_or (xs ++ x ∷ []) k d)
+each_more Is xs x d n long each is k below = elim (cases_lt k n) [
+  | inl early ↦ subst (Is k) (sym (get_or_append_left xs (x ∷ []) d k (omega arith))) (each k early)
+  | inr late ↦
+      let same : n ≡ k = omega arith in
+      subst (Is k) (sym (get_or_at xs x [] d k (long ∙ same))) (subst (λ m. Is m x) same is)
+]
+
+-- the planes of one class more
+pub planes_more : (size : Size) (passes : ℕ → Cell → Bool) (mask count : ℕ) (planes : List (Option PlaneCells))
+    (plane : Option PlaneCells) → ArePlanes size passes mask count planes
+    → IsPlaneIn size (passes count) (eqb (bit_at mask count) 1) plane
+    → ArePlanes size passes mask (count + 1) (planes ++ plane ∷ [])
+planes_more size passes mask count planes plane are is =
+    let many = are.many in
+    record {
+      many = omega (arith, length-append planes (plane ∷ []));
+      each = each_more (λ class one. IsPlaneIn size (passes class) (eqb (bit_at mask class) 1) one) planes plane None count
+          are.many are.each is;
+    }
+
+-- the plane of a class before its map changed
+pub plane_before : (size : Size) (classes : ℕ) (passes : ℕ → Cell → Bool) (parts : List ChangedPart)
+    (planes : List (Option PlaneCells)) → AreOfBefore size classes passes parts planes
+    → {X : Type 0} (plane_of : X → PlaneCells) (class : ℕ) (found : Option X)
+    → option_map plane_of found ≡ get_or planes class None
+    → IfSome found (λ x. IsPlaneBefore size (passes class) parts class (plane_of x))
+plane_before size classes passes parts planes before plane_of class (Some x) at =
+    let is = before.are class (plane_of x) (sym at) in
+    record {
+      extent = is.extent;
+      same = λ cell kept. ap (λ (p : Cell → Bool). p cell) is.cells ∙ before.same class cell kept;
+    }
+plane_before size classes passes parts planes before plane_of class None at = tt
+
+pub is_some_mapped : {X Y : Type 0} (h : X → Y) (o : Option X) → is_some o ≡ is_some (option_map h o)
+is_some_mapped h (Some x) = refl
+is_some_mapped h None = refl

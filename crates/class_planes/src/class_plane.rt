@@ -1,13 +1,15 @@
 //! The plane of one class.
-ghost use Rattle.std.specs.Prelude.{◌≡◌, ◌<◌, ◌≤◌, ◌/◌, ◌+◌, length, IfOk};
-ghost use Rattle.nav_types.specs.Cells.{IsInside, cell_at};
-ghost use Rattle.class_planes.specs.Planes.{AreFreeBits, is_passable};
+ghost use Rattle.std.specs.Prelude.{◌≡◌, ◌<◌, ◌≤◌, ◌/◌, ◌+◌, All, length, IfOk};
+ghost use Rattle.nav_types.specs.declared.cells.Cell.{Cell};
+ghost use Rattle.nav_types.specs.Cells.{IsInside, IsRectInside, cell_at};
+ghost use Rattle.class_planes.specs.Planes.{AreFreeBits, IsOutside, is_passable};
 ghost use Rattle.class_planes.specs.inner.Lines.{AreRows, plane_of};
 
 use crate::lines::Lines;
 use crate::rows::lines_of;
-use crate::turned::columns_of;
-use nav_types::{Cell, Class, NoMemory, Rows, Size};
+use crate::turned::{columns_of, updated_columns};
+use crate::updates::updated_lines;
+use nav_types::{Cell, Class, NoMemory, Rect, Rows, Size, View};
 use std::alloc::Global;
 use std::marker::Model;
 
@@ -59,6 +61,32 @@ impl ClassPlane {
             columns: columns_of(alloc, &rows, size)?,
             rows,
             size,
+        })
+    }
+
+    /// The plane of the class in a view of the same size, where this plane is right outside of the rectangles. Their
+    /// cells are asked one by one, and what lies elsewhere is shared.
+    pub fn updated<V: View>(
+        &self,
+        alloc: Global,
+        view: &V,
+        class: Class,
+        rects: &[Rect],
+    ) -> Result<ClassPlane, NoMemory>
+        requires class { class < V.class_count view.now }
+        requires extent { self.now.size ≡ V.extent view.now }
+        requires inside { All (IsRectInside (V.extent view.now)) rects.now }
+        requires same { (cell : Cell) → IsOutside rects.now cell
+            → is_passable self.now cell ≡ V.passes view.now class cell }
+        ensures size { IfOk result (λ plane. plane.size ≡ V.extent view.now) }
+        ensures passes { IfOk result (λ plane. is_passable plane ≡ V.passes view.now class) }
+    {
+        let rows = updated_lines(alloc, view, class, &self.rows, rects)?;
+        let columns = updated_columns(alloc, &rows, self.size, &self.columns, rects)?;
+        Ok(ClassPlane {
+            columns,
+            rows,
+            size: self.size,
         })
     }
 

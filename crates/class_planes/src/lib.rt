@@ -2,6 +2,7 @@
 //! once.
 #![tactic(auto)]
 
+mod changed_parts;
 mod class_plane;
 mod lines;
 mod plane_runs;
@@ -9,8 +10,10 @@ mod plane_scans;
 mod plane_sets;
 mod rows;
 mod turned;
+mod updates;
 mod word_scans;
 
+pub use changed_parts::ChangedPart;
 pub use class_plane::ClassPlane;
 pub use plane_runs::PlaneRuns;
 pub use plane_sets::Planes;

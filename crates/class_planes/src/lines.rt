@@ -59,6 +59,25 @@ impl Lines {
         Ok(())
     }
 
+    /// Appends band `b` of other lines, which both hold from then on.
+    pub fn share(&mut self, from: &Lines, b: u16) -> Result<(), NoMemory>
+        requires { b < length from.now.bands }
+        ensures words { OnOk result (self.new.words ≡ self.old.words) }
+        ensures bands { OnOk result
+            (self.new.bands ≡ self.old.bands ++ slice_index_or from.now.bands b [] ∷ []) }
+    {
+        self.bands
+            .push(Arc::try_clone(&from.bands[usize::from(b)])?)?;
+        Ok(())
+    }
+
+    /// How many words a line has.
+    pub fn words(&self) -> usize
+        ensures { result ≡ self.now.words }
+    {
+        self.words
+    }
+
     /// The words of line `n`.
     pub fn line(&self, n: u16) -> &[u64]
         requires band { n / 32 < length self.now.bands }

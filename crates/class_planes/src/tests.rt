@@ -1,6 +1,6 @@
-//! All bits of a plane and the runs over it against the cells of a map that is wider and higher than a word, and which
-//! classes have planes.
-ghost use Rattle.std.specs.Prelude.{true, false, ◌≡◌, ◌<◌, ◌&&◌, nat_lt, nat_le, slice_index_or, IsTrue, IfOk, IfSome};
+//! All bits of a plane, also of one that follows a change, and the runs over it against the cells of a map that is wider
+//! and higher than a word, and which classes have planes.
+ghost use Rattle.std.specs.Prelude.{true, false, ◌≡◌, ◌==◌, ◌<◌, ◌&&◌, not, nat_lt, nat_le, slice_index_or, IsTrue, IfOk, IfSome};
 ghost use Rattle.std.specs.Int.{bit_at};
 ghost use Rattle.std.proofs.lemmas.Bool.{and_parts, ltb-true};
 ghost use Rattle.nav_types.specs.Cells.{IsRectInside};
@@ -8,7 +8,7 @@ ghost use Rattle.nav_types.specs.Places.{place_of};
 ghost use Rattle.nav_types.specs.Rows.{bit_of};
 ghost use Rattle.class_planes.specs.Planes.{ArePlanes};
 
-use crate::{ClassPlane, PlaneRuns, Planes};
+use crate::{ChangedPart, ClassPlane, PlaneRuns, Planes};
 use jump_scan::{CellRuns, Runs};
 use nav_types::{Aim, Cell, Class, Dir, NoMemory, Rect, Rows, Size, View};
 use std::alloc::Global;
@@ -290,5 +290,99 @@ fn runs_stop_at_the_same_cells_by_words_and_by_cells(rt: HostRuntime) -> Result<
     let rect = cells_of(plan.size, many_cells).ok_or("no such cells")?;
     assert_eq!(rt; unlike(&by_words, &by_cells, &cell), None);
     assert_eq!(rt; unlike(&by_words, &by_cells, &rect), None);
+    Ok(())
+}
+
+/// A map with one rectangle blocked for class 0.
+#[derive(Drop)]
+struct Walled<'a, V: View> {
+    view: &'a V,
+    wall: Rect,
+}
+
+impl<'a, V: View> View for Walled<'a, V> {
+    ghost extent = { λ map. V.extent map.view.now };
+
+    ghost class_count = { λ map. V.class_count map.view.now };
+
+    ghost passes = { λ map class cell. V.passes map.view.now class cell && not (class == 0
+        && ((nat_le map.wall.i0 cell.i && nat_le cell.i map.wall.i1)
+        && (nat_le map.wall.j0 cell.j && nat_le cell.j map.wall.j1))) };
+
+    fn size(&self) -> Size {
+        self.view.size()
+    }
+
+    fn classes(&self) -> u8 {
+        self.view.classes()
+    }
+
+    fn passable(&self, class: Class, cell: Cell) -> bool {
+        self.view.passable(class, cell) && !(class.number() == 0 && holds(self.wall, cell))
+    }
+
+    ghost within = { λ map class cell passing. V.within map.view.now class cell (and_parts
+        (V.passes map.view.now class cell) (not (class == 0
+        && ((nat_le map.wall.i0 cell.i && nat_le cell.i map.wall.i1)
+        && (nat_le map.wall.j0 cell.j && nat_le cell.j map.wall.j1)))) passing).0 };
+}
+
+/// Whether the rectangle holds the cell.
+fn holds(rect: Rect, cell: Cell) -> bool
+    ensures { result ≡ ((nat_le rect.i0 cell.i && nat_le cell.i rect.i1)
+        && (nat_le rect.j0 cell.j && nat_le cell.j rect.j1)) }
+{
+    (rect.i0 <= cell.i && cell.i <= rect.i1) && (rect.j0 <= cell.j && cell.j <= rect.j1)
+}
+
+/// The planes of class 0 of the map with the wall, made from those of the map without it.
+fn walled_planes<V: Rows>(alloc: Global, walled: &Walled<'_, V>) -> Result<Planes, NoMemory>
+    requires { IsRectInside (V.extent walled.now.view.now) walled.now.wall }
+{
+    let planes = Planes::build(alloc, walled.view, 1)?;
+    let parts = [ChangedPart {
+        rect: walled.wall,
+        classes: 1,
+    }];
+    planes.updated(alloc, walled, &parts)
+}
+
+/// The first cell of the map whose bit in its row or its column is wrong.
+fn wrong_cell<V: View>(plane: &ClassPlane, view: &V) -> Option<Cell>
+    requires { 0 < V.class_count view.now }
+{
+    let size = view.size();
+    if plane.size() != size {
+        return Some(Cell::new(0, 0));
+    }
+    for j in 0..size.h {
+        for i in 0..size.w {
+            let free = view.passable(Class::new(0), Cell::new(i, j));
+            if is_set(plane.row_words(j), i) != free || is_set(plane.column_words(i), j) != free {
+                return Some(Cell::new(i, j));
+            }
+        }
+    }
+    None
+}
+
+#[test]
+fn planes_follow_a_wall_across_words_and_bands(rt: HostRuntime) -> Result<(), Fail> {
+    let size = Size::new(130, 70).ok_or("no such size")?;
+    let plan = drawn(rt.alloc(), size)?;
+    let across = Rect {
+        i0: 30,
+        i1: 128,
+        j0: 31,
+        j1: 64,
+    };
+    let cells = cells_of(plan.size, across).ok_or("no such cells")?;
+    let walled = Walled {
+        view: &plan,
+        wall: cells.rect,
+    };
+    let planes = walled_planes(rt.alloc(), &walled)?;
+    let plane = planes.plane(Class::new(0)).ok_or("no plane")?;
+    assert_eq!(rt; wrong_cell(plane, &walled), None);
     Ok(())
 }

@@ -1,13 +1,14 @@
 //! The columns of a map, as the rows of the map turned.
-ghost use Rattle.std.specs.Prelude.{◌≡◌, ◌<◌, ◌/◌, ◌+◌, length, IfOk};
+ghost use Rattle.std.specs.Prelude.{◌≡◌, ◌<◌, ◌/◌, ◌+◌, All, length, map, IfOk};
 ghost use Rattle.std.specs.Int.{bit_at};
-ghost use Rattle.nav_types.specs.Cells.{IsInside, cell_at};
+ghost use Rattle.nav_types.specs.Cells.{IsInside, IsRectInside, cell_at};
 ghost use Rattle.nav_types.specs.Rows.{AreRowBits, bit_of};
-ghost use Rattle.class_planes.specs.inner.Lines.{AreRows, AreColumns, turned_size, free_cell};
+ghost use Rattle.class_planes.specs.inner.Lines.{AreRows, AreColumns, AreColumnsBefore, turned_rect, turned_size, free_cell};
 
 use crate::lines::Lines;
 use crate::rows::lines_of;
-use nav_types::{Cell, Class, NoMemory, Rows, Size, View};
+use crate::updates::updated_lines;
+use nav_types::{Cell, Class, NoMemory, Rect, Rows, Size, View};
 use std::alloc::Global;
 use std::marker::Model;
 
@@ -17,6 +18,41 @@ pub fn columns_of(alloc: Global, rows: &Lines, size: Size) -> Result<Lines, NoMe
     ensures { IfOk result (AreColumns (record { size = size; rows = rows.now })) }
 {
     lines_of(alloc, &Turned { rows, size }, Class::new(0))
+}
+
+/// The columns of the map whose rows these are, as lines of bits, where `before` are those of a map that is the same
+/// outside of the rectangles.
+pub fn updated_columns(
+    alloc: Global,
+    rows: &Lines,
+    size: Size,
+    before: &Lines,
+    rects: &[Rect],
+) -> Result<Lines, NoMemory>
+    requires rows { AreRows (record { size = size; rows = rows.now }) }
+    requires inside { All (IsRectInside size) rects.now }
+    requires before { AreColumnsBefore (record { size = size; rows = rows.now }) rects.now before.now }
+    ensures { IfOk result (AreColumns (record { size = size; rows = rows.now })) }
+{
+    let turned = turned_rects(alloc, rects)?;
+    let view = Turned { rows, size };
+    updated_lines(alloc, &view, Class::new(0), before, &turned)
+}
+
+/// The rectangles with rows and columns changed over.
+fn turned_rects(alloc: Global, rects: &[Rect]) -> Result<Vec<Rect>, NoMemory>
+    ensures { IfOk result (λ turned. turned.items ≡ map turned_rect rects.now) }
+{
+    let mut turned = Vec::with_capacity(alloc, rects.len())?;
+    for rect in rects {
+        turned.push(Rect {
+            i0: rect.j0,
+            j0: rect.i0,
+            i1: rect.j1,
+            j1: rect.i1,
+        })?;
+    }
+    Ok(turned)
 }
 
 /// A map of one class whose row `n` is column `n` of another, which is given by its size and its rows.

@@ -26,7 +26,7 @@ use Rattle.reach_sets.specs.AreaNumbers.{AreaNumbers}
 use Rattle.reach_sets.proofs.RowLemmas.{same_region}
 use Rattle.grid_versions.specs.Chunks.{chunk_columns, chunk_rows, chunk_count, chunk_place}
 use Rattle.grid_versions.specs.inner.ChunkLists.{chunk_numbered, IsChunkInside, east_of, north_of, neighbour_on}
-use Rattle.grid_versions.specs.inner.Tables.{AreTouching, AreLinks, AreAllLabels, AreAllEdges, AreFew}
+use Rattle.grid_versions.specs.inner.Tables.{counts_of, AreTouching, AreLinks, AreAllLabels, AreAllEdges, AreFew}
 use Rattle.grid_versions.specs.inner.Building.{IsLaidOut, link_between, IsSideLink}
 use Rattle.nav_types.proofs.Items.{same_pair, from_map, Contains-map, AllPairs-map, AllPairs-tail, head_apart, Contains-head, Contains-tail, Contains-none}
 use Rattle.grid_versions.proofs.ChunkLemmas.{place_below, numbered-place, place-numbered, chunk_inside, lies_in, item_at, AreOfChunks-at, AreOfChunks-weaker}
@@ -222,6 +222,25 @@ links_are passes size east north links inside east_of_all north_of_all is = reco
   ]);
 }
 
+-- the other way round: the edges of the map are the listed edges on both sides
+pub sides_linked : (passes : Cell → Bool) (size : Size) (east north : List (List (ℕ × ℕ))) (links : List (RegionId × RegionId)) → PassesInside passes size
+    → AreAllEdges East passes size east
+    → AreAllEdges North passes size north
+    → AreLinks passes size links
+    → (link : RegionId × RegionId) → Contains links link ↔ (IsSideLink size East east link ⊎ IsSideLink size North north link)
+sides_linked passes size east north links inside east_of_all north_of_all are link = (
+  λ listed.
+      let touch = are.each link.0 link.1 listed in
+      elim touch.next [
+        | inl on ↦ inl (link_from_touch passes size East east inside east_of_all link.0 link.1 touch (same_chunk (east_of touch.here) touch.there (sym on.0) (sym on.1)))
+        | inr on ↦ inr (link_from_touch passes size North north inside north_of_all link.0 link.1 touch (same_chunk (north_of touch.here) touch.there (sym on.0) (sym on.1)))
+      ],
+  λ on_side. elim on_side [
+    | inl on ↦ are.all link.0 link.1 (touch_from_link passes size East east east_of_all link.0 link.1 on)
+    | inr on ↦ are.all link.0 link.1 (touch_from_link passes size North north north_of_all link.0 link.1 on)
+  ],
+)
+
 -- ---- numbers of regions
 
 -- a passable cell's number is one of the labels' regions
@@ -326,9 +345,6 @@ chunks_few size =
     omega (arith, mul-le (chunk_rows size) (chunk_columns size) 22 22 rows columns)
 
 -- ---- what the parts of a class make together
-
-abbrev pub counts_of : List Labelling → List ℕ
-counts_of labels = map (λ one. length one.firsts) labels
 
 module _ (passes : Cell → Bool) (size : Size) (labels : List Labelling) (inside : PassesInside passes size)
     (of : AreAllLabels passes size labels) where

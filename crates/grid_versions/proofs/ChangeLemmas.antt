@@ -1,9 +1,9 @@
 -- What stays where two maps agree: regions and edges look at the cells of their chunks alone.
-use Rattle.std.proofs.Common.{ℕ, ◌≡◌, ◌≢◌, ◌+◌, ◌<◌, ◌≤◌, ◌/◌, ◌==◌, ◌&&◌, ◌↔◌, Bool, true, false, cond, List, length, map, take, get_or, option_map, refl, ap, sym, subst, ◌∙◌, arith, Some}
+use Rattle.std.proofs.Common.{ℕ, ◌≡◌, ◌≢◌, ◌+◌, ◌<◌, ◌≤◌, ◌*◌, ◌/◌, ◌==◌, ◌&&◌, ◌↔◌, ◌⊎◌, Bool, true, false, cond, List, length, map, sum, take, get_or, option_map, refl, inl, inr, ap, sym, subst, ◌∙◌, arith, Some}
 use Rattle.std.specs.Prelude.{IsTrue, IsFalse, slice_get}
-use Rattle.std.specs.List.{count_by}
-use Rattle.std.proofs.lemmas.Bool.{and_parts, eqb-true}
-use Rattle.std.proofs.lemmas.List.Sums.{sum_by-take-le}
+use Rattle.std.specs.List.{count_by, sum_by, Contains}
+use Rattle.std.proofs.lemmas.Bool.{and_parts, eqb-true, cases_lt}
+use Rattle.std.proofs.lemmas.List.Sums.{sum_by-take-le, sum-map}
 use Rattle.std.proofs.lemmas.Option.{slice_get-map, slice_get-get_or}
 use Rattle.nav_types.specs.declared.cells.Cell.{Cell}
 use Rattle.nav_types.specs.declared.cells.Chunk.{Chunk}
@@ -15,15 +15,19 @@ use Rattle.nav_types.proofs.CellOrder.{same_chunk}
 use Rattle.nav_types.specs.Numbering.{number_of}
 use Rattle.chunk_regions.specs.Labelling.{Labelling, AreLabels}
 use Rattle.lane_rows.specs.Rows.{has_class}
-use Rattle.region_edges.specs.Edges.{AreEdges}
+use Rattle.region_edges.specs.declared.neighbours.Side.{Side}
+use Rattle.region_edges.specs.declared.neighbours.Side.TheVariants.{East, North}
+use Rattle.region_edges.specs.Edges.{PassesInside, AreEdges}
+use Rattle.reach_sets.specs.AreaNumbers.{AreaNumbers, AreAreas}
 use Rattle.grid_versions.specs.Chunks.{chunk_count, chunk_place}
-use Rattle.grid_versions.specs.inner.ChunkLists.{chunk_numbered, IsChunkInside}
-use Rattle.grid_versions.specs.inner.Tables.{Tables, AreTables}
+use Rattle.grid_versions.specs.inner.ChunkLists.{chunk_numbered, neighbour_on, IsChunkInside}
+use Rattle.grid_versions.specs.inner.Building.{IsSideLink, AreSides}
+use Rattle.grid_versions.specs.inner.Tables.{Tables, AreTables, HasTotals, counts_of, region_counts}
 use Rattle.grid_versions.specs.inner.Tallying.{Differs}
 use Rattle.grid_versions.specs.inner.Changing.{AgreeIn, AreChanges}
 use Rattle.grid_versions.proofs.ChunkLemmas.{chunk_inside, place_below, numbered-place, item_at}
 use Rattle.grid_versions.proofs.TallyLemmas.{differing_inside}
-use Rattle.grid_versions.proofs.BuildLemmas.{sum_more}
+use Rattle.grid_versions.proofs.BuildLemmas.{sum_more, sides_linked, links_are}
 use Rattle.grid_versions.proofs.VersionLemmas.{sum_each}
 
 -- ---- where two maps agree on a chunk, the same cells pass in it
@@ -102,6 +106,29 @@ outside_agrees before now size class bits chunk changes outside cell here =
     outside (subst (λ (c : Chunk). IsChunkInside size c) here
     (chunk_inside size cell (differing_inside before now size changes.before_inside changes.now_inside cell apart))))
 
+-- a neighbour past the last place has no cell in the maps
+pub beyond_outside : (size : Size) (side : Side) (place next : ℕ) → chunk_place size (neighbour_on side (chunk_numbered size place)) ≡ next
+    → chunk_count size ≤ next → IsChunkInside size (neighbour_on side (chunk_numbered size place)) → ⊥
+beyond_outside size side place next is past inside =
+    let low = place_below size (neighbour_on side (chunk_numbered size place)) inside in omega arith
+
+-- a neighbour without a mark, which may lie outside both maps
+pub neighbour_agrees : (before now : Cell → Bool) (size : Size) (class : ℕ) (bits : List ℕ) (side : Side) (place next : ℕ) (mark : Bool)
+    → AreChanges before now size class bits → chunk_place size (neighbour_on side (chunk_numbered size place)) ≡ next
+    → slice_get (map (has_class class) bits) next ≡ Some mark → IsFalse mark → AgreeIn before now (neighbour_on side (chunk_numbered size place))
+neighbour_agrees before now size class bits side place next mark changes is at unmarked =
+    let there = neighbour_on side (chunk_numbered size place) in
+    elim (cases_lt (96 * there.ci) size.w) [
+      | inl column ↦ elim (cases_lt (96 * there.cj) size.h) [
+        | inl row ↦
+            let inside : IsChunkInside size there = record { column = column; row = row } in
+            let same : chunk_numbered size next ≡ there = ap (λ (k : ℕ). chunk_numbered size k) (sym is) ∙ numbered-place size there inside in
+            subst (λ (chunk : Chunk). AgreeIn before now chunk) same (unmarked_agrees before now size class bits next mark changes at unmarked)
+        | inr past ↦ outside_agrees before now size class bits there changes (λ inside. let row = inside.row in omega arith)
+      ]
+      | inr past ↦ outside_agrees before now size class bits there changes (λ inside. let column = inside.column in omega arith)
+    ]
+
 -- where no chunk has a mark, the maps agree
 unmarked_of : (mark : Bool) → cond mark 1 0 < 1 → IsFalse mark
 unmarked_of true none = absurd (omega arith)
@@ -128,6 +155,46 @@ pub tables_stay : (before now : Cell → Bool) (size : Size) (class : ℕ) (bits
     → count_by (has_class class) bits ≡ 0 → AreTables before size tables → AreTables now size tables
 tables_stay before now size class bits tables changes none are =
     subst (λ (P : Cell → Bool). AreTables P size tables) (agree_everywhere before now size class bits changes none) are
+
+-- the areas stay with the numbers of regions and the edges
+pub areas_stay : (before now : Cell → Bool) (size : Size) (old new : Tables) → PassesInside before size → AreTables before size old
+    → AreSides now size new.labels new.east new.north → region_counts new ≡ region_counts old → new.east ≡ old.east → new.north ≡ old.north
+    → new.areas ≡ old.areas → AreTables now size new
+areas_stay before now size old new inside were sides counts east north areas =
+    let links = were.links in
+    record {
+      labels_are = sides.labels_are;
+      east_are = sides.east_are;
+      north_are = sides.north_are;
+      links = links;
+      links_are = links_are now size new.east new.north links sides.inside sides.east_are sides.north_are
+          (λ link.
+          subst (λ (all : List (List (ℕ × ℕ))). Contains links link ↔ (IsSideLink size East all link ⊎ IsSideLink size North new.north link)) (sym east)
+          (subst (λ (all : List (List (ℕ × ℕ))). Contains links link ↔ (IsSideLink size East old.east link ⊎ IsSideLink size North all link)) (sym north)
+          (sides_linked before size old.east old.north links inside were.east_are were.north_are were.links_are link)));
+      areas_are = subst (λ (table : AreaNumbers). AreAreas (region_counts new) links table) (sym areas)
+          (subst (λ (numbers : List ℕ). AreAreas numbers links old.areas) (sym counts) were.areas_are);
+    }
+
+-- so do the numbers of all regions and edges
+pub totals_stay : (old : Tables) (labels : List Labelling) (east north : List (List (ℕ × ℕ))) (areas : AreaNumbers) (regions edges : ℕ)
+    → HasTotals old regions edges → counts_of labels ≡ region_counts old → east ≡ old.east → north ≡ old.north
+    → HasTotals (record { labels = labels; east = east; north = north; areas = areas }) regions edges
+totals_stay old labels east north areas regions edges has counts same_east same_north =
+    let count = λ (one : Labelling). length one.firsts in
+    let total : sum_by count labels ≡ sum_by count old.labels = sym (sum-map count labels) ∙ ap (λ (xs : List ℕ). sum xs) counts ∙ sum-map count old.labels in
+    let to_east : sum_by length east ≡ sum_by length old.east = ap (λ (all : List (List (ℕ × ℕ))). sum_by length all) same_east in
+    let to_north : sum_by length north ≡ sum_by length old.north = ap (λ (all : List (List (ℕ × ℕ))). sum_by length all) same_north in
+    let few = has.few in
+    let few_regions = few.regions in
+    let few_edges = few.edges in
+    let regions_are = has.regions_are in
+    let edges_are = has.edges_are in
+    record {
+      few = record { regions = omega arith; edges = omega arith };
+      regions_are = omega arith;
+      edges_are = omega arith;
+    }
 
 -- ---- one place more
 

@@ -12,4 +12,8 @@ pub mod PaintLemmas
 pub mod ReachLemmas
 pub mod VersionLemmas
 pub mod ChangeLemmas
+pub mod RemakeLemmas
+pub mod BitLemmas
 pub mod NextLemmas
+pub mod PlanePartLemmas
+pub mod RowLemmas

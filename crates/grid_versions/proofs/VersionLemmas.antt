@@ -1,5 +1,5 @@
 -- What the parts of a version say of its map and its obstructions.
-use Rattle.std.proofs.Common.{◌≡◌, ℕ, zero, suc, ◌+◌, ◌-◌, ◌<◌, ◌≤◌, ◌↔◌, Bool, true, false, ◌&&◌, not, cond, List, [], ◌∷◌, ◌++◌, length, map as each_of, get_or, refl, sym, ap, subst, ◌∙◌, inl, inr, arith, Some, option_map, length-append}
+use Rattle.std.proofs.Common.{◌≡◌, ℕ, zero, suc, ◌+◌, ◌-◌, ◌<◌, ◌≤◌, ◌↔◌, Bool, true, false, ◌&&◌, not, cond, List, [], ◌∷◌, ◌++◌, length, map as each_of, get_or, refl, sym, ap, subst, ◌∙◌, inl, inr, arith, Option, Some, option_map, length-append}
 use Rattle.std.specs.Prelude.{nat_lt, IsTrue, IsFalse, slice_get}
 use Rattle.std.specs.List.{count_by, sum_by, range_with_len}
 use Rattle.std.specs.Int.{bit_at}
@@ -22,6 +22,7 @@ use Rattle.chunk_regions.specs.Labelling.{chunk_rect}
 use Rattle.nav_types.proofs.CellOrder.{same_chunk}
 use Rattle.chunk_regions.proofs.LabelLemmas.{in_rect, in_chunk}
 use Rattle.region_edges.specs.Edges.{PassesInside}
+use Rattle.class_planes.specs.Planes.{PlaneCells, ArePlanes}
 use Rattle.obstruction_store.specs.Standing.{Standing, AllFit}
 use Rattle.grid_versions.specs.Maps.{Map}
 use Rattle.grid_versions.specs.Passing.{passable_at, is_inside}
@@ -301,9 +302,9 @@ compared_more before now bits n set b long each so_far is place c d other at_c a
 -- ---- a version from its parts
 
 -- the tables at a class's place are those of the class
-pub class_table : (map : Map) (standing : Standing) (base cells : List Numbering) (tables : List Tables) → AreParts map standing base cells tables
-    → (class index : ℕ) (found : Tables) → index ≡ class → slice_get tables index ≡ Some found → AreTables (passable_at map standing class) map.size found
-class_table map standing base cells tables parts class index found same at =
+pub class_table : (map : Map) (standing : Standing) (base cells : List Numbering) (planes : List (Option PlaneCells)) (tables : List Tables)
+    → AreParts map standing base cells planes tables → (class index : ℕ) (found : Tables) → index ≡ class → slice_get tables index ≡ Some found → AreTables (passable_at map standing class) map.size found
+class_table map standing base cells planes tables parts class index found same at =
     parts.tables_are.are class found (ap (λ i. slice_get tables i) (sym same) ∙ at)
 
 -- the numbers at the place of a cell's chunk are the chunk's
@@ -313,13 +314,6 @@ pub painted_chunk : (map : Map) (standing : Standing) (cells : List Numbering) �
 painted_chunk map standing cells are cell place found inside same at =
     AreOfChunks-at map.size (chunk_count map.size) (IsPaintedChunk map standing) cells (chunk_of cell) found are
     (chunk_inside map.size cell inside) (ap (λ i. slice_get cells i) (sym same) ∙ at)
-
--- the same, from a version's parts
-pub cell_chunk : (map : Map) (standing : Standing) (base cells : List Numbering) (tables : List Tables) → AreParts map standing base cells tables
-    → (cell : Cell) (place : ℕ) (found : Numbering) → IsInside map.size cell → place ≡ chunk_place map.size (chunk_of cell) → slice_get cells place ≡ Some found
-    → IsPaintedChunk map standing (chunk_of cell) found
-cell_chunk map standing base cells tables parts cell place found inside same at =
-    painted_chunk map standing cells parts.cells_are cell place found inside same at
 
 pub in_own_rect : (map : Map) (standing : Standing) (cell : Cell) (found : Numbering) → IsInside map.size cell → IsPaintedChunk map standing (chunk_of cell) found
     → IsInRect found.rect cell
@@ -337,18 +331,22 @@ chunks_of_one_map one other standing cells same of = subst (λ (m : Map). ArePai
 
 -- ---- a version from its parts
 
-pub parts_of : (map spec : Map) (standing : Standing) (painted : MapState) (count : ℕ) (base cells : List Numbering) (tables : List Tables)
+pub parts_of : (map spec : Map) (standing : Standing) (painted : MapState) (count : ℕ) (base cells : List Numbering)
+    (planes : List (Option PlaneCells)) (tables : List Tables)
     → spec ≡ map → painted ≡ map_state spec standing → AllFit map.size standing → AreBaseChunks map base
     → ArePaintedChunks spec standing cells → count ≡ length spec.classes → count ≤ 16
-    → AreTablesOf count (passes_of painted) painted.map.size tables → AreParts map standing base cells tables
-parts_of map spec standing painted count base cells tables same is fit under are many few of =
+    → ArePlanes painted.map.size (passes_of painted) 65535 (length painted.map.classes) planes
+    → AreTablesOf count (passes_of painted) painted.map.size tables → AreParts map standing base cells planes tables
+parts_of map spec standing painted count base cells planes tables same is fit under are many few planes_of of =
     let each = of.each in
     let one = subst (λ (s : MapState). AreTablesOf count (passes_of s) s.map.size tables) is of in
     let two = subst (λ (n : ℕ). AreTablesOf n (passable_at spec standing) spec.size tables) many one in
+    let all = subst (λ (s : MapState). ArePlanes s.map.size (passes_of s) 65535 (length s.map.classes) planes) is planes_of in
     record {
       fit = fit;
       base_are = under;
       cells_are = chunks_of_one_map spec map standing cells same are;
+      planes_are = subst (λ (m : Map). ArePlanes m.size (passable_at m standing) 65535 (length m.classes) planes) same all;
       tables_are = subst (λ (m : Map). AreTablesOf (length m.classes) (passable_at m standing) m.size tables) same two;
       few = omega arith;
     }

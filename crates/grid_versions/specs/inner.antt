@@ -8,3 +8,4 @@ pub mod Painting
 pub mod Reaching
 pub mod Parts
 pub mod Changing
+pub mod FreeBits

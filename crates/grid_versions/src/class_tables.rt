@@ -9,16 +9,17 @@ ghost use Rattle.grid_versions.specs.inner.Changing.{AreChanges};
 ghost use Rattle.grid_versions.specs.inner.Tables.{Tables, AreTables};
 ghost use Rattle.grid_versions.specs.inner.Tallying.{AreTablesOf};
 
+use crate::chunk_bits::BitView;
 use crate::shared_list::SharedList;
 use crate::tables::ClassTables;
 use lane_rows::count_bit;
-use nav_types::{Class, NoMemory, Ticks, View};
+use nav_types::{Class, NoMemory, Ticks};
 use std::alloc::Global;
 use std::sync::Arc;
 use std::sync::ledger::Ledger;
 
 /// The tables of the first classes of a map, in the order of classes. Each class labels each chunk once.
-pub fn class_tables<V: View, L: Ledger>(
+pub fn class_tables<V: BitView, L: Ledger>(
     alloc: Global,
     view: &V,
     count: u8,
@@ -40,7 +41,7 @@ pub fn class_tables<V: View, L: Ledger>(
 
 /// The tables of a class from those of before and the bits of what has changed: the same tables where no chunk has
 /// changed for the class.
-fn tables_at<V: View, L: Ledger>(
+fn tables_at<V: BitView, L: Ledger>(
     alloc: Global,
     view: &V,
     before: &SharedList<ClassTables>,
@@ -69,7 +70,7 @@ fn tables_at<V: View, L: Ledger>(
 
 /// The tables of the first classes of a map, in the order of classes, from those of before and the bits of what has
 /// changed. Each chunk is labelled once for each class whose bit it has.
-pub fn next_tables<V: View, L: Ledger>(
+pub fn next_tables<V: BitView, L: Ledger>(
     alloc: Global,
     view: &V,
     before: &SharedList<ClassTables>,

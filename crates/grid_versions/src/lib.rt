@@ -2,6 +2,8 @@
 //! region edges and areas, and the edits that lead from one version to the next.
 #![tactic(auto)]
 
+mod changed_parts;
+mod chunk_bits;
 mod chunk_cells;
 mod chunks;
 mod class_tables;
@@ -16,6 +18,7 @@ mod relabelling;
 mod shared_list;
 mod standing_edits;
 mod tables;
+mod version_parts;
 mod versions;
 
 pub use edits::{Edit, EditReplies, EditReply, Edits, Refusal};

@@ -1,13 +1,16 @@
 //! A map whose cells are painted, before its tables are made.
-ghost use Rattle.std.specs.Prelude.{◌≡◌};
+ghost use Rattle.std.specs.Prelude.{ℕ, ◌≡◌, ◌+◌, ◌≤◌, ◌<◌, length, slice_index};
 ghost use Rattle.grid_versions.specs.Versions.{map_state};
 ghost use Rattle.grid_versions.specs.inner.Painting.{ArePaintedChunks};
 
+use crate::chunk_bits::{BitView, free_cells};
 use crate::chunk_cells::ChunkCells;
 use crate::chunks;
 use crate::maps::MapSpec;
 use crate::shared_list::SharedList;
-use nav_types::{Cell, Class, Size, View};
+use chunk_regions::ChunkBits;
+use nav_types::limits::CHUNK_SIDE;
+use nav_types::{Cell, Chunk, Class, Rows, Size, View};
 use obstruction_store::Store;
 use std::marker::Model;
 
@@ -75,4 +78,34 @@ impl<'a> View for PaintedMap<'a> {
         let place = chunks::place_of(self.map.size(), cell.chunk());
         self.cells.at(place as usize).is_free(class, cell)
     }
+}
+
+impl<'a> BitView for PaintedMap<'a> {
+    fn bits(&self, class: Class, chunk: Chunk) -> ChunkBits {
+        let place = chunks::place_of(self.map.size(), chunk);
+        free_cells(self.cells.at(place as usize).patch(), class)
+    }
+}
+
+impl<'a> Rows for PaintedMap<'a> {
+    fn row_bits(&self, j: u16, out: &mut [u16]) {
+        let size = self.map.size();
+        for ci in 0..chunks::columns(size) {
+            let cj = j / CHUNK_SIDE;
+            let place = chunks::place_of(size, Chunk { cj, ci });
+            let row = self.cells.at(place as usize).patch().row(j);
+            write_numbers(out, usize::from(ci * CHUNK_SIDE), row);
+        }
+    }
+}
+
+/// Writes the numbers to the places from `from` on.
+fn write_numbers(out: &mut [u16], from: usize, numbers: &[u16])
+    requires { from + length numbers.now ≤ length out.old }
+    ensures stays { length out.new ≡ length out.old }
+    ensures inside { (k : ℕ) → k < length numbers.now
+        → slice_index out.new (from + k) ≡ slice_index numbers.now k }
+    ensures before { (k : ℕ) → k < from → slice_index out.new k ≡ slice_index out.old k }
+{
+    out[from..from + numbers.len()].copy_from_slice(numbers);
 }

@@ -6,46 +6,59 @@ ghost use Rattle.reach_sets.specs.AreaNumbers.{area_of};
 ghost use Rattle.grid_versions.specs.Chunks.{chunk_count};
 ghost use Rattle.grid_versions.specs.inner.Building.{AreSides};
 ghost use Rattle.grid_versions.specs.inner.Changing.{AreChanges};
-ghost use Rattle.grid_versions.specs.inner.Tables.{AreTables, AreOfMap, region_in, region_total, edge_total};
+ghost use Rattle.grid_versions.specs.inner.Tables.{AreTables, AreOfMap, counts_of, region_counts, region_in};
+ghost use Rattle.grid_versions.specs.inner.Tables.{region_total, edge_total};
 
 mod borders;
 mod labelling;
 mod sums;
 
+use crate::chunk_bits::BitView;
 use crate::chunks;
 use crate::shared_list::SharedList;
 use chunk_regions::Labels;
-use nav_types::{Cell, Class, NoMemory, Size, Ticks, View};
+use nav_types::{Cell, Class, NoMemory, Size, Ticks};
 use reach_sets::{AreaTable, RegionId};
 use region_edges::{Edges, Side};
 use std::alloc::Global;
 use std::marker::Model;
+use std::sync::Arc;
 use std::sync::ledger::Ledger;
 
 /// What is known of one class of a map: the regions of each chunk, the region edges to its east and its north
-/// neighbour, and the areas. Contracts see these lists (`Tables`). Labels and edges may be shared with other tables.
+/// neighbour, and the areas. Contracts see these lists (`Tables`). Labels, edges and areas may be shared with other
+/// tables.
 #[derive(Drop)]
 pub struct ClassTables {
     labels: SharedList<Labels>,
     east: SharedList<Edges>,
     north: SharedList<Edges>,
-    areas: AreaTable,
+    areas: Arc<AreaTable, Global>,
+    // How many regions and how many edges all chunks have together.
+    regions: u64,
+    edges: u64,
 }
 
 impl Model for ClassTables {
-    ghost use Rattle.grid_versions.specs.inner.Tables.{Tables, AreFew};
+    ghost use Rattle.std.specs.Arc.{arc_value};
+    ghost use Rattle.grid_versions.specs.inner.Tables.{Tables, HasTotals};
 
     ghost Value = { Tables };
 
-    ghost view = { λ t. record { labels = t.labels; east = t.east; north = t.north; areas = t.areas } };
+    ghost view = { λ t. record { labels = t.labels; east = t.east; north = t.north; areas = arc_value t.areas } };
 
-    ghost invariant = { λ t. AreFew (record { labels = t.labels; east = t.east; north = t.north; areas = t.areas }) };
+    ghost invariant = { λ t. HasTotals (record {
+      labels = t.labels;
+      east = t.east;
+      north = t.north;
+      areas = arc_value t.areas;
+    }) t.regions t.edges };
 }
 
 impl ClassTables {
     /// The tables of a class, made from the map's cells alone (`AreTables`). Each chunk is labelled once, which is
     /// one step of work. The work grows with the map's cells. It refuses for want of memory alone.
-    pub fn build<V: View, L: Ledger>(
+    pub fn build<V: BitView, L: Ledger>(
         alloc: Global,
         view: &V,
         class: Class,
@@ -64,9 +77,9 @@ impl ClassTables {
     }
 
     /// The tables of a class after a change: these are those of before, and the bits say which chunks have changed.
-    /// Only these are labelled, which is one step of work each; what no change touches is shared with these tables,
-    /// but for the areas.
-    pub fn updated<V: View, L: Ledger>(
+    /// Only these are labelled, which is one step of work each; what no change touches is shared with these tables, and
+    /// so are the areas where each chunk has as many regions as before and the edges are the same.
+    pub fn updated<V: BitView, L: Ledger>(
         &self,
         alloc: Global,
         view: &V,
@@ -81,26 +94,56 @@ impl ClassTables {
         ensures most { ticks.new ≤ ticks.old + count_by (has_class class) changed.now }
     {
         let size = view.size();
-        let labels = labelling::next_labels(alloc, view, class, &self.labels, changed, ticks)?;
-        let east = borders::next_edges(
+        let mut labels = self.labels.share(alloc)?;
+        let mut east = self.east.share(alloc)?;
+        let mut north = self.north.share(alloc)?;
+        let counts = labelling::relabel(alloc, view, class, &mut labels, changed, ticks)?;
+        let to_east = borders::reconnect(
             alloc,
             size,
             &labels,
-            &self.east,
+            &mut east,
             changed,
             class,
             Side::East,
         )?;
-        let north = borders::next_edges(
+        let to_north = borders::reconnect(
             alloc,
             size,
             &labels,
-            &self.north,
+            &mut north,
             changed,
             class,
             Side::North,
         )?;
+        if counts && to_east && to_north {
+            return self.relabelled(labels, east, north);
+        }
         ClassTables::joined(alloc, size, labels, east, north)
+    }
+
+    /// These tables with other labels, by which each chunk has as many regions as before and the edges are the same.
+    /// The areas are shared.
+    fn relabelled(
+        &self,
+        labels: SharedList<Labels>,
+        east: SharedList<Edges>,
+        north: SharedList<Edges>,
+    ) -> Result<ClassTables, NoMemory>
+        requires counts { counts_of labels ≡ region_counts self.now }
+        requires east { east ≡ self.now.east }
+        requires north { north ≡ self.now.north }
+        ensures { IfOk result (λ tables. tables
+            ≡ record { labels = labels; east = east; north = north; areas = self.now.areas }) }
+    {
+        Ok(ClassTables {
+            labels,
+            east,
+            north,
+            areas: Arc::try_clone(&self.areas)?,
+            regions: self.regions,
+            edges: self.edges,
+        })
     }
 
     /// The tables of these labels and edges, with the areas that they make.
@@ -117,12 +160,17 @@ impl ClassTables {
     {
         let counts = sums::region_counts(alloc, &labels)?;
         let links = borders::all_links(alloc, size, &east, &north)?;
-        let areas = AreaTable::build(alloc, counts.as_slice(), &links)?;
+        let table = AreaTable::build(alloc, counts.as_slice(), &links)?;
+        let areas = Arc::new(alloc, table)?;
+        let regions = sums::region_sum(&labels);
+        let edges = sums::edge_sum(&east) + sums::edge_sum(&north);
         Ok(ClassTables {
             labels,
             east,
             north,
             areas,
+            regions,
+            edges,
         })
     }
 
@@ -154,7 +202,7 @@ impl ClassTables {
         ensures total { result ≡ region_total self.now }
         ensures few { result ≤ 4460544 }
     {
-        sums::region_sum(&self.labels)
+        self.regions
     }
 
     /// How many region edges all pairs of neighbouring chunks have together.
@@ -162,7 +210,7 @@ impl ClassTables {
         ensures total { result ≡ edge_total self.now }
         ensures few { result < 2 ^ 37 }
     {
-        sums::edge_sum(&self.east) + sums::edge_sum(&self.north)
+        self.edges
     }
 
     /// How many areas there are.

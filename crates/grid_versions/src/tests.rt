@@ -403,17 +403,34 @@ fn a_map_without_a_passable_cell(rt: HostRuntime) -> Result<(), Fail> {
     Ok(())
 }
 
-/// The largest map with 16 classes, and an obstruction over the cell (1024, 1024).
+/// The version after edits, where it has these numbers: of pairs relabelled, and of regions, edges and areas.
+fn after_counted(
+    version: &Version,
+    alloc: Global,
+    edits: &[Edit],
+    numbers: [u64; 4],
+) -> Result<Version, Fail> {
+    let next = after(version, alloc, edits)?;
+    if numbers_of(&next) != numbers {
+        return Err("other numbers".into());
+    }
+    Ok(next.version)
+}
+
+/// On the largest map with 16 classes, an obstruction over the cell (1024, 1024) comes and goes a thousand times.
 #[test]
-fn the_largest_map(rt: HostRuntime) -> Result<(), Fail> {
+fn a_thousand_updates_of_the_largest_map(rt: HostRuntime) -> Result<(), Fail> {
     let alloc = rt.alloc();
     let map = open_map(alloc, [2048, 2048], 16, "0")?;
-    let next = after(
-        &opened(alloc, &map)?,
-        alloc,
-        &[add(1, [67_141_632, 67_141_632, 16_384], 65_535)],
-    )?;
-    assert_eq!(rt; numbers_of(&next), [16, 7744, 14_784, 16]);
-    assert_eq!(rt; passable_in(&next.version, 15), Some(4_194_303));
+    let comes = [add(1, [67_141_632, 67_141_632, 16_384], 65_535)];
+    let goes = [Edit::Remove { id: 1 }];
+    let numbers = [16, 7744, 14_784, 16];
+    let mut version = opened(alloc, &map)?;
+    for _ in 0..500 {
+        let built = after_counted(&version, alloc, &comes, numbers)?;
+        version = after_counted(&built, alloc, &goes, numbers)?;
+    }
+    let built = after_counted(&version, alloc, &comes, numbers)?;
+    assert_eq!(rt; passable_in(&built, 15), Some(4_194_303));
     Ok(())
 }

@@ -1,27 +1,19 @@
 //! Versions of a map.
-ghost use Rattle.std.specs.Prelude.{ℕ, ◌≡◌, ◌+◌, ◌*◌, ◌<◌, ◌≤◌, [], length, IfOk, OnOk, IsTrue};
-ghost use Rattle.std.specs.Arc.{arc_value};
+ghost use Rattle.std.specs.Prelude.{ℕ, ◌≡◌, ◌+◌, ◌*◌, ◌<◌, ◌≤◌, [], None, length, slice_index_or, IfOk, OnOk, IsSome, IsTrue};
 ghost use Rattle.nav_types.specs.declared.cells.Cell.{Cell};
 ghost use Rattle.nav_types.specs.Cells.{IsInside, chunk_of};
 ghost use Rattle.nav_types.specs.Counting.{Counts};
 ghost use Rattle.nav_types.specs.Regions.{HasRegion, HasTallies, HasRelabelled};
+ghost use Rattle.class_planes.specs.Planes.{AreOf};
 ghost use Rattle.obstruction_store.specs.Standing.{AllFit};
 ghost use Rattle.grid_versions.specs.Chunks.{chunk_count, chunk_place};
 
-use crate::chunk_cells::ChunkCells;
-use crate::chunks;
-use crate::class_tables::{class_tables, next_tables};
 use crate::edits::{EditReplies, Edits};
 use crate::maps::MapSpec;
-use crate::next_cells::next_patches;
-use crate::painted_map::PaintedMap;
-use crate::painting::{base_patches, painted_patches};
-use crate::relabelling::marks_below;
-use crate::shared_list::SharedList;
 use crate::standing_edits::{Reaches, apply_all};
-use crate::tables::ClassTables;
-use nav_types::{Areas, Cell, Class, NoMemory, Rect, Size, Ticks, View};
-use navcell_grid::Patch;
+use crate::version_parts::VersionParts;
+use class_planes::Planes;
+use nav_types::{Areas, Cell, Class, NoMemory, Size, Ticks, View};
 use obstruction_store::Store;
 use reach_sets::RegionId;
 use std::alloc::Global;
@@ -43,12 +35,7 @@ pub struct Tallies {
 /// A version never changes, and threads may share it.
 #[derive(Drop)]
 pub struct Version {
-    map: Arc<MapSpec, Global>,
-    shapes: Arc<Store, Global>,
-    // The cells under the base rectangles alone.
-    base: SharedList<Patch>,
-    cells: SharedList<ChunkCells>,
-    tables: SharedList<ClassTables>,
+    parts: Arc<VersionParts, Global>,
 }
 
 /// What edits make of a version.
@@ -68,25 +55,19 @@ impl Model for Version {
     ghost use Rattle.std.specs.Coded.{coded_ℕ};
     ghost use Rattle.obstruction_shapes.specs.contracts.shapes.Obstruction.{the_row as obstruction_row};
     ghost use Rattle.grid_versions.specs.contracts.maps.MapSpec.{the_row as map_row};
-    ghost use Rattle.grid_versions.specs.Versions.{MapState, map_state, state_code};
+    ghost use Rattle.grid_versions.specs.Versions.{MapState, state_code};
     ghost use Rattle.std.specs.Arc.{arc_value};
 
     ghost Value = { MapState };
 
     ghost coded = { state_code map_row.coded (fin_map.code coded_ℕ obstruction_row.coded) };
 
-    ghost use Rattle.grid_versions.specs.inner.Parts.{AreParts};
-
-    ghost view = { λ v. map_state (arc_value v.map) (arc_value v.shapes) };
-
-    ghost invariant = { λ v. AreParts (arc_value v.map) (arc_value v.shapes) v.base v.cells v.tables };
+    ghost view = { λ v. arc_value v.parts };
 }
 
 impl Version {
     ghost use Rattle.grid_versions.specs.Editing.{after_edits, edit_replies};
     ghost use Rattle.grid_versions.specs.Versions.{map_state, passes_of};
-    ghost use Rattle.grid_versions.specs.inner.Parts.{AreParts};
-    ghost use Rattle.grid_versions.specs.inner.Reaching.{CoverChanges};
 
     /// The version of this map and these obstructions, all of which fit the map. It is made from nothing: each chunk is
     /// labelled once for each class, which is one tick, and the work grows with the map's cells and classes. It refuses for want of memory alone.
@@ -103,37 +84,9 @@ impl Version {
             ≡ ticks.old + length map.now.classes * chunk_count map.now.size) }
         ensures most { ticks.new ≤ ticks.old + length map.now.classes * chunk_count map.now.size }
     {
-        let map = Arc::new(alloc, map.copy(alloc)?)?;
-        Version::build_shared(alloc, map, shapes.copy(alloc)?, ticks)
-    }
-
-    /// The version of this map, which other versions may share, and these obstructions.
-    fn build_shared<L: Ledger>(
-        alloc: Global,
-        map: Arc<MapSpec, Global>,
-        shapes: Store,
-        ticks: &mut Ticks<L>,
-    ) -> Result<Version, NoMemory>
-        requires { AllFit (arc_value map).size shapes }
-        ensures map { IfOk result (λ version. version.map ≡ arc_value map) }
-        ensures standing { IfOk result (λ version. version.standing ≡ shapes) }
-        ensures ticks { OnOk result (ticks.new
-            ≡ ticks.old + length (arc_value map).classes * chunk_count (arc_value map).size) }
-        ensures most { ticks.new
-            ≤ ticks.old + length (arc_value map).classes * chunk_count (arc_value map).size }
-    {
-        let spec: &MapSpec = &map;
-        let base = base_patches(alloc, spec)?;
-        let cells = painted_patches(alloc, spec, &shapes, &base)?;
-        let painted = PaintedMap::new(spec, &shapes, &cells);
-        let tables = class_tables(alloc, &painted, spec.classes().count(), ticks)?;
-        let shapes = Arc::new(alloc, shapes)?;
+        let parts = VersionParts::build(alloc, map, shapes, ticks)?;
         Ok(Version {
-            map,
-            shapes,
-            base,
-            cells,
-            tables,
+            parts: Arc::new(alloc, parts)?,
         })
     }
 
@@ -163,18 +116,21 @@ impl Version {
         if edits.is_empty() {
             return self.unchanged(alloc);
         }
-        let mut shapes = self.shapes.copy(alloc)?;
+        let parts: &VersionParts = &self.parts;
+        let mut shapes = parts.shapes().copy(alloc)?;
         let mut reaches = Reaches::new(alloc);
         let replies = apply_all(
             alloc,
-            &self.map,
+            parts.map(),
             &mut shapes,
             edits.as_slice(),
             &mut reaches,
         )?;
-        let (version, relabelled) = self.updated(alloc, shapes, reaches.as_slice(), ticks)?;
+        let (next, relabelled) = parts.updated(alloc, shapes, reaches.as_slice(), ticks)?;
         Ok(Next {
-            version,
+            version: Version {
+                parts: Arc::new(alloc, next)?,
+            },
             replies,
             relabelled,
         })
@@ -188,48 +144,11 @@ impl Version {
     {
         Ok(Next {
             version: Version {
-                map: Arc::try_clone(&self.map)?,
-                shapes: Arc::try_clone(&self.shapes)?,
-                base: self.base.share(alloc)?,
-                cells: self.cells.share(alloc)?,
-                tables: self.tables.share(alloc)?,
+                parts: Arc::try_clone(&self.parts)?,
             },
             replies: EditReplies::new(alloc),
             relabelled: 0,
         })
-    }
-
-    /// The version of this map and other obstructions, all of which fit the map, and in how many pairs of chunk and
-    /// class it differs from this one. The rectangles cover what has changed. Only their cells are painted, each pair
-    /// that differs is labelled once, and what lies elsewhere is shared.
-    fn updated<L: Ledger>(
-        &self,
-        alloc: Global,
-        shapes: Store,
-        reaches: &[Rect],
-        ticks: &mut Ticks<L>,
-    ) -> Result<(Version, u32), NoMemory>
-        requires fit { AllFit self.now.map.size shapes }
-        requires covers { CoverChanges self.now.map self.now.standing shapes reaches.now }
-        ensures version { IfOk result (λ next. next.0 ≡ map_state self.now.map shapes) }
-        ensures relabelled { IfOk result (λ next. HasRelabelled (length self.now.map.classes) (passes_of self.now)
-            (passes_of (map_state self.now.map shapes)) next.1) }
-        ensures most { (count : ℕ) → HasRelabelled (length self.now.map.classes) (passes_of self.now)
-            (passes_of (map_state self.now.map shapes)) count → ticks.new ≤ ticks.old + count }
-    {
-        let map: &MapSpec = &self.map;
-        let (cells, changed) = next_patches(alloc, map, &shapes, &self.base, &self.cells, reaches)?;
-        let painted = PaintedMap::new(map, &shapes, &cells);
-        let tables = next_tables(alloc, &painted, &self.tables, &changed, ticks)?;
-        let relabelled = marks_below(&changed, map.classes().count());
-        let version = Version {
-            map: Arc::try_clone(&self.map)?,
-            shapes: Arc::new(alloc, shapes)?,
-            base: self.base.share(alloc)?,
-            cells,
-            tables,
-        };
-        Ok((version, relabelled))
     }
 
     /// The region of a cell for a class: its chunk by the place in the order chunk row, chunk column, and its number
@@ -240,8 +159,7 @@ impl Version {
         ensures chunk { result.chunk ≡ chunk_place self.now.map.size (chunk_of cell) }
         ensures region { HasRegion (passes_of self.now class) (chunk_of cell) cell result.region }
     {
-        let tables = self.tables.at(usize::from(class.number()));
-        tables.region(self.map.size(), cell)
+        self.parts.region(class, cell)
     }
 
     /// How many regions, region edges and areas all classes have together (`HasTallies`).
@@ -249,18 +167,7 @@ impl Version {
         ensures { HasTallies (length self.now.map.classes) (passes_of self.now)
             result.regions result.edges result.areas }
     {
-        let mut tallies = Tallies {
-            regions: 0,
-            edges: 0,
-            areas: 0,
-        };
-        for class in 0..self.tables.len() {
-            let tables = self.tables.at(class);
-            tallies.regions += tables.regions();
-            tallies.edges += tables.edges();
-            tallies.areas += u64::from(tables.areas());
-        }
-        tallies
+        self.parts.tallies()
     }
 
     /// How many cells are passable for the class. The number is kept per chunk, so no cell is looked at.
@@ -268,18 +175,24 @@ impl Version {
         requires { class < length self.now.map.classes }
         ensures { Counts (λ (cell : Cell). IsTrue (passes_of self.now class cell)) result }
     {
-        let mut count = 0;
-        for place in 0..self.cells.len() {
-            count += u32::from(self.cells.at(place).free(class));
-        }
-        count
+        self.parts.passable_cells(class)
+    }
+
+    /// The planes of all classes of the map, for searches that look at 64 cells at once. They are of this version
+    /// (`AreOf`), and each class of the map has one.
+    pub fn planes(&self) -> &Planes
+        ensures of_version { AreOf self.now.map.size (passes_of self.now) result.now }
+        ensures each { (class : ℕ) → class < length self.now.map.classes
+            → IsSome (slice_index_or result.now class None) }
+    {
+        self.parts.planes()
     }
 
     /// The map.
     pub fn map(&self) -> &MapSpec
         ensures { result.now ≡ self.now.map }
     {
-        &self.map
+        self.parts.map()
     }
 
     /// The standing obstructions, all of which fit the map.
@@ -287,7 +200,7 @@ impl Version {
         ensures standing { result.now ≡ self.now.standing }
         ensures fit { AllFit self.now.map.size result.now }
     {
-        &self.shapes
+        self.parts.shapes()
     }
 }
 
@@ -306,19 +219,18 @@ impl View for Version {
 
     /// The size of the map, in navcells.
     fn size(&self) -> Size {
-        self.map.size()
+        self.parts.size()
     }
 
     /// The number of passability classes of the map.
     fn classes(&self) -> u8 {
-        self.map.classes().count()
+        self.parts.classes()
     }
 
     /// Whether the cell is passable for the class (`passable_at`): no base rectangle and no standing obstruction covers
     /// it for the class.
     fn passable(&self, class: Class, cell: Cell) -> bool {
-        let place = chunks::place_of(self.map.size(), cell.chunk());
-        self.cells.at(place as usize).is_free(class, cell)
+        self.parts.passable(class, cell)
     }
 }
 
@@ -335,7 +247,6 @@ impl Areas for Version {
 
     /// The number of the cell's area for the class; 0 exactly for an impassable cell (`HasArea`).
     fn area(&self, class: Class, cell: Cell) -> u32 {
-        let tables = self.tables.at(usize::from(class.number()));
-        tables.area(self.map.size(), cell)
+        self.parts.area(class, cell)
     }
 }

@@ -3,6 +3,7 @@ ghost use Rattle.std.specs.Prelude.{◌≡◌, ◌-◌, ◌<◌, ◌≤◌, ◌+
 ghost use denote.Param.Send.{IsSync};
 ghost use Rattle.path_workers.specs.inner.Working.{HasOneMore, HasWorked};
 
+use crate::asking::{Asked, solved};
 use crate::placing::Answered;
 use claim_board::{Claims, Drawn, Seat};
 use grid_versions::Version;
@@ -10,7 +11,7 @@ use io_edges::Gate;
 use nav_types::{NoMemory, Sequence};
 use std::alloc::Global;
 use std::thread::{Threads, join};
-use turn_core::{Request, solve};
+use turn_core::{Request, TracedAnswer};
 
 /// What workers hand back: their seat, and their answers with the jobs' numbers.
 #[derive(Drop)]
@@ -27,19 +28,20 @@ fn draw_all<G: Gate>(
     gate: &G,
     claims: &Claims,
     mut seat: Seat,
+    asked: Asked,
 ) -> Worked
     requires jobs { claims.now.jobs ≡ length jobs.now }
     requires own { seat.board ≡ claims.now }
     requires list { seat.drawn ≡ [] }
     requires live { seat.ended ≡ false }
-    ensures { HasWorked version.now.map version.now.standing jobs.now seat result }
+    ensures { HasWorked version.now.map version.now.standing asked jobs.now seat result }
 {
     let mut answered = Sequence::new(alloc);
     'drawing: loop {
         match claims.claim(seat) {
             Drawn::Job(job, next) => {
                 seat = next;
-                let Ok(()) = solve_job(alloc, version, jobs, gate, job, &mut answered) else {
+                let Ok(()) = solve_job(alloc, version, jobs, gate, job, asked, &mut answered) else {
                     return Worked {
                         seat,
                         answered: Err(NoMemory),
@@ -63,14 +65,19 @@ fn solve_job<G: Gate>(
     jobs: &[Request],
     gate: &G,
     job: u64,
+    asked: Asked,
     answered: &mut Sequence<Answered>,
 ) -> Result<(), NoMemory>
     requires { job < length jobs.now }
-    ensures { OnOk result (HasOneMore version.now.map version.now.standing jobs.now job answered.old answered.new) }
+    ensures { OnOk result (HasOneMore version.now.map version.now.standing asked jobs.now job answered.old answered.new) }
 {
     gate.pass(job);
-    let answer = solve(alloc, version, &jobs[job as usize])?;
-    answered.push(Answered { job, answer })?;
+    let TracedAnswer { answer, opened } = solved(alloc, version, &jobs[job as usize], asked)?;
+    answered.push(Answered {
+        job,
+        answer,
+        opened,
+    })?;
     Ok(())
 }
 
@@ -84,6 +91,7 @@ pub(crate) fn draw_by<R: Threads + Sync, G: Gate + Sync>(
     claims: &Claims,
     seat: Seat,
     workers: u64,
+    asked: Asked,
 ) -> Worked
     requires jobs { claims.now.jobs ≡ length jobs.now }
     requires own { seat.board ≡ claims.now }
@@ -91,10 +99,10 @@ pub(crate) fn draw_by<R: Threads + Sync, G: Gate + Sync>(
     requires live { seat.ended ≡ false }
     requires some { 1 ≤ workers }
     requires credit { workers ≤ seat.credit }
-    ensures { HasWorked version.now.map version.now.standing jobs.now seat result }
+    ensures { HasWorked version.now.map version.now.standing asked jobs.now seat result }
 {
     if workers == 1 {
-        return draw_all(alloc, version, jobs, gate, claims, seat);
+        return draw_all(alloc, version, jobs, gate, claims, seat, asked);
     }
     let half = workers / 2;
     let (one, other) = claims.split(seat);
@@ -103,13 +111,25 @@ pub(crate) fn draw_by<R: Threads + Sync, G: Gate + Sync>(
         || -> Worked
             requires { IsSync R.row × (claims.now.jobs ≡ length jobs.now) × (one.board ≡ claims.now)
                 × (one.drawn ≡ []) × (one.ended ≡ false) × (1 ≤ workers - half) × (workers - half ≤ one.credit) }
-            ensures { HasWorked version.entry.now.map version.entry.now.standing jobs.entry.now one result }
-        { draw_by(rt, alloc, version, jobs, gate, claims, one, workers - half) },
+            ensures { HasWorked version.entry.now.map version.entry.now.standing asked jobs.entry.now one result }
+        {
+            draw_by(
+                rt,
+                alloc,
+                version,
+                jobs,
+                gate,
+                claims,
+                one,
+                workers - half,
+                asked,
+            )
+        },
         || -> Worked
             requires { IsSync R.row × (claims.now.jobs ≡ length jobs.now) × (other.board ≡ claims.now)
                 × (other.drawn ≡ []) × (other.ended ≡ false) × (1 ≤ half) × (half ≤ other.credit) }
-            ensures { HasWorked version.entry.now.map version.entry.now.standing jobs.entry.now other result }
-        { draw_by(rt, alloc, version, jobs, gate, claims, other, half) },
+            ensures { HasWorked version.entry.now.map version.entry.now.standing asked jobs.entry.now other result }
+        { draw_by(rt, alloc, version, jobs, gate, claims, other, half, asked) },
     );
     Worked {
         seat: claims.join(first.seat, second.seat),

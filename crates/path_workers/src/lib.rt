@@ -1,10 +1,12 @@
 //! The jobs of a turn, solved by up to 64 workers beside each other.
 #![tactic(auto)]
 
+mod asking;
 mod drawing;
 mod placing;
 #[cfg(test)]
 mod tests;
 mod turns;
 
-pub use turns::{Workers, run_turn};
+pub use placing::TracedAnswers;
+pub use turns::{Workers, run_turn, run_turn_traced};

@@ -110,6 +110,26 @@ fn each_job_has_its_answer_by_any_number_of_workers(rt: HostRuntime) -> Result<(
     Ok(())
 }
 
+/// Whether two workers tell the opened number of each of the seven jobs, beside its answer: on an open row the start and
+/// the goal are the only jump states, and a refused job opens none.
+fn traces_seven<R: Threads + Sync>(rt: &R, alloc: Global) -> Option<bool> {
+    let version = row_version(alloc)?;
+    let jobs = seven_jobs(alloc)?;
+    if jobs.len() > 7 {
+        return None;
+    }
+    let traced = run_turn_traced(rt, alloc, &version, &jobs, 2, &OpenGate).ok()?;
+    let solved = are_solved(alloc, &version, &jobs, &traced.answers)?;
+    let expected = [2, 0, 2, 0, 2, 0, 1];
+    Some(solved && traced.opened.as_slice() == expected.as_slice())
+}
+
+#[test]
+fn each_job_has_its_opened_number(rt: HostRuntime) -> Result<(), Fail> {
+    assert!(rt; traces_seven(&rt, rt.alloc()).ok_or("no answers")?);
+    Ok(())
+}
+
 /// Counts passes, and holds the first one until three others have come.
 #[derive(Drop)]
 struct HoldingGate {

@@ -1,9 +1,12 @@
 //! Turns whose jobs are solved by many workers.
 ghost use Rattle.std.specs.Prelude.{◌≡◌, ◌^◌, ◌<◌, ◌≤◌, IfOk, length};
 ghost use Rattle.turn_core.specs.Solving.{AreAnswersTo};
+ghost use Rattle.turn_core.specs.Opening.{AreOpenedNumbers};
+ghost use Rattle.path_workers.specs.declared.asking.Asked.TheVariants.{OpenedNumbers};
 
+use crate::asking::Asked;
 use crate::drawing::{Worked, draw_by};
-use crate::placing::in_order;
+use crate::placing::{TracedAnswers, in_order};
 use claim_board::Claims;
 use grid_versions::Version;
 use io_edges::Gate;
@@ -34,12 +37,63 @@ pub fn run_turn<R: Threads + Sync, G: Gate + Sync>(
     requires few { length jobs.now < 2 ^ 32 }
     ensures { IfOk result (AreAnswersTo version.now.map version.now.standing jobs.now) }
 {
+    let traced = run_asked(rt, alloc, version, jobs, workers, gate, Asked::Answers)?;
+    Ok(traced.answers)
+}
+
+/// The answers that [`run_turn`] gives, with their opened numbers (`AreOpenedNumbers`), on the same conditions: of a
+/// path, how many jump states are opened within its cost, as `turn_core::solve_traced` counts them, and 0 of any other
+/// answer. It refuses for want of memory alone.
+///
+/// It takes longer, since all jump states within the cost of a path are opened.
+pub fn run_turn_traced<R: Threads + Sync, G: Gate + Sync>(
+    rt: &R,
+    alloc: Global,
+    version: &Version,
+    jobs: &Jobs,
+    workers: u8,
+    gate: &G,
+) -> Result<TracedAnswers, NoMemory>
+    requires some { 1 ≤ workers }
+    requires most { workers ≤ MAX_WORKERS }
+    requires few { length jobs.now < 2 ^ 32 }
+    ensures answers { IfOk result (λ traced. AreAnswersTo version.now.map version.now.standing jobs.now traced.answers) }
+    ensures opened { IfOk result (λ traced. AreOpenedNumbers version.now.map version.now.standing jobs.now traced.opened) }
+{
+    run_asked(
+        rt,
+        alloc,
+        version,
+        jobs,
+        workers,
+        gate,
+        Asked::OpenedNumbers,
+    )
+}
+
+/// The answers to the jobs, with their opened numbers where these are asked for.
+fn run_asked<R: Threads + Sync, G: Gate + Sync>(
+    rt: &R,
+    alloc: Global,
+    version: &Version,
+    jobs: &Jobs,
+    workers: u8,
+    gate: &G,
+    asked: Asked,
+) -> Result<TracedAnswers, NoMemory>
+    requires some { 1 ≤ workers }
+    requires most { workers ≤ MAX_WORKERS }
+    requires few { length jobs.now < 2 ^ 32 }
+    ensures answers { IfOk result (λ traced. AreAnswersTo version.now.map version.now.standing jobs.now traced.answers) }
+    ensures opened { IfOk result (λ traced. asked ≡ OpenedNumbers
+        → AreOpenedNumbers version.now.map version.now.standing jobs.now traced.opened) }
+{
     let requests = jobs.as_slice();
     let count = requests.len();
     let (claims, seat) = Claims::start(alloc, count as u64)?;
     let workers = u64::from(workers).min(count as u64).max(1);
     let Worked { seat, answered } = draw_by(
-        rt, alloc, version, requests, gate, &claims, seat, workers,
+        rt, alloc, version, requests, gate, &claims, seat, workers, asked,
     );
     let answered = answered?;
     // Of the jobs that were drawn, each was answered: so all of them have their answer, and none has two.

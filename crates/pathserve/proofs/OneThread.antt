@@ -1,4 +1,5 @@
--- The text of an input's turns is that of the replies of one thread: in a reading the map is first, then only turns.
+-- The text of an input's turns is that of the replies of one thread, with the opened numbers where they are told: in a
+-- reading the map is first, then only turns.
 use Rattle.std.proofs.Common.{◌≡◌, ℕ, ◌+◌, List, [], ◌∷◌, ◌++◌, length, Bool, true, false, Option, Some, None, refl, sym, ap, ◌∙◌, subst, append_assoc, append-nil}
 use Rattle.std.specs.Prelude.{if◌then◌else◌, ⊤, ◌==◌, option_and_then}
 use Rattle.std.specs.List.{list_all}
@@ -6,8 +7,11 @@ use Rattle.serde_json.specs.Data.{Data}
 use Rattle.nav_types.specs.declared.cells.Rect.{Rect}
 use Rattle.grid_versions.specs.Maps.{Map}
 use Rattle.turn_core.specs.declared.replies.TurnReplies.{TurnReplies}
-use Rattle.turn_core.specs.Turns.{OneThread, TellNumbers, IsTurnTold, IsOneThread, replies_in}
+use Rattle.turn_core.specs.declared.posts.Post.{Post}
+use Rattle.turn_core.specs.Words.{Standing, bare}
+use Rattle.turn_core.specs.Turns.{after_turn, OneThread, TellNumbers, IsTurnTold, IsOneThread, replies_in}
 use Rattle.answer_text.specs.Answers.{turn_text}
+use Rattle.answer_text.specs.Profiles.{profile_text}
 use Rattle.script_text.specs.declared.forms.CallerPost.{CallerPost}
 use Rattle.script_text.specs.Lines.{full_lines, tail_of}
 use Rattle.script_text.specs.Forms.{map_of, base_of, post_of, end_of}
@@ -15,7 +19,9 @@ use Rattle.script_text.specs.declared.parts.Rules.{Rules}
 use Rattle.script_text.specs.declared.parts.Part.{Part}
 use Rattle.script_text.specs.declared.parts.Part.TheVariants.{BeforeMap as before_map, InBase as in_base, InTurns as in_turns}
 use Rattle.script_text.specs.Script.{Place, beginning, Item, begins, adds_base, ends_turn, map_after, turns_of, Ends, at_place, stuck_by, Walk, chain, chain_from, counted, reading_of, map_line, end_line, turn_line, placed_in_turn, base_line, placed_in, is_long, accept, walk, is_empty, finish_in, finish, last_line, reading}
-use Rattle.pathserve.specs.Output.{Said, unsaid, with_map, with_turn, Gives, IsText, turn_texts}
+use Rattle.pathserve.specs.declared.reports.Report.{Report}
+use Rattle.pathserve.specs.declared.reports.Report.TheVariants.{Answers, OpenedNumbers}
+use Rattle.pathserve.specs.Output.{Said, unsaid, with_map, with_turn, IsTurnText, Gives, IsText, turn_texts, profile_texts, AreOpenedInTurns}
 use Rattle.pathserve.proofs.OneText.{some_same}
 
 -- ---- the order of items
@@ -148,11 +154,13 @@ map_is_first bytes =
     (λ q. fits_last (tail_of bytes) q) in
     follows_all before_map (reading bytes beginning).items (reading bytes beginning).ends fits
 
--- ---- one thread
+-- ---- the texts of turns
 
--- the replies of one thread to the turns of items, with their numbers
-abbrev Threads : Map → Said → List Item → List TurnReplies → Type 0
-Threads m s items all = OneThread m s.standing (turns_of items) (replies_in all) × TellNumbers m s.standing (turns_of items) all
+-- the text of the turns of a journal, before which this stands, from one of this number on
+abbrev AreTurnTexts : Report → Map → Standing → ℕ → List (List (List Post)) → List ℕ → Type 0
+AreTurnTexts report m s number [] text = text ≡ []
+AreTurnTexts report m s number (turn ∷ journal) text = (piece : List ℕ) × ((more : List ℕ) × (IsTurnText report m s number turn piece
+    × (AreTurnTexts report m (after_turn m s turn) (number + 1) journal more × (text ≡ piece ++ more))))
 
 -- turns leave the map as it is
 map_stays : (items : List Item) (found : Option Map) → OnlyTurns items → map_after found items ≡ found
@@ -161,73 +169,159 @@ map_stays (begins m ∷ items) found only = absurd only
 map_stays (adds_base rects ∷ items) found only = absurd only
 map_stays (ends_turn posts ∷ items) found only = map_stays items found only
 
+turns_told : (report : Report) (items : List Item) → OnlyTurns items → (s t : Said) (m : Map) (text : List ℕ) → s.map ≡ Some m
+    → Gives report s items text t → AreTurnTexts report m s.standing (s.turns + 1) (turns_of items) text
+turns_told report [] only s t m text map gives = gives.0
+turns_told report (begins n ∷ items) only s t m text map gives = absurd only
+turns_told report (adds_base rects ∷ items) only s t m text map gives = absurd only
+turns_told report (ends_turn posts ∷ items) only s t m text map (piece, (mid, (more, ((n, (found, (is, after))), (gives, parts))))) =
+    let one : n ≡ m = some_same n m s.map found map in
+    let here : IsTurnText report m s.standing (s.turns + 1) posts piece =
+    subst (λ (x : Map). IsTurnText report x s.standing (s.turns + 1) posts piece) one is in
+    let from : mid ≡ with_turn s m posts = after ∙ ap (λ (x : Map). with_turn s x posts) one in
+    let rest = turns_told report items only (with_turn s m posts) t m more map (subst (λ (x : Said). Gives report x items more t) from gives) in
+    (piece, (more, (here, (rest, parts))))
+
+-- a text that begins with nothing
+only_more : (text piece more : List ℕ) → text ≡ piece ++ more → piece ≡ [] → text ≡ more
+only_more text piece more parts none = parts ∙ ap (λ (l : List ℕ). l ++ more) none
+
+items_told : (report : Report) (items : List Item) → MapFirst items → (s t : Said) (m : Map) (text : List ℕ) → map_after s.map items ≡ Some m
+    → Gives report s items text t → AreTurnTexts report m s.standing (s.turns + 1) (turns_of items) text
+items_told report [] first s t m text map gives = gives.0
+items_told report (begins n ∷ items) first s t m text map (piece, (mid, (more, ((none, after), (gives, parts))))) =
+    subst (λ (l : List ℕ). AreTurnTexts report m s.standing (s.turns + 1) (turns_of items) l) (sym (only_more text piece more parts none))
+    (items_told report items first (with_map s (begins n)) t m more map (subst (λ (x : Said). Gives report x items more t) after gives))
+items_told report (adds_base rects ∷ items) first s t m text map (piece, (mid, (more, ((none, after), (gives, parts))))) =
+    subst (λ (l : List ℕ). AreTurnTexts report m s.standing (s.turns + 1) (turns_of items) l) (sym (only_more text piece more parts none))
+    (items_told report items first (with_map s (adds_base rects)) t m more map (subst (λ (x : Said). Gives report x items more t) after gives))
+items_told report (ends_turn posts ∷ items) first s t m text map gives =
+    turns_told report (ends_turn posts ∷ items) first s t m text (sym (map_stays items s.map first) ∙ map) gives
+
+turns_give : (report : Report) (items : List Item) → OnlyTurns items → (s : Said) (m : Map) (text : List ℕ) → s.map ≡ Some m
+    → AreTurnTexts report m s.standing (s.turns + 1) (turns_of items) text → (t : Said) × Gives report s items text t
+turns_give report [] only s m text map none = (s, (none, refl))
+turns_give report (begins n ∷ items) only s m text map texts = absurd only
+turns_give report (adds_base rects ∷ items) only s m text map texts = absurd only
+turns_give report (ends_turn posts ∷ items) only s m text map (piece, (more, (here, (texts, parts)))) =
+    let (t, gives) = turns_give report items only (with_turn s m posts) m more map texts in
+    (t, (piece, (with_turn s m posts, (more, ((m, (map, (here, refl))), (gives, parts))))))
+
+items_give : (report : Report) (items : List Item) → MapFirst items → (s : Said) (m : Map) (text : List ℕ) → map_after s.map items ≡ Some m
+    → AreTurnTexts report m s.standing (s.turns + 1) (turns_of items) text → (t : Said) × Gives report s items text t
+items_give report [] first s m text map none = (s, (none, refl))
+items_give report (begins n ∷ items) first s m text map texts =
+    let (t, gives) = items_give report items first (with_map s (begins n)) m text map texts in
+    (t, ([], (with_map s (begins n), (text, ((refl, refl), (gives, refl))))))
+items_give report (adds_base rects ∷ items) first s m text map texts =
+    let (t, gives) = items_give report items first (with_map s (adds_base rects)) m text map texts in
+    (t, ([], (with_map s (adds_base rects), (text, ((refl, refl), (gives, refl))))))
+items_give report (ends_turn posts ∷ items) first s m text map texts =
+    turns_give report (ends_turn posts ∷ items) first s m text (sym (map_stays items s.map first) ∙ map) texts
+
+-- what is written for the turns of an input
+
+input_told : (report : Report) (bytes text : List ℕ) (m : Map) → map_after None (reading bytes beginning).items ≡ Some m
+    → IsText report (reading bytes beginning).items text → AreTurnTexts report m bare 1 (turns_of (reading bytes beginning).items) text
+input_told report bytes text m map (t, gives) = items_told report (reading bytes beginning).items (map_is_first bytes) unsaid t m text map gives
+
+input_gives : (report : Report) (bytes text : List ℕ) (m : Map) → map_after None (reading bytes beginning).items ≡ Some m
+    → AreTurnTexts report m bare 1 (turns_of (reading bytes beginning).items) text → IsText report (reading bytes beginning).items text
+input_gives report bytes text m map texts = items_give report (reading bytes beginning).items (map_is_first bytes) unsaid m text map texts
+
+-- ---- one thread
+
+-- the replies of one thread to a journal, with their numbers
+abbrev Threads : Map → Standing → List (List (List Post)) → List TurnReplies → Type 0
+Threads m s journal all = OneThread m s journal (replies_in all) × TellNumbers m s journal all
+
 two_parts : (text piece more first rest : List ℕ) → text ≡ piece ++ more → piece ≡ first → more ≡ rest → text ≡ first ++ rest
 two_parts text piece more first rest parts p q = parts ∙ (ap (λ (l : List ℕ). l ++ more) p ∙ ap (λ (l : List ℕ). first ++ l) q)
 
-turns_told : (items : List Item) → OnlyTurns items → (s t : Said) (m : Map) (text : List ℕ) → s.map ≡ Some m → Gives s items text t
-    → (all : List TurnReplies) × (Threads m s items all × (text ≡ turn_texts (s.turns + 1) all))
-turns_told [] only s t m text map gives = ([], ((tt, tt), gives.0))
-turns_told (begins n ∷ items) only s t m text map gives = absurd only
-turns_told (adds_base rects ∷ items) only s t m text map gives = absurd only
-turns_told (ends_turn posts ∷ items) only s t m text map (piece, (mid, (more, ((n, (found, ((told, (is, says)), after))), (gives, parts))))) =
-    let one : n ≡ m = some_same n m s.map found map in
-    let here : IsTurnTold m s.standing posts told = subst (λ (x : Map). IsTurnTold x s.standing posts told) one is in
-    let from : mid ≡ with_turn s m posts = after ∙ ap (λ (x : Map). with_turn s x posts) one in
-    let (all, ((threads, numbers), texts)) = turns_told items only (with_turn s m posts) t m more map (subst (λ (x : Said). Gives x items more t) from gives) in (
+answers_told : (m : Map) (s : Standing) (number : ℕ) (journal : List (List (List Post))) (text : List ℕ)
+    → AreTurnTexts Answers m s number journal text → (all : List TurnReplies) × (Threads m s journal all × (text ≡ turn_texts number all))
+answers_told m s number [] text none = ([], ((tt, tt), none))
+answers_told m s number (turn ∷ journal) text (piece, (more, ((told, (is, says)), (texts, parts)))) =
+    let (all, ((threads, numbers), rest)) = answers_told m (after_turn m s turn) (number + 1) journal more texts in (
       told ∷ all,
       (
-        ((here.replies, threads), (here.numbers, numbers)),
-        two_parts text piece more (turn_text (s.turns + 1) told) (turn_texts (s.turns + 1 + 1) all) parts says texts,
+        ((is.replies, threads), (is.numbers, numbers)),
+        two_parts text piece more (turn_text number told) (turn_texts (number + 1) all) parts says rest,
       ),
     )
 
-items_told : (items : List Item) → MapFirst items → (s t : Said) (m : Map) (text : List ℕ) → map_after s.map items ≡ Some m → Gives s items text t
-    → (all : List TurnReplies) × (Threads m s items all × (text ≡ turn_texts (s.turns + 1) all))
-items_told [] first s t m text map gives = ([], ((tt, tt), gives.0))
-items_told (begins n ∷ items) first s t m text map (piece, (mid, (more, ((none, after), (gives, parts))))) =
-    let (all, (threads, texts)) = items_told items first (with_map s (begins n)) t m more map (subst (λ (x : Said). Gives x items more t) after gives) in
-    (all, (threads, two_parts text piece more [] (turn_texts (s.turns + 1) all) parts none texts))
-items_told (adds_base rects ∷ items) first s t m text map (piece, (mid, (more, ((none, after), (gives, parts))))) =
-    let (all, (threads, texts)) = items_told items first (with_map s (adds_base rects)) t m more map (subst (λ (x : Said). Gives x items more t) after gives) in
-    (all, (threads, two_parts text piece more [] (turn_texts (s.turns + 1) all) parts none texts))
-items_told (ends_turn posts ∷ items) first s t m text map gives =
-    turns_told (ends_turn posts ∷ items) first s t m text (sym (map_stays items s.map first) ∙ map) gives
+answers_give : (m : Map) (s : Standing) (number : ℕ) (journal : List (List (List Post))) (all : List TurnReplies)
+    → Threads m s journal all → AreTurnTexts Answers m s number journal (turn_texts number all)
+answers_give m s number [] [] threads = refl
+answers_give m s number [] (told ∷ all) threads = absurd threads.0
+answers_give m s number (turn ∷ journal) [] threads = absurd threads.0
+answers_give m s number (turn ∷ journal) (told ∷ all) ((replies, threads), (numbers, more)) =
+    let here : IsTurnTold m s turn told = record { replies = replies; numbers = numbers } in
+    let rest = answers_give m (after_turn m s turn) (number + 1) journal all (threads, more) in
+    (turn_text number told, (turn_texts (number + 1) all, ((told, (here, refl)), (rest, refl))))
 
 -- the text is that of the replies of one thread
 pub one_thread_told : (bytes text : List ℕ) (m : Map) → map_after None (reading bytes beginning).items ≡ Some m
-    → IsText (reading bytes beginning).items text
+    → IsText Answers (reading bytes beginning).items text
     → (all : List TurnReplies) × (IsOneThread m (turns_of (reading bytes beginning).items) all × (text ≡ turn_texts 1 all))
-one_thread_told bytes text m map (t, gives) =
-    let (all, ((threads, numbers), texts)) = items_told (reading bytes beginning).items (map_is_first bytes) unsaid t m text map gives in
+one_thread_told bytes text m map is =
+    let (all, ((threads, numbers), texts)) =
+    answers_told m bare 1 (turns_of (reading bytes beginning).items) text (input_told Answers bytes text m map is) in
     (all, (record { replies = threads; numbers = numbers }, texts))
-
-turns_give : (items : List Item) → OnlyTurns items → (s : Said) (m : Map) (all : List TurnReplies) → s.map ≡ Some m → Threads m s items all
-    → (t : Said) × Gives s items (turn_texts (s.turns + 1) all) t
-turns_give [] only s m [] map threads = (s, (refl, refl))
-turns_give [] only s m (told ∷ all) map threads = absurd threads.0
-turns_give (begins n ∷ items) only s m all map threads = absurd only
-turns_give (adds_base rects ∷ items) only s m all map threads = absurd only
-turns_give (ends_turn posts ∷ items) only s m [] map threads = absurd threads.0
-turns_give (ends_turn posts ∷ items) only s m (told ∷ all) map ((replies, threads), (numbers, more)) =
-    let here : IsTurnTold m s.standing posts told = record { replies = replies; numbers = numbers } in
-    let (t, gives) = turns_give items only (with_turn s m posts) m all map (threads, more) in
-    (t, (turn_text (s.turns + 1) told, (with_turn s m posts, (turn_texts (s.turns + 1 + 1) all, ((m, (map, ((told, (here, refl)), refl))), (gives, refl))))))
-
-items_give : (items : List Item) → MapFirst items → (s : Said) (m : Map) (all : List TurnReplies) → map_after s.map items ≡ Some m → Threads m s items all
-    → (t : Said) × Gives s items (turn_texts (s.turns + 1) all) t
-items_give [] first s m [] map threads = (s, (refl, refl))
-items_give [] first s m (told ∷ all) map threads = absurd threads.0
-items_give (begins n ∷ items) first s m all map threads =
-    let (t, gives) = items_give items first (with_map s (begins n)) m all map threads in
-    (t, ([], (with_map s (begins n), (turn_texts (s.turns + 1) all, ((refl, refl), (gives, refl))))))
-items_give (adds_base rects ∷ items) first s m all map threads =
-    let (t, gives) = items_give items first (with_map s (adds_base rects)) m all map threads in
-    (t, ([], (with_map s (adds_base rects), (turn_texts (s.turns + 1) all, ((refl, refl), (gives, refl))))))
-items_give (ends_turn posts ∷ items) first s m all map threads =
-    turns_give (ends_turn posts ∷ items) first s m all (sym (map_stays items s.map first) ∙ map) threads
 
 -- the replies of one thread give the text
 pub one_thread_gives : (bytes : List ℕ) (m : Map) (all : List TurnReplies) → map_after None (reading bytes beginning).items ≡ Some m
-    → IsOneThread m (turns_of (reading bytes beginning).items) all → IsText (reading bytes beginning).items (turn_texts 1 all)
+    → IsOneThread m (turns_of (reading bytes beginning).items) all → IsText Answers (reading bytes beginning).items (turn_texts 1 all)
 one_thread_gives bytes m all map threads =
-    items_give (reading bytes beginning).items (map_is_first bytes) unsaid m all map (threads.replies, threads.numbers)
+    input_gives Answers bytes (turn_texts 1 all) m map
+    (answers_give m bare 1 (turns_of (reading bytes beginning).items) all (threads.replies, threads.numbers))
+
+-- ---- one thread, with opened numbers
+
+profiles_told : (m : Map) (s : Standing) (number : ℕ) (journal : List (List (List Post))) (text : List ℕ)
+    → AreTurnTexts OpenedNumbers m s number journal text
+    → (all : List TurnReplies) × ((lists : List (List ℕ)) × (Threads m s journal all × (AreOpenedInTurns m s journal lists × (text ≡ profile_texts number all lists))))
+profiles_told m s number [] text none = ([], ([], ((tt, tt), (tt, none))))
+profiles_told m s number (turn ∷ journal) text (piece, (more, ((told, (opened, (is, (counted, says)))), (texts, parts)))) =
+    let (all, (lists, ((threads, numbers), (others, rest)))) = profiles_told m (after_turn m s turn) (number + 1) journal more texts in (
+      told ∷ all,
+      (
+        opened ∷ lists,
+        (
+          ((is.replies, threads), (is.numbers, numbers)),
+          (
+            (counted, others),
+            two_parts text piece more (profile_text number told opened) (profile_texts (number + 1) all lists) parts says rest,
+          ),
+        ),
+      ),
+    )
+
+profiles_give : (m : Map) (s : Standing) (number : ℕ) (journal : List (List (List Post))) (all : List TurnReplies) (lists : List (List ℕ))
+    → Threads m s journal all → AreOpenedInTurns m s journal lists → AreTurnTexts OpenedNumbers m s number journal (profile_texts number all lists)
+profiles_give m s number [] [] lists threads opened = refl
+profiles_give m s number [] (told ∷ all) lists threads opened = absurd threads.0
+profiles_give m s number (turn ∷ journal) [] lists threads opened = absurd threads.0
+profiles_give m s number (turn ∷ journal) (told ∷ all) [] threads opened = absurd opened
+profiles_give m s number (turn ∷ journal) (told ∷ all) (list ∷ lists) ((replies, threads), (numbers, more)) (counted, others) =
+    let here : IsTurnTold m s turn told = record { replies = replies; numbers = numbers } in
+    let rest = profiles_give m (after_turn m s turn) (number + 1) journal all lists (threads, more) others in
+    (profile_text number told list, (profile_texts (number + 1) all lists, ((told, (list, (here, (counted, refl)))), (rest, refl))))
+
+-- the text with opened numbers is that of the replies of one thread and of the opened numbers of its requests
+pub profile_told : (bytes text : List ℕ) (m : Map) → map_after None (reading bytes beginning).items ≡ Some m
+    → IsText OpenedNumbers (reading bytes beginning).items text
+    → (all : List TurnReplies) × ((lists : List (List ℕ)) × (IsOneThread m (turns_of (reading bytes beginning).items) all
+    × (AreOpenedInTurns m bare (turns_of (reading bytes beginning).items) lists × (text ≡ profile_texts 1 all lists))))
+profile_told bytes text m map is =
+    let (all, (lists, ((threads, numbers), rest))) =
+    profiles_told m bare 1 (turns_of (reading bytes beginning).items) text (input_told OpenedNumbers bytes text m map is) in
+    (all, (lists, (record { replies = threads; numbers = numbers }, rest)))
+
+-- and these give the text
+pub profile_gives : (bytes : List ℕ) (m : Map) (all : List TurnReplies) (lists : List (List ℕ)) → map_after None (reading bytes beginning).items ≡ Some m
+    → IsOneThread m (turns_of (reading bytes beginning).items) all → AreOpenedInTurns m bare (turns_of (reading bytes beginning).items) lists
+    → IsText OpenedNumbers (reading bytes beginning).items (profile_texts 1 all lists)
+profile_gives bytes m all lists map threads opened =
+    input_gives OpenedNumbers bytes (profile_texts 1 all lists) m map
+    (profiles_give m bare 1 (turns_of (reading bytes beginning).items) all lists (threads.replies, threads.numbers) opened)

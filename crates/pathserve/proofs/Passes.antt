@@ -7,6 +7,7 @@ use Rattle.script_text.specs.declared.faults.ScriptFault.TheVariants as fault
 use Rattle.script_text.specs.Script.{Item, bad_line}
 use Rattle.pathserve.specs.declared.status.Status.{Status}
 use Rattle.pathserve.specs.inner.Writing.{WritesPiece, StopsWith}
+use Rattle.pathserve.specs.declared.reports.Report.{Report}
 use Rattle.pathserve.specs.Output.{Said, stop_text}
 use Rattle.script_text.specs.Reader.{Held}
 use Rattle.pathserve.proofs.Replaying.{Stands, WentTold}
@@ -17,12 +18,14 @@ went_given None now held items went = record { given = []; rest = tt }
 went_given (Some bytes) None held items went = absurd went
 went_given (Some bytes) (Some left) held items went = record { given = went.taken; rest = went.took }
 
-pub stands_given : (start now kept keeps : Option (List ℕ)) (held : Held) (state : Said) → Stands start now kept keeps held state → HasGiven start now
-stands_given start now kept keeps held state s = went_given start now held s.items s.went
+pub stands_given : (report : Report) (start now kept keeps : Option (List ℕ)) (held : Held) (state : Said)
+    → Stands report start now kept keeps held state → HasGiven start now
+stands_given report start now kept keeps held state s = went_given start now held s.items s.went
 
 -- the texts of the turns so far
-pub stands_taken : (start now kept keeps : Option (List ℕ)) (held : Held) (state : Said) → Stands start now kept keeps held state → HasTaken kept keeps
-stands_taken start now kept keeps held state s = record { taken = s.text; behind = s.wrote }
+pub stands_taken : (report : Report) (start now kept keeps : Option (List ℕ)) (held : Held) (state : Said)
+    → Stands report start now kept keeps held state → HasTaken kept keeps
+stands_taken report start now kept keeps held state s = record { taken = s.text; behind = s.wrote }
 
 -- a piece, or a part of it
 

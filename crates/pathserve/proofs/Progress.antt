@@ -8,6 +8,7 @@ use Rattle.script_text.specs.Reader.{Held, unread, GoesOn, StopsAtFault, stuck_a
 use Rattle.script_text.proofs.ReadNext.{goes_nowhere}
 use Rattle.script_text.proofs.ReadStill.{full_lines-behind}
 use Rattle.script_text.proofs.ReadCalls.{fault_then}
+use Rattle.pathserve.specs.declared.reports.Report.{Report}
 use Rattle.pathserve.specs.Output.{Said, unsaid, with_map, Says, Gives, IsText, stop_text, ends_text, IsOut, IsBeginning, IsTakenText}
 
 -- the reading has come, after these items, to what the reader holds and what is left
@@ -21,11 +22,11 @@ pub went_nowhere : (bytes : List ℕ) → Went bytes bytes unread []
 went_nowhere bytes = goes_nowhere unread bytes going
 
 -- what is written for items, and then for more
-pub gives_on : (s mid t : Said) (items more : List Item) (text piece : List ℕ)
-    → Gives s items text mid → Gives mid more piece t → Gives s (items ++ more) (text ++ piece) t
-gives_on s mid t [] more text piece (none, here) gives =
-    subst (λ (l : List ℕ). Gives s more (l ++ piece) t) (sym none) (subst (λ (r : Said). Gives r more piece t) (sym here) gives)
-gives_on s mid t (first ∷ items) more text piece (one, (next, (rest, (said, (gives, parts))))) goes = (
+pub gives_on : (report : Report) (s mid t : Said) (items more : List Item) (text piece : List ℕ)
+    → Gives report s items text mid → Gives report mid more piece t → Gives report s (items ++ more) (text ++ piece) t
+gives_on report s mid t [] more text piece (none, here) gives =
+    subst (λ (l : List ℕ). Gives report s more (l ++ piece) t) (sym none) (subst (λ (r : Said). Gives report r more piece t) (sym here) gives)
+gives_on report s mid t (first ∷ items) more text piece (one, (next, (rest, (said, (gives, parts))))) goes = (
   one,
   (
     next,
@@ -34,7 +35,7 @@ gives_on s mid t (first ∷ items) more text piece (one, (next, (rest, (said, (g
       (
         said,
         (
-          gives_on next mid t items more rest piece gives goes,
+          gives_on report next mid t items more rest piece gives goes,
           ap (λ (l : List ℕ). l ++ piece) parts ∙ append_assoc one rest piece,
         ),
       ),
@@ -43,27 +44,27 @@ gives_on s mid t (first ∷ items) more text piece (one, (next, (rest, (said, (g
 )
 
 -- what is written for one item
-pub gives_one : (s t : Said) (item : Item) (piece : List ℕ) → Says s item piece t → Gives s (item ∷ []) piece t
-gives_one s t item piece says = (piece, (t, ([], (says, ((refl, refl), sym (append-nil piece))))))
+pub gives_one : (report : Report) (s t : Said) (item : Item) (piece : List ℕ) → Says report s item piece t → Gives report s (item ∷ []) piece t
+gives_one report s t item piece says = (piece, (t, ([], (says, ((refl, refl), sym (append-nil piece))))))
 
 never_empty : (posts : List (List Post)) (turns : List (List (List Post))) → posts ∷ turns ≡ [] → ⊥
 never_empty posts turns is = cc
 
 -- nothing is written for items without a turn
-pub gives_map : (s : Said) (items : List Item) → turns_of items ≡ [] → Gives s items [] (record s { map = map_after s.map items })
-gives_map s [] none = (refl, refl)
-gives_map s (begins m ∷ items) none =
-    ([], (with_map s (begins m), ([], ((refl, refl), (gives_map (with_map s (begins m)) items none, refl)))))
-gives_map s (adds_base rects ∷ items) none =
-    ([], (with_map s (adds_base rects), ([], ((refl, refl), (gives_map (with_map s (adds_base rects)) items none, refl)))))
-gives_map s (ends_turn posts ∷ items) none = absurd (never_empty posts (turns_of items) none)
+pub gives_map : (report : Report) (s : Said) (items : List Item) → turns_of items ≡ [] → Gives report s items [] (record s { map = map_after s.map items })
+gives_map report s [] none = (refl, refl)
+gives_map report s (begins m ∷ items) none =
+    ([], (with_map s (begins m), ([], ((refl, refl), (gives_map report (with_map s (begins m)) items none, refl)))))
+gives_map report s (adds_base rects ∷ items) none =
+    ([], (with_map s (adds_base rects), ([], ((refl, refl), (gives_map report (with_map s (adds_base rects)) items none, refl)))))
+gives_map report s (ends_turn posts ∷ items) none = absurd (never_empty posts (turns_of items) none)
 
 -- ---- exits, over the bytes
 
 -- all items so far are a beginning
-pub begun_here : (bytes left : List ℕ) (held : Held) (items : List Item) (state : Said) (text : List ℕ)
-    → Went bytes left held items → Gives unsaid items text state → IsBeginning bytes text
-begun_here bytes left held items state text w gives = record {
+pub begun_here : (report : Report) (bytes left : List ℕ) (held : Held) (items : List Item) (state : Said) (text : List ℕ)
+    → Went bytes left held items → Gives report unsaid items text state → IsBeginning report bytes text
+begun_here report bytes left held items state text w gives = record {
   done = items;
   rest = (reading (held.bytes ++ left) held.place).items;
   items = ap (λ (v : Walk). v.items) w.same;
@@ -74,10 +75,10 @@ begun_here bytes left held items state text w gives = record {
 }
 
 -- and so is a part of the text of the next item after them
-pub begun_item : (bytes left after : List ℕ) (held new : Held) (items : List Item) (item : Item) (state next : Said) (text piece : List ℕ) (n : ℕ)
-    → Went bytes left held items → GoesOn held new left after (item ∷ []) → Gives unsaid items text state → Says state item piece next
-    → IsBeginning bytes (text ++ take n piece)
-begun_item bytes left after held new items item state next text piece n w g gives says = record {
+pub begun_item : (report : Report) (bytes left after : List ℕ) (held new : Held) (items : List Item) (item : Item) (state next : Said) (text piece : List ℕ) (n : ℕ)
+    → Went bytes left held items → GoesOn held new left after (item ∷ []) → Gives report unsaid items text state → Says report state item piece next
+    → IsBeginning report bytes (text ++ take n piece)
+begun_item report bytes left after held new items item state next text piece n w g gives says = record {
   done = items;
   rest = item ∷ (reading (new.bytes ++ after) new.place).items;
   items = ap (λ (v : Walk). v.items) w.same ∙ ap (λ (v : Walk). items ++ v.items) g.same;
@@ -87,17 +88,17 @@ begun_item bytes left after held new items item state next text piece n w g give
   part = inr (piece, (n, ((next, says), refl)));
 }
 
-pub out_here : (bytes : List ℕ) (items : List Item) (stop : Stop) (state : Said) (text : List ℕ)
-    → reading bytes beginning ≡ stuck_after items stop → Gives unsaid items text state → IsOut bytes (text ++ stop_text stop)
-out_here bytes items stop state text stopped gives =
-    subst (λ (v : Walk). (body : List ℕ) × (IsText v.items body × (text ++ stop_text stop ≡ body ++ ends_text v.ends))) (sym stopped)
+pub out_here : (report : Report) (bytes : List ℕ) (items : List Item) (stop : Stop) (state : Said) (text : List ℕ)
+    → reading bytes beginning ≡ stuck_after items stop → Gives report unsaid items text state → IsOut report bytes (text ++ stop_text stop)
+out_here report bytes items stop state text stopped gives =
+    subst (λ (v : Walk). (body : List ℕ) × (IsText report v.items body × (text ++ stop_text stop ≡ body ++ ends_text v.ends))) (sym stopped)
     (text, ((state, gives), refl))
 
 -- a part of the text of the stop is a beginning
-pub begun_stop : (bytes : List ℕ) (items : List Item) (stop : Stop) (state : Said) (text : List ℕ) (n : ℕ)
-    → reading bytes beginning ≡ stuck_after items stop → Gives unsaid items text state
-    → IsBeginning bytes (text ++ take n (stop_text stop))
-begun_stop bytes items stop state text n stopped gives = record {
+pub begun_stop : (report : Report) (bytes : List ℕ) (items : List Item) (stop : Stop) (state : Said) (text : List ℕ) (n : ℕ)
+    → reading bytes beginning ≡ stuck_after items stop → Gives report unsaid items text state
+    → IsBeginning report bytes (text ++ take n (stop_text stop))
+begun_stop report bytes items stop state text n stopped gives = record {
   done = items;
   rest = [];
   items = ap (λ (v : Walk). v.items) stopped ∙ sym (append-nil items);
@@ -108,9 +109,9 @@ begun_stop bytes items stop state text n stopped gives = record {
 }
 
 -- at a fault of the source all full lines taken were used
-pub taken_here : (bytes left after : List ℕ) (held new : Held) (items more : List Item) (state : Said) (text : List ℕ)
-    → Went bytes left held items → StopsAtFault held new left after more → Gives unsaid (items ++ more) text state → IsTakenText bytes after text
-taken_here bytes left after held new items more state text w s gives =
+pub taken_here : (report : Report) (bytes left after : List ℕ) (held new : Held) (items more : List Item) (state : Said) (text : List ℕ)
+    → Went bytes left held items → StopsAtFault held new left after more → Gives report unsaid (items ++ more) text state → IsTakenText report bytes after text
+taken_here report bytes left after held new items more state text w s gives =
     let stopped = fault_then unread held new bytes left after items more going w s in
     let used = stopped.used in
     let lines : full_lines stopped.taken ≡ used.lines =

@@ -12,6 +12,7 @@ use Rattle.script_text.specs.declared.parts.Rules.{Rules}
 use Rattle.script_text.specs.declared.parts.Part.{Part}
 use Rattle.script_text.specs.declared.parts.Part.TheVariants.{BeforeMap as before_map, InBase as in_base, InTurns as in_turns}
 use Rattle.script_text.specs.Script.{Place, beginning, Item, Stop, whole_input, too_long, bad_line, Ends, at_place, stuck_by, Walk, chain_from, counted, reading_of, map_line, end_line, turn_line, placed_in_turn, base_line, placed_in, is_long, accept, walk, is_empty, finish_in, finish, last_line, reading}
+use Rattle.pathserve.specs.declared.reports.Report.{Report}
 use Rattle.pathserve.specs.Output.{IsTakenText}
 use Rattle.script_text.proofs.ReadWalk.{walk-append}
 use Rattle.pathserve.proofs.OneText.{taken_reading}
@@ -127,9 +128,9 @@ stuck_stays items (at_place q) stop go_on is = cc
 stuck_stays items (stuck_by other) stop go_on is = is
 
 -- no beginning of the lines taken stops
-pub no_stop : (bytes rest out : List ℕ) (text : IsTakenText bytes rest out) (front back : List (List ℕ)) (stop : Stop)
+pub no_stop : (report : Report) (bytes rest out : List ℕ) (text : IsTakenText report bytes rest out) (front back : List (List ℕ)) (stop : Stop)
     → full_lines text.taken ≡ front ++ back → (walk front beginning).ends ≢ stuck_by stop
-no_stop bytes rest out text front back stop parts is =
+no_stop report bytes rest out text front back stop parts is =
     let first = walk front beginning in
     let all : (walk (front ++ back) beginning).ends ≡ stuck_by stop =
     ap (λ (w : Walk). w.ends) (walk-append front back beginning) ∙ stuck_stays first.items first.ends stop (λ q. walk back q) is in
@@ -138,9 +139,9 @@ no_stop bytes rest out text front back stop parts is =
     cc
 
 -- a bad line comes after the lines taken
-pub bad_line_later : (bytes rest out : List ℕ) (text : IsTakenText bytes rest out) (n : ℕ)
+pub bad_line_later : (report : Report) (bytes rest out : List ℕ) (text : IsTakenText report bytes rest out) (n : ℕ)
     → (reading bytes beginning).ends ≡ stuck_by (bad_line n) → length (full_lines text.taken) < n
-bad_line_later bytes rest out text n bad =
+bad_line_later report bytes rest out text n bad =
     let lines = full_lines text.taken in let place = text.place in
     let more = full_lines (tail_of text.taken ++ rest) in
     let goes = ap (λ (l : List ℕ). reading l beginning) text.took ∙ taken_reading text.taken rest text.items place text.walked in

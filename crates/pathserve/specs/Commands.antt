@@ -1,8 +1,8 @@
 -- The words of a command line.
-use Rattle.std.specs.Prelude.{ℕ, ◌+◌, ◌-◌, ◌*◌, ◌&&◌, List, [], ◌∷◌, Option, Some, None, if◌then◌else◌, nat_le, codes, bytes_eq}
+use Rattle.std.specs.Prelude.{ℕ, ◌+◌, ◌-◌, ◌*◌, ◌&&◌, List, [], ◌∷◌, Option, Some, None, if◌then◌else◌, nat_le, codes, bytes_eq, option_and_then}
 use Rattle.std.specs.Int.{is_in_range}
 use Rattle.pathserve.specs.declared.commands.Command.{Command}
-use Rattle.pathserve.specs.declared.commands.Command.TheVariants.{Replay}
+use Rattle.pathserve.specs.declared.commands.Command.TheVariants.{Replay, Profile}
 
 -- the number of two digits, if it is at most 64
 abbrev pub up_to_64 : ℕ → ℕ → Option ℕ
@@ -15,16 +15,24 @@ workers_of (units ∷ []) = if is_in_range 49 57 units then Some (units - 48) el
 workers_of (tens ∷ (units ∷ [])) = if is_in_range 49 57 tens && is_in_range 48 57 units then up_to_64 tens units else None
 workers_of (first ∷ (second ∷ (third ∷ rest))) = None
 
--- so many workers replay, if there is a number
-abbrev pub replay_by : Option ℕ → Option Command
-replay_by None = None
-replay_by (Some workers) = Some (Replay workers)
+-- the command of a first word, by so many workers
+abbrev pub command_by : List ℕ → ℕ → Option Command
+command_by word workers =
+    if bytes_eq word (codes "replay") then Some (Replay workers)
+    else if bytes_eq word (codes "profile") then Some (Profile workers)
+    else None
 
--- the command of the words, where they are in the grammar: `replay` for 4 workers, or `replay --workers N`
+-- The command of the words, where they are in the grammar: `replay` or `profile`, by 4 workers, or by the number behind
+-- `--workers`.
 abbrev pub command_of : List (List ℕ) → Option Command
 command_of [] = None
-command_of (word ∷ []) = if bytes_eq word (codes "replay") then Some (Replay 4) else None
+command_of (word ∷ []) = command_by word 4
 command_of (word ∷ (option ∷ [])) = None
 command_of (word ∷ (option ∷ (count ∷ []))) =
-    if bytes_eq word (codes "replay") && bytes_eq option (codes "--workers") then replay_by (workers_of count) else None
+    if bytes_eq option (codes "--workers") then option_and_then (command_by word) (workers_of count) else None
 command_of (word ∷ (option ∷ (count ∷ (next ∷ words)))) = None
+
+-- the number of workers in a command
+abbrev pub workers_in : Command → ℕ
+workers_in (Replay workers) = workers
+workers_in (Profile workers) = workers

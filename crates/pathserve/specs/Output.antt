@@ -5,10 +5,14 @@ use Rattle.grid_versions.specs.Maps.{Map}
 use Rattle.turn_core.specs.declared.posts.Post.{Post}
 use Rattle.turn_core.specs.declared.replies.TurnReplies.{TurnReplies}
 use Rattle.turn_core.specs.Words.{Standing, bare}
-use Rattle.turn_core.specs.Turns.{after_turn, IsTurnTold}
+use Rattle.turn_core.specs.Turns.{after_turn, jobs, IsTurnTold}
+use Rattle.turn_core.specs.Opening.{AreOpenedNumbers}
 use Rattle.script_text.specs.Lines.{full_lines}
 use Rattle.script_text.specs.Script.{Item, begins, adds_base, ends_turn, map_after_item, Place, beginning, Stop, whole_input, too_long, bad_line, Ends, at_place, stuck_by, arrived, walk, reading}
 use Rattle.answer_text.specs.Answers.{turn_text, bad_line_text}
+use Rattle.answer_text.specs.Profiles.{profile_text}
+use Rattle.pathserve.specs.declared.reports.Report.{Report}
+use Rattle.pathserve.specs.declared.reports.Report.TheVariants.{Answers, OpenedNumbers}
 use Rattle.pathserve.specs.declared.status.Status.{Status}
 use Rattle.pathserve.specs.declared.status.Status.TheVariants.{Done, Usage, BadLine, ReadFault, WriteFault, NoMemory, TooLong}
 
@@ -29,28 +33,47 @@ with_map s item = record s { map = map_after_item s.map item }
 abbrev pub with_turn : Said → Map → List (List Post) → Said
 with_turn s m posts = record s { standing = after_turn m s.standing posts; turns = s.turns + 1 }
 
--- the text of the turn of a number, before which this stands: that of the replies of one thread, with the turn's numbers
-abbrev pub IsTurnText : Map → Standing → ℕ → List (List Post) → List ℕ → Type 0
-IsTurnText m standing turn posts text = (told : TurnReplies) × (IsTurnTold m standing posts told × (text ≡ turn_text turn told))
+-- The text of the turn of a number, before which this stands: that of the replies of one thread, with the turn's numbers.
+-- With the opened numbers, these are those of the turn's requests on what stands after its edits.
+abbrev pub IsTurnText : Report → Map → Standing → ℕ → List (List Post) → List ℕ → Type 0
+IsTurnText Answers m standing turn posts text = (told : TurnReplies) × (IsTurnTold m standing posts told × (text ≡ turn_text turn told))
+IsTurnText OpenedNumbers m standing turn posts text = (told : TurnReplies) × ((opened : List ℕ) × (IsTurnTold m standing posts told
+    × (AreOpenedNumbers m (after_turn m standing posts) (jobs posts) opened × (text ≡ profile_text turn told opened))))
 
 -- what is written for one item: nothing for a part of the map, and for a turn the text of its answers
-abbrev pub Says : Said → Item → List ℕ → Said → Type 0
-Says s (begins m) text t = (text ≡ []) × (t ≡ with_map s (begins m))
-Says s (adds_base rects) text t = (text ≡ []) × (t ≡ with_map s (adds_base rects))
-Says s (ends_turn posts) text t = (m : Map) × ((s.map ≡ Some m) × (IsTurnText m s.standing (s.turns + 1) posts text × (t ≡ with_turn s m posts)))
+abbrev pub Says : Report → Said → Item → List ℕ → Said → Type 0
+Says report s (begins m) text t = (text ≡ []) × (t ≡ with_map s (begins m))
+Says report s (adds_base rects) text t = (text ≡ []) × (t ≡ with_map s (adds_base rects))
+Says report s (ends_turn posts) text t =
+    (m : Map) × ((s.map ≡ Some m) × (IsTurnText report m s.standing (s.turns + 1) posts text × (t ≡ with_turn s m posts)))
 
 -- what is written for items, one after another
-abbrev pub Gives : Said → List Item → List ℕ → Said → Type 0
-Gives s [] text t = (text ≡ []) × (s ≡ t)
-Gives s (item ∷ items) text t = (piece : List ℕ) × ((mid : Said) × ((more : List ℕ) × (Says s item piece mid × (Gives mid items more t × (text ≡ piece ++ more)))))
+abbrev pub Gives : Report → Said → List Item → List ℕ → Said → Type 0
+Gives report s [] text t = (text ≡ []) × (s ≡ t)
+Gives report s (item ∷ items) text t = (piece : List ℕ) × ((mid : Said) × ((more : List ℕ)
+    × (Says report s item piece mid × (Gives report mid items more t × (text ≡ piece ++ more)))))
 
-abbrev pub IsText : List Item → List ℕ → Type 0
-IsText items text = (t : Said) × Gives unsaid items text t
+abbrev pub IsText : Report → List Item → List ℕ → Type 0
+IsText report items text = (t : Said) × Gives report unsaid items text t
 
 -- the texts of turns, from one of this number on
 abbrev pub turn_texts : ℕ → List TurnReplies → List ℕ
 turn_texts number [] = []
 turn_texts number (told ∷ others) = turn_text number told ++ turn_texts (number + 1) others
+
+-- the opened numbers of the requests of each turn of a journal, before which this stands
+abbrev pub AreOpenedInTurns : Map → Standing → List (List (List Post)) → List (List ℕ) → Type 0
+AreOpenedInTurns m s [] [] = Unit {0}
+AreOpenedInTurns m s [] (opened ∷ lists) = ⊥
+AreOpenedInTurns m s (turn ∷ journal) [] = ⊥
+AreOpenedInTurns m s (turn ∷ journal) (opened ∷ lists) =
+    AreOpenedNumbers m (after_turn m s turn) (jobs turn) opened × AreOpenedInTurns m (after_turn m s turn) journal lists
+
+-- the texts of turns with their opened numbers, from one of this number on
+abbrev pub profile_texts : ℕ → List TurnReplies → List (List ℕ) → List ℕ
+profile_texts number [] lists = []
+profile_texts number (told ∷ others) [] = []
+profile_texts number (told ∷ others) (opened ∷ lists) = profile_text number told opened ++ profile_texts (number + 1) others lists
 
 -- what is written for a stop: a bad line is named
 abbrev pub stop_text : Stop → List ℕ
@@ -63,50 +86,52 @@ ends_text (at_place p) = []
 ends_text (stuck_by stop) = stop_text stop
 
 -- the output text of an input: that of its turns, then that of its stop
-abbrev pub IsOut : List ℕ → List ℕ → Type 0
-IsOut bytes out = (text : List ℕ) × (IsText (reading bytes beginning).items text × (out ≡ text ++ ends_text (reading bytes beginning).ends))
+abbrev pub IsOut : Report → List ℕ → List ℕ → Type 0
+IsOut report bytes out =
+    (text : List ℕ) × (IsText report (reading bytes beginning).items text × (out ≡ text ++ ends_text (reading bytes beginning).ends))
 
 -- the next piece: that of the next item, or that of the stop
-abbrev pub IsPiece : Said → List Item → Ends → List ℕ → Type 0
-IsPiece s [] ends piece = piece ≡ ends_text ends
-IsPiece s (item ∷ items) ends piece = (t : Said) × Says s item piece t
+abbrev pub IsPiece : Report → Said → List Item → Ends → List ℕ → Type 0
+IsPiece report s [] ends piece = piece ≡ ends_text ends
+IsPiece report s (item ∷ items) ends piece = (t : Said) × Says report s item piece t
 
 -- a beginning of the output text: that of the first turns, and perhaps a part of the next piece
-pub record IsBeginning (bytes out : List ℕ) : Type 0 where
+pub record IsBeginning (report : Report) (bytes out : List ℕ) : Type 0 where
   pub done : List Item
   pub rest : List Item
   pub items : (reading bytes beginning).items ≡ done ++ rest
   pub text : List ℕ
   pub state : Said
-  pub gives : Gives unsaid done text state
-  pub part : (out ≡ text) ⊎ ((piece : List ℕ) × ((n : ℕ) × (IsPiece state rest (reading bytes beginning).ends piece × (out ≡ text ++ take n piece))))
+  pub gives : Gives report unsaid done text state
+  pub part : (out ≡ text) ⊎ ((piece : List ℕ)
+      × ((n : ℕ) × (IsPiece report state rest (reading bytes beginning).ends piece × (out ≡ text ++ take n piece))))
 
 -- the text of the turns whose end line, with its newline, lies in the bytes taken, among which no line stops the input
-pub record IsTakenText (bytes rest out : List ℕ) : Type 0 where
+pub record IsTakenText (report : Report) (bytes rest out : List ℕ) : Type 0 where
   pub taken : List ℕ
   pub took : bytes ≡ taken ++ rest
   pub items : List Item
   pub place : Place
   pub walked : walk (full_lines taken) beginning ≡ arrived items place
-  pub text : IsText items out
+  pub text : IsText report items out
 
--- What an answer of a replay says: `bytes` are those left in the source at entry, `rest` those left at exit, `out` those written.
-abbrev pub Replays : List ℕ → List ℕ → List ℕ → Status → Type 0
-Replays bytes rest out Done = (rest ≡ []) × (((reading bytes beginning).ends ≡ stuck_by whole_input) × IsOut bytes out)
-Replays bytes rest out Usage = ⊥
-Replays bytes rest out BadLine = (n : ℕ) × (((reading bytes beginning).ends ≡ stuck_by (bad_line n)) × IsOut bytes out)
-Replays bytes rest out ReadFault = IsTakenText bytes rest out × IsBeginning bytes out
-Replays bytes rest out WriteFault = IsBeginning bytes out
-Replays bytes rest out NoMemory = IsBeginning bytes out
-Replays bytes rest out TooLong = ((reading bytes beginning).ends ≡ stuck_by too_long) × IsOut bytes out
+-- What a status says of a run: `bytes` are those left in the source at entry, `rest` those left at exit, `out` those written.
+abbrev pub Replays : Report → List ℕ → List ℕ → List ℕ → Status → Type 0
+Replays report bytes rest out Done = (rest ≡ []) × (((reading bytes beginning).ends ≡ stuck_by whole_input) × IsOut report bytes out)
+Replays report bytes rest out Usage = ⊥
+Replays report bytes rest out BadLine = (n : ℕ) × (((reading bytes beginning).ends ≡ stuck_by (bad_line n)) × IsOut report bytes out)
+Replays report bytes rest out ReadFault = IsTakenText report bytes rest out × IsBeginning report bytes out
+Replays report bytes rest out WriteFault = IsBeginning report bytes out
+Replays report bytes rest out NoMemory = IsBeginning report bytes out
+Replays report bytes rest out TooLong = ((reading bytes beginning).ends ≡ stuck_by too_long) × IsOut report bytes out
 
 -- the same, where the source tells its bytes and the sink keeps them
-abbrev pub ReplaysTold : Option (List ℕ) → Option (List ℕ) → Option (List ℕ) → Option (List ℕ) → Status → Type 0
-ReplaysTold None rest kept now status = ⊤
-ReplaysTold (Some bytes) None kept now status = ⊥
-ReplaysTold (Some bytes) (Some rest) None now status = ⊤
-ReplaysTold (Some bytes) (Some rest) (Some kept) None status = ⊥
-ReplaysTold (Some bytes) (Some rest) (Some kept) (Some now) status = (out : List ℕ) × ((now ≡ kept ++ out) × Replays bytes rest out status)
+abbrev pub ReplaysTold : Report → Option (List ℕ) → Option (List ℕ) → Option (List ℕ) → Option (List ℕ) → Status → Type 0
+ReplaysTold report None rest kept now status = ⊤
+ReplaysTold report (Some bytes) None kept now status = ⊥
+ReplaysTold report (Some bytes) (Some rest) None now status = ⊤
+ReplaysTold report (Some bytes) (Some rest) (Some kept) None status = ⊥
+ReplaysTold report (Some bytes) (Some rest) (Some kept) (Some now) status = (out : List ℕ) × ((now ≡ kept ++ out) × Replays report bytes rest out status)
 
 -- the status that a stop has where no fault and no want of memory comes before it
 abbrev pub stop_status : Ends → Status

@@ -1,48 +1,69 @@
-//! Laws of the output text: it is one, what a run that stops early has written is a prefix of it, and the text of its
-//! turns is that of the replies of one thread.
+//! Laws of the output texts: there is one of each report, what a run that stops early has written is a prefix of it,
+//! and the text of the turns is that of the replies of one thread.
 ghost use Rattle.std.specs.Prelude.{◌≡◌, ◌≢◌, ◌++◌, ◌<◌, ℕ, List, length, None, Some};
 ghost use Rattle.grid_versions.specs.Maps.{Map};
 ghost use Rattle.script_text.specs.Lines.{full_lines};
 ghost use Rattle.script_text.specs.Script.{Stop, bad_line, stuck_by, beginning, walk, reading, map_after, turns_of};
 ghost use Rattle.turn_core.specs.declared.replies.TurnReplies.{TurnReplies};
+ghost use Rattle.turn_core.specs.Words.{bare};
 ghost use Rattle.turn_core.specs.Turns.{IsOneThread};
-ghost use Rattle.pathserve.specs.Output.{IsOut, IsBeginning, IsTakenText, IsText, turn_texts};
+ghost use Rattle.pathserve.specs.declared.reports.Report.{Report};
+ghost use Rattle.pathserve.specs.declared.reports.Report.TheVariants.{Answers, OpenedNumbers};
+ghost use Rattle.pathserve.specs.Output.{IsOut, IsBeginning, IsTakenText, IsText, turn_texts, profile_texts, AreOpenedInTurns};
 
-/// An input has at most one output text.
+/// An input has at most one output text of a report.
 pub fn one_out()
-    ensures { (bytes a b : List ℕ) → IsOut bytes a → IsOut bytes b → a ≡ b }
+    ensures { (report : Report) (bytes a b : List ℕ) → IsOut report bytes a → IsOut report bytes b → a ≡ b }
 {}
 
 /// A beginning of the output text is a prefix of it.
 pub fn beginning_is_prefix()
-    ensures { (bytes out whole : List ℕ) → IsBeginning bytes out → IsOut bytes whole → (rest : List ℕ)
-        × (whole ≡ out ++ rest) }
+    ensures { (report : Report) (bytes out whole : List ℕ) → IsBeginning report bytes out → IsOut report bytes whole
+        → (rest : List ℕ) × (whole ≡ out ++ rest) }
 {}
 
 /// The text of the turns taken is one, and it is a beginning of the output text.
 pub fn taken_text()
-    ensures one { (bytes rest a b : List ℕ) → IsTakenText bytes rest a → IsTakenText bytes rest b → a ≡ b }
-    ensures beginning { (bytes rest out : List ℕ) → IsTakenText bytes rest out → IsBeginning bytes out }
+    ensures one { (report : Report) (bytes rest a b : List ℕ) → IsTakenText report bytes rest a
+        → IsTakenText report bytes rest b → a ≡ b }
+    ensures beginning { (report : Report) (bytes rest out : List ℕ) → IsTakenText report bytes rest out
+        → IsBeginning report bytes out }
 {}
 
 /// The line that stops an input does not lie among the full lines taken: no beginning of them stops, and a bad line
 /// comes after them.
 pub fn stop_is_not_taken()
-    ensures no_stop { (bytes rest out : List ℕ) (text : IsTakenText bytes rest out) (front back : List (List ℕ))
-        (stop : Stop)
+    ensures no_stop { (report : Report) (bytes rest out : List ℕ) (text : IsTakenText report bytes rest out)
+        (front back : List (List ℕ)) (stop : Stop)
         → full_lines text.taken ≡ front ++ back → (walk front beginning).ends ≢ stuck_by stop }
-    ensures later { (bytes rest out : List ℕ) (text : IsTakenText bytes rest out) (n : ℕ)
+    ensures later { (report : Report) (bytes rest out : List ℕ) (text : IsTakenText report bytes rest out) (n : ℕ)
         → (reading bytes beginning).ends ≡ stuck_by (bad_line n) → length (full_lines text.taken) < n }
 {}
 
 /// A law: where an input gives a map, the text of its turns is that of the replies of one thread to its journal.
 pub fn text_is_one_thread()
     ensures told { (bytes text : List ℕ) (m : Map) → map_after None (reading bytes beginning).items ≡ Some m
-        → IsText (reading bytes beginning).items text
+        → IsText Answers (reading bytes beginning).items text
         → (all : List TurnReplies) × (IsOneThread m (turns_of (reading bytes beginning).items) all
         × (text ≡ turn_texts 1 all)) }
     ensures text { (bytes : List ℕ) (m : Map) (all : List TurnReplies)
         → map_after None (reading bytes beginning).items ≡ Some m
         → IsOneThread m (turns_of (reading bytes beginning).items) all
-        → IsText (reading bytes beginning).items (turn_texts 1 all) }
+        → IsText Answers (reading bytes beginning).items (turn_texts 1 all) }
+{}
+
+/// A law: where an input gives a map, the profile of its turns is that of the replies of one thread to its journal and
+/// of the opened numbers of the requests of each turn.
+pub fn profile_is_one_thread()
+    ensures told { (bytes text : List ℕ) (m : Map) → map_after None (reading bytes beginning).items ≡ Some m
+        → IsText OpenedNumbers (reading bytes beginning).items text
+        → (all : List TurnReplies) × ((lists : List (List ℕ))
+        × (IsOneThread m (turns_of (reading bytes beginning).items) all
+        × (AreOpenedInTurns m bare (turns_of (reading bytes beginning).items) lists
+        × (text ≡ profile_texts 1 all lists)))) }
+    ensures text { (bytes : List ℕ) (m : Map) (all : List TurnReplies) (lists : List (List ℕ))
+        → map_after None (reading bytes beginning).items ≡ Some m
+        → IsOneThread m (turns_of (reading bytes beginning).items) all
+        → AreOpenedInTurns m bare (turns_of (reading bytes beginning).items) lists
+        → IsText OpenedNumbers (reading bytes beginning).items (profile_texts 1 all lists) }
 {}

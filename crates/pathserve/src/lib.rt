@@ -5,13 +5,19 @@ mod bad_lines;
 mod commands;
 mod laws;
 mod replay;
+mod reports;
 mod status;
 #[cfg(test)]
 mod tests;
+mod told_turns;
 mod writing;
 
 pub use bad_lines::BadLine;
 pub use commands::{Command, NotWords, read_words};
-pub use laws::{beginning_is_prefix, one_out, stop_is_not_taken, taken_text, text_is_one_thread};
-pub use replay::{run, run_replay};
+pub use laws::{
+    beginning_is_prefix, one_out, profile_is_one_thread, stop_is_not_taken, taken_text,
+    text_is_one_thread,
+};
+pub use replay::{run, run_profile, run_replay};
+pub use reports::Report;
 pub use status::Status;

@@ -1,33 +1,30 @@
-//! The program's work: a script is read and answered turn by turn.
-ghost use Rattle.std.specs.Prelude.{◌≡◌, ◌≢◌, ◌^◌, ◌<◌, ◌≤◌, ◌⊎◌, ◌↔◌, ℕ, IfOk, IfSome, IsSome, List, Option, Some};
-ghost use Rattle.std.specs.Prelude.{None, length};
+//! The program's work: a script is read and answered turn by turn, and each turn is told as text.
+ghost use Rattle.std.specs.Prelude.{◌≡◌, ◌≢◌, ◌≤◌, ◌⊎◌, ◌↔◌, ℕ, IfSome, IsSome, List, Option, Some, None};
 ghost use Rattle.nav_types.specs.declared.limits.TheConstants.{MAX_WORKERS};
 ghost use Rattle.io_edges.specs.Faults.{Rose};
 ghost use Rattle.io_edges.specs.Passing.{HasGiven, HasTaken};
-ghost use Rattle.pathserve.specs.declared.commands.Command.TheVariants.{Replay};
+ghost use Rattle.pathserve.specs.declared.commands.Command.TheVariants.{Replay, Profile};
 ghost use Rattle.pathserve.specs.Commands.{command_of};
 ghost use Rattle.script_text.specs.Script.{reading, beginning};
 ghost use Rattle.script_text.specs.Reader.{HoldsRefused};
-ghost use Rattle.turn_core.specs.Turns.{after_turn, jobs};
-ghost use Rattle.pathserve.specs.Output.{IsTurnText, ReplaysTold, ComesByStop};
+ghost use Rattle.pathserve.specs.Output.{ReplaysTold, ComesByStop};
 ghost use Rattle.pathserve.specs.Reasons.{IsWhyBad};
 ghost use Rattle.pathserve.specs.inner.Stopping.{IsHeldBad};
 ghost use Rattle.pathserve.specs.inner.Writing.{StopsWith};
 
 use crate::bad_lines::{BadLine, why_bad};
-use crate::commands::{Command, read_words};
+use crate::commands::{Command, NotWords, read_words};
+use crate::reports::Report;
 use crate::status::Status;
+use crate::told_turns::answered;
 use crate::writing::{status_of, write_all, write_stop};
-use answer_text::turn_text;
-use grid_versions::Version;
 use io_edges::{Gate, Sink, Source};
-use nav_types::{Bytes, NoMemory, Words};
-use path_workers::run_turn;
+use nav_types::{NoMemory, Words};
 use script_text::{ScriptFault, ScriptReader};
 use std::alloc::Global;
 use std::sync::Wait;
 use std::thread::Threads;
-use turn_core::{AnsweredTurn, ReadyTurn, TurnPosts, bare_version};
+use turn_core::bare_version;
 
 /// All that the program does: reads the words, and does what they ask for. Where the words are not in the grammar the
 /// status is Usage, and nothing is read or written.
@@ -56,8 +53,16 @@ pub fn run<R: Threads + Wait + Sync, S: Source, K: Sink, G: Gate + Sync>(
     ensures usage { (result ≡ Status.Usage) ↔ (command_of words.now ≡ None) }
     ensures untouched { result ≡ Status.Usage → (source.new ≡ source.old) × (sink.new ≡ sink.old) }
     ensures replay { (workers : ℕ) → command_of words.now ≡ Some (Replay workers)
-        → ReplaysTold (S.left source.old) (S.left source.new) (K.kept sink.old) (K.kept sink.new) result }
+        → ReplaysTold Report.Answers (S.left source.old) (S.left source.new) (K.kept sink.old) (K.kept sink.new)
+        result }
     ensures stop { (workers : ℕ) (bytes : List ℕ) → command_of words.now ≡ Some (Replay workers)
+        → S.left source.old ≡ Some bytes
+        → ComesByStop (S.faults source.old) (S.faults source.new) (K.faults sink.old) (K.faults sink.new)
+        (reading bytes beginning).ends result }
+    ensures profile { (workers : ℕ) → command_of words.now ≡ Some (Profile workers)
+        → ReplaysTold Report.OpenedNumbers (S.left source.old) (S.left source.new) (K.kept sink.old) (K.kept sink.new)
+        result }
+    ensures profile_stop { (workers : ℕ) (bytes : List ℕ) → command_of words.now ≡ Some (Profile workers)
         → S.left source.old ≡ Some bytes
         → ComesByStop (S.faults source.old) (S.faults source.new) (K.faults sink.old) (K.faults sink.new)
         (reading bytes beginning).ends result }
@@ -72,7 +77,10 @@ pub fn run<R: Threads + Wait + Sync, S: Source, K: Sink, G: Gate + Sync>(
 {
     match read_words(words) {
         Ok(Command::Replay { workers }) => run_replay(rt, alloc, workers, source, sink, gate, why),
-        Err(_) => {
+        Ok(Command::Profile { workers }) => {
+            run_profile(rt, alloc, workers, source, sink, gate, why)
+        }
+        Err(NotWords) => {
             *why = None;
             Status::Usage
         }
@@ -98,7 +106,81 @@ pub fn run_replay<R: Threads + Sync, S: Source, K: Sink, G: Gate + Sync>(
 ) -> Status
     requires some { 1 ≤ workers }
     requires few { workers ≤ MAX_WORKERS }
-    ensures told { ReplaysTold (S.left source.old) (S.left source.new) (K.kept sink.old) (K.kept sink.new) result }
+    ensures told { ReplaysTold Report.Answers (S.left source.old) (S.left source.new) (K.kept sink.old)
+        (K.kept sink.new) result }
+    ensures stop { (bytes : List ℕ) → S.left source.old ≡ Some bytes
+        → ComesByStop (S.faults source.old) (S.faults source.new) (K.faults sink.old) (K.faults sink.new)
+        (reading bytes beginning).ends result }
+    ensures usage { result ≢ Status.Usage }
+    ensures given { HasGiven (S.left source.old) (S.left source.new) }
+    ensures taken { HasTaken (K.kept sink.old) (K.kept sink.new) }
+    ensures source_later { S.faults source.old ≤ S.faults source.new }
+    ensures sink_later { K.faults sink.old ≤ K.faults sink.new }
+    ensures read { result ≡ Status.ReadFault → Rose (S.faults source.old) (S.faults source.new) }
+    ensures write { result ≡ Status.WriteFault → Rose (K.faults sink.old) (K.faults sink.new) }
+    ensures why { (bytes : List ℕ) → S.left source.old ≡ Some bytes → IfSome why.new (IsWhyBad bytes) }
+    ensures only { IsSome why.new → result ≡ Status.BadLine }
+{
+    run_report(rt, alloc, Report::Answers, workers, source, sink, gate, why)
+}
+
+/// Answers a script as [`run_replay`] does, and tells behind the line of each path how many jump states the search for
+/// it opened, on a line of its own.
+///
+/// `why` has at the end what it has behind `run`.
+pub fn run_profile<R: Threads + Sync, S: Source, K: Sink, G: Gate + Sync>(
+    rt: &R,
+    alloc: Global,
+    workers: u8,
+    source: &mut S,
+    sink: &mut K,
+    gate: &G,
+    why: &mut Option<BadLine>,
+) -> Status
+    requires some { 1 ≤ workers }
+    requires few { workers ≤ MAX_WORKERS }
+    ensures told { ReplaysTold Report.OpenedNumbers (S.left source.old) (S.left source.new) (K.kept sink.old)
+        (K.kept sink.new) result }
+    ensures stop { (bytes : List ℕ) → S.left source.old ≡ Some bytes
+        → ComesByStop (S.faults source.old) (S.faults source.new) (K.faults sink.old) (K.faults sink.new)
+        (reading bytes beginning).ends result }
+    ensures usage { result ≢ Status.Usage }
+    ensures given { HasGiven (S.left source.old) (S.left source.new) }
+    ensures taken { HasTaken (K.kept sink.old) (K.kept sink.new) }
+    ensures source_later { S.faults source.old ≤ S.faults source.new }
+    ensures sink_later { K.faults sink.old ≤ K.faults sink.new }
+    ensures read { result ≡ Status.ReadFault → Rose (S.faults source.old) (S.faults source.new) }
+    ensures write { result ≡ Status.WriteFault → Rose (K.faults sink.old) (K.faults sink.new) }
+    ensures why { (bytes : List ℕ) → S.left source.old ≡ Some bytes → IfSome why.new (IsWhyBad bytes) }
+    ensures only { IsSome why.new → result ≡ Status.BadLine }
+{
+    run_report(
+        rt,
+        alloc,
+        Report::OpenedNumbers,
+        workers,
+        source,
+        sink,
+        gate,
+        why,
+    )
+}
+
+/// Answers a script turn by turn, and tells each turn by the text of the report.
+fn run_report<R: Threads + Sync, S: Source, K: Sink, G: Gate + Sync>(
+    rt: &R,
+    alloc: Global,
+    report: Report,
+    workers: u8,
+    source: &mut S,
+    sink: &mut K,
+    gate: &G,
+    why: &mut Option<BadLine>,
+) -> Status
+    requires some { 1 ≤ workers }
+    requires few { workers ≤ MAX_WORKERS }
+    ensures told { ReplaysTold report (S.left source.old) (S.left source.new) (K.kept sink.old) (K.kept sink.new)
+        result }
     ensures stop { (bytes : List ℕ) → S.left source.old ≡ Some bytes
         → ComesByStop (S.faults source.old) (S.faults source.new) (K.faults sink.old) (K.faults sink.new)
         (reading bytes beginning).ends result }
@@ -130,7 +212,9 @@ pub fn run_replay<R: Threads + Sync, S: Source, K: Sink, G: Gate + Sync>(
         match reader.next_turn(alloc, source) {
             Ok(Some(posts)) => {
                 turns += 1;
-                let told = match answered(rt, alloc, &version, turns, posts, workers, gate) {
+                let told = match answered(
+                    rt, alloc, report, &version, turns, posts, workers, gate,
+                ) {
                     Ok(told) => told,
                     Err(NoMemory) => return Status::NoMemory,
                 };
@@ -166,40 +250,4 @@ fn stop_at<K: Sink>(
         _ => None,
     };
     status
-}
-
-/// The text of a turn's answers, and the version after the turn.
-#[derive(Drop)]
-struct Told {
-    text: Bytes,
-    after: Version,
-}
-
-/// Answers the turn of a number on the version before it, by so many workers, each of whom passes the gate before it
-/// solves a job.
-fn answered<R: Threads + Sync, G: Gate + Sync>(
-    rt: &R,
-    alloc: Global,
-    version: &Version,
-    turn: u64,
-    posts: TurnPosts,
-    workers: u8,
-    gate: &G,
-) -> Result<Told, NoMemory>
-    requires some { 1 ≤ workers }
-    requires most { workers ≤ MAX_WORKERS }
-    requires few { length (jobs posts) < 2 ^ 32 }
-    ensures text { IfOk result (λ told. IsTurnText version.now.map version.now.standing turn posts told.text) }
-    ensures map { IfOk result (λ told. told.after.map ≡ version.now.map) }
-    ensures standing { IfOk result (λ told. told.after.standing
-        ≡ after_turn version.now.map version.now.standing posts) }
-{
-    let ready = match ReadyTurn::new(alloc, version, posts) {
-        Ok(ready) => ready,
-        Err((NoMemory, _posts)) => return Err(NoMemory),
-    };
-    let answers = run_turn(rt, alloc, ready.version(), ready.jobs(), workers, gate)?;
-    let (_posts, AnsweredTurn { replies, after }) = ready.answered(answers);
-    let text = turn_text(alloc, turn, &replies)?;
-    Ok(Told { text, after })
 }

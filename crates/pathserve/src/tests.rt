@@ -185,7 +185,7 @@ fn is_usage<R: Threads + Wait + Sync>(rt: &R, alloc: Global, words: &[&str]) -> 
 }
 
 /// Words that are not in the grammar.
-const OTHER_WORDS: [&[&str]; 12] = [
+const OTHER_WORDS: [&[&str]; 14] = [
     &[],
     &["make", "07"],
     &["replay", "--workers=4"],
@@ -198,6 +198,8 @@ const OTHER_WORDS: [&[&str]; 12] = [
     &["replay", "--workers", "100"],
     &["replay", "--workers", "4", "--workers", "4"],
     &["--workers", "4", "replay"],
+    &["profile", "--workers", "65"],
+    &["profile", "replay"],
 ];
 
 #[test]
@@ -241,6 +243,69 @@ fn answers_four<R: Threads + Wait + Sync>(rt: &R, alloc: Global, workers: &str) 
 fn any_number_of_workers_answers_alike(rt: HostRuntime) {
     for workers in ["1", "2", "64"] {
         assert!(rt; answers_four(&rt, rt.alloc(), workers), "{workers} workers");
+    }
+}
+
+/// Scripts with what a profile of them writes.
+const PROFILES: [(&str, &str); 2] = [
+    // straight to the goal
+    (
+        "{\"version\":1,\"size\":[3,3],\"callers\":1,\"classes\":[{\"name\":\"default\",\"clearance\":\"0\"}]}\n\
+{\"caller\":0,\"path\":\"default\",\"from\":[\"0.5\",\"0.5\"],\"goal\":{\"point\":[\"2.5\",\"2.5\"]}}\n\
+{\"end\":1}\n",
+        "turn 1 regions 1 edges 0 areas 1 relabelled 0\n\
+0 0 path 0 0 2 2 goal 185364 1 2.5,2.5\n\
+0 0 opened 2\n",
+    ),
+    // round a blocked cell, where no diagonal step is legal
+    (
+        "{\"version\":1,\"size\":[3,3],\"callers\":1,\"classes\":[{\"name\":\"default\",\"clearance\":\"0\"}]}\n\
+{\"base\":[[1,1,1,1,1]]}\n\
+{\"caller\":0,\"path\":\"default\",\"from\":[\"0.5\",\"0.5\"],\"goal\":{\"point\":[\"2.5\",\"2.5\"]}}\n\
+{\"end\":1}\n",
+        "turn 1 regions 1 edges 0 areas 1 relabelled 0\n\
+0 0 path 0 0 2 2 goal 262144 2 2.5,0.5 2.5,2.5\n\
+0 0 opened 5\n",
+    ),
+];
+
+/// Whether a run of the words over this script ends well, and writes this text.
+fn profiles_to<R: Threads + Wait + Sync>(
+    rt: &R,
+    alloc: Global,
+    words: &[&str],
+    script: &str,
+    text: &str,
+) -> bool {
+    runs_to(
+        rt,
+        alloc,
+        words,
+        script.as_bytes(),
+        &[],
+        &[],
+        Status::Done,
+        text,
+    )
+}
+
+#[test]
+fn a_profile_tells_the_opened_numbers(rt: HostRuntime) {
+    for (script, text) in PROFILES {
+        assert!(rt;
+            profiles_to(&rt, rt.alloc(), &["profile"], script, text),
+            "{script}"
+        );
+        assert!(rt;
+            profiles_to(
+                &rt,
+                rt.alloc(),
+                &["profile", "--workers", "3"],
+                script,
+                text
+            ),
+            "{script}"
+        );
     }
 }
 

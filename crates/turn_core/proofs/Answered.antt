@@ -1,18 +1,34 @@
--- Replies that answer a request.
-use Rattle.std.proofs.Common.{◌≡◌, ℕ, ℤ, Bool, true, false, Option, Some, None, Result, Ok, Err, IfOk, is_some, refl, sym, subst}
+-- Replies that answer a request, with their opened numbers.
+use Rattle.std.proofs.Common.{◌≡◌, ℕ, ℤ, Bool, true, false, List, Option, Some, None, Result, Ok, Err, IfOk, is_some, refl, sym, subst}
 use Rattle.std.specs.Prelude.{◌↔◌, IsSome}
 use Rattle.std.proofs.lemmas.Bool.{false_from_ne_true}
 use Rattle.nav_types.specs.declared.cells.Cell.{Cell}
+use Rattle.nav_types.specs.declared.cells.Rect.{Rect}
 use Rattle.nav_types.specs.declared.cells.Size.{Size}
 use Rattle.nav_types.specs.declared.sequences.NoMemory.{NoMemory}
+use Rattle.nav_types.specs.Counting.{Counts}
+use Rattle.nav_types.specs.Frames.{IsFrame}
 use Rattle.fixed_point.specs.Plane.{IsOnAxis}
 use Rattle.goal_shapes.specs.declared.goals.Goal.{Goal}
+use Rattle.goal_shapes.specs.declared.goals.GoalSpec.{GoalSpec}
+use Rattle.jump_search.specs.declared.search.Traced.{Traced}
+use Rattle.jump_search.specs.JumpStates.{IsOpened}
 use Rattle.grid_versions.specs.declared.edits.Refusal.{Refusal}
 use Rattle.grid_versions.specs.declared.edits.Refusal.TheVariants.{StartOutside}
+use Rattle.grid_versions.specs.Maps.{Map}
+use Rattle.grid_versions.specs.Passing.{passable_at}
+use Rattle.turn_core.specs.declared.posts.Request.{Request}
+use Rattle.turn_core.specs.declared.replies.PathAnswer.{PathAnswer}
+use Rattle.turn_core.specs.declared.replies.TracedAnswer.{TracedAnswer}
+use Rattle.turn_core.specs.declared.solving.Wanted.{Wanted}
+use Rattle.turn_core.specs.declared.solving.Wanted.TheVariants.{OpenedNumber}
 use Rattle.turn_core.specs.declared.replies.Answer.{Answer}
-use Rattle.turn_core.specs.declared.replies.Answer.TheVariants.{Refused}
-use Rattle.turn_core.specs.NamedGoals.{is_on_map}
-use Rattle.turn_core.specs.Solving.{IsPathTo, IsPathFound, IsAnswerAt}
+use Rattle.turn_core.specs.declared.replies.Answer.TheVariants.{Refused, Nowhere, Path as IsPath, Region as IsRegion}
+use Rattle.turn_core.specs.Words.{Standing}
+use Rattle.turn_core.specs.NamedGoals.{class_named, is_on_map, goal_found}
+use Rattle.turn_core.specs.Solving.{IsPathTo, IsPathFound, IsAnswerAt, IsAnswerTo}
+use Rattle.turn_core.specs.Opening.{IsOpenedTo, IsOpenedFor, IsOfPath, HasOpened, IsTracedAnswerTo}
+use Rattle.turn_core.specs.inner.Opened.{IsCountedBy}
 use Rattle.turn_core.proofs.FoundGoals.{on_map_decides}
 
 -- a point lies on the map exactly where some cell of it holds the point
@@ -29,9 +45,10 @@ answered_at named on_map Answers answer class has on is =
     (subst (λ (o : Bool). IsAnswerAt (Some class) o Answers answer) (sym on) is)
 
 -- the same, where it comes with memory
-pub answered_ok : (named : Option ℕ) (on_map : Bool) (Answers : ℕ → Answer → Type 0) (result : Result Answer NoMemory) (class : ℕ)
-    → named ≡ Some class → on_map ≡ true → IfOk result (Answers class) → IfOk result (IsAnswerAt named on_map Answers)
-answered_ok named on_map Answers (Ok answer) class has on is = answered_at named on_map Answers answer class has on is
+pub answered_ok : (named : Option ℕ) (on_map : Bool) (Answers : ℕ → Answer → Type 0) (result : Result TracedAnswer NoMemory) (class : ℕ)
+    → named ≡ Some class → on_map ≡ true → IfOk result (λ (traced : TracedAnswer). Answers class traced.answer)
+    → IfOk result (λ (traced : TracedAnswer). IsAnswerAt named on_map Answers traced.answer)
+answered_ok named on_map Answers (Ok traced) class has on is = answered_at named on_map Answers traced.answer class has on is
 answered_ok named on_map Answers (Err refused) class has on is = tt
 
 -- the refusal at a point that does not lie on the map
@@ -43,12 +60,52 @@ outside_at named on_map Answers class has off =
     (subst (λ (o : Bool). IsAnswerAt (Some class) o Answers answer) (sym off) refl)
 
 -- the answer to a path to a goal that is found
-pub found_ok : (passes : Cell → Bool) (x z : ℤ) (goal : Goal) (found : Result Goal Refusal) (result : Result Answer NoMemory)
-    → Ok goal ≡ found → IfOk result (IsPathTo passes x z goal) → IfOk result (IsPathFound passes x z found)
-found_ok passes x z goal found result is answers = subst (λ (f : Result Goal Refusal). IfOk result (IsPathFound passes x z f)) is answers
+pub found_ok : (passes : Cell → Bool) (x z : ℤ) (goal : Goal) (found : Result Goal Refusal) (result : Result TracedAnswer NoMemory)
+    → Ok goal ≡ found → IfOk result (λ (traced : TracedAnswer). IsPathTo passes x z goal traced.answer)
+    → IfOk result (λ (traced : TracedAnswer). IsPathFound passes x z found traced.answer)
+found_ok passes x z goal found result is answers =
+    subst (λ (f : Result Goal Refusal). IfOk result (λ (traced : TracedAnswer). IsPathFound passes x z f traced.answer)) is answers
 
 -- the answer to a path to a goal that is refused
 pub found_err : (passes : Cell → Bool) (x z : ℤ) (refusal : Refusal) (found : Result Goal Refusal) → Err refusal ≡ found → IsPathFound passes x z found (Refused refusal)
 found_err passes x z refusal found is =
     let answer : Answer = Refused refusal in
     subst (λ (f : Result Goal Refusal). IsPathFound passes x z f answer) is refl
+
+-- ---- opened numbers
+
+of_path : (One Other : PathAnswer → ℕ → Type 0) (answer : Answer) (opened : ℕ) → ((path : PathAnswer) → One path opened → Other path opened)
+    → IsOfPath One answer opened → IsOfPath Other answer opened
+of_path One Other (IsPath path) opened each is = each path is
+of_path One Other (IsRegion region) opened each is = is
+of_path One Other (Refused refusal) opened each is = is
+of_path One Other Nowhere opened each is = is
+
+-- the opened number of a path to a goal is that of a path of the class by its name to the goal as it is named
+pub opened_ok : (map : Map) (standing : Standing) (name : List ℕ) (spec : GoalSpec) (class : ℕ) (goal : Goal) (wanted : Wanted) (result : Result TracedAnswer NoMemory)
+    → class_named map name ≡ Some class → Ok goal ≡ goal_found map standing spec
+    → IfOk result (λ (traced : TracedAnswer). wanted ≡ OpenedNumber
+    → IsOfPath (IsOpenedTo (passable_at map standing class) map.size goal) traced.answer traced.opened)
+    → IfOk result (λ (traced : TracedAnswer). wanted ≡ OpenedNumber → IsOfPath (IsOpenedFor map standing name spec) traced.answer traced.opened)
+opened_ok map standing name spec class goal wanted (Ok traced) has found is = λ want.
+    of_path (IsOpenedTo (passable_at map standing class) map.size goal) (IsOpenedFor map standing name spec) traced.answer traced.opened
+    (λ path number. record { class = class; named = has; goal = goal; found = sym found; number = number }) (is want)
+opened_ok map standing name spec class goal wanted (Err refused) has found is = tt
+
+-- the opened number of a search, by the rectangle of its aim in a map of its size
+pub counted_ok : (passes hit : Cell → Bool) (framed : Size → Cell → Bool) (size side : Size) (start : Cell) (wanted : Wanted) (rect : Rect) (result : Result Traced NoMemory)
+    → side ≡ size → IsFrame (framed side) side rect
+    → IfOk result (λ (traced : Traced). (r : Rect) → IsFrame (framed size) size r → Counts (IsOpened passes hit start r traced.found.cost.0) traced.opened)
+    → IfOk result (λ (traced : Traced). wanted ≡ OpenedNumber → IsCountedBy passes hit (framed size) size start traced.found.cost.0 traced.opened)
+counted_ok passes hit framed size side start wanted rect (Ok traced) same frame counted = λ want.
+    let here : IsFrame (framed size) size rect = subst (λ (s : Size). IsFrame (framed s) s rect) same frame in
+    (rect, (here, counted rect here))
+counted_ok passes hit framed size side start wanted rect (Err refused) same frame counted = tt
+
+-- an answer with its opened number, where that is wanted
+pub traced_ok : (map : Map) (standing : Standing) (request : Request) (wanted : Wanted) (result : Result TracedAnswer NoMemory)
+    → wanted ≡ OpenedNumber → IfOk result (λ (traced : TracedAnswer). IsAnswerTo map standing request traced.answer)
+    → IfOk result (λ (traced : TracedAnswer). wanted ≡ OpenedNumber → HasOpened map standing request traced.answer traced.opened)
+    → IfOk result (IsTracedAnswerTo map standing request)
+traced_ok map standing request wanted (Ok traced) want answer number = record { answered = answer; number = number want }
+traced_ok map standing request wanted (Err refused) want answer number = tt

@@ -1,6 +1,8 @@
 pub mod FoundGoals
 pub mod Answered
+pub mod Itemwise
 pub mod OneAnswer
+pub mod OneOpenedNumber
 pub mod TurnByTurn
 pub mod Threads
 pub mod CallerLists

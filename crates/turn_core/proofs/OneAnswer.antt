@@ -1,5 +1,5 @@
 -- A request has one answer on a map with what stands on it.
-use Rattle.std.proofs.Common.{◌≡◌, ℕ, Bool, true, false, ℤ, List, [], ◌∷◌, Option, None, Some, Ok, Err, refl, sym, ap, ◌∙◌, subst, inl, inr}
+use Rattle.std.proofs.Common.{◌≡◌, ℕ, Bool, true, false, ℤ, List, Option, None, Some, Ok, Err, sym, ap, ◌∙◌, subst, inl, inr}
 use Rattle.std.specs.Prelude.{Result}
 use Rattle.nav_types.specs.declared.cells.Cell.{Cell}
 use Rattle.nav_types.specs.declared.cells.Chunk.{Chunk}
@@ -28,6 +28,7 @@ use Rattle.turn_core.specs.declared.replies.Answer.TheVariants.{Path as IsPath, 
 use Rattle.turn_core.specs.Words.{Standing}
 use Rattle.turn_core.specs.NamedGoals.{class_named, is_on_map, goal_found}
 use Rattle.turn_core.specs.Solving.{IsImpassable, is_near, IsPathAnswer, IsPathTo, IsPathFound, IsRegionAnswer, IsRegionAt, IsAnswerAt, IsAnswerTo, AreAnswersTo}
+use Rattle.turn_core.proofs.Itemwise.{IsItemwise, itemwise_unique}
 
 one_region : (passes : Cell → Bool) (chunk : Chunk) (cell : Cell) (m n : ℕ) → HasRegion passes chunk cell m → HasRegion passes chunk cell n → m ≡ n
 one_region passes chunk cell m n one two =
@@ -114,13 +115,14 @@ one_answer_to map standing (AsksRegion name x z) a b p q =
     let Answers : ℕ → Answer → Type 0 = λ class. IsRegionAt (passable_at map standing class) x z in
     one_at (class_named map name) (is_on_map map.size x z) Answers a b (λ class. one_region_at (passable_at map standing class) x z a b) p q
 
+pub answers_itemwise : (map : Map) (standing : Standing) → IsItemwise (IsAnswerTo map standing) (AreAnswersTo map standing)
+answers_itemwise map standing = record {
+  none = tt;
+  fewer = λ x xs are. are;
+  further = λ y ys are. are;
+  both = λ x xs y ys. (λ are. are, λ are. are);
+}
+
 pub one_answers : (map : Map) (standing : Standing) (requests : List Request) (a b : List Answer) → AreAnswersTo map standing requests a → AreAnswersTo map standing requests b → a ≡ b
-one_answers map standing [] [] [] p q = refl
-one_answers map standing [] [] (y ∷ b) p q = absurd q
-one_answers map standing [] (x ∷ a) b p q = absurd p
-one_answers map standing (request ∷ requests) [] b p q = absurd p
-one_answers map standing (request ∷ requests) (x ∷ a) [] p q = absurd q
-one_answers map standing (request ∷ requests) (x ∷ a) (y ∷ b) p q =
-    let first : x ≡ y = one_answer_to map standing request x y p.0 q.0 in
-    let rest : a ≡ b = one_answers map standing requests a b p.1 q.1 in
-    cc
+one_answers map standing =
+    itemwise_unique (IsAnswerTo map standing) (AreAnswersTo map standing) (answers_itemwise map standing) (one_answer_to map standing)

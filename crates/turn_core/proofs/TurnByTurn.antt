@@ -1,5 +1,5 @@
 -- A journal that one thread answers, turn by turn.
-use Rattle.std.proofs.Common.{◌≡◌, ℕ, zero, suc, ◌+◌, ◌<◌, List, [], ◌∷◌, ◌++◌, Option, None, Some, length, take, get_or, refl, sym, ap, ◌∙◌, subst, arith}
+use Rattle.std.proofs.Common.{◌≡◌, ℕ, ◌+◌, ◌<◌, List, [], ◌∷◌, ◌++◌, Option, None, Some, length, take, get_or, refl, sym, ap, ◌∙◌, subst}
 use Rattle.std.specs.Prelude.{◌↔◌, slice_get}
 use Rattle.std.proofs.lemmas.List.{take_more}
 use Rattle.nav_types.specs.Regions.{HasTallies, HasRelabelled}
@@ -15,6 +15,8 @@ use Rattle.turn_core.specs.Words.{Standing, MapState, bare, TellsNumbers}
 use Rattle.turn_core.specs.Solving.{IsAnswerTo, AreAnswersTo}
 use Rattle.turn_core.specs.Turns.{after_turn, standing, OneThread, TellNumbers, IsTurnTold, replies_in, IsOneThread}
 use Rattle.turn_core.specs.Effects.{known}
+use Rattle.turn_core.proofs.Itemwise.{itemwise_by_place}
+use Rattle.turn_core.proofs.OneAnswer.{answers_itemwise}
 use Rattle.turn_core.proofs.Threads.{standing_more, thread_more}
 
 -- ---- the answers to requests
@@ -43,41 +45,9 @@ known_end (Some other ∷ answers) answer = ap (λ (l : List Answer). other ∷ 
 
 -- ---- answers by their places
 
-place_more : (m : Map) (s : Standing) (q : Request) (r : Answer) (qs : List Request) (rs : List Answer) → IsAnswerTo m s q r
-    → ((k : ℕ) (p : Request) (a : Answer) → slice_get qs k ≡ Some p → slice_get rs k ≡ Some a → IsAnswerTo m s p a)
-    → (k : ℕ) (p : Request) (a : Answer) → slice_get (q ∷ qs) k ≡ Some p → slice_get (r ∷ rs) k ≡ Some a → IsAnswerTo m s p a
-place_more m s q r qs rs x rest zero p a e f =
-    let same_request : q ≡ p = cc in
-    let same_answer : r ≡ a = cc in
-    subst (λ (z : Request). IsAnswerTo m s z a) same_request (subst (λ (z : Answer). IsAnswerTo m s q z) same_answer x)
-place_more m s q r qs rs x rest (suc k) p a e f = rest k p a e f
-
-abbrev no_requests : List Request
-no_requests = []
-
-no_item : (k : ℕ) (p : Request) → slice_get no_requests k ≡ Some p → ⊥
-no_item zero p e = cc
-no_item (suc k) p e = cc
-
-to_places : (m : Map) (s : Standing) (qs : List Request) (rs : List Answer) → AreAnswersTo m s qs rs
-    → (length rs ≡ length qs) × ((k : ℕ) (p : Request) (a : Answer) → slice_get qs k ≡ Some p → slice_get rs k ≡ Some a → IsAnswerTo m s p a)
-to_places m s [] [] x = (refl, λ k p a e f. absurd (no_item k p e))
-to_places m s [] (r ∷ rs) x = absurd x
-to_places m s (q ∷ qs) [] x = absurd x
-to_places m s (q ∷ qs) (r ∷ rs) x =
-    let rest = to_places m s qs rs x.1 in
-    (ap suc rest.0, place_more m s q r qs rs x.0 rest.1)
-
-from_places : (m : Map) (s : Standing) (qs : List Request) (rs : List Answer) → length rs ≡ length qs
-    → ((k : ℕ) (p : Request) (a : Answer) → slice_get qs k ≡ Some p → slice_get rs k ≡ Some a → IsAnswerTo m s p a) → AreAnswersTo m s qs rs
-from_places m s [] [] e each = tt
-from_places m s [] (r ∷ rs) e each = absurd (omega (arith, e))
-from_places m s (q ∷ qs) [] e each = absurd (omega (arith, e))
-from_places m s (q ∷ qs) (r ∷ rs) e each = (each 0 q r refl refl, from_places m s qs rs (omega (arith, e)) (λ k. each (suc k)))
-
 pub by_place : (m : Map) (s : Standing) (qs : List Request) (rs : List Answer)
     → AreAnswersTo m s qs rs ↔ ((length rs ≡ length qs) × ((k : ℕ) (p : Request) (a : Answer) → slice_get qs k ≡ Some p → slice_get rs k ≡ Some a → IsAnswerTo m s p a))
-by_place m s qs rs = (to_places m s qs rs, λ x. from_places m s qs rs x.0 x.1)
+by_place m s = itemwise_by_place (IsAnswerTo m s) (AreAnswersTo m s) (answers_itemwise m s)
 
 -- the same answers, by what the map, what stands and the requests are
 pub answers_moved : (state : MapState) (m : Map) (s : Standing) (asked requests : List Request) (answers : List Answer)

@@ -1,6 +1,7 @@
 pub mod Words
 pub mod NamedGoals
 pub mod Solving
+pub mod Opening
 pub mod Turns
 pub mod ReadyTurns
 pub mod States

@@ -3,3 +3,4 @@ pub mod ReplyLists
 pub mod EditedTurns
 pub mod Runs
 pub mod Machines
+pub mod Opened

@@ -31,9 +31,9 @@ pub use named_goals::goal_of;
 pub use posts::{Jobs, Journal, Post, Posts, Request, TurnPosts, empty_lists, push_post};
 pub use ready_turns::{AnsweredTurn, ReadyTurn};
 pub use replies::{
-    AllReplies, Answer, Answers, CallerReplies, PathAnswer, RegionAnswer, Replies, Reply,
-    TurnReplies,
+    AllReplies, Answer, Answers, CallerReplies, OpenedNumbers, PathAnswer, RegionAnswer, Replies,
+    Reply, TracedAnswer, TurnReplies,
 };
 pub use runners::{RunBy, Runner};
-pub use solving::solve;
+pub use solving::{solve, solve_traced};
 pub use turn_versions::bare_version;

@@ -40,6 +40,14 @@ pub struct PathAnswer {
     pub waypoints: Waypoints,
 }
 
+/// The answer to a request, with its opened number: how many jump states the search for its path opened within the cost
+/// of the path, and 0 where the answer is no path.
+#[derive(Debug, Drop)]
+pub struct TracedAnswer {
+    pub answer: Answer,
+    pub opened: u64,
+}
+
 /// The chunk of a cell by its column and row among the chunks, the number of the cell's region in it, and
 /// the number of its area. The last two are 0 where the cell is not passable.
 #[derive(Clone, Copy, Debug, PartialEq, Eq)]
@@ -52,6 +60,9 @@ pub struct RegionAnswer {
 
 /// The answers to the requests of a turn, by their job numbers.
 pub type Answers = Sequence<Answer>;
+
+/// The opened numbers of the requests of a turn, by their job numbers.
+pub type OpenedNumbers = Sequence<u64>;
 
 /// The replies to the posts of one caller, in order.
 pub type Replies = Sequence<Reply>;

@@ -11,6 +11,7 @@ ghost use Rattle.turn_core.specs.declared.replies.TurnReplies.{TurnReplies};
 ghost use Rattle.turn_core.specs.Words.{Standing, TellsNumbers};
 ghost use Rattle.turn_core.specs.NamedGoals.{is_on_map, is_well_formed};
 ghost use Rattle.turn_core.specs.Solving.{IsAnswerTo, AreAnswersTo};
+ghost use Rattle.turn_core.specs.Opening.{IsOpenedNumber, AreOpenedNumbers};
 
 /// A law: the tests of points, lengths and goals hold exactly where what they test does.
 pub fn tests_hold_where_they_should()
@@ -33,6 +34,28 @@ pub fn answers_by_place()
         × ((place : ℕ) (request : Request) (answer : Answer) → slice_get requests place ≡ Some request
         → slice_get answers place ≡ Some answer
         → IsAnswerTo map standing request answer)) }
+{}
+
+/// A law: a request has one opened number on a map with what stands on it.
+pub fn one_opened_number_of_a_request()
+    ensures { (map : Map) (standing : Standing) (request : Request) (a b : ℕ)
+        → IsOpenedNumber map standing request a → IsOpenedNumber map standing request b → a ≡ b }
+{}
+
+/// A law: requests have one list of opened numbers on a map with what stands on it.
+pub fn one_list_of_opened_numbers()
+    ensures { (map : Map) (standing : Standing) (requests : List Request) (a b : List ℕ)
+        → AreOpenedNumbers map standing requests a → AreOpenedNumbers map standing requests b → a ≡ b }
+{}
+
+/// A law: numbers are opened numbers of requests where there are as many, and each is that of the request in its place.
+pub fn opened_numbers_by_place()
+    ensures { (map : Map) (standing : Standing) (requests : List Request) (numbers : List ℕ)
+        → AreOpenedNumbers map standing requests numbers
+        ↔ ((length numbers ≡ length requests)
+        × ((place : ℕ) (request : Request) (opened : ℕ) → slice_get requests place ≡ Some request
+        → slice_get numbers place ≡ Some opened
+        → IsOpenedNumber map standing request opened)) }
 {}
 
 /// A law: a turn has one set of numbers.

@@ -218,9 +218,14 @@ fn a_later_caller_blocks_the_path_of_a_turn(rt: HostRuntime) -> Result<(), Fail>
     Ok(())
 }
 
+/// The same value, which threads may share.
+fn shared<T: Send + Sync>(value: T) -> T {
+    value
+}
+
 /// The replies to the turn of both callers, once more.
 fn copied_replies(alloc: Global) -> Option<AllReplies> {
-    replies_to_two(alloc)?.copy(alloc).ok()
+    shared(replies_to_two(alloc)?).copy(alloc).ok()
 }
 
 #[test]
@@ -359,6 +364,41 @@ fn refusals_of_regions_come_in_their_order(rt: HostRuntime) -> Result<(), Fail> 
     Ok(())
 }
 
+/// The version of a map of three by three cells, of which the middle one is impassable.
+fn version_round_a_block(alloc: Global) -> Option<Version> {
+    let mut rects = BaseRects::new(alloc);
+    let middle = Rect {
+        i0: 1,
+        j0: 1,
+        i1: 1,
+        j1: 1,
+    };
+    rects.push((middle, 1)).ok()?;
+    let map = MapSpec::new(1, Size::new(3, 3)?, 1, one_class(alloc)?, rects)?;
+    bare_version(alloc, &map).ok()
+}
+
+/// The opened number of the path from the first cell of such a map to the last, where there is a path.
+fn opened_round_a_block(alloc: Global) -> Option<u64> {
+    let version = version_round_a_block(alloc)?;
+    let far = Goal::Point {
+        x: halves(5),
+        z: halves(5),
+    };
+    let request = path_asked(alloc, b"default", 1, GoalSpec::Plain(far))?;
+    let traced = solve_traced(alloc, &version, &request).ok()?;
+    match traced.answer {
+        Answer::Path(_) => Some(traced.opened),
+        _ => None,
+    }
+}
+
+#[test]
+fn jump_states_of_both_ways_round_are_opened(rt: HostRuntime) -> Result<(), Fail> {
+    assert_eq!(rt; opened_round_a_block(rt.alloc()).ok_or("no path")?, 5);
+    Ok(())
+}
+
 /// Whether a path along the row has the answer that no cell is passable.
 fn is_nowhere(alloc: Global, version: &Version) -> bool {
     let Some(request) = path_asked(alloc, b"default", 1, point(5)) else {
@@ -476,7 +516,7 @@ fn run_jobs<R: Runner>(runner: &R, alloc: Global, version: &Version, jobs: &Jobs
 /// The answers to two jobs on a row of three cells, by a runner that solves them one after another.
 fn two_answers(alloc: Global) -> Option<Answers> {
     let version = row_version(alloc, 3, None)?;
-    let jobs = two_jobs(alloc)?.copy(alloc).ok()?;
+    let jobs = shared(two_jobs(alloc)?.copy(alloc).ok()?);
     let run = |version: &Version, jobs: &Jobs| -> Result<Answers, NoMemory>
         ensures { IfOk result (AreAnswersTo version.now.map version.now.standing jobs.now) }
     { journals::answers_to(alloc, version, jobs) };
@@ -485,7 +525,7 @@ fn two_answers(alloc: Global) -> Option<Answers> {
         run: &run,
         staged: &staged,
     };
-    run_jobs(&runner, alloc, &version, &jobs)
+    run_jobs(&runner, alloc, &version, &jobs).map(|answers| shared(answers))
 }
 
 #[test]

@@ -11,17 +11,21 @@ ghost use Rattle.grid_versions.specs.Versions.{passes_of};
 ghost use Rattle.turn_core.specs.NamedGoals.{class_named, is_on_map, goal_found};
 ghost use Rattle.turn_core.specs.Solving.{is_near, IsPathTo, IsPathFound, IsRegionAnswer, IsRegionAt, IsAnswerAt};
 ghost use Rattle.turn_core.specs.Solving.{IsAnswerTo};
+ghost use Rattle.turn_core.specs.Opening.{IsOpenedTo, IsOpenedFor, IsOfPath, HasOpened, IsTracedAnswerTo};
+ghost use Rattle.turn_core.specs.declared.solving.Wanted.TheVariants.{OpenedNumber};
+ghost use Rattle.turn_core.specs.inner.Opened.{IsCountedBy};
 
 use crate::named_goals::goal_of;
 use crate::posts::Request;
-use crate::replies::{Answer, PathAnswer, RegionAnswer};
+use crate::replies::{Answer, PathAnswer, RegionAnswer, TracedAnswer};
 use class_config::ClassName;
+use class_planes::PlaneRuns;
 use fixed_point::Fixed;
 use goal_reach::{Target, made_reachable, nearest_passable};
 use goal_shapes::{Goal, GoalSpec, cell_of_point};
 use grid_versions::{Refusal, Version};
-use jump_search::jump_find;
-use nav_types::{Aim, Areas, Cell, Class, NoMemory, Ticks};
+use jump_search::{Traced, jump_find_with, jump_search_with};
+use nav_types::{Aim, Areas, Cell, Class, NoMemory, Ticks, View};
 use std::alloc::Global;
 use std::marker::Brand;
 use std::sync::ledger::{Blank, Ledger};
@@ -35,9 +39,54 @@ use walks::Found;
 pub fn solve(alloc: Global, version: &Version, request: &Request) -> Result<Answer, NoMemory>
     ensures { IfOk result (λ answer. IsAnswerTo version.now.map version.now.standing request.now answer) }
 {
+    let traced = answered(alloc, version, request, Wanted::Answer)?;
+    Ok(traced.answer)
+}
+
+/// The answer that [`solve`] gives, with its opened number (`IsTracedAnswerTo`): of a path, how many jump states have a
+/// least cost of jumps that, with the octile distance to the box of the path's targets, is within the path's cost. It
+/// is 0 of any other answer. It refuses for want of memory alone.
+///
+/// The jump states are those of Harabor and Grastien, "Online Graph Pruning for Pathfinding on Grid Maps", AAAI 2011,
+/// for steps that cut no corner. All of them within the cost are opened, so it takes longer than `solve`.
+pub fn solve_traced(
+    alloc: Global,
+    version: &Version,
+    request: &Request,
+) -> Result<TracedAnswer, NoMemory>
+    ensures { IfOk result (IsTracedAnswerTo version.now.map version.now.standing request.now) }
+{
+    answered(alloc, version, request, Wanted::OpenedNumber)
+}
+
+/// What is wanted of a request.
+#[derive(Clone, Copy)]
+enum Wanted {
+    /// Its answer alone.
+    Answer,
+    /// Its answer with the opened number.
+    OpenedNumber,
+}
+
+/// The answer to a request, with its opened number where that is wanted.
+fn answered(
+    alloc: Global,
+    version: &Version,
+    request: &Request,
+    wanted: Wanted,
+) -> Result<TracedAnswer, NoMemory>
+    ensures answer { IfOk result (λ traced. IsAnswerTo version.now.map version.now.standing request.now traced.answer) }
+    ensures opened { IfOk result (λ traced. wanted ≡ OpenedNumber
+        → HasOpened version.now.map version.now.standing request.now traced.answer traced.opened) }
+{
     match request {
-        Request::Path { class, x, z, goal } => path_asked(alloc, version, class, *x, *z, goal),
-        Request::Region { class, x, z } => Ok(region_asked(version, class, *x, *z)),
+        Request::Path { class, x, z, goal } => {
+            path_asked(alloc, version, class, *x, *z, goal, wanted)
+        }
+        Request::Region { class, x, z } => Ok(TracedAnswer {
+            answer: region_asked(version, class, *x, *z),
+            opened: 0,
+        }),
     }
 }
 
@@ -49,20 +98,32 @@ fn path_asked(
     x: Fixed,
     z: Fixed,
     goal: &GoalSpec,
-) -> Result<Answer, NoMemory>
-    ensures { IfOk result (IsAnswerAt (class_named version.now.map name.now) (is_on_map version.now.map.size x z)
+    wanted: Wanted,
+) -> Result<TracedAnswer, NoMemory>
+    ensures answer { IfOk result (λ traced. IsAnswerAt (class_named version.now.map name.now) (is_on_map version.now.map.size x z)
         (λ class. IsPathFound (passable_at version.now.map version.now.standing class) x z
-        (goal_found version.now.map version.now.standing goal.now))) }
+        (goal_found version.now.map version.now.standing goal.now)) traced.answer) }
+    ensures opened { IfOk result (λ traced. wanted ≡ OpenedNumber
+        → IsOfPath (IsOpenedFor version.now.map version.now.standing name.now goal.now) traced.answer traced.opened) }
 {
     let Some(class) = version.map().classes().find(name) else {
-        return Ok(Answer::Refused(Refusal::UnknownClass));
+        return Ok(TracedAnswer {
+            answer: Answer::Refused(Refusal::UnknownClass),
+            opened: 0,
+        });
     };
     if cell_of_point(x, z, version.map().size()).is_none() {
-        return Ok(Answer::Refused(Refusal::StartOutside));
+        return Ok(TracedAnswer {
+            answer: Answer::Refused(Refusal::StartOutside),
+            opened: 0,
+        });
     }
     match goal_of(version, goal) {
-        Ok(goal) => path_to(alloc, version, class, x, z, &goal),
-        Err(refusal) => Ok(Answer::Refused(refusal)),
+        Ok(goal) => path_to(alloc, version, class, x, z, &goal, wanted),
+        Err(refusal) => Ok(TracedAnswer {
+            answer: Answer::Refused(refusal),
+            opened: 0,
+        }),
     }
 }
 
@@ -75,50 +136,71 @@ fn path_to(
     x: Fixed,
     z: Fixed,
     goal: &Goal,
-) -> Result<Answer, NoMemory>
+    wanted: Wanted,
+) -> Result<TracedAnswer, NoMemory>
     requires class { class < length version.now.map.classes }
     requires column { IsOnAxis version.now.map.size.w x }
     requires row { IsOnAxis version.now.map.size.h z }
     requires goal { IsSoundGoal version.now.map.size goal.now }
-    ensures { IfOk result (IsPathTo (passable_at version.now.map version.now.standing class) x z goal.now) }
+    ensures answer { IfOk result (λ traced. IsPathTo (passable_at version.now.map version.now.standing class) x z goal.now
+        traced.answer) }
+    ensures opened { IfOk result (λ traced. wanted ≡ OpenedNumber
+        → IsOfPath (IsOpenedTo (passable_at version.now.map version.now.standing class) version.now.map.size goal.now)
+        traced.answer traced.opened) }
 {
     if version.passable_cells(class) == 0 {
-        return Ok(Answer::Nowhere);
+        return Ok(TracedAnswer {
+            answer: Answer::Nowhere,
+            opened: 0,
+        });
     }
     let Some(start) = nearest_passable(version, class, x, z) else {
-        return Ok(Answer::Nowhere);
+        return Ok(TracedAnswer {
+            answer: Answer::Nowhere,
+            opened: 0,
+        });
     };
     let target = made_reachable(version, class, start, goal);
+    let Traced { found, opened } = found(alloc, version, class, start, &target, wanted)?;
     let Found {
         end,
         cost,
         waypoints,
-    } = found(alloc, version, class, start, &target)?;
-    Ok(Answer::Path(PathAnswer {
+    } = found;
+    let path = PathAnswer {
         start,
         end,
         near: is_near(&target),
         cost,
         waypoints,
-    }))
+    };
+    Ok(TracedAnswer {
+        answer: Answer::Path(path),
+        opened,
+    })
 }
 
-/// The chosen walk from the start to the first in cell order of the nearest cells that the aim hits, by jumps.
+/// The chosen walk from the start to the first in cell order of the nearest cells that the aim hits, by jumps, with the
+/// opened number where that is wanted.
 fn found<A: Aim>(
     alloc: Global,
     version: &Version,
     class: Class,
     start: Cell,
     aim: &A,
-) -> Result<Found, NoMemory>
+    wanted: Wanted,
+) -> Result<Traced, NoMemory>
     requires class { class < length version.now.map.classes }
     requires start { IsTrue (passes_of version.now class start) }
     requires aim { A.sound aim.now version.now.map.size }
     requires reach { CanReach (passes_of version.now class) start (A.hit aim.now version.now.map.size) }
-    ensures { IfOk result (λ found. IsAnswer (passes_of version.now class) start (A.hit aim.now version.now.map.size)
-        found.end found.cost.0 found.waypoints) }
+    ensures answer { IfOk result (λ traced. IsAnswer (passes_of version.now class) start (A.hit aim.now version.now.map.size)
+        traced.found.end traced.found.cost.0 traced.found.waypoints) }
+    ensures opened { IfOk result (λ traced. wanted ≡ OpenedNumber
+        → IsCountedBy (passes_of version.now class) (A.hit aim.now version.now.map.size)
+        (A.framed aim.now version.now.map.size) version.now.map.size start traced.found.cost.0 traced.opened) }
 {
-    found_counted::<A, Brand>(alloc, version, class, start, aim, Blank::new(1))
+    found_counted::<A, Brand>(alloc, version, class, start, aim, wanted, Blank::new(1))
 }
 
 /// The same walk, with the opened jump states counted in a ledger of their own.
@@ -128,8 +210,9 @@ fn found_counted<A: Aim, L: Ledger>(
     class: Class,
     start: Cell,
     aim: &A,
+    wanted: Wanted,
     blank: Blank,
-) -> Result<Found, NoMemory>
+) -> Result<Traced, NoMemory>
     requires name { blank.name ≡ L.name }
     requires parts { blank.parts ≡ L.parts }
     requires some { 0 < L.parts }
@@ -137,17 +220,25 @@ fn found_counted<A: Aim, L: Ledger>(
     requires start { IsTrue (passes_of version.now class start) }
     requires aim { A.sound aim.now version.now.map.size }
     requires reach { CanReach (passes_of version.now class) start (A.hit aim.now version.now.map.size) }
-    ensures { IfOk result (λ found. IsAnswer (passes_of version.now class) start (A.hit aim.now version.now.map.size)
-        found.end found.cost.0 found.waypoints) }
+    ensures answer { IfOk result (λ traced. IsAnswer (passes_of version.now class) start (A.hit aim.now version.now.map.size)
+        traced.found.end traced.found.cost.0 traced.found.waypoints) }
+    ensures opened { IfOk result (λ traced. wanted ≡ OpenedNumber
+        → IsCountedBy (passes_of version.now class) (A.hit aim.now version.now.map.size)
+        (A.framed aim.now version.now.map.size) version.now.map.size start traced.found.cost.0 traced.opened) }
 {
-    jump_find(
-        alloc,
-        version,
-        class,
-        start,
-        aim,
-        &mut Ticks::<L>::new(blank),
-    )
+    let mut ticks = Ticks::<L>::new(blank);
+    let runs = PlaneRuns::new(version, version.planes());
+    match wanted {
+        Wanted::Answer => {
+            let found = jump_find_with(alloc, &runs, class, start, aim, &mut ticks)?;
+            Ok(Traced { found, opened: 0 })
+        }
+        Wanted::OpenedNumber => {
+            // The rectangle that the jump states are counted by.
+            let _rect = aim.bounds(version.size());
+            jump_search_with(alloc, &runs, class, start, aim, &mut ticks)
+        }
+    }
 }
 
 /// Whether the target is a near cell.

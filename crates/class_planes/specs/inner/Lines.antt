@@ -2,11 +2,12 @@
 use Rattle.std.specs.Prelude.{ℕ, Bool, ◌≡◌, ◌<◌, ◌+◌, ◌*◌, ◌/◌, ◌%◌, ◌==◌, ◌&&◌, nat_lt, map, [], List, length, slice_index, slice_range, slice_index_or}
 use Rattle.std.specs.Int.{bit_at}
 use Rattle.nav_types.specs.declared.cells.Cell.{Cell}
+use Rattle.nav_types.specs.declared.cells.Rect.{Rect}
 use Rattle.nav_types.specs.declared.cells.Size.{Size}
 use Rattle.nav_types.specs.Cells.{cell_at}
 use Rattle.nav_types.specs.Places.{cell_of}
 use Rattle.std.specs.List.{range_with_len}
-use Rattle.class_planes.specs.Planes.{PlaneCells, AreFreeBits}
+use Rattle.class_planes.specs.Planes.{PlaneCells, AreFreeBits, IsOutside}
 
 -- how many words a line has, and the words of each band
 pub record LineTable : Type 0 where
@@ -32,6 +33,12 @@ pub record AreLines (free : ℕ → ℕ → Bool) (count words : ℕ) (table : L
   pub many : length table.bands ≡ count
   pub each : (b : ℕ) → b < count → IsBand free (32 * b) words 32 (slice_index_or table.bands b [])
 
+-- the lines before some places changed: place i of line n is as it was, where no rectangle holds the cell (i, n)
+pub record AreLinesBefore (free : ℕ → ℕ → Bool) (rects : List Rect) (count words : ℕ) (table : LineTable) : Type 0 where
+  pub earlier : ℕ → ℕ → Bool
+  pub lines : AreLines earlier count words table
+  pub same : (n i : ℕ) → IsOutside rects (cell_at i n) → earlier n i ≡ free n i
+
 -- whether place i of line n is passable
 abbrev pub free_at : LineTable → ℕ → ℕ → Bool
 free_at table n i = bit_at (slice_index (line_at table n) (i / 64)) (i % 64) == 1
@@ -55,6 +62,12 @@ abbrev pub AreColumns : RowTable → LineTable → Type 0
 AreColumns table columns =
     AreLines (λ i j. free_cell table (cell_at i j)) (table.size.w / 32 + 1) (table.size.h / 64 + 1) columns
 
+-- the columns of the map before some of its cells changed, all of them in these rectangles
+pub record AreColumnsBefore (table : RowTable) (rects : List Rect) (columns : LineTable) : Type 0 where
+  pub earlier : ℕ → ℕ → Bool
+  pub lines : AreLines earlier (table.size.w / 32 + 1) (table.size.h / 64 + 1) columns
+  pub same : (cell : Cell) → IsOutside rects cell → earlier cell.i cell.j ≡ free_cell table cell
+
 -- the size of the map turned
 abbrev pub turned_size : Size → Size
 turned_size size = record { w = size.h; h = size.w; wide = size.high; high = size.wide }
@@ -66,3 +79,7 @@ plane_of table = record {
   cells = map (λ place. free_at table.rows (cell_of table.size place).j (cell_of table.size place).i)
       (range_with_len 0 (table.size.w * table.size.h));
 }
+
+-- the rectangle of the same cells with rows and columns changed over
+abbrev pub turned_rect : Rect → Rect
+turned_rect rect = record { i0 = rect.j0; j0 = rect.i0; i1 = rect.j1; j1 = rect.i1 }

@@ -1,5 +1,5 @@
 -- Lists that have one item for each chunk of a map, and the neighbours of a chunk.
-use Rattle.std.specs.Prelude.{ℕ, ◌≡◌, ◌+◌, ◌*◌, ◌/◌, ◌%◌, ◌<◌, List, length, slice_get, Some}
+use Rattle.std.specs.Prelude.{ℕ, ◌≡◌, ◌+◌, ◌*◌, ◌/◌, ◌%◌, ◌<◌, List, length, slice_get, slice_set, Some}
 use Rattle.nav_types.specs.declared.cells.Chunk.{Chunk}
 use Rattle.nav_types.specs.declared.cells.Size.{Size}
 use Rattle.nav_types.specs.Cells.{chunk_at}
@@ -33,3 +33,9 @@ neighbour_on North chunk = north_of chunk
 pub record AreOfChunks {A : Type 0} (size : Size) (count : ℕ) (Is : Chunk → A → Type 0) (items : List A) : Type 0 where
   pub each : length items ≡ count
   pub are : (place : ℕ) (item : A) → slice_get items place ≡ Some item → Is (chunk_numbered size place) item
+
+-- the list after is that of before, but for an item at the place, which is as said
+pub record IsRemadeAt {A : Type 0} (place : ℕ) (Is : A → Type 0) (before after : List A) : Type 0 where
+  pub item : A
+  pub set : after ≡ slice_set before place item
+  pub is : Is item

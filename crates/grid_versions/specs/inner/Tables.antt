@@ -27,8 +27,12 @@ pub record Tables : Type 0 where
   pub areas : AreaNumbers
 
 -- the number of regions of each chunk
+abbrev pub counts_of : List Labelling → List ℕ
+counts_of labels = map (λ one. length one.firsts) labels
+
+-- the same, of the tables of a class
 abbrev pub region_counts : Tables → List ℕ
-region_counts tables = map (λ labels. length labels.firsts) tables.labels
+region_counts tables = counts_of tables.labels
 
 -- the number of regions of all chunks
 abbrev pub region_total : Tables → ℕ
@@ -92,3 +96,9 @@ region_in size tables cell = record {
 pub record AreFew (tables : Tables) : Type 0 where
   pub regions : region_total tables ≤ 4460544
   pub edges : edge_total tables < 2 ^ 37
+
+-- the numbers of all regions and of all edges, which are few enough
+pub record HasTotals (tables : Tables) (regions edges : ℕ) : Type 0 where
+  pub few : AreFew tables
+  pub regions_are : regions ≡ region_total tables
+  pub edges_are : edges ≡ edge_total tables

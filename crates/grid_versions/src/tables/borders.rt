@@ -1,10 +1,10 @@
-ghost use Rattle.std.specs.Prelude.{Bool, IsFalse, ◌≡◌, ◌++◌, ◌<◌, ◌≤◌, ◌↔◌, ◌⊎◌, OnOk, IfOk, map, length, Contains};
-ghost use Rattle.std.specs.Arc.{arc_value};
+ghost use Rattle.std.specs.Prelude.{ℕ, Bool, IsTrue, IsFalse, ◌≡◌, ◌++◌, ◌<◌, ◌≤◌, ◌↔◌, ◌⊎◌, List, OnOk, IfOk, map, length, Contains};
+ghost use Rattle.std.specs.Prelude.{slice_get, Some};
 ghost use Rattle.nav_types.specs.declared.cells.Cell.{Cell};
 ghost use Rattle.reach_sets.specs.declared.regions.RegionId.{RegionId};
 ghost use Rattle.region_edges.specs.Edges.{AreEdges, PassesInside};
 ghost use Rattle.grid_versions.specs.Chunks.{chunk_count};
-ghost use Rattle.grid_versions.specs.inner.ChunkLists.{chunk_numbered, neighbour_on};
+ghost use Rattle.grid_versions.specs.inner.ChunkLists.{chunk_numbered, neighbour_on, IsRemadeAt};
 ghost use Rattle.grid_versions.specs.inner.Changing.{AreChanges, AgreeIn};
 ghost use Rattle.grid_versions.specs.inner.Tables.{AreAllLabels, AreAllEdges};
 ghost use Rattle.grid_versions.specs.inner.Building.{IsLaidOut, IsSideLink, link_between};
@@ -17,7 +17,6 @@ use nav_types::{Class, NoMemory, Size};
 use reach_sets::{Links, RegionId};
 use region_edges::{Edges, Side, between};
 use std::alloc::Global;
-use std::sync::Arc;
 
 /// The region edges of the chunk at a place to its neighbour on that side; none where the map has no such neighbour.
 fn edges_at(
@@ -79,64 +78,75 @@ fn is_touched(size: Size, changed: &[u16], class: Class, place: u32, side: Side)
     if is_marked(changed, place, class) {
         return true;
     }
-    match chunks::neighbour(size, chunks::numbered(size, place), side) {
-        Some(there) => is_marked(changed, chunks::place_of(size, there), class),
-        None => false,
+    // Where the map has such a neighbour, this is its place.
+    let next = place + chunks::step_to(size, side);
+    if next as usize >= changed.len() {
+        return false;
     }
+    is_marked(changed, next, class)
 }
 
-/// The region edges of the chunk at a place to its neighbour on that side: those of before where neither of the two
-/// has changed for the class.
-fn next_edges_at(
+/// Finds anew the region edges of the chunk at a place to its neighbour on that side, where one of the two has changed
+/// for the class. It says whether they are those of before.
+fn reconnect_at(
     alloc: Global,
     size: Size,
     labels: &SharedList<Labels>,
-    before: &SharedList<Edges>,
+    all: &mut SharedList<Edges>,
     changed: &[u16],
     class: Class,
     place: u32,
     side: Side,
-) -> Result<Arc<Edges, Global>, NoMemory>
+) -> Result<bool, NoMemory>
     requires labels { IsLaidOut size labels.now }
-    requires before { length before.now ≡ chunk_count size }
+    requires each { length all.old ≡ chunk_count size }
     requires changed { length changed.now ≡ chunk_count size }
     requires within { place < chunk_count size }
-    ensures { IfOk result (λ edges. (old now : Cell → Bool) → AreChanges old now size class changed.now
-        → AreAllEdges side old size before.now → AreAllLabels now size labels.now
-        → AreEdges now (chunk_numbered size place) (neighbour_on side (chunk_numbered size place)) (arc_value edges)) }
+    ensures edges { OnOk result (IsRemadeAt place (λ edges. (old now : Cell → Bool)
+        → AreChanges old now size class changed.now → AreAllLabels now size labels.now
+        → ((was : List (ℕ × ℕ)) → slice_get all.old place ≡ Some was
+        → AreEdges old (chunk_numbered size place) (neighbour_on side (chunk_numbered size place)) was)
+        → AreEdges now (chunk_numbered size place) (neighbour_on side (chunk_numbered size place)) edges)
+        all.old all.new) }
+    ensures stays { IfOk result (λ stays. IsTrue stays → all.new ≡ all.old) }
 {
     if !is_touched(size, changed, class, place, side) {
-        return before.shared(place as usize);
+        return Ok(true);
     }
     let edges = edges_at(alloc, size, labels, place, side)?;
-    Ok(Arc::new(alloc, edges)?)
+    if all.at(place as usize).as_slice() == edges.as_slice() {
+        return Ok(true);
+    }
+    all.set(alloc, place as usize, edges)?;
+    Ok(false)
 }
 
-/// The region edges of each chunk to its neighbour on that side, from those of before, the new regions and the bits
-/// of what has changed. Two chunks of which neither has changed for the class share their edges with the map before.
-pub fn next_edges(
+/// Finds anew the region edges to the neighbours on that side, from those of before, the new regions and the bits of
+/// what has changed. Two chunks of which neither has changed for the class keep their edges. It says whether all
+/// edges are those of before.
+pub fn reconnect(
     alloc: Global,
     size: Size,
     labels: &SharedList<Labels>,
-    before: &SharedList<Edges>,
+    all: &mut SharedList<Edges>,
     changed: &[u16],
     class: Class,
     side: Side,
-) -> Result<SharedList<Edges>, NoMemory>
+) -> Result<bool, NoMemory>
     requires labels { IsLaidOut size labels.now }
-    requires before { length before.now ≡ chunk_count size }
+    requires each { length all.old ≡ chunk_count size }
     requires changed { length changed.now ≡ chunk_count size }
-    ensures { IfOk result (λ all. (old now : Cell → Bool) → AreChanges old now size class changed.now
-        → AreAllEdges side old size before.now → AreAllLabels now size labels.now
-        → AreAllEdges side now size all) }
+    ensures edges { OnOk result ((old now : Cell → Bool) → AreChanges old now size class changed.now
+        → AreAllLabels now size labels.now → AreAllEdges side old size all.old → AreAllEdges side now size all.new) }
+    ensures stay { IfOk result (λ stay. IsTrue stay → all.new ≡ all.old) }
 {
     let count = chunks::count(size);
-    let mut all = SharedList::with_capacity(alloc, count as usize)?;
+    let mut stay = true;
     for place in 0..count {
-        let edges = next_edges_at(alloc, size, labels, before, changed, class, place, side)?;
-        all.push_shared(alloc, edges)?;
+        let stays = reconnect_at(alloc, size, labels, all, changed, class, place, side)?;
+        stay &= stays;
     }
-    Ok(all)
+    Ok(stay)
 }
 
 /// Appends the edges of two chunks as links, where the chunks are named by their places.

@@ -1,4 +1,4 @@
--- Answers in the places of their jobs.
+-- Answers and opened numbers in the places of their jobs.
 use Rattle.std.specs.Prelude.{ℕ, ◌<◌, [], ◌∷◌, List, slice_set}
 use Rattle.turn_core.specs.declared.replies.Answer.{Answer}
 use Rattle.path_workers.specs.declared.placing.Answered.{Answered}
@@ -7,7 +7,15 @@ use Rattle.path_workers.specs.declared.placing.Answered.{Answered}
 abbrev pub IsBelow : ℕ → Answered → Type 0
 IsBelow bound one = one.job < bound
 
--- the places with each answer in that of its job; of several for one place the first stands there
-abbrev pub placed : List Answer → List Answered → List Answer
-placed places [] = places
-placed places (one ∷ rest) = slice_set (placed places rest) one.job one.answer
+-- the answer to a job
+abbrev pub answer_of : Answered → Answer
+answer_of one = one.answer
+
+-- its opened number
+abbrev pub opened_of : Answered → ℕ
+opened_of one = one.opened
+
+-- the places with what is told of each job in that of the job; of several for one place the first stands there
+abbrev pub placed : {T : Type 0} → (Answered → T) → List T → List Answered → List T
+placed {T} told_of places [] = places
+placed {T} told_of places (one ∷ rest) = slice_set (placed told_of places rest) one.job (told_of one)

@@ -1,12 +1,15 @@
 use Rattle.std.proofs.Common.{◌≡◌, All, length}
-use Rattle.path_workers.specs.inner.Placing.{IsBelow, placed}
+use Rattle.path_workers.specs.inner.Placing.{IsBelow, answer_of, opened_of, placed}
 use Rattle.path_workers.proofs.placing.placed.Given as goal
 
 abbrev pub invariant-loop-next : goal.invariant-loop-next
 invariant-loop-next l = record {
-  wide : length l.places.items ≡ length l.initial.places.items;
-  inside : All (IsBelow (length l.initial.places.items)) l.answered.items;
-  same : placed l.places.items l.answered.items ≡ placed l.initial.places.items l.initial.answered.items;
+  answers_wide : length l.places.answers.items ≡ length l.initial.places.answers.items;
+  opened_wide : length l.places.opened.items ≡ length l.initial.places.opened.items;
+  answers_inside : All (IsBelow (length l.initial.places.answers.items)) l.answered.items;
+  opened_inside : All (IsBelow (length l.initial.places.opened.items)) l.answered.items;
+  answers : placed answer_of l.places.answers.items l.answered.items ≡ placed answer_of l.initial.places.answers.items l.initial.answered.items;
+  opened : placed opened_of l.places.opened.items l.answered.items ≡ placed opened_of l.initial.places.opened.items l.initial.answered.items;
 }
 
 abbrev pub decreases-loop-next : goal.decreases-loop-next

@@ -1,4 +1,4 @@
-use Rattle.std.proofs.Common.{◌≤◌, get_or, ap, sym, subst}
+use Rattle.std.proofs.Common.{◌≡◌, ◌≤◌, ◌∙◌, get_or, ap, sym, subst}
 use Rattle.nav_types.specs.Cells.{chunk_of}
 use Rattle.reach_sets.specs.declared.regions.RegionId.{RegionId}
 use Rattle.reach_sets.specs.AreaNumbers.{AreaNumbers}
@@ -12,6 +12,6 @@ area-requires-clause-region c =
     let size = c.args.size in
     let tables = c.args.self.now in
     let most = region_at_most c.requires.tables.0 size tables c.requires.tables.1 c.args.cell c.requires.inside in
-    subst (λ (id : RegionId). id.region ≤ get_or c.self.inside.areas.regions id.chunk 0) (sym c.region.ensures)
-    (subst (λ (areas : AreaNumbers). (region_in size tables c.args.cell).region ≤ get_or areas.regions (chunk_place size (chunk_of c.args.cell)) 0)
-    (sym (ap (λ (t : Tables). t.areas) c.self.view_is)) most)
+    let same : c.deref.result.now ≡ tables.areas = c.deref.ensures ∙ ap (λ (t : Tables). t.areas) c.self.view_is in
+    subst (λ (id : RegionId). id.region ≤ get_or c.deref.result.now.regions id.chunk 0) (sym c.region.ensures)
+    (subst (λ (areas : AreaNumbers). (region_in size tables c.args.cell).region ≤ get_or areas.regions (chunk_place size (chunk_of c.args.cell)) 0) (sym same) most)

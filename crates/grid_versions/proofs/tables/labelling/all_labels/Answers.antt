@@ -1,34 +1,58 @@
-use Rattle.std.proofs.Common.{ℕ, List, ◌+◌, ◌≡◌, sym, subst, arith}
+use Rattle.std.proofs.Common.{ℕ, List, ◌+◌, ◌≡◌, ◌∙◌, sym, ap, subst, arith}
 use Rattle.nav_types.specs.declared.cells.Chunk.{Chunk}
 use Rattle.nav_types.specs.declared.cells.Size.{Size}
 use Rattle.chunk_regions.specs.Labelling.{Labelling, AreLabels}
 use Rattle.grid_versions.specs.Chunks.{chunk_count}
-use Rattle.grid_versions.specs.inner.ChunkLists.{chunk_numbered, AreOfChunks}
+use Rattle.grid_versions.specs.inner.ChunkLists.{AreOfChunks}
 use Rattle.grid_versions.proofs.ChunkLemmas.{AreOfChunks-push}
 use Rattle.grid_versions.proofs.tables.labelling.all_labels.Goals as goal
+
+pub labels_at-requires-clause-within : goal.labels_at-requires-clause-within
+labels_at-requires-clause-within g c =
+    let equal : c.count-count.result ≡ chunk_count (g.V.View.extent c.args.view.now) = c.count-count.ensures.value ∙ ap (λ (s : Size). chunk_count s) c.size.ensures in
+    omega arith
+
+pub returns-in_err-labels-clause-most : goal.returns-in_err-labels-clause-most
+returns-in_err-labels-clause-most g c =
+    let equal : c.count-count.result ≡ chunk_count (g.V.View.extent c.args.view.now) = c.count-count.ensures.value ∙ ap (λ (s : Size). chunk_count s) c.size.ensures in
+    let ticked = c.loop-place.invariant.ticked in
+    omega (arith, c.labels_at.ensures.ticks)
+
+pub returns-in_err-push-clause-most : goal.returns-in_err-push-clause-most
+returns-in_err-push-clause-most g c =
+    let equal : c.count-count.result ≡ chunk_count (g.V.View.extent c.args.view.now) = c.count-count.ensures.value ∙ ap (λ (s : Size). chunk_count s) c.size.ensures in
+    let ticked = c.loop-place.invariant.ticked in
+    omega (arith, c.labels_at.ensures.ticks)
 
 pub loop-place-preserved : goal.loop-place-preserved
 loop-place-preserved g c =
     let passes = g.V.View.passes c.args.view.now c.args.class in
-    let extent = g.V.View.extent c.args.view.now in
-    let size = c.size-size.result in
+    let size = g.V.View.extent c.args.view.now in
     let place = c.loop-place.place in
-    let labels = c.in_ok-labels.labels in
     let Is = λ (chunk : Chunk) (one : Labelling). AreLabels passes size chunk one in
-    let own : Is (chunk_numbered size place) labels =
-    subst (λ (s : Size). AreLabels passes s (chunk_numbered size place) labels) (sym c.size-size.ensures)
-    (subst (λ (chunk : Chunk). AreLabels passes extent chunk labels) c.numbered.ensures.value c.in_ok-labels.ensures.labels) in
+    let ticked = c.loop-place.invariant.ticked in
     record {
       labelled = subst (λ (all : List Labelling). AreOfChunks size (place + 1) Is all) (sym c.in_ok-push.ensures.ok)
-          (AreOfChunks-push size place Is c.loop-place.all labels c.loop-place.invariant.labelled own);
-      ticked = omega arith;
+          (AreOfChunks-push size place Is c.loop-place.all c.in_ok-labels.labels c.loop-place.invariant.labelled c.in_ok-labels.ensures.labels);
+      ticked = omega (arith, c.labels_at.ensures.ticks);
     }
 
 pub returns-clause-labels : goal.returns-clause-labels
 returns-clause-labels g c =
     let passes = g.V.View.passes c.args.view.now c.args.class in
-    let size = c.size-size.result in
-    let all = c.loop-place.all in
+    let size = g.V.View.extent c.args.view.now in
+    let equal : c.count-count.result ≡ chunk_count size = c.count-count.ensures.value ∙ ap (λ (s : Size). chunk_count s) c.size.ensures in
     let done : c.loop-place.place ≡ chunk_count size = omega arith in
-    subst (λ (s : Size). AreOfChunks s (chunk_count s) (λ chunk one. AreLabels passes s chunk one) all) c.size-size.ensures
-    (subst (λ (n : ℕ). AreOfChunks size n (λ chunk one. AreLabels passes size chunk one) all) done c.loop-place.invariant.labelled)
+    subst (λ (n : ℕ). AreOfChunks size n (λ chunk one. AreLabels passes size chunk one) c.loop-place.all) done c.loop-place.invariant.labelled
+
+pub returns-clause-ticks : goal.returns-clause-ticks
+returns-clause-ticks g c =
+    let equal : c.count-count.result ≡ chunk_count (g.V.View.extent c.args.view.now) = c.count-count.ensures.value ∙ ap (λ (s : Size). chunk_count s) c.size.ensures in
+    let ticked = c.loop-place.invariant.ticked in
+    omega arith
+
+pub returns-clause-most : goal.returns-clause-most
+returns-clause-most g c =
+    let equal : c.count-count.result ≡ chunk_count (g.V.View.extent c.args.view.now) = c.count-count.ensures.value ∙ ap (λ (s : Size). chunk_count s) c.size.ensures in
+    let ticked = c.loop-place.invariant.ticked in
+    omega arith

@@ -1,0 +1,8 @@
+use Rattle.std.proofs.Common.{◌+◌, ◌/◌}
+use Rattle.nav_types.specs.Cells.{cell_at}
+use Rattle.class_planes.specs.inner.Lines.{AreLines}
+use Rattle.class_planes.proofs.updates.updated_lines.Given as goal
+
+abbrev pub invariant-loop-band : goal.invariant-loop-band
+invariant-loop-band g l = AreLines (λ j i. g.V.View.passes l.view l.class (cell_at i j)) l.band
+    ((g.V.View.extent l.view).w / 64 + 1) l.lines

@@ -1,0 +1,50 @@
+use Rattle.std.proofs.Common.{ℕ, Bool, List, ◌≡◌, ◌∙◌, Some, sym, subst, ap, arith}
+use Rattle.std.specs.Prelude.{slice_get}
+use Rattle.std.proofs.lemmas.Slice.Eq.{slice_eq-Decides}
+use Rattle.nav_types.specs.declared.cells.Cell.{Cell}
+use Rattle.region_edges.specs.Edges.{AreEdges}
+use Rattle.grid_versions.specs.inner.ChunkLists.{chunk_numbered, neighbour_on}
+use Rattle.grid_versions.specs.inner.Changing.{AreChanges}
+use Rattle.grid_versions.specs.inner.Tables.{AreAllLabels}
+use Rattle.grid_versions.proofs.ChangeLemmas.{edges_stay}
+use Rattle.grid_versions.proofs.RemakeLemmas.{kept_item, kept_at, pair_eq-Decides}
+use Rattle.grid_versions.proofs.tables.borders.reconnect_at.Goals as goal
+
+pub returns-then-not-is_touched-clause-edges : goal.returns-then-not-is_touched-clause-edges
+returns-then-not-is_touched-clause-edges c =
+    let size = c.args.size in
+    let place = c.args.place in
+    let here = chunk_numbered size place in
+    let there = neighbour_on c.args.side here in
+    kept_at place
+    (λ (edges : List (ℕ × ℕ)). (old now : Cell → Bool) → AreChanges old now size c.args.class c.args.changed.now
+    → AreAllLabels now size c.args.labels.now
+    → ((was : List (ℕ × ℕ)) → slice_get c.args.all.now place ≡ Some was → AreEdges old here there was) → AreEdges now here there edges)
+    c.args.all.now (omega (arith, c.requires.each, c.requires.within))
+    (λ was at old now changes labels were.
+    let agree = c.is_touched.ensures c.if-not-is_touched.true old now changes in
+    edges_stay old now here there was agree.0 agree.1 (were was at))
+
+pub returns-then-eq-clause-edges : goal.returns-then-eq-clause-edges
+returns-then-eq-clause-edges c =
+    let size = c.args.size in
+    let place = c.args.place in
+    let here = chunk_numbered size place in
+    let there = neighbour_on c.args.side here in
+    let edges = c.in_ok-edges.edges in
+    let equal = (slice_eq-Decides pair_eq-Decides _ _ _ c.eq.ensures).0 c.if-eq.true in
+    let same : edges ≡ c.at.result.now = sym (sym c.as_slice.ensures ∙ equal ∙ c.as_slice-2.ensures) in
+    kept_item place
+    (λ (edges : List (ℕ × ℕ)). (old now : Cell → Bool) → AreChanges old now size c.args.class c.args.changed.now
+    → AreAllLabels now size c.args.labels.now
+    → ((was : List (ℕ × ℕ)) → slice_get c.args.all.now place ≡ Some was → AreEdges old here there was) → AreEdges now here there edges)
+    c.args.all.now c.at.result.now c.at.ensures
+    (λ old now changes labels were.
+    subst (λ (xs : List (ℕ × ℕ)). AreEdges now here there xs) same (c.in_ok-edges.ensures now changes.now_inside labels))
+
+pub returns-clause-edges : goal.returns-clause-edges
+returns-clause-edges c = record {
+  item = c.in_ok-edges.edges;
+  set = c.in_ok-set.ensures.ok;
+  is = λ old now changes labels were. c.in_ok-edges.ensures now changes.now_inside labels;
+}

@@ -1,0 +1,272 @@
+//! What a version of a map keeps.
+ghost use Rattle.std.specs.Prelude.{ℕ, ◌≡◌, ◌+◌, ◌*◌, ◌<◌, ◌≤◌, [], None, length, slice_index_or, IfOk, OnOk, IsSome, IsTrue};
+ghost use Rattle.std.specs.Arc.{arc_value};
+ghost use Rattle.nav_types.specs.declared.cells.Cell.{Cell};
+ghost use Rattle.nav_types.specs.Cells.{IsInside, chunk_of};
+ghost use Rattle.nav_types.specs.Counting.{Counts};
+ghost use Rattle.nav_types.specs.Regions.{HasRegion, HasTallies, HasRelabelled};
+ghost use Rattle.class_planes.specs.Planes.{AreOf};
+ghost use Rattle.obstruction_store.specs.Standing.{AllFit};
+ghost use Rattle.grid_versions.specs.Chunks.{chunk_count, chunk_place};
+
+use crate::changed_parts::changed_parts;
+use crate::chunk_cells::ChunkCells;
+use crate::class_tables::{class_tables, next_tables};
+use crate::maps::MapSpec;
+use crate::next_cells::next_patches;
+use crate::painted_map::PaintedMap;
+use crate::painting::{base_patches, painted_patches};
+use crate::relabelling::marks_below;
+use crate::shared_list::SharedList;
+use crate::tables::ClassTables;
+use crate::versions::Tallies;
+use class_planes::Planes;
+use nav_types::{Areas, Cell, Class, NoMemory, Rect, Size, Ticks, View};
+use navcell_grid::Patch;
+use obstruction_store::Store;
+use reach_sets::RegionId;
+use std::alloc::Global;
+use std::marker::Model;
+use std::sync::Arc;
+use std::sync::ledger::Ledger;
+
+/// What a version keeps: the map and the standing obstructions, the cells of each chunk and the tables of each class.
+/// Contracts see the map and the obstructions (`MapState`).
+#[derive(Drop)]
+pub struct VersionParts {
+    map: Arc<MapSpec, Global>,
+    shapes: Arc<Store, Global>,
+    // The cells under the base rectangles alone.
+    base: SharedList<Patch>,
+    cells: SharedList<ChunkCells>,
+    planes: Planes,
+    tables: SharedList<ClassTables>,
+}
+
+impl Model for VersionParts {
+    ghost use Rattle.std.specs.FinMap as fin_map;
+    ghost use Rattle.std.specs.Coded.{coded_ℕ};
+    ghost use Rattle.obstruction_shapes.specs.contracts.shapes.Obstruction.{the_row as obstruction_row};
+    ghost use Rattle.grid_versions.specs.contracts.maps.MapSpec.{the_row as map_row};
+    ghost use Rattle.grid_versions.specs.Versions.{MapState, map_state, state_code};
+    ghost use Rattle.std.specs.Arc.{arc_value};
+
+    ghost Value = { MapState };
+
+    ghost coded = { state_code map_row.coded (fin_map.code coded_ℕ obstruction_row.coded) };
+
+    ghost use Rattle.grid_versions.specs.inner.Parts.{AreParts};
+
+    ghost view = { λ v. map_state (arc_value v.map) (arc_value v.shapes) };
+
+    ghost invariant = { λ v. AreParts (arc_value v.map) (arc_value v.shapes) v.base v.cells v.planes v.tables };
+}
+
+impl VersionParts {
+    ghost use Rattle.grid_versions.specs.Versions.{map_state, passes_of};
+    ghost use Rattle.grid_versions.specs.inner.Parts.{AreParts};
+    ghost use Rattle.grid_versions.specs.inner.Reaching.{CoverChanges};
+
+    /// The parts of the version of this map and these obstructions, as `Version::build` says.
+    pub fn build<L: Ledger>(
+        alloc: Global,
+        map: &MapSpec,
+        shapes: &Store,
+        ticks: &mut Ticks<L>,
+    ) -> Result<VersionParts, NoMemory>
+        requires { AllFit map.now.size shapes.now }
+        ensures map { IfOk result (λ parts. parts.map ≡ map.now) }
+        ensures standing { IfOk result (λ parts. parts.standing ≡ shapes.now) }
+        ensures ticks { OnOk result (ticks.new
+            ≡ ticks.old + length map.now.classes * chunk_count map.now.size) }
+        ensures most { ticks.new ≤ ticks.old + length map.now.classes * chunk_count map.now.size }
+    {
+        let map = Arc::new(alloc, map.copy(alloc)?)?;
+        VersionParts::build_shared(alloc, map, shapes.copy(alloc)?, ticks)
+    }
+
+    /// The parts of the version of this map, which other versions may share, and these obstructions.
+    fn build_shared<L: Ledger>(
+        alloc: Global,
+        map: Arc<MapSpec, Global>,
+        shapes: Store,
+        ticks: &mut Ticks<L>,
+    ) -> Result<VersionParts, NoMemory>
+        requires { AllFit (arc_value map).size shapes }
+        ensures map { IfOk result (λ parts. parts.map ≡ arc_value map) }
+        ensures standing { IfOk result (λ parts. parts.standing ≡ shapes) }
+        ensures ticks { OnOk result (ticks.new
+            ≡ ticks.old + length (arc_value map).classes * chunk_count (arc_value map).size) }
+        ensures most { ticks.new
+            ≤ ticks.old + length (arc_value map).classes * chunk_count (arc_value map).size }
+    {
+        let spec: &MapSpec = &map;
+        let base = base_patches(alloc, spec)?;
+        let cells = painted_patches(alloc, spec, &shapes, &base)?;
+        let painted = PaintedMap::new(spec, &shapes, &cells);
+        let planes = Planes::build(alloc, &painted, u16::MAX)?;
+        let tables = class_tables(alloc, &painted, spec.classes().count(), ticks)?;
+        let shapes = Arc::new(alloc, shapes)?;
+        Ok(VersionParts {
+            map,
+            shapes,
+            base,
+            cells,
+            planes,
+            tables,
+        })
+    }
+
+    /// The parts of the version of this map and other obstructions, all of which fit the map, and in how many pairs of chunk and
+    /// class it differs from this one. The rectangles cover what has changed. Only their cells are painted, each pair
+    /// that differs is labelled once, and what lies elsewhere is shared.
+    pub fn updated<L: Ledger>(
+        &self,
+        alloc: Global,
+        shapes: Store,
+        reaches: &[Rect],
+        ticks: &mut Ticks<L>,
+    ) -> Result<(VersionParts, u32), NoMemory>
+        requires fit { AllFit self.now.map.size shapes }
+        requires covers { CoverChanges self.now.map self.now.standing shapes reaches.now }
+        ensures version { IfOk result (λ next. next.0 ≡ map_state self.now.map shapes) }
+        ensures relabelled { IfOk result (λ next. HasRelabelled (length self.now.map.classes) (passes_of self.now)
+            (passes_of (map_state self.now.map shapes)) next.1) }
+        ensures most { (count : ℕ) → HasRelabelled (length self.now.map.classes) (passes_of self.now)
+            (passes_of (map_state self.now.map shapes)) count → ticks.new ≤ ticks.old + count }
+    {
+        let map: &MapSpec = &self.map;
+        let (cells, changed) = next_patches(alloc, map, &shapes, &self.base, &self.cells, reaches)?;
+        let painted = PaintedMap::new(map, &shapes, &cells);
+        let parts = changed_parts(alloc, map.size(), reaches, &changed)?;
+        let planes = self.planes.updated(alloc, &painted, &parts)?;
+        let tables = next_tables(alloc, &painted, &self.tables, &changed, ticks)?;
+        let relabelled = marks_below(&changed, map.classes().count());
+        let parts = VersionParts {
+            map: Arc::try_clone(&self.map)?,
+            shapes: Arc::new(alloc, shapes)?,
+            base: self.base.share(alloc)?,
+            cells,
+            planes,
+            tables,
+        };
+        Ok((parts, relabelled))
+    }
+
+    /// The region of a cell for a class, as `Version::region` says.
+    pub fn region(&self, class: Class, cell: Cell) -> RegionId
+        requires class { class < length self.now.map.classes }
+        requires inside { IsInside self.now.map.size cell }
+        ensures chunk { result.chunk ≡ chunk_place self.now.map.size (chunk_of cell) }
+        ensures region { HasRegion (passes_of self.now class) (chunk_of cell) cell result.region }
+    {
+        let tables = self.tables.at(usize::from(class.number()));
+        tables.region(self.map.size(), cell)
+    }
+
+    /// The tallies, as `Version::tallies` says.
+    pub fn tallies(&self) -> Tallies
+        ensures { HasTallies (length self.now.map.classes) (passes_of self.now)
+            result.regions result.edges result.areas }
+    {
+        let mut tallies = Tallies {
+            regions: 0,
+            edges: 0,
+            areas: 0,
+        };
+        for class in 0..self.tables.len() {
+            let tables = self.tables.at(class);
+            tallies.regions += tables.regions();
+            tallies.edges += tables.edges();
+            tallies.areas += u64::from(tables.areas());
+        }
+        tallies
+    }
+
+    /// How many cells are passable for the class, as `Version::passable_cells` says.
+    pub fn passable_cells(&self, class: Class) -> u32
+        requires { class < length self.now.map.classes }
+        ensures { Counts (λ (cell : Cell). IsTrue (passes_of self.now class cell)) result }
+    {
+        let mut count = 0;
+        for place in 0..self.cells.len() {
+            count += u32::from(self.cells.at(place).free(class));
+        }
+        count
+    }
+
+    /// The planes of all classes of the map, as `Version::planes` says.
+    pub fn planes(&self) -> &Planes
+        ensures of_version { AreOf self.now.map.size (passes_of self.now) result.now }
+        ensures each { (class : ℕ) → class < length self.now.map.classes
+            → IsSome (slice_index_or result.now class None) }
+    {
+        &self.planes
+    }
+
+    /// The map.
+    pub fn map(&self) -> &MapSpec
+        ensures { result.now ≡ self.now.map }
+    {
+        &self.map
+    }
+
+    /// The standing obstructions, all of which fit the map.
+    pub fn shapes(&self) -> &Store
+        ensures standing { result.now ≡ self.now.standing }
+        ensures fit { AllFit self.now.map.size result.now }
+    {
+        &self.shapes
+    }
+}
+
+impl View for VersionParts {
+    ghost use Rattle.grid_versions.specs.Versions.{MapState, passes_of};
+    ghost use Rattle.grid_versions.specs.PassingLaws.{passes_within};
+    ghost use Rattle.std.specs.Prelude.{length};
+
+    ghost extent = { λ v. v.map.size };
+
+    ghost class_count = { λ v. length v.map.classes };
+
+    ghost passes = { passes_of };
+
+    ghost within = { passes_within };
+
+    /// The size of the map, in navcells.
+    fn size(&self) -> Size {
+        self.map.size()
+    }
+
+    /// The number of passability classes of the map.
+    fn classes(&self) -> u8 {
+        self.map.classes().count()
+    }
+
+    /// Whether the cell is passable for the class (`passable_at`): no base rectangle and no standing obstruction covers
+    /// it for the class.
+    fn passable(&self, class: Class, cell: Cell) -> bool {
+        match self.planes.plane(class) {
+            Some(plane) => plane.passable(cell),
+            None => false,
+        }
+    }
+}
+
+impl Areas for VersionParts {
+    ghost use Rattle.nav_types.specs.Regions.{HasArea};
+    ghost use Rattle.grid_versions.specs.Versions.{passes_of};
+    ghost use Rattle.grid_versions.specs.PassingLaws.{area_zero, area_joined};
+
+    ghost has_area = { λ v class cell area. HasArea (passes_of v class) cell area };
+
+    ghost blocked = { λ v class cell area has. area_zero (passes_of v class) cell area has };
+
+    ghost joined = { λ v class a b m n pa pb ha hb. area_joined (passes_of v class) a b m n pa pb ha hb };
+
+    /// The number of the cell's area for the class; 0 exactly for an impassable cell (`HasArea`).
+    fn area(&self, class: Class, cell: Cell) -> u32 {
+        let tables = self.tables.at(usize::from(class.number()));
+        tables.area(self.map.size(), cell)
+    }
+}

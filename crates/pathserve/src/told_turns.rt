@@ -1,0 +1,105 @@
+//! Turns, answered by many workers and told as text.
+ghost use Rattle.std.specs.Prelude.{◌≡◌, ◌^◌, ◌<◌, ◌≤◌, IfOk, length};
+ghost use Rattle.nav_types.specs.declared.limits.TheConstants.{MAX_WORKERS};
+ghost use Rattle.turn_core.specs.Turns.{after_turn, jobs};
+ghost use Rattle.turn_core.specs.ReadyTurns.{after_edits_of};
+ghost use Rattle.pathserve.specs.Output.{IsTurnText};
+
+use crate::reports::Report;
+use answer_text::{profile_text, turn_text};
+use grid_versions::Version;
+use io_edges::Gate;
+use nav_types::{Bytes, NoMemory};
+use path_workers::{TracedAnswers, run_turn, run_turn_traced};
+use std::alloc::Global;
+use std::thread::Threads;
+use turn_core::{AnsweredTurn, ReadyTurn, TurnPosts};
+
+/// The text of a turn, and the version after the turn.
+#[derive(Drop)]
+pub(crate) struct Told {
+    pub text: Bytes,
+    pub after: Version,
+}
+
+/// Answers the turn of a number on the version before it, by so many workers, each of whom passes the gate before it
+/// solves a job. The text is that of the report.
+pub(crate) fn answered<R: Threads + Sync, G: Gate + Sync>(
+    rt: &R,
+    alloc: Global,
+    report: Report,
+    version: &Version,
+    turn: u64,
+    posts: TurnPosts,
+    workers: u8,
+    gate: &G,
+) -> Result<Told, NoMemory>
+    requires some { 1 ≤ workers }
+    requires most { workers ≤ MAX_WORKERS }
+    requires few { length (jobs posts) < 2 ^ 32 }
+    ensures text { IfOk result (λ told. IsTurnText report version.now.map version.now.standing turn posts told.text) }
+    ensures map { IfOk result (λ told. told.after.map ≡ version.now.map) }
+    ensures standing { IfOk result (λ told. told.after.standing
+        ≡ after_turn version.now.map version.now.standing posts) }
+{
+    let ready = match ReadyTurn::new(alloc, version, posts) {
+        Ok(ready) => ready,
+        Err((NoMemory, _posts)) => return Err(NoMemory),
+    };
+    match report {
+        Report::Answers => with_answers(rt, alloc, ready, turn, workers, gate),
+        Report::OpenedNumbers => with_opened_numbers(rt, alloc, ready, turn, workers, gate),
+    }
+}
+
+/// Answers a turn whose edits are made, and tells the answers.
+fn with_answers<R: Threads + Sync, G: Gate + Sync>(
+    rt: &R,
+    alloc: Global,
+    ready: ReadyTurn,
+    turn: u64,
+    workers: u8,
+    gate: &G,
+) -> Result<Told, NoMemory>
+    requires some { 1 ≤ workers }
+    requires most { workers ≤ MAX_WORKERS }
+    requires few { length (jobs ready.turn) < 2 ^ 32 }
+    ensures text { IfOk result (λ told. IsTurnText Report.Answers ready.map ready.before turn ready.turn told.text) }
+    ensures map { IfOk result (λ told. told.after.map ≡ ready.map) }
+    ensures standing { IfOk result (λ told. told.after.standing ≡ after_edits_of ready) }
+{
+    let answers = run_turn(rt, alloc, ready.version(), ready.jobs(), workers, gate)?;
+    let (_posts, AnsweredTurn { replies, after }) = ready.answered(answers);
+    let text = turn_text(alloc, turn, &replies)?;
+    Ok(Told { text, after })
+}
+
+/// The same, and tells the opened numbers of the paths too.
+fn with_opened_numbers<R: Threads + Sync, G: Gate + Sync>(
+    rt: &R,
+    alloc: Global,
+    ready: ReadyTurn,
+    turn: u64,
+    workers: u8,
+    gate: &G,
+) -> Result<Told, NoMemory>
+    requires some { 1 ≤ workers }
+    requires most { workers ≤ MAX_WORKERS }
+    requires few { length (jobs ready.turn) < 2 ^ 32 }
+    ensures text { IfOk result (λ told.
+        IsTurnText Report.OpenedNumbers ready.map ready.before turn ready.turn told.text) }
+    ensures map { IfOk result (λ told. told.after.map ≡ ready.map) }
+    ensures standing { IfOk result (λ told. told.after.standing ≡ after_edits_of ready) }
+{
+    let TracedAnswers { answers, opened } = run_turn_traced(
+        rt,
+        alloc,
+        ready.version(),
+        ready.jobs(),
+        workers,
+        gate,
+    )?;
+    let (_posts, AnsweredTurn { replies, after }) = ready.answered(answers);
+    let text = profile_text(alloc, turn, &replies, opened.as_slice())?;
+    Ok(Told { text, after })
+}
