@@ -1,8 +1,10 @@
 #!/usr/bin/env python3
 """Predicts the answers to scripts from docs/FORMAT.md alone, and compares a program with them.
 
-    check.py PROGRAM [COUNT [SEED]]   makes COUNT scripts (100), runs `PROGRAM replay` on each and compares
+    check.py PROGRAM [COUNT [SEED]]   makes COUNT scripts (100), runs `PROGRAM replay` and `PROGRAM profile` on each
+                                      and compares
     check.py --predict < SCRIPT       writes the answers to a script, and ends with its status
+    check.py --profile < SCRIPT       the same, with the opened numbers of its paths
     check.py --make FOLDER COUNT SEED writes COUNT scripts and their answers, as N, N.args and N.stdout
 
 The status is 0 where all agree. Only Python's own library is used.
@@ -211,6 +213,24 @@ class Goal:
         du, dv = turned(n, px, pz)
         return max(0, min(SIDE * n[4] - abs(du), SIDE * n[5] - abs(dv)))
 
+    def lines(self, axis, count):
+        """The columns (axis 0) or rows (axis 1) of the goal's box on a map that has so many."""
+        n, at = self.numbers, self.numbers[axis]
+        if self.kind == "point":
+            return [at // SIDE]
+        if self.kind.startswith("not-"):
+            return range(count)
+        if self.kind == "circle":
+            return [i for i in range(count) if SIDE * i <= at + n[2] and SIDE * (i + 1) >= at - n[2]]
+        along, across = (abs(n[2]), abs(n[3])) if axis == 0 else (abs(n[3]), abs(n[2]))
+        squared = along * along + across * across
+        far = SIDE // 2 * squared + SIDE * (n[4] * along + n[5] * across)
+        return [i for i in range(count) if abs(SIDE * i + SIDE // 2 - at) * squared <= far]
+
+    def box(self, w, h):
+        columns, rows = self.lines(0, w), self.lines(1, h)
+        return columns[0], rows[0], columns[-1], rows[-1]
+
 
 # ---- the cells of one class
 
@@ -231,6 +251,7 @@ class Cells:
     """The passable cells of a class, with their regions, edges and areas."""
 
     def __init__(self, map_, standing, number, clearance):
+        self.sides = map_.w, map_.h
         blocking = [square for square, mask in standing.values() if mask >> number & 1]
         base = [it for it in map_.base if it[4] >> number & 1]
         self.free = {
@@ -299,7 +320,8 @@ class Cells:
 
         return min(self.free, key=rank)
 
-    def path(self, start, goal):
+    def path(self, start, goal, profile):
+        """The path to a goal, and for a profile in a second line its opened number."""
         distance = self.distances(start)
         hit = [cell for cell in distance if goal.has(cell)]
         if hit:
@@ -308,7 +330,11 @@ class Cells:
             end = min(distance, key=lambda cell: (goal.remoteness(cell), in_order(cell)))
         points = self.waypoints(distance, start, end)
         numbers = [*start, *end, "goal" if hit else "near", distance[end], len(points)]
-        return " ".join(["path", *map(str, numbers), *(f"{i}.5,{j}.5" for i, j in points)])
+        text = " ".join(["path", *map(str, numbers), *(f"{i}.5,{j}.5" for i, j in points)])
+        if not profile:
+            return text
+        box = goal.box(*self.sides) if hit else (*end, *end)
+        return f"{text}\nopened {JumpStates(self, set(hit or [end])).opened(start, box, distance[end])}"
 
     def waypoints(self, distance, start, end):
         """The waypoints of the chosen walk, which is found backwards from its end."""
@@ -329,6 +355,73 @@ class Cells:
 
 def cost_of(name):
     return 65536 if len(name) == 1 else 92682
+
+
+def octile(cell, box):
+    dx = max(box[0] - cell[0], cell[0] - box[2], 0)
+    dz = max(box[1] - cell[1], cell[1] - box[3], 0)
+    return 92682 * min(dx, dz) + 65536 * (max(dx, dz) - min(dx, dz))
+
+
+def beside(name):
+    """The straight directions to the two sides of a straight one, each with the diagonal one between."""
+    di, dj = STEPS[name]
+    ways = {way: name for name, way in STEPS.items()}
+    return [(ways[a, b], ways[di + a, dj + b]) for a, b in ((dj, -di), (-dj, di))]
+
+
+class JumpStates:
+    """The jump states of a path over the cells of a class to these targets."""
+
+    def __init__(self, cells, targets):
+        self.cells, self.targets, self.known = cells, targets, {}
+
+    def forced(self, cell, name):
+        """The forced successors of a cell that was come to by a straight step."""
+        di, dj = STEPS[name]
+        found = []
+        for side, between in beside(name):
+            a, b = STEPS[side]
+            if (cell[0] - di + a, cell[1] - dj + b) not in self.cells.free:
+                found += [way for way in (side, between) if self.cells.step(cell, way)]
+        return found
+
+    def successors(self, cell, name):
+        if name is None:
+            ways = STEPS
+        elif len(name) == 1:
+            ways = [name, *self.forced(cell, name)]
+        else:
+            ways = [name, *name]
+        return [way for way in ways if self.cells.step(cell, way)]
+
+    def run(self, cell, name):
+        """The stop of the run from a cell, if it has one, with the cost of the run."""
+        if (cell, name) not in self.known:
+            self.known[cell, name] = self.first_stop(cell, name)
+        return self.known[cell, name]
+
+    def first_stop(self, cell, name):
+        cost = 0
+        while there := self.cells.step(cell, name):
+            cell, cost = there, cost + cost_of(name)
+            aside = self.forced(cell, name) if len(name) == 1 else any(self.run(cell, part) for part in name)
+            if cell in self.targets or aside:
+                return cell, cost
+        return None
+
+    def opened(self, start, box, most):
+        found, waiting = {}, [(0, start, "")]
+        while waiting:
+            cost, cell, name = heapq.heappop(waiting)
+            if (cell, name) in found:
+                continue
+            found[cell, name] = cost
+            for way in self.successors(cell, name or None):
+                stop = self.run(cell, way)
+                if stop:
+                    heapq.heappush(waiting, (cost + stop[1], stop[0], way))
+        return sum(cost + octile(cell, box) <= most for (cell, _), cost in found.items())
 
 
 # ---- turns
@@ -360,7 +453,7 @@ def edited(map_, standing, post):
     return f"moved {number}"
 
 
-def answered(map_, standing, cells, post):
+def answered(map_, standing, cells, post, profile):
     """The reply to a path or region line."""
     name, (x, z) = post[2:4]
     if name not in map_.classes:
@@ -388,7 +481,7 @@ def answered(map_, standing, cells, post):
             return "refused goal-outside"
     if not mine.free:
         return "nowhere"
-    return mine.path(mine.start_cell(x, z), goal)
+    return mine.path(mine.start_cell(x, z), goal, profile)
 
 
 def all_cells(map_, standing):
@@ -398,8 +491,8 @@ def all_cells(map_, standing):
 class Service:
     """A map, what stands on it, and the turn that is being read."""
 
-    def __init__(self, map_):
-        self.map, self.standing, self.before = map_, {}, None
+    def __init__(self, map_, profile):
+        self.map, self.profile, self.standing, self.before = map_, profile, {}, None
         self.turn, self.posts = 1, []
 
     def take(self, value):
@@ -427,12 +520,13 @@ class Service:
         out = [f"turn {self.turn} regions {regions} edges {edges} areas {areas} relabelled {changed}"]
         for caller, (mine, said) in enumerate(zip(lists, replies)):
             for place, post in enumerate(mine):
-                out.append(f"{caller} {place} {said[place] or answered(self.map, self.standing, cells, post)}")
+                reply = said[place] or answered(self.map, self.standing, cells, post, self.profile)
+                out += [f"{caller} {place} {line}" for line in reply.split("\n")]
         self.before, self.posts, self.turn = cells, [], self.turn + 1
         return out
 
 
-def predicted(script):
+def predicted(script, profile=False):
     """The answers to a script, and the status."""
     lines = script.split(b"\n")
     if lines[-1] == b"":
@@ -442,7 +536,7 @@ def predicted(script):
         for number, line in enumerate(lines, 1):
             value = value_of(line)
             if service is None:
-                service = Service(Map(value))
+                service = Service(Map(value), profile)
             else:
                 out += service.take(value)
         number += 1
@@ -548,8 +642,8 @@ class Maker:
 
 
 def main(words):
-    if words == ["--predict"]:
-        text, status = predicted(sys.stdin.buffer.read())
+    if words in (["--predict"], ["--profile"]):
+        text, status = predicted(sys.stdin.buffer.read(), words == ["--profile"])
         sys.stdout.buffer.write(text)
         return status
     if len(words) == 4 and words[0] == "--make":
@@ -566,21 +660,21 @@ def main(words):
         return 2
     count, seed = int(words[1]) if len(words) > 1 else 100, int(words[2]) if len(words) > 2 else 1
     maker, differ, posts = Maker(seed), 0, 0
-    for k in range(count):
-        script = maker.script()
-        ran = subprocess.run([words[0], "replay"], input=script, stdout=subprocess.PIPE)
-        wanted, status = predicted(script)
+    for k, word in itertools.product(range(count), ("replay", "profile")):
+        script = maker.script() if word == "replay" else script
+        ran = subprocess.run([words[0], word], input=script, stdout=subprocess.PIPE)
+        wanted, status = predicted(script, word == "profile")
         posts += wanted.count(b"\n")
         if (ran.stdout, ran.returncode) == (wanted, status):
             continue
         differ += 1
-        print(f"script {k} of seed {seed}: status {ran.returncode}, predicted {status}")
+        print(f"script {k} of seed {seed}, {word}: status {ran.returncode}, predicted {status}")
         sys.stdout.flush()
         sys.stdout.buffer.write(script)
         answers = itertools.zip_longest(ran.stdout.decode().splitlines(), wanted.decode().splitlines())
         got, want = next((pair for pair in answers if pair[0] != pair[1]), ("the same", "the same"))
         print(f"answered  {got}\npredicted {want}")
-    print(f"{count - differ} of {count} scripts agree, with {posts} lines of answers")
+    print(f"{2 * count - differ} of {2 * count} runs agree, with {posts} lines of answers")
     return 1 if differ else 0
 
 
