@@ -1,5 +1,5 @@
 -- The spans of a chunk's rows: their order, their cells and their regions.
-use Rattle.std.proofs.Common.{ℕ, zero, suc, Bool, true, false, replicate, ◌≡◌, ◌≢◌, ◌<◌, ◌≤◌, ◌+◌, ◌-◌, ◌*◌, ◌⊎◌, ◌&&◌, if◌then◌else◌, List, IsTrue, length, max, ap, inl, inr, refl, sym, subst, ◌∙◌, arith, Some, set}
+use Rattle.std.proofs.Common.{ℕ, zero, suc, Bool, true, false, replicate, ◌≡◌, ◌≢◌, ◌<◌, ◌≤◌, ◌+◌, ◌-◌, ◌*◌, ◌⊎◌, ◌&&◌, if◌then◌else◌, List, IsTrue, length, max, ap, inl, inr, refl, sym, subst, ◌∙◌, arith, Some, set, ⊎_elim}
 use Rattle.std.specs.List.{slice_get}
 use Rattle.std.specs.Prelude.{slice_index, nat_le}
 use Rattle.std.proofs.lemmas.Bool.{cases_lt, cases_Bool, and_parts, and_from, leb-true, le-leb, both_ways}
@@ -106,7 +106,7 @@ region_from-found runs regions x (suc count) k m from to here before =
           ap either (subst (λ n. holds (slice_get runs.spans n) x ≡ true) same here) ∙ ap (λ n. slice_index regions n) (sym same)
     ]
 
-region_from-none : (runs : Runs) (regions : List ℕ) (x count k : ℕ) → ((e : ℕ) → k ≤ e → e < k + count → holds (slice_get runs.spans e) x ≡ false)
+pub region_from-none : (runs : Runs) (regions : List ℕ) (x count k : ℕ) → ((e : ℕ) → k ≤ e → e < k + count → holds (slice_get runs.spans e) x ≡ false)
     → region_from runs regions x count k ≡ 0
 region_from-none runs regions x zero k none = refl
 region_from-none runs regions x (suc count) k none =
@@ -125,6 +125,31 @@ held_by runs k x held = elim (slice_get_cases runs.spans k).1 [
 
 holds-from : (span : Span) (x : ℕ) → span.first ≤ x → x ≤ span.last → holds (Some span) x ≡ true
 holds-from span x west east = and_from (nat_le span.first x) (nat_le x span.last) (le-leb span.first x west) (le-leb x span.last east)
+
+-- a span does not hold a column behind its last
+pub past_last : (span : Span) (x : ℕ) → span.last < x → holds (Some span) x ≡ false
+past_last span x past = ⊎_elim
+    (λ (yes : holds (Some span) x ≡ true).
+    let within = leb-true x span.last (and_parts (nat_le span.first x) (nat_le x span.last) yes).1 in absurd (omega arith))
+    (λ (no : holds (Some span) x ≡ false). no)
+    (cases_Bool (holds (Some span) x))
+
+-- no span of a row from place `at` on holds a column that the span there ends at or after, and does not hold
+pub none_from : (runs : Runs) (regions : List ℕ) (r at end x : ℕ) (span : Span) → AreSpans runs → r < 96 → slice_index runs.starts r ≤ at
+    → end ≡ slice_index runs.starts (r + 1) → at < end → slice_get runs.spans at ≡ Some span → x ≤ span.last → holds (Some span) x ≡ false
+    → region_from runs regions x (end - at) at ≡ 0
+none_from runs regions r at end x span are in_row from to below found west clear = region_from-none runs regions x (end - at) at (λ e later sooner. ⊎_elim
+    (λ (yes : holds (slice_get runs.spans e) x ≡ true).
+    let there = held_by runs e x yes in
+    let starts : there.0.first ≤ x = there.1.1.0 in
+    elim (cases_lt at e) [
+      | inl further ↦ let apart = are.apart r at e span there.0 in_row from further (omega arith) found there.1.0 in absurd (omega arith)
+      | inr here ↦
+          let same : e ≡ at = omega arith in
+          absurd (false≢true (sym clear ∙ ap (λ s. holds s x) (sym found) ∙ ap (λ k. holds (slice_get runs.spans k) x) (sym same) ∙ yes))
+    ])
+    (λ (no : holds (slice_get runs.spans e) x ≡ false). no)
+    (cases_Bool (holds (slice_get runs.spans e) x)))
 
 -- the number of a cell is its span's region
 pub region_of-cell : (chunk : Chunk) (runs : Runs) (regions : List ℕ) → AreSpans runs → (p : Place) (cell : Cell) → HasCell chunk runs p cell

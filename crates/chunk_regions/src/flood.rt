@@ -112,8 +112,13 @@ fn spread_to(
     ensures floods { OnOk result (KeepsFlood rows.now flood.old.regions.items (flood.old.frontier.items ++ from ∷ [])
         flood.new.regions.items (flood.new.frontier.items ++ from ∷ []) number) }
 {
+    let span = rows.span(from.at);
     let (start, end) = rows.row(row);
     for at in start..end {
+        // the spans of a row rise, so none from here on overlaps
+        if span.last < rows.span(at).first {
+            return Ok(());
+        }
         visit(rows, flood, from, Place { row, at }, number)?;
     }
     Ok(())

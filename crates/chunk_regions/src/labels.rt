@@ -71,8 +71,13 @@ impl Labels {
         let column = (cell.i - self.rect.i0) as u8;
         let (start, end) = self.spans.row(cell.j - self.rect.j0);
         for at in start..end {
-            if self.spans.span(at).holds(column) {
-                return self.regions[at as usize];
+            let span = self.spans.span(at);
+            // the spans of a row rise, so only the first that ends here or further east can hold the column
+            if column <= span.last {
+                if span.holds(column) {
+                    return self.regions[at as usize];
+                }
+                return 0;
             }
         }
         0

@@ -62,7 +62,7 @@ line_bits free row line class i long numbers outside turned = ⊎_elim
     ∙ bit_at-zero (i % 64) ∙ sym (ap one_if (outside above)))
     (cases_lt i (length row))
 
-zero_at : (n i : ℕ) → get_or {A = ℕ} (replicate n 0) i 0 ≡ 0
+pub zero_at : (n i : ℕ) → get_or {A = ℕ} (replicate n 0) i 0 ≡ 0
 zero_at n i =
     let zeros : List ℕ = replicate n 0 in
     ⊎_elim

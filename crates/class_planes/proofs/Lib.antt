@@ -1,6 +1,7 @@
 mod BitLemmas
 mod CellLemmas
 mod LineLemmas
+mod TurnLemmas
 mod UpdateLemmas
 pub mod PlaneLemmas
 mod WordLemmas

@@ -1,5 +1,5 @@
 -- Where straight runs over a plane stop.
-use Rattle.std.proofs.Common.{◌≡◌, ℕ, zero, suc, ◌-◌, ◌<◌, ◌≤◌, Bool, true, IsTrue, IsFalse, inl, inr, sym, ◌∙◌, subst, arith}
+use Rattle.std.proofs.Common.{◌≡◌, ℕ, zero, suc, ◌-◌, ◌<◌, ◌≤◌, Bool, true, false, ◌⊎◌, IsTrue, IsFalse, inl, inr, refl, sym, ◌∙◌, subst, arith}
 use Rattle.std.proofs.lemmas.Bool.{cases_lt, false≢true, false_from_ne_true}
 use Rattle.nav_types.specs.declared.cells.Cell.{Cell}
 use Rattle.nav_types.specs.declared.cells.Rect.{Rect}
@@ -10,7 +10,7 @@ use Rattle.nav_types.specs.declared.directions.Dir.TheVariants.{N, E, S, W, NE, 
 use Rattle.nav_types.specs.Directions.{is_straight}
 use Rattle.nav_types.specs.Frames.{IsFrame}
 use Rattle.jump_scan.specs.Successors.{HasForced}
-use Rattle.jump_scan.specs.Stops.{HaltsStraight, IsStraightStop}
+use Rattle.jump_scan.specs.Stops.{HaltsStraight, IsStraightStop, HasStraightStop}
 use Rattle.jump_scan.proofs.Running.{HasPassed, HasPassed-none, HasPassed-more, IsStop-next, no_stop}
 use Rattle.class_planes.specs.inner.Runs.{Far, RunsFar, IsFirstHit, cell_along, HasRoom}
 
@@ -78,6 +78,47 @@ stop_none passes hit dir from far runs misses is =
       | inr all ↦ runs.last is n (omega (arith, all, few))
     ]))
     (runs.ends is)
+
+pub either_way : (test : Bool) → (test ≡ true) ⊎ (test ≡ false)
+either_way true = inl refl
+either_way false = inr refl
+
+-- one of the cells is the first that is hit, or none of them is
+first_or_none : (hit : Cell → Bool) (dir : Dir) (from : Cell) (count : ℕ)
+    → ((steps : ℕ) × IsFirstHit hit dir from count steps)
+    ⊎ ((n : ℕ) → 0 < n → n ≤ count → IsFalse (hit (cell_along dir from n)))
+first_or_none hit dir from zero = inr (λ n some few. absurd (omega (arith, some, few)))
+first_or_none hit dir from (suc count) = elim (first_or_none hit dir from count) [
+  | inl found ↦
+      let first = found.1 in
+      let most = first.most in
+      inl (found.0, record { some = first.some; most = omega (arith, most); hits = first.hits; none = first.none })
+  | inr none ↦ elim (either_way (hit (cell_along dir from (suc count)))) [
+    | inl hits ↦ inl (
+      suc count,
+      record {
+        some = omega arith;
+        most = omega arith;
+        hits = hits;
+        none = λ n some less. none n some (omega (arith, less));
+      },
+    )
+    | inr misses ↦ inr (λ n some few. elim (cases_lt count n) [
+      | inl last ↦
+          let same : suc count ≡ n = omega (arith, last, few) in
+          subst (λ k. IsFalse (hit (cell_along dir from k))) same misses
+      | inr before ↦ none n some before
+    ])
+  ]
+]
+
+-- a side that opens makes a stop, there or before
+pub stop_somewhere : (passes hit : Cell → Bool) (dir : Dir) (from : Cell) (far : Far) → RunsFar passes dir from far
+    → IsTrue far.forced → HasStraightStop passes hit dir from
+stop_somewhere passes hit dir from far runs is = elim (first_or_none hit dir from far.count) [
+  | inl found ↦ (cell_along dir from found.0, stop_hit passes hit dir from far found.0 runs found.1)
+  | inr none ↦ (cell_along dir from far.count, stop_end passes hit dir from far runs none is)
+]
 
 -- a cell out of the aim's rectangle is not hit
 pub misses_outside : (hit framed : Cell → Bool) (size : Size) (rect : Rect) (cell : Cell) → IsFrame framed size rect

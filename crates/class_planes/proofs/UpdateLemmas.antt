@@ -1,10 +1,10 @@
 -- Lines in which some places have changed.
-use Rattle.std.proofs.Common.{refl, false, ◌++◌, take, length-append, IsTrue, Result, Ok, Err, OnOk, ◌≡◌, ◌≢◌, ℕ, ◌+◌, ◌/◌, ◌%◌, ◌<◌, ◌≤◌, Bool, List, [], ◌∷◌, length, map, set, get_or, sym, ap, ◌∙◌, subst, ⊎_elim, inl, inr, arith}
+use Rattle.std.proofs.Common.{refl, false, ◌++◌, take, length-append, IsTrue, Result, Ok, Err, OnOk, ◌≡◌, ◌≢◌, ℕ, ◌+◌, ◌*◌, ◌/◌, ◌%◌, ◌<◌, ◌≤◌, Bool, List, [], ◌∷◌, length, set, get_or, sym, ap, ◌∙◌, subst, ⊎_elim, inl, inr, max, min, arith}
 use Rattle.std.specs.Int.{bit_at}
 use Rattle.std.proofs.lemmas.Bool.{cases_lt, cases_eq, false≢true}
 use Rattle.std.specs.Prelude.{All}
-use Rattle.std.proofs.lemmas.List.{get_or-set_same, get_or-set_other, get_or-map, length-map, get_or_append_left, get_or_at}
-use Rattle.std.proofs.lemmas.List.Elements.{All-map, All-more, All-push}
+use Rattle.std.proofs.lemmas.List.{get_or-set_same, get_or-set_other, get_or_append_left, get_or_at}
+use Rattle.std.proofs.lemmas.List.Elements.{All-more, All-push}
 use Rattle.nav_types.specs.declared.cells.Cell.{Cell}
 use Rattle.nav_types.specs.declared.cells.Rect.{Rect}
 use Rattle.nav_types.specs.declared.cells.Size.{Size}
@@ -12,30 +12,42 @@ use Rattle.nav_types.specs.Cells.{IsInside, IsInRect, IsRectInside, cell_at}
 use Rattle.lane_rows.specs.Rows.{has_class, one_if}
 use Rattle.class_planes.specs.declared.changed_parts.ChangedPart.{ChangedPart}
 use Rattle.class_planes.specs.Planes.{PlaneCells, is_passable, IsOutside, IsKept}
-use Rattle.class_planes.specs.inner.Lines.{LineTable, RowTable, IsBand, AreLines, AreLinesBefore, AreRows, AreColumns, AreColumnsBefore, line_at, free_cell, plane_of, turned_rect, turned_size}
+use Rattle.class_planes.specs.inner.Lines.{LineTable, RowTable, IsBand, AreLines, AreLinesBefore, AreRows, AreColumns, AreColumnsBefore, line_at, free_cell, plane_of}
 use Rattle.class_planes.specs.inner.Runs.{bit_in}
 use Rattle.class_planes.proofs.PlaneLemmas.{line_free, free_passable, rows_free}
 
--- the bit that was written
-pub written_bit : (line : List ℕ) (p v b : ℕ) → p / 64 < length line → bit_at v (p % 64) ≡ b
-    → bit_in (set line (p / 64) v) p ≡ b
-written_bit line p v b within is =
-    ap (λ word. bit_at word (p % 64)) (get_or-set_same line (p / 64) v 0 within) ∙ is
-
--- the other bits
-pub kept_bit : (line : List ℕ) (p v i : ℕ) → p / 64 < length line
-    → ((m : ℕ) → m < 64 → m ≢ p % 64 → bit_at v m ≡ bit_at (get_or line (p / 64) 0) m)
-    → i ≢ p → bit_in (set line (p / 64) v) i ≡ bit_in line i
-kept_bit line p v i within others apart = ⊎_elim
-    (λ (same : i / 64 ≡ p / 64).
-    let unlike : i % 64 ≢ p % 64 = λ e. apart (omega (arith, same, e)) in
-    ap (λ w. bit_at (get_or (set line (p / 64) v) w 0) (i % 64)) same
-    ∙ ap (λ word. bit_at word (i % 64)) (get_or-set_same line (p / 64) v 0 within)
-    ∙ others (i % 64) (omega arith) unlike
-    ∙ ap (λ w. bit_at (get_or line w 0) (i % 64)) (sym same))
-    (λ (other : i / 64 ≢ p / 64).
-    ap (λ word. bit_at word (i % 64)) (get_or-set_other line (p / 64) (i / 64) v 0 other))
-    (cases_eq (i / 64) (p / 64))
+-- one word more of a span is written
+pub word_more : (free : ℕ → Bool) (old line : List ℕ) (i0 i1 w at v from to : ℕ) → at ≡ w → w < length line
+    → from ≡ max i0 (64 * w) → to ≡ min i1 (64 * w + 63)
+    → ((i : ℕ) → from ≤ i → i ≤ to → bit_at v (i % 64) ≡ one_if (free i))
+    → ((m : ℕ) → m < 64 → ((i : ℕ) → from ≤ i → i ≤ to → i % 64 ≡ m → ⊥) → bit_at v m ≡ bit_at (get_or line at 0) m)
+    → ((i : ℕ) → i0 ≤ i → i ≤ i1 → i / 64 < w → bit_in line i ≡ one_if (free i))
+    → ((i : ℕ) → (i0 ≤ i → i ≤ i1 → i / 64 < w → ⊥) → bit_in line i ≡ bit_in old i)
+    → ((i : ℕ) → i0 ≤ i → i ≤ i1 → i / 64 < w + 1 → bit_in (set line at v) i ≡ one_if (free i))
+    × ((i : ℕ) → (i0 ≤ i → i ≤ i1 → i / 64 < w + 1 → ⊥) → bit_in (set line at v) i ≡ bit_in old i)
+word_more free old line i0 i1 w at v from to is within low high word_set word_others set_before others_before =
+    let here = λ (i : ℕ) (same : i / 64 ≡ w).
+    ap (λ p. bit_at (get_or (set line at v) p 0) (i % 64)) (same ∙ sym is)
+    ∙ ap (λ word. bit_at word (i % 64)) (get_or-set_same line at v 0 (omega (arith, is, within))) in
+    let there = λ (i : ℕ) (other : i / 64 ≢ w).
+    ap (λ word. bit_at word (i % 64)) (get_or-set_other line at (i / 64) v 0 (λ e. other (e ∙ is))) in (
+      λ i west east below. ⊎_elim
+          (λ (same : i / 64 ≡ w).
+          here i same ∙ word_set i (omega (arith, low, west, same)) (omega (arith, high, east, same)))
+          (λ (other : i / 64 ≢ w). there i other ∙ set_before i west east (omega (arith, below, other)))
+          (cases_eq (i / 64) w),
+      λ i out. ⊎_elim
+          (λ (same : i / 64 ≡ w).
+          here i same
+          ∙ word_others (i % 64) (omega arith)
+          (λ k from_k to_k place. out (omega (arith, low, high, from_k, to_k, place, same))
+          (omega (arith, low, high, from_k, to_k, place, same)) (omega (arith, same)))
+          ∙ ap (λ p. bit_at (get_or line p 0) (i % 64)) (is ∙ sym same)
+          ∙ others_before i (λ west east below. omega (arith, below, same)))
+          (λ (other : i / 64 ≢ w).
+          there i other ∙ others_before i (λ west east below. out west east (omega (arith, below))))
+          (cases_eq (i / 64) w),
+    )
 
 -- a cell lies in the rectangle or not
 pub in_rect_or_not : {P : Type 0} (rect : Rect) (cell : Cell) → (IsInRect rect cell → P)
@@ -93,38 +105,6 @@ pub line_before : (free : ℕ → ℕ → Bool) (rects : List Rect) (count words
     → (i : ℕ) → IsOutside rects (cell_at i n) → bit_in (line_at table n) i ≡ one_if (free n i)
 line_before free rects count words n table before below i out =
     line_free before.earlier count words n table before.lines below i ∙ ap one_if (before.same n i out)
-
--- ---- rectangles with rows and columns changed over
-
-turned_in : (rect : Rect) (i j : ℕ) → IsInRect rect (cell_at i j) → IsInRect (turned_rect rect) (cell_at j i)
-turned_in rect i j inside =
-    record { west = inside.south; east = inside.north; south = inside.west; north = inside.east }
-
--- the turned cell lies outside of the turned rectangles
-pub turned_outside : (rects : List Rect) (i j : ℕ) → IsOutside (map turned_rect rects) (cell_at j i)
-    → IsOutside rects (cell_at i j)
-turned_outside rects i j out k d below inside =
-    out k (turned_rect d) (omega (arith, length-map rects turned_rect))
-    (subst (λ (r : Rect). IsInRect r (cell_at j i)) (sym (get_or-map turned_rect rects k d (turned_rect d) below))
-    (turned_in (get_or rects k d) i j inside))
-
--- turned rectangles lie in the turned map
-pub turned_inside : (size : Size) (rects : List Rect) → All (IsRectInside size) rects
-    → All (IsRectInside (turned_size size)) (map turned_rect rects)
-turned_inside size rects inside =
-    All-map (IsRectInside (turned_size size)) turned_rect rects (λ k d below.
-    let at = inside k d below in
-    record { columns = at.rows; rows = at.columns; last_column = at.last_row; last_row = at.last_column })
-
--- the columns before a change, as the rows of the turned map
-pub columns_before : (table : RowTable) (rects : List Rect) (columns : LineTable) → AreColumnsBefore table rects columns
-    → AreLinesBefore (λ i j. free_cell table (cell_at i j)) (map turned_rect rects) (table.size.w / 32 + 1)
-    (table.size.h / 64 + 1) columns
-columns_before table rects columns before = record {
-  earlier = before.earlier;
-  lines = before.lines;
-  same = λ i j out. before.same (cell_at i j) (turned_outside rects i j out);
-}
 
 -- ---- calls that may fail
 

@@ -40,6 +40,15 @@ in_word line w k small =
 pub of_word : (line : List ℕ) (w k i : ℕ) → k < 64 → i ≡ 64 * w + k → bit_at (get_or line w 0) k ≡ bit_in line i
 of_word line w k i small is = sym (in_word line w k small) ∙ ap (bit_in line) (sym is)
 
+-- a word moved up by one bit
+doubled : (x m : ℕ) → m < 63 → bit_at (x * 2 % 18446744073709551616) (suc m) ≡ bit_at x m
+doubled x m below =
+    let half : x * 2 % 18446744073709551616 / 2 ≡ x % 9223372036854775808 = omega arith in
+    let whole : (x / 9223372036854775808) * 2 ^ 63 + x % 9223372036854775808 ≡ x = omega arith in
+    bit_at-suc (x * 2 % 18446744073709551616) m ∙ ap (λ n. bit_at n m) half
+    ∙ sym (bit_at_cat_low (x / 9223372036854775808) 63 (x % 9223372036854775808) m below)
+    ∙ ap (λ n. bit_at n m) whole
+
 -- a word moved up by one bit, with another bit let in
 moved_low : (x c : ℕ) → bit_at (bit_or (x * 2 % 18446744073709551616) c) 0 ≡ bit_at c 0
 moved_low x c =
@@ -50,14 +59,21 @@ moved_low x c =
 moved_high : (x c m : ℕ) → c < 2 → m < 63 → bit_at (bit_or (x * 2 % 18446744073709551616) c) (suc m) ≡ bit_at x m
 moved_high x c m small below =
     let none : bit_at c (suc m) ≡ 0 = bit_at_above c 1 (suc m) (omega (arith, small)) (omega arith) in
-    let half : x * 2 % 18446744073709551616 / 2 ≡ x % 9223372036854775808 = omega arith in
-    let whole : (x / 9223372036854775808) * 2 ^ 63 + x % 9223372036854775808 ≡ x = omega arith in
-    let kept : bit_at (x * 2 % 18446744073709551616) (suc m) ≡ bit_at x m =
-    bit_at-suc (x * 2 % 18446744073709551616) m ∙ ap (λ n. bit_at n m) half
-    ∙ sym (bit_at_cat_low (x / 9223372036854775808) 63 (x % 9223372036854775808) m below)
-    ∙ ap (λ n. bit_at n m) whole in
+    let kept = doubled x m below in
     let either = bit_at_or (x * 2 % 18446744073709551616) c (suc m) in
     omega (arith, either, none, kept)
+
+-- the word of a line, moved by one bit
+pub shifted_up : (line : List ℕ) (w k : ℕ) → 0 < k → k < 64
+    → bit_at (get_or line w 0 * 2 % 18446744073709551616) k ≡ bit_in line (64 * w + k - 1)
+shifted_up line w zero some below = absurd (omega (arith, some))
+shifted_up line w (suc m) some below =
+    doubled (get_or line w 0) m (omega (arith, below)) ∙ of_word line w m (64 * w + suc m - 1) (omega (arith, below))
+    (omega arith)
+
+pub shifted_down : (line : List ℕ) (w k : ℕ) → k < 63 → bit_at (get_or line w 0 / 2) k ≡ bit_in line (64 * w + k + 1)
+shifted_down line w k below =
+    sym (bit_at-suc (get_or line w 0) k) ∙ of_word line w (suc k) (64 * w + k + 1) (omega (arith, below)) (omega arith)
 
 -- word w moved up, where the highest bit of the word before is let in
 pub up_bit : (line : List ℕ) (w c k : ℕ) → k < 64 → 0 < 64 * w + k → c < 2
@@ -203,7 +219,7 @@ none_in bit from w word beyond before are none i past below = elim (cases_lt i (
 
 -- the first place with a bit in the word of the place itself
 pub next_here : (bit : ℕ → ℕ) (from t word after : ℕ) → word < 2 ^ 64
-    → ((k : ℕ) → k < 64 → 0 < 64 * (from / 64) + k → bit_at word k ≡ bit (64 * (from / 64) + k))
+    → ((k : ℕ) → 0 < k → k < 64 → bit_at word k ≡ bit (64 * (from / 64) + k))
     → ((m : ℕ) → bit_at after m ≡ bit_at word (from % 64 + 1 + m))
     → bit_at after t ≡ 1 → ((k : ℕ) → k < t → bit_at after k ≡ 0)
     → IsNext bit from (from + 1 + t)
@@ -212,12 +228,12 @@ next_here bit from t word after fits are moved set lower = elim (cases_lt (from 
       let there : 64 * (from / 64) + (from % 64 + 1 + t) ≡ from + 1 + t = omega arith in
       record {
         after = omega arith;
-        set = subst (λ n. bit n ≡ 1) there (sym (are (from % 64 + 1 + t) small (omega arith)) ∙ sym (moved t) ∙ set);
+        set = subst (λ n. bit n ≡ 1) there (sym (are (from % 64 + 1 + t) (omega arith) small) ∙ sym (moved t) ∙ set);
         none = λ i past below.
             let k : ℕ = i - (from + 1) in
             let at : 64 * (from / 64) + (from % 64 + 1 + k) ≡ i = omega (arith, past, below) in
             subst (λ n. bit n ≡ 0) at
-            (sym (are (from % 64 + 1 + k) (omega (arith, small, below, past)) (omega arith)) ∙ sym (moved k) ∙ lower
+            (sym (are (from % 64 + 1 + k) (omega arith) (omega (arith, small, below, past))) ∙ sym (moved k) ∙ lower
             k (omega (arith, below, past)));
       }
   | inr big ↦
@@ -227,14 +243,14 @@ next_here bit from t word after fits are moved set lower = elim (cases_lt (from 
 ]
 
 pub none_here : (bit : ℕ → ℕ) (from word after : ℕ)
-    → ((k : ℕ) → k < 64 → 0 < 64 * (from / 64) + k → bit_at word k ≡ bit (64 * (from / 64) + k))
+    → ((k : ℕ) → 0 < k → k < 64 → bit_at word k ≡ bit (64 * (from / 64) + k))
     → ((m : ℕ) → bit_at after m ≡ bit_at word (from % 64 + 1 + m)) → after ≡ 0
     → (i : ℕ) → from < i → i < 64 * (from / 64 + 1) → bit i ≡ 0
 none_here bit from word after are moved none i past below =
     let k : ℕ = i - (from + 1) in
     let at : 64 * (from / 64) + (from % 64 + 1 + k) ≡ i = omega (arith, past, below) in
     subst (λ n. bit n ≡ 0) at
-    (sym (are (from % 64 + 1 + k) (omega (arith, below, past)) (omega arith)) ∙ sym (moved k) ∙ ap (λ n. bit_at n k)
+    (sym (are (from % 64 + 1 + k) (omega arith) (omega (arith, below, past))) ∙ sym (moved k) ∙ ap (λ n. bit_at n k)
     none ∙ bit_at-zero k)
 
 -- past the last word a run has ended
@@ -278,7 +294,7 @@ none_under bit from w word after are none i past below = elim (cases_lt i (64 * 
 ]
 
 -- the last place with a bit in the word of the place itself
-pub last_here : (bit : ℕ → ℕ) (from t word before : ℕ) → ((k : ℕ) → k < 64 → bit_at word k ≡ bit (64 * (from / 64) + k))
+pub last_here : (bit : ℕ → ℕ) (from t word before : ℕ) → ((k : ℕ) → k < 63 → bit_at word k ≡ bit (64 * (from / 64) + k))
     → ((m : ℕ) → m < from % 64 → bit_at before m ≡ bit_at word m) → ((m : ℕ) → from % 64 ≤ m → bit_at before m ≡ 0)
     → bit_at before t ≡ 1 → ((k : ℕ) → t < k → bit_at before k ≡ 0)
     → IsLast bit from (64 * (from / 64) + t)
@@ -296,7 +312,7 @@ last_here bit from t word before are kept none set higher = elim (cases_lt t (fr
   | inr big ↦ let zero_bit = none t big in absurd (omega (arith, zero_bit, set))
 ]
 
-pub none_before : (bit : ℕ → ℕ) (from word before : ℕ) → ((k : ℕ) → k < 64 → bit_at word k ≡ bit (64 * (from / 64) + k))
+pub none_before : (bit : ℕ → ℕ) (from word before : ℕ) → ((k : ℕ) → k < 63 → bit_at word k ≡ bit (64 * (from / 64) + k))
     → ((m : ℕ) → m < from % 64 → bit_at before m ≡ bit_at word m) → before ≡ 0
     → (i : ℕ) → 64 * (from / 64) ≤ i → i < from → bit i ≡ 0
 none_before bit from word before are kept none i past below =

@@ -41,7 +41,7 @@ impl Model for ClassPlane {
 
 impl ClassPlane {
     /// The plane of the class in any view that hands out rows. It reads each row once, by vectors of cells, and the
-    /// columns from the rows bit by bit.
+    /// columns from the rows, 16 at a time.
     pub fn build<V: Rows>(alloc: Global, view: &V, class: Class) -> Result<ClassPlane, NoMemory>
         requires class { class < V.class_count view.now }
         ensures size { IfOk result (λ plane. plane.size ≡ V.extent view.now) }
@@ -65,7 +65,7 @@ impl ClassPlane {
     }
 
     /// The plane of the class in a view of the same size, where this plane is right outside of the rectangles. Their
-    /// cells are asked one by one, and what lies elsewhere is shared.
+    /// cells are asked for the rows, the columns are made from the rows, and bands that no rectangle meets are shared.
     pub fn updated<V: View>(
         &self,
         alloc: Global,

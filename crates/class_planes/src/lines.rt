@@ -1,6 +1,8 @@
 //! Lines of bits in bands that several tables may share.
-ghost use Rattle.std.specs.Prelude.{◌≡◌, ◌<◌, ◌≤◌, ◌+◌, ◌*◌, ◌/◌, ◌++◌, ◌∷◌, [], length, slice_index_or, IfOk, OnOk};
+ghost use Rattle.std.specs.Prelude.{ℕ, ◌≡◌, ◌<◌, ◌≤◌, ◌+◌, ◌*◌, ◌/◌, ◌++◌, ◌∷◌, [], length, slice_index_or, IfOk, OnOk};
+ghost use Rattle.std.specs.Int.{bit_at};
 ghost use Rattle.class_planes.specs.inner.Lines.{line_at, free_at};
+ghost use Rattle.class_planes.specs.inner.Runs.{bit_in};
 
 use nav_types::NoMemory;
 use std::alloc::Global;
@@ -98,4 +100,22 @@ impl Lines {
     {
         (self.line(n)[usize::from(i) / 64] >> (i % 64)) & 1 == 1
     }
+
+    /// The 16 places of line `n` from place 16 * group on, as the bits of a number.
+    pub fn sixteen(&self, n: u16, group: u16) -> u16
+        requires band { n / 32 < length self.now.bands }
+        requires long { length (slice_index_or self.now.bands (n / 32) []) ≡ 32 * self.now.words }
+        requires place { group / 4 < self.now.words }
+        ensures { (k : ℕ) → k < 16 → bit_at result k ≡ bit_in (line_at self.now n) (16 * group + k) }
+    {
+        quarter(self.line(n)[usize::from(group) / 4], group % 4)
+    }
+}
+
+/// A quarter of the word's bits.
+fn quarter(word: u64, part: u16) -> u16
+    requires { part < 4 }
+    ensures { (k : ℕ) → k < 16 → bit_at result k ≡ bit_at word (16 * part + k) }
+{
+    ((word >> (16 * part)) % 65536) as u16
 }

@@ -5,6 +5,7 @@ ghost use Rattle.nav_types.specs.declared.directions.Dir.TheVariants as Dir;
 ghost use Rattle.nav_types.specs.Cells.{IsInside, IsInRect, cell_at};
 ghost use Rattle.nav_types.specs.Directions.{is_straight, row_part, column_part};
 ghost use Rattle.nav_types.specs.Frames.{IsFrame};
+ghost use Rattle.nav_types.specs.Walks.{Step};
 ghost use Rattle.jump_scan.specs.Stops.{HaltsDiagonal, IsStraightStop, HasStraightStop, IsDiagonalStop};
 ghost use Rattle.lane_rows.specs.Rows.{one_if};
 ghost use Rattle.class_planes.specs.Planes.{is_passable};
@@ -12,39 +13,8 @@ ghost use Rattle.class_planes.specs.inner.Runs.{AreLanesOf, cell_along, RunsFar,
 
 use crate::class_plane::ClassPlane;
 use crate::word_scans::{Lanes, Reach};
-use nav_types::{Aim, Cell, Class, Dir, Rect, Size, View, step};
+use nav_types::{Aim, Cell, Dir, Rect, Size, neighbour};
 use std::marker::Model;
-
-/// The map of one class whose passable cells are those of a plane.
-#[derive(Drop)]
-struct PlaneView<'a> {
-    plane: &'a ClassPlane,
-}
-
-impl<'a> View for PlaneView<'a> {
-    ghost use Rattle.class_planes.specs.Planes.{is_passable};
-    ghost use Rattle.std.proofs.Common.{rules};
-
-    ghost extent = { λ map. map.plane.now.size };
-
-    ghost class_count = { λ _. 1 };
-
-    ghost passes = { λ map class. is_passable map.plane.now };
-
-    ghost within = { λ map class cell passing. Prim.search rules };
-
-    fn size(&self) -> Size {
-        self.plane.size()
-    }
-
-    fn classes(&self) -> u8 {
-        1
-    }
-
-    fn passable(&self, _class: Class, cell: Cell) -> bool {
-        self.plane.passable(cell)
-    }
-}
 
 /// The row `j` with the rows beside it.
 fn rows_at(plane: &ClassPlane, j: u16) -> Lanes<'_>
@@ -107,6 +77,7 @@ fn reach_west(plane: &ClassPlane, from: Cell) -> Reach
 }
 
 /// How far the straight run from the cell goes.
+#[inline(always)]
 fn reach(plane: &ClassPlane, from: Cell, dir: Dir) -> Reach
     requires start { IsTrue (is_passable plane.now from) }
     requires straight { IsTrue (is_straight dir) }
@@ -190,6 +161,7 @@ fn steps_into(rect: Rect, from: Cell, dir: Dir, count: u16) -> Steps
 }
 
 /// Whether the line of the run meets the rectangle.
+#[inline(always)]
 fn meets(rect: Rect, from: Cell, dir: Dir) -> bool
     requires straight { IsTrue (is_straight dir) }
     ensures { IsFalse result → (n : ℕ) → IsInRect rect (cell_along dir from n) → ⊥ }
@@ -233,6 +205,21 @@ fn first_hit<A: Aim>(
     None
 }
 
+/// Whether one of the cells from 1 to `count` steps away is hit.
+#[inline(always)]
+fn has_hit<A: Aim>(size: Size, from: Cell, dir: Dir, count: u16, rect: Rect, aim: &A) -> bool
+    requires straight { IsTrue (is_straight dir) }
+    requires room { HasRoom dir from count }
+    requires inside { (n : ℕ) → n ≤ count → IsInside size (cell_along dir from n) }
+    requires aim { A.sound aim.now size }
+    requires frame { IsFrame (A.framed aim.now size) size rect }
+    ensures hits { IsTrue result → (steps : ℕ) × IsFirstHit (A.hit aim.now size) dir from count steps }
+    ensures misses { IsFalse result
+        → (n : ℕ) → 0 < n → n ≤ count → IsFalse (A.hit aim.now size (cell_along dir from n)) }
+{
+    meets(rect, from, dir) && first_hit(size, from, dir, count, rect, aim).is_some()
+}
+
 /// The stop of the straight run from the cell, where the aim has the rectangle.
 pub fn straight<A: Aim>(
     plane: &ClassPlane,
@@ -273,6 +260,7 @@ fn end_of(from: Cell, dir: Dir, count: u16, forced: bool) -> Option<Cell>
 }
 
 /// Whether the straight run from the cell has a stop.
+#[inline(always)]
 fn has_straight_stop<A: Aim>(plane: &ClassPlane, cell: Cell, dir: Dir, rect: Rect, aim: &A) -> bool
     requires passable { IsTrue (is_passable plane.now cell) }
     requires straight { IsTrue (is_straight dir) }
@@ -280,10 +268,12 @@ fn has_straight_stop<A: Aim>(plane: &ClassPlane, cell: Cell, dir: Dir, rect: Rec
     requires frame { IsFrame (A.framed aim.now plane.now.size) plane.now.size rect }
     ensures { IsTrue result ↔ HasStraightStop (is_passable plane.now) (A.hit aim.now plane.now.size) dir cell }
 {
-    straight(plane, cell, dir, rect, aim).is_some()
+    let Reach { count, forced } = reach(plane, cell, dir);
+    forced || has_hit(plane.size(), cell, dir, count, rect, aim)
 }
 
 /// The straight part of the direction along the row.
+#[inline(always)]
 fn row_part(dir: Dir) -> Dir
     ensures { result ≡ row_part dir }
 {
@@ -295,6 +285,7 @@ fn row_part(dir: Dir) -> Dir
 }
 
 /// The straight part of the direction along the column.
+#[inline(always)]
 fn column_part(dir: Dir) -> Dir
     ensures { result ≡ column_part dir }
 {
@@ -306,6 +297,7 @@ fn column_part(dir: Dir) -> Dir
 }
 
 /// Whether the straight run in one of the two straight parts of the direction has a stop.
+#[inline(always)]
 fn has_stop_aside<A: Aim>(plane: &ClassPlane, cell: Cell, dir: Dir, rect: Rect, aim: &A) -> bool
     requires passable { IsTrue (is_passable plane.now cell) }
     requires aim { A.sound aim.now plane.now.size }
@@ -318,7 +310,42 @@ fn has_stop_aside<A: Aim>(plane: &ClassPlane, cell: Cell, dir: Dir, rect: Rect, 
         || has_straight_stop(plane, cell, column_part(dir), rect, aim)
 }
 
+/// Whether the cell lies in the rectangle.
+fn is_in(rect: Rect, cell: Cell) -> bool
+    ensures { IsTrue result ↔ IsInRect rect cell }
+{
+    rect.i0 <= cell.i && cell.i <= rect.i1 && rect.j0 <= cell.j && cell.j <= rect.j1
+}
+
+/// Whether the aim hits the cell. Only a cell in the rectangle is asked for.
+fn is_hit<A: Aim>(size: Size, cell: Cell, rect: Rect, aim: &A) -> bool
+    requires inside { IsInside size cell }
+    requires aim { A.sound aim.now size }
+    requires frame { IsFrame (A.framed aim.now size) size rect }
+    ensures { result ≡ A.hit aim.now size cell }
+{
+    is_in(rect, cell) && aim.hits(size, cell)
+}
+
+/// The cell that one legal diagonal step from a passable cell leads to. None exactly where that step is not legal.
+#[inline(always)]
+fn next_cell(plane: &ClassPlane, cell: Cell, dir: Dir) -> Option<Cell>
+    requires passable { IsTrue (is_passable plane.now cell) }
+    requires inside { IsInside plane.now.size cell }
+    ensures some { IfSome result (Step (is_passable plane.now) dir cell) }
+    ensures none { IfNone result ((next : Cell) → ¬ Step (is_passable plane.now) dir cell next) }
+{
+    let Some(next) = neighbour(plane.size(), cell, dir) else {
+        return None;
+    };
+    let legal = plane.passable(next)
+        && plane.passable(Cell::new(next.i, cell.j))
+        && plane.passable(Cell::new(cell.i, next.j));
+    if legal { Some(next) } else { None }
+}
+
 /// Whether a diagonal run in the direction stops at the cell.
+#[inline(always)]
 fn halts_diagonal<A: Aim>(plane: &ClassPlane, cell: Cell, dir: Dir, rect: Rect, aim: &A) -> bool
     requires passable { IsTrue (is_passable plane.now cell) }
     requires inside { IsInside plane.now.size cell }
@@ -326,10 +353,11 @@ fn halts_diagonal<A: Aim>(plane: &ClassPlane, cell: Cell, dir: Dir, rect: Rect, 
     requires frame { IsFrame (A.framed aim.now plane.now.size) plane.now.size rect }
     ensures { IsTrue result ↔ HaltsDiagonal (is_passable plane.now) (A.hit aim.now plane.now.size) dir cell }
 {
-    aim.hits(plane.size(), cell) || has_stop_aside(plane, cell, dir, rect, aim)
+    is_hit(plane.size(), cell, rect, aim) || has_stop_aside(plane, cell, dir, rect, aim)
 }
 
-/// The stop of the diagonal run from the cell, where the aim has the rectangle.
+/// The stop of the diagonal run from the cell, where the aim has the rectangle. Each direction has a copy of its own of
+/// the code.
 pub fn diagonal<A: Aim>(
     plane: &ClassPlane,
     from: Cell,
@@ -346,9 +374,34 @@ pub fn diagonal<A: Aim>(
     ensures none { IfNone result
         ((stop : Cell) → ¬ IsDiagonalStop (is_passable plane.now) (A.hit aim.now plane.now.size) dir from stop) }
 {
-    let map = PlaneView { plane };
+    match dir {
+        Dir::NE => diagonal_to(plane, from, Dir::NE, rect, aim),
+        Dir::SE => diagonal_to(plane, from, Dir::SE, rect, aim),
+        Dir::SW => diagonal_to(plane, from, Dir::SW, rect, aim),
+        Dir::NW => diagonal_to(plane, from, Dir::NW, rect, aim),
+        Dir::N | Dir::E | Dir::S | Dir::W => None,
+    }
+}
+
+/// The stop of the diagonal run in this direction.
+#[inline(always)]
+fn diagonal_to<A: Aim>(
+    plane: &ClassPlane,
+    from: Cell,
+    dir: Dir,
+    rect: Rect,
+    aim: &A,
+) -> Option<Cell>
+    requires start { IsTrue (is_passable plane.now from) }
+    requires aim { A.sound aim.now plane.now.size }
+    requires frame { IsFrame (A.framed aim.now plane.now.size) plane.now.size rect }
+    ensures some { IfSome result
+        (IsDiagonalStop (is_passable plane.now) (A.hit aim.now plane.now.size) dir from) }
+    ensures none { IfNone result
+        ((stop : Cell) → ¬ IsDiagonalStop (is_passable plane.now) (A.hit aim.now plane.now.size) dir from stop) }
+{
     let mut cell = from;
-    'run: while let Some(next) = step(&map, Class::new(0), cell, dir) {
+    'run: while let Some(next) = next_cell(plane, cell, dir) {
         if halts_diagonal(plane, next, dir, rect, aim) {
             return Some(next);
         }

@@ -1,27 +1,60 @@
-//! The columns of a map, as the rows of the map turned.
-ghost use Rattle.std.specs.Prelude.{◌≡◌, ◌<◌, ◌/◌, ◌+◌, All, length, map, IfOk};
+//! The columns of a map, made from its rows.
+ghost use Rattle.std.specs.Prelude.{ℕ, ◌≡◌, ◌<◌, ◌≤◌, ◌/◌, ◌+◌, ◌-◌, ◌*◌, ◌++◌, false, All, length, slice_index, IfOk, OnOk};
 ghost use Rattle.std.specs.Int.{bit_at};
-ghost use Rattle.nav_types.specs.Cells.{IsInside, IsRectInside, cell_at};
-ghost use Rattle.nav_types.specs.Rows.{AreRowBits, bit_of};
-ghost use Rattle.class_planes.specs.inner.Lines.{AreRows, AreColumns, AreColumnsBefore, turned_rect, turned_size, free_cell};
+ghost use Rattle.nav_types.specs.Cells.{IsInRect, IsRectInside, cell_at};
+ghost use Rattle.lane_rows.specs.Rows.{one_if};
+ghost use Rattle.class_planes.specs.Planes.{IsOutside};
+ghost use Rattle.class_planes.specs.inner.Lines.{IsBand, AreLines, AreLinesBut, AreRows, AreColumns, AreColumnsBefore, HasNextLine, patched, free_cell};
 
 use crate::lines::Lines;
-use crate::rows::lines_of;
-use crate::updates::updated_lines;
-use nav_types::{Cell, Class, NoMemory, Rect, Rows, Size, View};
+use lane_rows::plane_words;
+use nav_types::{NoMemory, Rect, Size};
 use std::alloc::Global;
-use std::marker::Model;
 
-/// The columns of the map whose rows these are, as lines of bits. It reads the rows bit by bit.
+/// How many lines a band has.
+const BAND: u16 = 32;
+
+/// How many columns are read at once: one for each bit of a number.
+const GROUP: u8 = 16;
+
+/// The words of a line from one up to and without another.
+#[derive(Clone, Copy)]
+struct Span {
+    from: u16,
+    to: u16,
+}
+
+/// The columns of the map whose rows these are, as lines of bits.
 pub fn columns_of(alloc: Global, rows: &Lines, size: Size) -> Result<Lines, NoMemory>
     requires { AreRows (record { size = size; rows = rows.now }) }
     ensures { IfOk result (AreColumns (record { size = size; rows = rows.now })) }
 {
-    lines_of(alloc, &Turned { rows, size }, Class::new(0))
+    let blank = blank_lines(alloc, size.w / BAND + 1, usize::from(size.h) / 64 + 1)?;
+    let map = Rect {
+        i0: 0,
+        j0: 0,
+        i1: size.w - 1,
+        j1: size.h - 1,
+    };
+    updated_columns(alloc, rows, size, &blank, &[map])
+}
+
+/// So many bands of lines without a free place.
+fn blank_lines(alloc: Global, count: u16, words: usize) -> Result<Lines, NoMemory>
+    requires { words ≤ 33 }
+    ensures { IfOk result (AreLines (λ n i. false) count words) }
+{
+    let mut lines = Lines::with_capacity(alloc, usize::from(count), words)?;
+    for band in 0..count {
+        let zeros = vec![in alloc; 0; usize::from(BAND) * words]?;
+        lines.push(alloc, zeros)?;
+    }
+    Ok(lines)
 }
 
 /// The columns of the map whose rows these are, as lines of bits, where `before` are those of a map that is the same
-/// outside of the rectangles.
+/// outside of the rectangles. In a band that no rectangle meets they are shared, and in another the words are read
+/// anew in which the rectangles lie.
 pub fn updated_columns(
     alloc: Global,
     rows: &Lines,
@@ -34,85 +67,219 @@ pub fn updated_columns(
     requires before { AreColumnsBefore (record { size = size; rows = rows.now }) rects.now before.now }
     ensures { IfOk result (AreColumns (record { size = size; rows = rows.now })) }
 {
-    let turned = turned_rects(alloc, rects)?;
-    let view = Turned { rows, size };
-    updated_lines(alloc, &view, Class::new(0), before, &turned)
-}
-
-/// The rectangles with rows and columns changed over.
-fn turned_rects(alloc: Global, rects: &[Rect]) -> Result<Vec<Rect>, NoMemory>
-    ensures { IfOk result (λ turned. turned.items ≡ map turned_rect rects.now) }
-{
-    let mut turned = Vec::with_capacity(alloc, rects.len())?;
-    for rect in rects {
-        turned.push(Rect {
-            i0: rect.j0,
-            j0: rect.i0,
-            i1: rect.j1,
-            j1: rect.i1,
-        })?;
+    let count = size.w / BAND + 1;
+    let mut lines = Lines::with_capacity(alloc, usize::from(count), before.words())?;
+    for band in 0..count {
+        push_band(alloc, rows, size, before, rects, band, &mut lines)?;
     }
-    Ok(turned)
+    Ok(lines)
 }
 
-/// A map of one class whose row `n` is column `n` of another, which is given by its size and its rows.
-#[derive(Drop)]
-struct Turned<'a> {
-    rows: &'a Lines,
+/// Appends a band of columns to those before it. It is that of `before`, where no rectangle meets it.
+fn push_band(
+    alloc: Global,
+    rows: &Lines,
     size: Size,
-}
-
-impl<'a> Model for Turned<'a> {
-    ghost use Rattle.class_planes.specs.inner.Lines.{RowTable, AreRows};
-
-    ghost Value = { RowTable };
-
-    ghost view = { λ t. record { size = t.size; rows = t.rows.now } };
-
-    ghost invariant = { λ t. AreRows (record { size = t.size; rows = t.rows.now }) };
-}
-
-impl<'a> View for Turned<'a> {
-    ghost use Rattle.nav_types.specs.Cells.{cell_at};
-    ghost use Rattle.class_planes.specs.inner.Lines.{free_cell, turned_size};
-    ghost use Rattle.std.proofs.Common.{rules};
-
-    ghost extent = { λ t. turned_size t.size };
-
-    ghost class_count = { λ _. 1 };
-
-    ghost passes = { λ t class cell. free_cell t (cell_at cell.j cell.i) };
-
-    ghost within = { λ t class cell passes. Prim.search rules };
-
-    fn size(&self) -> Size {
-        Size {
-            w: self.size.h,
-            h: self.size.w,
-        }
-    }
-
-    fn classes(&self) -> u8 {
-        1
-    }
-
-    fn passable(&self, class: Class, cell: Cell) -> bool {
-        let _ = class;
-        self.rows.is_free(cell.i, cell.j)
-    }
-}
-
-impl<'a> Rows for Turned<'a> {
-    fn row_bits(&self, j: u16, out: &mut [u16]) {
-        for i in 0..self.size.h {
-            out[usize::from(i)] = blocked_number(self.rows.is_free(i, j));
-        }
-    }
-}
-
-/// The number of a cell of one class: bit 0 is set where the cell is not free.
-fn blocked_number(free: bool) -> u16
-    ensures { bit_at result 0 ≡ bit_of free }
+    before: &Lines,
+    rects: &[Rect],
+    band: u16,
+    lines: &mut Lines,
+) -> Result<(), NoMemory>
+    requires rows { AreRows (record { size = size; rows = rows.now }) }
+    requires inside { All (IsRectInside size) rects.now }
+    requires before { AreColumnsBefore (record { size = size; rows = rows.now }) rects.now before.now }
+    requires band { band < size.w / 32 + 1 }
+    requires lines { AreLines (λ i j. free_cell (record { size = size; rows = rows.now }) (cell_at i j)) band
+        (size.h / 64 + 1) lines.old }
+    ensures { OnOk result (AreLines (λ i j. free_cell (record { size = size; rows = rows.now }) (cell_at i j)) (band + 1)
+        (size.h / 64 + 1) lines.new) }
 {
-    u16::from(!free)
+    let span = words_met(rects, size, BAND * band);
+    if span.from >= span.to {
+        return lines.share(before, band);
+    }
+    let words = column_band(alloc, rows, size, before, span, band)?;
+    lines.push(alloc, words)
+}
+
+/// The words in which the rectangles meet the 32 columns from `first` on.
+fn words_met(rects: &[Rect], size: Size, first: u16) -> Span
+    requires inside { All (IsRectInside size) rects.now }
+    requires low { first ≤ 4096 }
+    ensures within { result.to ≤ size.h / 64 + 1 }
+    ensures outside { (i j : ℕ) → first ≤ i → i < first + 32
+        → (result.from ≤ j / 64 → j / 64 < result.to → ⊥) → IsOutside rects.now (cell_at i j) }
+{
+    let mut span = Span {
+        from: size.h / 64 + 1,
+        to: 0,
+    };
+    for rect in rects {
+        span = widened(span, size, *rect, first);
+    }
+    span
+}
+
+/// The span with the words in which the rectangle meets the 32 columns from `first` on.
+fn widened(span: Span, size: Size, rect: Rect, first: u16) -> Span
+    requires inside { IsRectInside size rect }
+    requires within { span.to ≤ size.h / 64 + 1 }
+    requires low { first ≤ 4096 }
+    ensures within { result.to ≤ size.h / 64 + 1 }
+    ensures from { result.from ≤ span.from }
+    ensures to { span.to ≤ result.to }
+    ensures met { (i j : ℕ) → first ≤ i → i < first + 32 → IsInRect rect (cell_at i j)
+        → (result.from ≤ j / 64) × (j / 64 < result.to) }
+{
+    if rect.i0 < first + BAND && first <= rect.i1 {
+        Span {
+            from: span.from.min(rect.j0 / 64),
+            to: span.to.max(rect.j1 / 64 + 1),
+        }
+    } else {
+        span
+    }
+}
+
+/// The words of a band of columns, where those of before are right outside of the span.
+fn column_band(
+    alloc: Global,
+    rows: &Lines,
+    size: Size,
+    before: &Lines,
+    span: Span,
+    band: u16,
+) -> Result<Vec<u64>, NoMemory>
+    requires rows { AreRows (record { size = size; rows = rows.now }) }
+    requires span { span.from < span.to }
+    requires within { span.to ≤ size.h / 64 + 1 }
+    requires before { AreLinesBut (λ i j. free_cell (record { size = size; rows = rows.now }) (cell_at i j)) band
+        span.from span.to (size.w / 32 + 1) (size.h / 64 + 1) before.now }
+    requires band { band < size.w / 32 + 1 }
+    ensures { IfOk result (λ words. IsBand
+        (λ i j. free_cell (record { size = size; rows = rows.now }) (cell_at i j)) (32 * band) (size.h / 64 + 1) 32
+        words.items) }
+{
+    let mut words = Vec::with_capacity(alloc, usize::from(BAND) * before.words())?;
+    push_columns(alloc, rows, size, before, span, band, 0, &mut words)?;
+    push_columns(alloc, rows, size, before, span, band, 1, &mut words)?;
+    Ok(words)
+}
+
+/// Appends the first or the second 16 columns of a band.
+fn push_columns(
+    alloc: Global,
+    rows: &Lines,
+    size: Size,
+    before: &Lines,
+    span: Span,
+    band: u16,
+    half: u16,
+    words: &mut Vec<u64>,
+) -> Result<(), NoMemory>
+    requires rows { AreRows (record { size = size; rows = rows.now }) }
+    requires span { span.from < span.to }
+    requires within { span.to ≤ size.h / 64 + 1 }
+    requires before { AreLinesBut (λ i j. free_cell (record { size = size; rows = rows.now }) (cell_at i j)) band
+        span.from span.to (size.w / 32 + 1) (size.h / 64 + 1) before.now }
+    requires band { band < size.w / 32 + 1 }
+    requires half { half < 2 }
+    requires words { IsBand (λ i j. free_cell (record { size = size; rows = rows.now }) (cell_at i j)) (32 * band)
+        (size.h / 64 + 1) (16 * half) words.old.items }
+    ensures { OnOk result (IsBand (λ i j. free_cell (record { size = size; rows = rows.now }) (cell_at i j)) (32 * band)
+        (size.h / 64 + 1) (16 * half + 16) words.new.items) }
+{
+    let numbers = numbers_of(alloc, rows, size, 2 * band + half, span)?;
+    for k in 0..GROUP {
+        let line = before.line(32 * band + 16 * half + u16::from(k));
+        push_column(alloc, line, span.from, &numbers, k, words)?;
+    }
+    Ok(())
+}
+
+/// The numbers of 16 columns in the rows of the span: bit k of number j is that of the cell
+/// (16 * group + k, 64 * span.from + j).
+fn numbers_of(
+    alloc: Global,
+    rows: &Lines,
+    size: Size,
+    group: u16,
+    span: Span,
+) -> Result<Vec<u16>, NoMemory>
+    requires rows { AreRows (record { size = size; rows = rows.now }) }
+    requires group { group / 4 < size.w / 64 + 1 }
+    requires span { span.from < span.to }
+    requires within { span.to ≤ 64 }
+    ensures long { IfOk result (λ numbers. length numbers.items ≡ 64 * (span.to - span.from)) }
+    ensures bits { IfOk result (λ numbers. (j k : ℕ) → j < length numbers.items → k < 16
+        → bit_at (slice_index numbers.items j) k
+        ≡ one_if (free_cell (record { size = size; rows = rows.now }) (cell_at (16 * group + k) (64 * span.from + j)))) }
+{
+    let count = usize::from(span.to - span.from);
+    let mut numbers = vec![in alloc; 0; 64 * count]?;
+    read_columns(rows, size, group, 64 * span.from, &mut numbers);
+    Ok(numbers)
+}
+
+/// Reads 16 columns from row `first` on: bit k of number j is set where the cell (16 * group + k, first + j) is free.
+fn read_columns(rows: &Lines, size: Size, group: u16, first: u16, numbers: &mut [u16])
+    requires rows { AreRows (record { size = size; rows = rows.now }) }
+    requires group { group / 4 < size.w / 64 + 1 }
+    requires room { first + length numbers.old ≤ 8192 }
+    ensures stays { length numbers.new ≡ length numbers.old }
+    ensures bits { (j k : ℕ) → j < length numbers.new → k < 16 → bit_at (slice_index numbers.new j) k
+        ≡ one_if (free_cell (record { size = size; rows = rows.now }) (cell_at (16 * group + k) (first + j))) }
+{
+    for j in 0..numbers.len() {
+        numbers[j] = number_at(rows, size, group, first + j as u16);
+    }
+}
+
+/// Row `j` of 16 columns. Past the last row no bit is set.
+fn number_at(rows: &Lines, size: Size, group: u16, j: u16) -> u16
+    requires rows { AreRows (record { size = size; rows = rows.now }) }
+    requires group { group / 4 < size.w / 64 + 1 }
+    ensures { (k : ℕ) → k < 16 → bit_at result k
+        ≡ one_if (free_cell (record { size = size; rows = rows.now }) (cell_at (16 * group + k) j)) }
+{
+    if j < size.h {
+        rows.sixteen(j, group)
+    } else {
+        0
+    }
+}
+
+/// Appends a column: the bits k of the numbers from word `from` on, and elsewhere the bits of the old one.
+fn push_column(
+    alloc: Global,
+    old: &[u64],
+    from: u16,
+    numbers: &[u16],
+    k: u8,
+    words: &mut Vec<u64>,
+) -> Result<(), NoMemory>
+    requires bit { k < 16 }
+    requires whole { length numbers.now ≡ 64 * (length numbers.now / 64) }
+    requires within { from + length numbers.now / 64 ≤ length old.now }
+    ensures { OnOk result (HasNextLine old.now numbers.now k from words.old.items words.new.items) }
+{
+    let mut part = vec![in alloc; 0; numbers.len() / 64]?;
+    plane_words(numbers, k, &mut part);
+    push_patched(old, usize::from(from), &part, words)
+}
+
+/// Appends the line with some of its words replaced.
+fn push_patched(
+    old: &[u64],
+    from: usize,
+    part: &[u64],
+    words: &mut Vec<u64>,
+) -> Result<(), NoMemory>
+    requires { from + length part.now ≤ length old.now }
+    ensures { OnOk result (words.new.items ≡ words.old.items ++ patched old.now from part.now) }
+{
+    words.extend_from_slice(&old[..from])?;
+    words.extend_from_slice(part)?;
+    words.extend_from_slice(&old[from + part.len()..])?;
+    Ok(())
 }

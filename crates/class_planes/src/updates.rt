@@ -1,5 +1,5 @@
 //! The lines of a map in which some rectangles have changed. Bands that no rectangle meets are shared.
-ghost use Rattle.std.specs.Prelude.{◌≡◌, ◌≢◌, ◌<◌, ◌≤◌, ◌+◌, ◌*◌, ◌/◌, ℕ, All, length, IsFalse, IfOk, OnOk};
+ghost use Rattle.std.specs.Prelude.{◌≡◌, ◌≢◌, ◌<◌, ◌≤◌, ◌+◌, ◌*◌, ◌/◌, ◌%◌, ℕ, All, length, IsFalse, IfOk, OnOk};
 ghost use Rattle.std.specs.Int.{bit_at};
 ghost use Rattle.nav_types.specs.Cells.{IsInRect, IsRectInside, cell_at};
 ghost use Rattle.lane_rows.specs.Rows.{one_if};
@@ -154,7 +154,7 @@ fn write_rect<V: View>(view: &V, class: Class, n: u16, rect: Rect, line: &mut [u
     }
 }
 
-/// Writes the bits of row `n` from column `i0` to column `i1`.
+/// Writes the bits of row `n` from column `i0` to column `i1`, word by word.
 fn write_span<V: View>(view: &V, class: Class, n: u16, i0: u16, i1: u16, line: &mut [u64])
     requires class { class < V.class_count view.now }
     requires row { n < (V.extent view.now).h }
@@ -166,20 +166,31 @@ fn write_span<V: View>(view: &V, class: Class, n: u16, i0: u16, i1: u16, line: &
         → bit_in line.new i ≡ one_if (V.passes view.now class (cell_at i n)) }
     ensures others { (i : ℕ) → (i0 ≤ i → i ≤ i1 → ⊥) → bit_in line.new i ≡ bit_in line.old i }
 {
-    for i in i0..i1 + 1 {
-        write_bit(line, i, view.passable(class, Cell::new(i, n)));
+    for w in i0 / 64..i1 / 64 + 1 {
+        let from = i0.max(64 * w);
+        let to = i1.min(64 * w + 63);
+        let at = usize::from(w);
+        line[at] = read_word(view, class, n, from, to, line[at]);
     }
 }
 
-/// Sets or clears the bit of a place of the line.
-fn write_bit(line: &mut [u64], place: u16, set: bool)
-    requires { place / 64 < length line.old }
-    ensures stays { length line.new ≡ length line.old }
-    ensures same { bit_in line.new place ≡ one_if set }
-    ensures others { (i : ℕ) → i ≢ place → bit_in line.new i ≡ bit_in line.old i }
+/// The word with the bits of row `n` from column `from` to column `to`, which are places of one word.
+fn read_word<V: View>(view: &V, class: Class, n: u16, from: u16, to: u16, word: u64) -> u64
+    requires class { class < V.class_count view.now }
+    requires row { n < (V.extent view.now).h }
+    requires ordered { from ≤ to }
+    requires one { from / 64 ≡ to / 64 }
+    requires column { to < (V.extent view.now).w }
+    ensures set { (i : ℕ) → from ≤ i → i ≤ to
+        → bit_at result (i % 64) ≡ one_if (V.passes view.now class (cell_at i n)) }
+    ensures others { (m : ℕ) → m < 64 → ((i : ℕ) → from ≤ i → i ≤ to → i % 64 ≡ m → ⊥)
+        → bit_at result m ≡ bit_at word m }
 {
-    let word = usize::from(place) / 64;
-    line[word] = with_bit(line[word], place % 64, set);
+    let mut bits = word;
+    for i in from..to + 1 {
+        bits = with_bit(bits, i % 64, view.passable(class, Cell::new(i, n)));
+    }
+    bits
 }
 
 /// The word with bit `k` set or cleared.

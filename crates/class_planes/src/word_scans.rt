@@ -40,6 +40,22 @@ impl<'a> Model for Lanes<'a> {
     ghost invariant = { λ l. AreLanes (record { mid = l.mid.now; left = l.left.now; right = l.right.now }) };
 }
 
+/// Word `w` of the line, with each bit a place up, and nothing said of the lowest place.
+fn shifted_up(line: &[u64], w: usize) -> u64
+    requires { w < length line.now }
+    ensures { (k : ℕ) → 0 < k → k < 64 → bit_at result k ≡ bit_in line.now (64 * w + k - 1) }
+{
+    line[w] << 1
+}
+
+/// Word `w` of the line, with each bit a place down, and nothing said of the highest place.
+fn shifted_down(line: &[u64], w: usize) -> u64
+    requires { w < length line.now }
+    ensures { (k : ℕ) → k < 63 → bit_at result k ≡ bit_in line.now (64 * w + k + 1) }
+{
+    line[w] >> 1
+}
+
 /// Word `w` of the line, with each bit a place up.
 fn moved_up(line: &[u64], w: usize) -> u64
     requires { w < length line.now }
@@ -125,6 +141,38 @@ impl<'a> Lanes<'a> {
         )
     }
 
+    /// The places of word `w` at which an upward run halts that begins in it. The lowest one says nothing.
+    fn first_ends_up(&self, w: usize) -> u64
+        requires { w < length self.now.mid }
+        ensures { (k : ℕ) → 0 < k → k < 64 → bit_at result k ≡ end_up self.now (64 * w + k) }
+    {
+        let left_before = shifted_up(self.left, w);
+        let right_before = shifted_up(self.right, w);
+        halting(
+            self.mid[w],
+            self.left[w],
+            left_before,
+            self.right[w],
+            right_before,
+        )
+    }
+
+    /// The places of word `w` at which a downward run halts that begins in it. The highest one says nothing.
+    fn first_ends_down(&self, w: usize) -> u64
+        requires { w < length self.now.mid }
+        ensures { (k : ℕ) → k < 63 → bit_at result k ≡ end_down self.now (64 * w + k) }
+    {
+        let left_before = shifted_down(self.left, w);
+        let right_before = shifted_down(self.right, w);
+        halting(
+            self.mid[w],
+            self.left[w],
+            left_before,
+            self.right[w],
+            right_before,
+        )
+    }
+
     /// The first place after `from` at which an upward run halts. Past the last word no place is free.
     fn next_up(&self, from: u16) -> u16
         requires { from / 64 < length self.now.mid }
@@ -132,7 +180,7 @@ impl<'a> Lanes<'a> {
     {
         let _ = &self.mid;
         let first = from as usize / 64;
-        let after = bits_after(self.ends_up(first), from % 64);
+        let after = bits_after(self.first_ends_up(first), from % 64);
         if after != 0 {
             return from + 1 + lowest(after);
         }
@@ -153,7 +201,7 @@ impl<'a> Lanes<'a> {
     {
         let _ = &self.mid;
         let mut w = from as usize / 64;
-        let before = bits_before(self.ends_down(w), from % 64);
+        let before = bits_before(self.first_ends_down(w), from % 64);
         if before != 0 {
             return Some(64 * w as u16 + highest(before));
         }

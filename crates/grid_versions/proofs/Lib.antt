@@ -10,6 +10,7 @@ pub mod PassingLemmas
 pub mod EditingLemmas
 pub mod PaintLemmas
 pub mod ReachLemmas
+pub mod ReacherLemmas
 pub mod VersionLemmas
 pub mod ChangeLemmas
 pub mod RemakeLemmas

@@ -1,12 +1,14 @@
 -- Rectangles that cover what an edit changes.
 use Rattle.std.proofs.Common.{◌≡◌, ◌≢◌, ◌==◌, ℕ, ℤ, Bool, true, false, ◌||◌, cond, List, ◌++◌}
 use Rattle.std.proofs.Common.{Option, None, Some, IsSomeAnd}
-use Rattle.std.proofs.Common.{IsFalse, refl, sym, ap, ⊎_elim, ◌∙◌}
+use Rattle.std.proofs.Common.{[], ◌∷◌, IsFalse, refl, sym, ap, subst, inl, inr, ⊎_elim, ◌∙◌}
 use Rattle.std.specs.Prelude.{option_to_list}
 use Rattle.std.specs.Cmp.{nat_cmp_total}
+use Rattle.std.specs.List.{Contains}
 use Rattle.std.specs.FinMap as fin_map
 use Rattle.std.proofs.lemmas.Bool.{cases_Bool, cases_eq, both_ways, or_parts, true_from_ne_false, false_from_ne_true}
 use Rattle.std.proofs.lemmas.List.Folds.{list_any-append}
+use Rattle.std.proofs.lemmas.List.Elements.{Contains-push, Contains-append_left}
 use Rattle.nav_types.specs.declared.cells.Cell.{Cell}
 use Rattle.nav_types.specs.declared.cells.Rect.{Rect}
 use Rattle.nav_types.specs.Cells.{IsInside, IsInRect}
@@ -22,7 +24,7 @@ use Rattle.grid_versions.specs.Maps.{Map}
 use Rattle.grid_versions.specs.Passing.{is_in_rect, is_blocked}
 use Rattle.grid_versions.specs.Fitting.{fits}
 use Rattle.grid_versions.specs.Editing.{edit_reply, after_edit, is_refused, with_edit}
-use Rattle.grid_versions.specs.inner.Reaching.{edited_id, is_in_some, HoldsReach, CoverChanges}
+use Rattle.grid_versions.specs.inner.Reaching.{edited_id, is_in_some, HoldsReach, CoverChanges, NameChanges}
 use Rattle.grid_versions.proofs.EditingLemmas.{after_add, after_remove, after_move}
 use Rattle.grid_versions.proofs.PassingLemmas.{in_rect_to, none_meets, any_none}
 
@@ -136,3 +138,43 @@ covers_more map first before now id rects was is others held holds covers = reco
 -- nothing has changed
 pub covers_none : (map : Map) (standing : Standing) (rects : List Rect) → CoverChanges map standing standing rects
 covers_none map standing rects = record { same = λ k cell inside out. refl }
+
+-- ---- which numbers have changed
+
+true_last : (x : Bool) → (x || true) ≡ true
+true_last true = refl
+true_last false = refl
+
+in_first : (xs ys : List Rect) (cell : Cell) → is_in_some xs cell ≡ true → is_in_some (xs ++ ys) cell ≡ true
+in_first xs ys cell is =
+    let in_cell : Rect → Bool = λ rect. is_in_rect rect cell in
+    list_any-append in_cell xs ys ∙ ap (λ b. b || is_in_some ys cell) is
+
+in_second : (xs ys : List Rect) (cell : Cell) → is_in_some ys cell ≡ true → is_in_some (xs ++ ys) cell ≡ true
+in_second xs ys cell is =
+    let in_cell : Rect → Bool = λ rect. is_in_rect rect cell in
+    list_any-append in_cell xs ys ∙ ap (λ b. is_in_some xs cell || b) is ∙ true_last (is_in_some xs cell)
+
+pub names_more : (map : Map) (first before now : Standing) (id : ℕ) (rects : List Rect) (ids : List ℕ)
+    (was is : Option Rect) → ((n : ℕ) → n ≢ id → fin_map.get now n ≡ fin_map.get before n) → HoldsReach map now id is
+    → NameChanges map first before rects ids
+    → NameChanges map first now ((rects ++ option_to_list was) ++ option_to_list is) (ids ++ id ∷ [])
+names_more map first before now id rects ids was is others holds names = record {
+  each = λ n. elim (cases_eq n id) [
+    | inl same ↦ inr (
+      subst (λ (m : ℕ). Contains (ids ++ id ∷ []) m) (sym same) (Contains-push ids id),
+      λ o stands k cell inside blocks.
+          in_second (rects ++ option_to_list was) (option_to_list is) cell
+          (some_in is cell (holds o (ap (λ m. fin_map.get now m) (sym same) ∙ stands) k cell inside blocks)),
+    )
+    | inr other ↦ elim (names.each n) [
+      | inl stays ↦ inl (others n other ∙ stays)
+      | inr named ↦ inr (
+        Contains-append_left ids (id ∷ []) n named.0,
+        λ o stands k cell inside blocks.
+            in_first (rects ++ option_to_list was) (option_to_list is) cell (in_first rects (option_to_list was) cell
+            (named.1 o (sym (others n other) ∙ stands) k cell inside blocks)),
+      )
+    ]
+  ];
+}

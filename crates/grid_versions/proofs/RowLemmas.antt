@@ -12,7 +12,6 @@ use Rattle.nav_types.specs.Cells.{IsInside, IsInRect, cell_at, chunk_at, chunk_o
 use Rattle.nav_types.specs.Numbering.{Numbering, columns, number_of}
 use Rattle.nav_types.specs.Rows.{bit_of}
 use Rattle.nav_types.proofs.CellOrder.{same_chunk}
-use Rattle.chunk_regions.specs.Labelling.{chunk_rect}
 use Rattle.obstruction_store.specs.Standing.{Standing}
 use Rattle.grid_versions.specs.Maps.{Map}
 use Rattle.grid_versions.specs.Passing.{passable_at}

@@ -28,6 +28,7 @@ use Rattle.grid_versions.specs.Maps.{Map}
 use Rattle.grid_versions.specs.Passing.{passable_at, is_inside}
 use Rattle.grid_versions.specs.Versions.{MapState, map_state, passes_of}
 use Rattle.grid_versions.specs.inner.Painting.{is_covered, IsPaintedChunk, AreBaseChunks, ArePaintedChunks, AreDiffering}
+use Rattle.grid_versions.specs.inner.Reachers.{AreReachers}
 use Rattle.grid_versions.specs.Chunks.{chunk_count, chunk_place}
 use Rattle.grid_versions.specs.inner.ChunkLists.{chunk_numbered, IsChunkInside}
 use Rattle.grid_versions.specs.inner.Tables.{Tables, AreTables}
@@ -302,9 +303,9 @@ compared_more before now bits n set b long each so_far is place c d other at_c a
 -- ---- a version from its parts
 
 -- the tables at a class's place are those of the class
-pub class_table : (map : Map) (standing : Standing) (base cells : List Numbering) (planes : List (Option PlaneCells)) (tables : List Tables)
-    → AreParts map standing base cells planes tables → (class index : ℕ) (found : Tables) → index ≡ class → slice_get tables index ≡ Some found → AreTables (passable_at map standing class) map.size found
-class_table map standing base cells planes tables parts class index found same at =
+pub class_table : (map : Map) (standing : Standing) (base : List Numbering) (reachers : List (List ℕ)) (cells : List Numbering) (planes : List (Option PlaneCells)) (tables : List Tables)
+    → AreParts map standing base reachers cells planes tables → (class index : ℕ) (found : Tables) → index ≡ class → slice_get tables index ≡ Some found → AreTables (passable_at map standing class) map.size found
+class_table map standing base reachers cells planes tables parts class index found same at =
     parts.tables_are.are class found (ap (λ i. slice_get tables i) (sym same) ∙ at)
 
 -- the numbers at the place of a cell's chunk are the chunk's
@@ -331,20 +332,21 @@ chunks_of_one_map one other standing cells same of = subst (λ (m : Map). ArePai
 
 -- ---- a version from its parts
 
-pub parts_of : (map spec : Map) (standing : Standing) (painted : MapState) (count : ℕ) (base cells : List Numbering)
-    (planes : List (Option PlaneCells)) (tables : List Tables)
-    → spec ≡ map → painted ≡ map_state spec standing → AllFit map.size standing → AreBaseChunks map base
-    → ArePaintedChunks spec standing cells → count ≡ length spec.classes → count ≤ 16
+pub parts_of : (map spec : Map) (standing : Standing) (painted planed : MapState) (count : ℕ) (base : List Numbering)
+    (reachers : List (List ℕ)) (cells : List Numbering) (planes : List (Option PlaneCells)) (tables : List Tables)
+    → spec ≡ map → painted ≡ map_state spec standing → planed ≡ map_state spec standing → AllFit map.size standing → AreBaseChunks map base
+    → AreReachers spec standing reachers → ArePaintedChunks spec standing cells → count ≡ length spec.classes → count ≤ 16
     → ArePlanes painted.map.size (passes_of painted) 65535 (length painted.map.classes) planes
-    → AreTablesOf count (passes_of painted) painted.map.size tables → AreParts map standing base cells planes tables
-parts_of map spec standing painted count base cells planes tables same is fit under are many few planes_of of =
+    → AreTablesOf count (passes_of planed) planed.map.size tables → AreParts map standing base reachers cells planes tables
+parts_of map spec standing painted planed count base reachers cells planes tables same is planed_is fit under near are many few planes_of of =
     let each = of.each in
-    let one = subst (λ (s : MapState). AreTablesOf count (passes_of s) s.map.size tables) is of in
+    let one = subst (λ (s : MapState). AreTablesOf count (passes_of s) s.map.size tables) planed_is of in
     let two = subst (λ (n : ℕ). AreTablesOf n (passable_at spec standing) spec.size tables) many one in
     let all = subst (λ (s : MapState). ArePlanes s.map.size (passes_of s) 65535 (length s.map.classes) planes) is planes_of in
     record {
       fit = fit;
       base_are = under;
+      reachers_are = subst (λ (m : Map). AreReachers m standing reachers) same near;
       cells_are = chunks_of_one_map spec map standing cells same are;
       planes_are = subst (λ (m : Map). ArePlanes m.size (passable_at m standing) 65535 (length m.classes) planes) same all;
       tables_are = subst (λ (m : Map). AreTablesOf (length m.classes) (passable_at m standing) m.size tables) same two;

@@ -6,6 +6,6 @@ pub mod Building
 pub mod Tallying
 pub mod Painting
 pub mod Reaching
+pub mod Reachers
 pub mod Parts
 pub mod Changing
-pub mod FreeBits

@@ -1,12 +1,14 @@
 //! The passable cells of a chunk as bits.
-ghost use Rattle.std.specs.Prelude.{ℕ, ◌≡◌, ◌<◌, ◌≤◌, ◌+◌, ◌*◌, ◌^◌, ◌++◌, drop, length};
-ghost use Rattle.grid_versions.specs.inner.FreeBits.{AreFreeInRow, AreFreeInPatch};
+ghost use Rattle.std.specs.Prelude.{ℕ, ◌≡◌, ◌<◌, ◌≤◌, ◌+◌, ◌*◌, ◌/◌, ◌%◌, ◌^◌, slice_index};
+ghost use Rattle.std.specs.Int.{bit_at};
+ghost use Rattle.chunk_regions.specs.Labelling.{AreBitsOf};
+ghost use Rattle.class_planes.specs.Planes.{is_passable};
+ghost use Rattle.grid_versions.specs.inner.ChunkLists.{IsChunkInside};
 
+use crate::chunks::cells_of;
 use chunk_regions::ChunkBits;
-use lane_rows::plane_words;
-use nav_types::limits::CHUNK_SIDE;
+use class_planes::ClassPlane;
 use nav_types::{Chunk, Class, View};
-use navcell_grid::Patch;
 
 /// The bits of all columns of a chunk.
 const ALL_COLUMNS: u128 = (1 << 96) - 1;
@@ -24,39 +26,35 @@ pub trait BitView: View {
         ensures { AreBitsOf (Self.passes self.now class) chunk result };
 }
 
-/// The cells of a patch that are free for the class, as bits.
-pub fn free_cells(patch: &Patch, class: Class) -> ChunkBits
-    ensures { AreFreeInPatch class patch.now result }
+/// The passable cells of a chunk by the plane of a class, as bits.
+pub fn passable_cells(plane: &ClassPlane, chunk: Chunk) -> ChunkBits
+    requires { IsChunkInside plane.now.size chunk }
+    ensures { AreBitsOf (is_passable plane.now) chunk result }
 {
-    let rect = patch.rect();
+    let rect = cells_of(plane.size(), chunk);
     let mut bits = ChunkBits::new();
     for j in rect.j0..rect.j1 + 1 {
-        bits.set_row(j - rect.j0, free_in_row(patch.row(j), class.number()));
+        bits.set_row(j - rect.j0, bits_from(plane.row_words(j), rect.i0));
     }
     bits
 }
 
-/// The numbers of a row that are free for the class, as bits.
-fn free_in_row(row: &[u16], class: u8) -> u128
-    requires class { class < 16 }
-    requires short { length row.now ≤ 96 }
+/// The bits of a line's words for the 96 places from one on, which lies in the first half of its word.
+fn bits_from(words: &[u64], from: u16) -> u128
+    requires half { from % 64 ≤ 32 }
     ensures few { result < 2 ^ 96 }
-    ensures bits { AreFreeInRow class row.now result }
+    ensures bits { (k : ℕ) → k < 96
+        → bit_at result k ≡ bit_at (slice_index words.now ((from + k) / 64)) ((from + k) % 64) }
 {
-    // Past the row each number has every bit set, as that of an impassable cell.
-    let mut numbers = [u16::MAX; CHUNK_SIDE as usize];
-    copy_front(&mut numbers, row);
-    let mut words = [0; 2];
-    plane_words(&numbers, class, &mut words);
-    !joined(words[0], words[1]) & ALL_COLUMNS
+    let at = usize::from(from) / 64;
+    (joined(word_at(words, at), word_at(words, at + 1)) >> (from % 64)) & ALL_COLUMNS
 }
 
-/// Writes the row over the front of the numbers. The rest of them stays.
-fn copy_front(numbers: &mut [u16], row: &[u16])
-    requires { length row.now ≤ length numbers.old }
-    ensures { numbers.new ≡ row.now ++ drop (length row.now) numbers.old }
+/// The word at a place, 0 past the last.
+fn word_at(words: &[u64], at: usize) -> u64
+    ensures { result ≡ slice_index words.now at }
 {
-    numbers[..row.len()].copy_from_slice(row);
+    words.get(at).copied().unwrap_or(0)
 }
 
 /// One word of two.

@@ -14,6 +14,8 @@ mod next_cells;
 mod painted_map;
 mod painting;
 mod parts;
+mod planed_map;
+mod reachers;
 mod relabelling;
 mod shared_list;
 mod standing_edits;

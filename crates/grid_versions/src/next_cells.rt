@@ -8,6 +8,7 @@ ghost use Rattle.obstruction_store.specs.Standing.{AllFit};
 ghost use Rattle.grid_versions.specs.Chunks.{chunk_count};
 ghost use Rattle.grid_versions.specs.inner.ChunkLists.{chunk_numbered};
 ghost use Rattle.grid_versions.specs.inner.Painting.{AreBaseChunks, ArePaintedChunks, IsPaintedChunk, AreDiffering};
+ghost use Rattle.grid_versions.specs.inner.Reachers.{AreReachers};
 ghost use Rattle.grid_versions.specs.inner.Reaching.{AreBefore};
 
 use crate::chunk_cells::ChunkCells;
@@ -17,7 +18,7 @@ use crate::parts::dirty_part;
 use crate::shared_list::SharedList;
 use nav_types::{NoMemory, Rect};
 use navcell_grid::Patch;
-use obstruction_store::Store;
+use obstruction_store::{Ids, Store};
 use std::alloc::Global;
 use std::sync::Arc;
 
@@ -29,12 +30,14 @@ fn next_patch(
     map: &MapSpec,
     shapes: &Store,
     base: &SharedList<Patch>,
+    reachers: &SharedList<Ids>,
     before: &SharedList<ChunkCells>,
     reaches: &[Rect],
     place: usize,
 ) -> Result<(Arc<ChunkCells, Global>, u16), NoMemory>
     requires fit { AllFit map.now.size shapes.now }
     requires base { AreBaseChunks map.now base.now }
+    requires reachers { AreReachers map.now shapes.now reachers.now }
     requires before { AreBefore map.now shapes.now before.now reaches.now }
     requires place { place < chunk_count map.now.size }
     ensures painted { IfOk result (λ next. IsPaintedChunk map.now shapes.now (chunk_numbered map.now.size place)
@@ -47,7 +50,16 @@ fn next_patch(
     let Some(part) = dirty_part(reaches, old.rect()) else {
         return Ok((before.shared(place)?, 0));
     };
-    let patch = repainted(alloc, map, shapes, base.at(place), old, part)?;
+    let near = reachers.at(place);
+    let patch = repainted(
+        alloc,
+        map,
+        shapes,
+        near.as_slice(),
+        base.at(place),
+        old,
+        part,
+    )?;
     let bits = old.differs_in(&patch, part);
     if bits == 0 {
         return Ok((before.shared(place)?, 0));
@@ -63,11 +75,13 @@ pub fn next_patches(
     map: &MapSpec,
     shapes: &Store,
     base: &SharedList<Patch>,
+    reachers: &SharedList<Ids>,
     before: &SharedList<ChunkCells>,
     reaches: &[Rect],
 ) -> Result<(SharedList<ChunkCells>, Vec<u16>), NoMemory>
     requires fit { AllFit map.now.size shapes.now }
     requires base { AreBaseChunks map.now base.now }
+    requires reachers { AreReachers map.now shapes.now reachers.now }
     requires before { AreBefore map.now shapes.now before.now reaches.now }
     ensures painted { IfOk result (λ next. ArePaintedChunks map.now shapes.now next.0) }
     ensures bits { IfOk result (λ next. AreDiffering before.now next.0 next.1.items) }
@@ -76,7 +90,7 @@ pub fn next_patches(
     let mut all = SharedList::with_capacity(alloc, count)?;
     let mut changed = Vec::with_capacity(alloc, count)?;
     for place in 0..count {
-        let (patch, bits) = next_patch(alloc, map, shapes, base, before, reaches, place)?;
+        let (patch, bits) = next_patch(alloc, map, shapes, base, reachers, before, reaches, place)?;
         all.push_shared(alloc, patch)?;
         changed.push(bits)?;
     }

@@ -1,14 +1,12 @@
-//! A map whose cells are painted, before its tables are made.
+//! A map whose cells are painted, before its planes are made.
 ghost use Rattle.std.specs.Prelude.{ℕ, ◌≡◌, ◌+◌, ◌≤◌, ◌<◌, length, slice_index};
 ghost use Rattle.grid_versions.specs.Versions.{map_state};
 ghost use Rattle.grid_versions.specs.inner.Painting.{ArePaintedChunks};
 
-use crate::chunk_bits::{BitView, free_cells};
 use crate::chunk_cells::ChunkCells;
 use crate::chunks;
 use crate::maps::MapSpec;
 use crate::shared_list::SharedList;
-use chunk_regions::ChunkBits;
 use nav_types::limits::CHUNK_SIDE;
 use nav_types::{Cell, Chunk, Class, Rows, Size, View};
 use obstruction_store::Store;
@@ -77,13 +75,6 @@ impl<'a> View for PaintedMap<'a> {
     fn passable(&self, class: Class, cell: Cell) -> bool {
         let place = chunks::place_of(self.map.size(), cell.chunk());
         self.cells.at(place as usize).is_free(class, cell)
-    }
-}
-
-impl<'a> BitView for PaintedMap<'a> {
-    fn bits(&self, class: Class, chunk: Chunk) -> ChunkBits {
-        let place = chunks::place_of(self.map.size(), chunk);
-        free_cells(self.cells.at(place as usize).patch(), class)
     }
 }
 

@@ -11,6 +11,7 @@ ghost use Rattle.clearance_raster.specs.inner.TestRasters.{IsRasterIn};
 ghost use Rattle.obstruction_store.specs.Standing.{AllFit};
 ghost use Rattle.grid_versions.specs.Passing.{is_in_rect, has_base, is_blocked};
 ghost use Rattle.grid_versions.specs.inner.Painting.{AreBaseChunks, ArePaintedChunks};
+ghost use Rattle.grid_versions.specs.inner.Reachers.{blocks_under, HoldReachers, AreReachers};
 
 use crate::chunk_cells::ChunkCells;
 use crate::chunks;
@@ -21,7 +22,7 @@ use clearance_raster::{raster_in, reach_of};
 use nav_types::{NoMemory, Rect};
 use navcell_grid::Patch;
 use obstruction_shapes::Obstruction;
-use obstruction_store::Store;
+use obstruction_store::{Ids, Store};
 use std::alloc::Global;
 
 /// The numbers of each chunk's cells under the base rectangles alone: bit k is set exactly where a base rectangle
@@ -40,14 +41,16 @@ pub fn base_patches(alloc: Global, map: &MapSpec) -> Result<SharedList<Patch>, N
 }
 
 /// The numbers of each chunk's cells: bit k is set exactly where a base rectangle or an obstruction covers the cell for
-/// class k.
+/// class k. The lists have the obstructions that reach into each chunk.
 pub fn painted_patches(
     alloc: Global,
     map: &MapSpec,
     shapes: &Store,
+    reachers: &SharedList<Ids>,
     base: &SharedList<Patch>,
 ) -> Result<SharedList<ChunkCells>, NoMemory>
     requires fit { AllFit map.now.size shapes.now }
+    requires reachers { AreReachers map.now shapes.now reachers.now }
     requires base { AreBaseChunks map.now base.now }
     ensures { IfOk result (ArePaintedChunks map.now shapes.now) }
 {
@@ -57,7 +60,8 @@ pub fn painted_patches(
     for place in 0..count {
         let under = base.at(place as usize);
         let rect = chunks::cells_of(size, chunks::numbered(size, place));
-        let patch = repainted(alloc, map, shapes, under, under, rect)?;
+        let near = reachers.at(place as usize);
+        let patch = repainted(alloc, map, shapes, near.as_slice(), under, under, rect)?;
         all.push(alloc, ChunkCells::new(alloc, patch)?)?;
     }
     Ok(all)
@@ -118,16 +122,19 @@ fn paint_part(patch: &mut Patch, rect: Rect, part: Rect, mask: u16)
 }
 
 /// A copy of a patch in which the cells of a part are painted anew: each has the number that it has under the base
-/// rectangles, with the bits of the obstructions. The part lies in the patch and in the map.
+/// rectangles, with the bits of the obstructions. The part lies in the patch and in the map, and the list has the
+/// obstructions that reach into it.
 pub fn repainted(
     alloc: Global,
     map: &MapSpec,
     shapes: &Store,
+    near: &[u32],
     base: &Patch,
     old: &Patch,
     part: Rect,
 ) -> Result<Patch, NoMemory>
     requires fit { AllFit map.now.size shapes.now }
+    requires near { HoldReachers map.now shapes.now part near.now }
     requires base { base.now.rect ≡ old.now.rect }
     requires inside { IsRectInside map.now.size part }
     requires part { IsPartOf old.now.rect part }
@@ -141,21 +148,36 @@ pub fn repainted(
 {
     let mut patch = old.copy(alloc)?;
     patch.copy_rect(base, part);
-    paint_shapes(&mut patch, part, map, shapes);
+    paint_shapes(&mut patch, part, map, shapes, near);
     let _ = patch.rect();
     Ok(patch)
 }
 
-/// Sets the bits of all obstructions in a part of a patch.
-fn paint_shapes(patch: &mut Patch, part: Rect, map: &MapSpec, shapes: &Store)
+/// Sets the bits of all obstructions in a part of a patch. The list has those that reach into it.
+fn paint_shapes(patch: &mut Patch, part: Rect, map: &MapSpec, shapes: &Store, near: &[u32])
     requires fit { AllFit map.now.size shapes.now }
+    requires near { HoldReachers map.now shapes.now part near.now }
     requires inside { IsRectInside map.now.size part }
     requires part { IsPartOf patch.old.rect part }
     ensures rect { patch.new.rect ≡ patch.old.rect }
     ensures set { IsRasterIn patch.old.rect part (is_blocked map.now shapes.now)
         (number_of patch.old) (number_of patch.new) }
 {
-    'shapes: for (_, obstruction) in shapes.entries() {
+    for id in near {
+        paint_listed(patch, part, *id, map, shapes);
+    }
+}
+
+/// Sets the bits of the obstruction of the number, if one stands under it, in a part of a patch.
+fn paint_listed(patch: &mut Patch, part: Rect, id: u32, map: &MapSpec, shapes: &Store)
+    requires fit { AllFit map.now.size shapes.now }
+    requires inside { IsRectInside map.now.size part }
+    requires part { IsPartOf patch.old.rect part }
+    ensures rect { patch.new.rect ≡ patch.old.rect }
+    ensures set { IsRasterIn patch.old.rect part (λ k cell. blocks_under map.now shapes.now k cell id)
+        (number_of patch.old) (number_of patch.new) }
+{
+    if let Some(obstruction) = shapes.get(id) {
         paint_shape(patch, part, obstruction, map);
     }
 }

@@ -4,14 +4,14 @@ ghost use Rattle.obstruction_store.specs.Standing.{Standing, AllFit};
 ghost use Rattle.grid_versions.specs.Fitting.{fits};
 ghost use Rattle.grid_versions.specs.Editing.{edit_reply, after_edit, add_reply, remove_reply};
 ghost use Rattle.grid_versions.specs.Editing.{after_edits, edit_replies};
-ghost use Rattle.grid_versions.specs.inner.Reaching.{CoverChanges, HoldsReach};
+ghost use Rattle.grid_versions.specs.inner.Reaching.{CoverChanges, HoldsReach, NameChanges};
 
 use crate::edits::{Edit, EditReplies, EditReply, Refusal};
 use crate::maps::MapSpec;
 use clearance_raster::reach_of;
 use nav_types::{NoMemory, Rect, Sequence, Size};
 use obstruction_shapes::{Shape, check};
-use obstruction_store::{AddRefusal, MoveRefusal, Store};
+use obstruction_store::{AddRefusal, Ids, MoveRefusal, Store};
 use std::alloc::Global;
 
 /// Rectangles in which obstructions can block cells.
@@ -55,7 +55,7 @@ fn apply(map: &MapSpec, shapes: &mut Store, edit: Edit) -> Result<EditReply, NoM
 
 /// The cells that the obstruction of the number can block. None where nothing stands under the number, or what stands
 /// there blocks no cell.
-fn reach_under(map: &MapSpec, shapes: &Store, id: u32) -> Option<Rect>
+pub fn reach_under(map: &MapSpec, shapes: &Store, id: u32) -> Option<Rect>
     requires { AllFit map.now.size shapes.now }
     ensures { HoldsReach map.now shapes.now id result }
 {
@@ -73,19 +73,23 @@ fn list(reaches: &mut Reaches, reach: Option<Rect>) -> Result<(), NoMemory>
     Ok(())
 }
 
-/// Applies one edit, replies to it, and lists where its obstruction can block cells before and after: the rectangles
-/// that covered what has changed since some earlier time cover it then, too. A refused edit lists nothing.
+/// Applies one edit, replies to it, and lists where its obstruction can block cells before and after, and its number: the
+/// rectangles that covered what has changed since some earlier time cover it then, too, and the numbers name it. A
+/// refused edit lists nothing.
 fn apply_listed(
     map: &MapSpec,
     shapes: &mut Store,
     edit: Edit,
     reaches: &mut Reaches,
+    ids: &mut Ids,
 ) -> Result<EditReply, NoMemory>
     requires { AllFit map.now.size shapes.old }
     ensures reply { IfOk result (λ reply. reply ≡ edit_reply map.now shapes.old edit) }
     ensures standing { OnOk result (shapes.new ≡ after_edit map.now shapes.old edit) }
     ensures covers { OnOk result ((first : Standing) → CoverChanges map.now first shapes.old reaches.old
         → CoverChanges map.now first shapes.new reaches.new) }
+    ensures names { OnOk result ((first : Standing) → NameChanges map.now first shapes.old reaches.old ids.old
+        → NameChanges map.now first shapes.new reaches.new ids.new) }
 {
     let id = edit.id();
     let before = reach_under(map, shapes, id);
@@ -96,26 +100,31 @@ fn apply_listed(
     let after = reach_under(map, shapes, id);
     list(reaches, before)?;
     list(reaches, after)?;
+    ids.push(id)?;
     Ok(reply)
 }
 
-/// Applies the edits one after another, replies to each, and lists rectangles that cover what changes.
+/// Applies the edits one after another, replies to each, and lists rectangles that cover what changes, and the numbers
+/// under which it stands.
 pub fn apply_all(
     alloc: Global,
     map: &MapSpec,
     shapes: &mut Store,
     edits: &[Edit],
     reaches: &mut Reaches,
+    ids: &mut Ids,
 ) -> Result<EditReplies, NoMemory>
     requires { AllFit map.now.size shapes.old }
     ensures replies { IfOk result (λ replies. replies ≡ edit_replies map.now shapes.old edits.now) }
     ensures standing { OnOk result (shapes.new ≡ after_edits map.now shapes.old edits.now) }
     ensures covers { OnOk result ((first : Standing) → CoverChanges map.now first shapes.old reaches.old
         → CoverChanges map.now first shapes.new reaches.new) }
+    ensures names { OnOk result ((first : Standing) → NameChanges map.now first shapes.old reaches.old ids.old
+        → NameChanges map.now first shapes.new reaches.new ids.new) }
 {
     let mut replies = EditReplies::new(alloc);
     for edit in edits {
-        replies.push(apply_listed(map, shapes, *edit, reaches)?)?;
+        replies.push(apply_listed(map, shapes, *edit, reaches, ids)?)?;
     }
     Ok(replies)
 }

@@ -16,6 +16,8 @@ use crate::maps::MapSpec;
 use crate::next_cells::next_patches;
 use crate::painted_map::PaintedMap;
 use crate::painting::{base_patches, painted_patches};
+use crate::planed_map::PlanedMap;
+use crate::reachers::{all_reachers, next_reachers};
 use crate::relabelling::marks_below;
 use crate::shared_list::SharedList;
 use crate::tables::ClassTables;
@@ -23,7 +25,7 @@ use crate::versions::Tallies;
 use class_planes::Planes;
 use nav_types::{Areas, Cell, Class, NoMemory, Rect, Size, Ticks, View};
 use navcell_grid::Patch;
-use obstruction_store::Store;
+use obstruction_store::{Ids, Store};
 use reach_sets::RegionId;
 use std::alloc::Global;
 use std::marker::Model;
@@ -38,6 +40,8 @@ pub struct VersionParts {
     shapes: Arc<Store, Global>,
     // The cells under the base rectangles alone.
     base: SharedList<Patch>,
+    // For each chunk the numbers of the obstructions that reach into it.
+    reachers: SharedList<Ids>,
     cells: SharedList<ChunkCells>,
     planes: Planes,
     tables: SharedList<ClassTables>,
@@ -59,13 +63,13 @@ impl Model for VersionParts {
 
     ghost view = { λ v. map_state (arc_value v.map) (arc_value v.shapes) };
 
-    ghost invariant = { λ v. AreParts (arc_value v.map) (arc_value v.shapes) v.base v.cells v.planes v.tables };
+    ghost invariant = { λ v. AreParts (arc_value v.map) (arc_value v.shapes) v.base v.reachers v.cells v.planes v.tables };
 }
 
 impl VersionParts {
     ghost use Rattle.grid_versions.specs.Versions.{map_state, passes_of};
     ghost use Rattle.grid_versions.specs.inner.Parts.{AreParts};
-    ghost use Rattle.grid_versions.specs.inner.Reaching.{CoverChanges};
+    ghost use Rattle.grid_versions.specs.inner.Reaching.{CoverChanges, NameChanges};
 
     /// The parts of the version of this map and these obstructions, as `Version::build` says.
     pub fn build<L: Ledger>(
@@ -102,15 +106,19 @@ impl VersionParts {
     {
         let spec: &MapSpec = &map;
         let base = base_patches(alloc, spec)?;
-        let cells = painted_patches(alloc, spec, &shapes, &base)?;
+        let reachers = all_reachers(alloc, spec, &shapes)?;
+        let cells = painted_patches(alloc, spec, &shapes, &reachers, &base)?;
         let painted = PaintedMap::new(spec, &shapes, &cells);
         let planes = Planes::build(alloc, &painted, u16::MAX)?;
-        let tables = class_tables(alloc, &painted, spec.classes().count(), ticks)?;
+        let classes = spec.classes().count();
+        let planed = PlanedMap::new(spec, &shapes, &planes);
+        let tables = class_tables(alloc, &planed, classes, ticks)?;
         let shapes = Arc::new(alloc, shapes)?;
         Ok(VersionParts {
             map,
             shapes,
             base,
+            reachers,
             cells,
             planes,
             tables,
@@ -118,17 +126,20 @@ impl VersionParts {
     }
 
     /// The parts of the version of this map and other obstructions, all of which fit the map, and in how many pairs of chunk and
-    /// class it differs from this one. The rectangles cover what has changed. Only their cells are painted, each pair
-    /// that differs is labelled once, and what lies elsewhere is shared.
+    /// class it differs from this one. The rectangles cover what has changed, and the list has the numbers under which it
+    /// stands. Only the rectangles' cells are painted, each pair that differs is labelled once, and what lies elsewhere is
+    /// shared.
     pub fn updated<L: Ledger>(
         &self,
         alloc: Global,
         shapes: Store,
         reaches: &[Rect],
+        ids: &[u32],
         ticks: &mut Ticks<L>,
     ) -> Result<(VersionParts, u32), NoMemory>
         requires fit { AllFit self.now.map.size shapes }
         requires covers { CoverChanges self.now.map self.now.standing shapes reaches.now }
+        requires names { NameChanges self.now.map self.now.standing shapes reaches.now ids.now }
         ensures version { IfOk result (λ next. next.0 ≡ map_state self.now.map shapes) }
         ensures relabelled { IfOk result (λ next. HasRelabelled (length self.now.map.classes) (passes_of self.now)
             (passes_of (map_state self.now.map shapes)) next.1) }
@@ -136,16 +147,27 @@ impl VersionParts {
             (passes_of (map_state self.now.map shapes)) count → ticks.new ≤ ticks.old + count }
     {
         let map: &MapSpec = &self.map;
-        let (cells, changed) = next_patches(alloc, map, &shapes, &self.base, &self.cells, reaches)?;
+        let reachers = next_reachers(alloc, map, &shapes, &self.reachers, reaches, ids)?;
+        let (cells, changed) = next_patches(
+            alloc,
+            map,
+            &shapes,
+            &self.base,
+            &reachers,
+            &self.cells,
+            reaches,
+        )?;
         let painted = PaintedMap::new(map, &shapes, &cells);
         let parts = changed_parts(alloc, map.size(), reaches, &changed)?;
         let planes = self.planes.updated(alloc, &painted, &parts)?;
-        let tables = next_tables(alloc, &painted, &self.tables, &changed, ticks)?;
+        let planed = PlanedMap::new(map, &shapes, &planes);
+        let tables = next_tables(alloc, &planed, &self.tables, &changed, ticks)?;
         let relabelled = marks_below(&changed, map.classes().count());
         let parts = VersionParts {
             map: Arc::try_clone(&self.map)?,
             shapes: Arc::new(alloc, shapes)?,
             base: self.base.share(alloc)?,
+            reachers,
             cells,
             planes,
             tables,

@@ -14,7 +14,7 @@ use crate::standing_edits::{Reaches, apply_all};
 use crate::version_parts::VersionParts;
 use class_planes::Planes;
 use nav_types::{Areas, Cell, Class, NoMemory, Size, Ticks, View};
-use obstruction_store::Store;
+use obstruction_store::{Ids, Store};
 use reach_sets::RegionId;
 use std::alloc::Global;
 use std::marker::Model;
@@ -119,14 +119,22 @@ impl Version {
         let parts: &VersionParts = &self.parts;
         let mut shapes = parts.shapes().copy(alloc)?;
         let mut reaches = Reaches::new(alloc);
+        let mut ids = Ids::new(alloc);
         let replies = apply_all(
             alloc,
             parts.map(),
             &mut shapes,
             edits.as_slice(),
             &mut reaches,
+            &mut ids,
         )?;
-        let (next, relabelled) = parts.updated(alloc, shapes, reaches.as_slice(), ticks)?;
+        let (next, relabelled) = parts.updated(
+            alloc,
+            shapes,
+            reaches.as_slice(),
+            ids.as_slice(),
+            ticks,
+        )?;
         Ok(Next {
             version: Version {
                 parts: Arc::new(alloc, next)?,

@@ -1,4 +1,4 @@
 pub mod Turning
 pub mod Keeping
 pub mod Running
-pub mod Gathered
+pub mod Pruned

@@ -71,7 +71,7 @@ back_from_blocked passes cell arrived side straight blocked free =
     let found = cell_before arrived (aside_to side arrived) (behind_to side arrived) (goes_aside side arrived straight) cell free.0 free.1.0 in
     blocked found.0 found.1.0 (free.0, (found.1.1, free.1.1))
 
-aside_straight : (side : Side) (dir : Dir) → is_straight dir ≡ true → is_straight (aside_to side dir) ≡ true
+pub aside_straight : (side : Side) (dir : Dir) → is_straight dir ≡ true → is_straight (aside_to side dir) ≡ true
 aside_straight Left N straight = refl
 aside_straight Left E straight = refl
 aside_straight Left S straight = refl

@@ -1,17 +1,19 @@
 //! The directions in which a search goes on from a cell.
-ghost use Rattle.std.specs.Prelude.{◌<◌, ◌↔◌, IsTrue};
+ghost use Rattle.std.specs.Prelude.{◌≡◌, ◌<◌, ◌↔◌, ◌⊎◌, Some, IsTrue, IsFalse};
 ghost use Rattle.nav_types.specs.declared.directions.Dir.{Dir};
 ghost use Rattle.nav_types.specs.Cells.{IsInside};
-ghost use Rattle.nav_types.specs.Beside.{IsFreeBeside};
+ghost use Rattle.nav_types.specs.Beside.{IsFreeBeside, IsLegalFrom};
+ghost use Rattle.nav_types.specs.Directions.{is_straight, row_part, column_part};
 ghost use Rattle.nav_types.specs.DirSets.{holds};
 ghost use Rattle.jump_scan.specs.Turns.{aside_to};
 ghost use Rattle.jump_scan.specs.Successors.{IsForcing, IsSuccessor, HasForced};
-ghost use Rattle.jump_scan.specs.inner.Gathering.{GoesOn, IsKept};
+ghost use Rattle.jump_scan.specs.inner.Turning.{IsLegalTurn};
 
-use crate::turns::{Side, ahead_to, aside_to, is_natural, is_turn};
+use crate::turns::{Side, ahead_to, aside_to, column_part, row_part};
 use nav_types::{Cell, Class, Dir, DirSet, View, is_free_beside, legal_steps};
 
 /// Whether the step that came to the cell is straight and the cell to that side of the one just before is blocked.
+#[inline(always)]
 fn is_forcing<V: View>(view: &V, class: Class, cell: Cell, arrived: Dir, side: Side) -> bool
     requires class { class < V.class_count view.now }
     requires inside { IsInside (V.extent view.now) cell }
@@ -23,6 +25,7 @@ fn is_forcing<V: View>(view: &V, class: Class, cell: Cell, arrived: Dir, side: S
 }
 
 /// Whether the steps to that side are forced, and one of them is legal.
+#[inline(always)]
 fn is_forced_to<V: View>(view: &V, class: Class, cell: Cell, arrived: Dir, side: Side) -> bool
     requires class { class < V.class_count view.now }
     requires inside { IsInside (V.extent view.now) cell }
@@ -46,6 +49,112 @@ pub fn has_forced<V: View>(view: &V, class: Class, cell: Cell, arrived: Dir) -> 
         || is_forced_to(view, class, cell, arrived, Side::Right)
 }
 
+/// Whether the step is legal, where it is known whether those in its two straight parts are.
+#[inline(always)]
+fn is_legal_between<V: View>(view: &V, class: Class, cell: Cell, dir: Dir, parts: bool) -> bool
+    requires class { class < V.class_count view.now }
+    requires passable { IsTrue (V.passes view.now class cell) }
+    requires inside { IsInside (V.extent view.now) cell }
+    requires parts { IsTrue parts ↔ (IsFreeBeside (V.passes view.now class) cell (row_part dir)
+        × IsFreeBeside (V.passes view.now class) cell (column_part dir)) }
+    ensures { IsTrue result ↔ IsLegalFrom (V.passes view.now class) cell dir }
+{
+    parts && is_free_beside(view, class, cell, dir)
+}
+
+/// The set, with one direction more where that is wanted.
+#[inline(always)]
+fn with_where(set: DirSet, dir: Dir, wanted: bool) -> DirSet
+    ensures { (other : Dir) → IsTrue (holds result other)
+        ↔ (IsTrue (holds set other) ⊎ (IsTrue wanted × (other ≡ dir))) }
+{
+    if wanted { set.with(dir) } else { set }
+}
+
+/// The successors after a diagonal step: the legal natural ones.
+#[inline(always)]
+fn after_diagonal<V: View>(view: &V, class: Class, cell: Cell, arrived: Dir) -> DirSet
+    requires class { class < V.class_count view.now }
+    requires passable { IsTrue (V.passes view.now class cell) }
+    requires inside { IsInside (V.extent view.now) cell }
+    requires diagonal { IsFalse (is_straight arrived) }
+    ensures { (dir : Dir) → IsTrue (holds result dir)
+        ↔ IsSuccessor (V.passes view.now class) cell (Some arrived) dir }
+{
+    let row = row_part(arrived);
+    let column = column_part(arrived);
+    let is_row = is_free_beside(view, class, cell, row);
+    let is_column = is_free_beside(view, class, cell, column);
+    let is_onward = is_legal_between(view, class, cell, arrived, is_row && is_column);
+    let along_row = with_where(DirSet::new(), row, is_row);
+    let along_both = with_where(along_row, column, is_column);
+    with_where(along_both, arrived, is_onward)
+}
+
+/// The set, with the legal turns to the side where they are forced.
+#[inline(always)]
+fn with_turns<V: View>(
+    view: &V,
+    class: Class,
+    cell: Cell,
+    arrived: Dir,
+    side: Side,
+    onward: bool,
+    set: DirSet,
+) -> DirSet
+    requires class { class < V.class_count view.now }
+    requires passable { IsTrue (V.passes view.now class cell) }
+    requires inside { IsInside (V.extent view.now) cell }
+    requires straight { IsTrue (is_straight arrived) }
+    requires onward { IsTrue onward ↔ IsFreeBeside (V.passes view.now class) cell arrived }
+    ensures { (dir : Dir) → IsTrue (holds result dir)
+        ↔ (IsTrue (holds set dir) ⊎ IsLegalTurn (V.passes view.now class) cell arrived side dir) }
+{
+    if !is_forced_to(view, class, cell, arrived, side) {
+        return set;
+    }
+    let ahead = ahead_to(side, arrived);
+    let legal = is_legal_between(view, class, cell, ahead, onward);
+    with_where(set.with(aside_to(side, arrived)), ahead, legal)
+}
+
+/// The successors after a straight step: the one straight on, and the forced ones.
+#[inline(always)]
+fn after_straight<V: View>(view: &V, class: Class, cell: Cell, arrived: Dir) -> DirSet
+    requires class { class < V.class_count view.now }
+    requires passable { IsTrue (V.passes view.now class cell) }
+    requires inside { IsInside (V.extent view.now) cell }
+    requires straight { IsTrue (is_straight arrived) }
+    ensures { (dir : Dir) → IsTrue (holds result dir)
+        ↔ IsSuccessor (V.passes view.now class) cell (Some arrived) dir }
+{
+    let onward = is_free_beside(view, class, cell, arrived);
+    let ahead = with_where(DirSet::new(), arrived, onward);
+    let left = with_turns(view, class, cell, arrived, Side::Left, onward, ahead);
+    with_turns(view, class, cell, arrived, Side::Right, onward, left)
+}
+
+/// The successors of a passable cell after a step. Each direction has a copy of its own of the code, in which the cells
+/// to read are known.
+fn after<V: View>(view: &V, class: Class, cell: Cell, arrived: Dir) -> DirSet
+    requires class { class < V.class_count view.now }
+    requires passable { IsTrue (V.passes view.now class cell) }
+    requires inside { IsInside (V.extent view.now) cell }
+    ensures { (dir : Dir) → IsTrue (holds result dir)
+        ↔ IsSuccessor (V.passes view.now class) cell (Some arrived) dir }
+{
+    match arrived {
+        Dir::N => after_straight(view, class, cell, Dir::N),
+        Dir::E => after_straight(view, class, cell, Dir::E),
+        Dir::S => after_straight(view, class, cell, Dir::S),
+        Dir::W => after_straight(view, class, cell, Dir::W),
+        Dir::NE => after_diagonal(view, class, cell, Dir::NE),
+        Dir::SE => after_diagonal(view, class, cell, Dir::SE),
+        Dir::SW => after_diagonal(view, class, cell, Dir::SW),
+        Dir::NW => after_diagonal(view, class, cell, Dir::NW),
+    }
+}
+
 /// The directions in which a search goes on from a cell that a step in `arrived` came to: of the legal ones, the
 /// natural ones and after a straight step the forced ones. From a start, with no step before, all legal ones.
 ///
@@ -57,42 +166,14 @@ pub fn successors<V: View>(view: &V, class: Class, cell: Cell, arrived: Option<D
     requires inside { IsInside (V.extent view.now) cell }
     ensures { (dir : Dir) → IsTrue (holds result dir) ↔ IsSuccessor (V.passes view.now class) cell arrived dir }
 {
-    let legal = legal_steps(view, class, cell);
     match arrived {
         Some(arrived) => {
-            let left = is_forcing(view, class, cell, arrived, Side::Left);
-            let right = is_forcing(view, class, cell, arrived, Side::Right);
-            unpruned(legal, arrived, left, right)
+            if view.passable(class, cell) {
+                after(view, class, cell, arrived)
+            } else {
+                DirSet::new()
+            }
         }
-        None => legal,
+        None => legal_steps(view, class, cell),
     }
-}
-
-/// Whether the direction is natural, or a turn to a side whose turns are forced.
-fn goes_on(arrived: Dir, left: bool, right: bool, dir: Dir) -> bool
-    ensures { IsTrue result ↔ GoesOn arrived left right dir }
-{
-    is_natural(arrived, dir)
-        || left && is_turn(Side::Left, arrived, dir)
-        || right && is_turn(Side::Right, arrived, dir)
-}
-
-/// Whether the set has the direction, and a search goes on in it.
-fn is_kept(legal: DirSet, arrived: Dir, left: bool, right: bool, dir: Dir) -> bool
-    ensures { IsTrue result ↔ IsKept legal arrived left right dir }
-{
-    legal.has(dir) && goes_on(arrived, left, right, dir)
-}
-
-/// The directions of the set in which a search goes on.
-fn unpruned(legal: DirSet, arrived: Dir, left: bool, right: bool) -> DirSet
-    ensures { (dir : Dir) → IsTrue (holds result dir) ↔ IsKept legal arrived left right dir }
-{
-    let mut kept = DirSet::new();
-    for dir in Dir::ALL {
-        if is_kept(legal, arrived, left, right, dir) {
-            kept = kept.with(dir);
-        }
-    }
-    kept
 }

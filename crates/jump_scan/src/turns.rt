@@ -1,8 +1,8 @@
 //! Directions beside a direction.
-ghost use Rattle.std.specs.Prelude.{◌≡◌, IsTrue, ◌↔◌};
+ghost use Rattle.std.specs.Prelude.{◌≡◌};
 ghost use Rattle.nav_types.specs.Directions.{row_part, column_part};
 ghost use Rattle.jump_scan.specs.declared.turns.Side.TheVariants as Side;
-ghost use Rattle.jump_scan.specs.Turns.{ahead_to, aside_to, IsNatural, IsTurn};
+ghost use Rattle.jump_scan.specs.Turns.{ahead_to, aside_to};
 
 use nav_types::Dir;
 
@@ -80,18 +80,4 @@ pub fn column_part(dir: Dir) -> Dir
         Dir::SE | Dir::SW => Dir::S,
         Dir::N | Dir::E | Dir::S | Dir::W => dir,
     }
-}
-
-/// Whether the direction is that of the step before or a straight part of it.
-pub fn is_natural(arrived: Dir, dir: Dir) -> bool
-    ensures { IsTrue result ↔ IsNatural arrived dir }
-{
-    dir == arrived || dir == row_part(arrived) || dir == column_part(arrived)
-}
-
-/// Whether the direction is an eighth or a quarter of a turn to the side.
-pub fn is_turn(side: Side, arrived: Dir, dir: Dir) -> bool
-    ensures { IsTrue result ↔ IsTurn side arrived dir }
-{
-    dir == ahead_to(side, arrived) || dir == aside_to(side, arrived)
 }

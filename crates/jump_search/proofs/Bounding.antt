@@ -11,7 +11,8 @@ use Rattle.jump_search.specs.declared.nodes.Node.{Node}
 use Rattle.jump_search.specs.declared.states.JumpState.{JumpState}
 use Rattle.jump_search.specs.JumpStates.{IsJump, octile_between, octile_to, start_state, AreJumps, jumps_cost}
 use Rattle.jump_search.specs.inner.Following.{Follows}
-use Rattle.jump_search.specs.inner.Searched.{IsLastRun, IsRelaxed, IsDearer, AreMet, IsFollowedFrom}
+use Rattle.jump_search.specs.inner.Numbered.{HasCheaper}
+use Rattle.jump_search.specs.inner.Searched.{IsLastRun, IsRelaxed, IsNoted, IsDearer, AreMet, IsFollowedFrom}
 use Rattle.jump_search.specs.inner.Searched.{IsSearched}
 use Rattle.jump_search.proofs.Measuring.{octile_to_through, jumped, Walked, jumps_walk}
 
@@ -21,7 +22,7 @@ pub record IsClosed (all : Bool) (passes hit : Cell → Bool) (start : Cell) (re
     (nodes : List Node) : Type 0 where
   pub met : AreMet passes hit start nodes
   pub followed : (place : ℕ) (node : Node) → slice_get nodes place ≡ Some node → IsTrue node.opened
-      → IsFollowedFrom passes hit nodes node
+      → IsFollowedFrom all passes hit nodes node
   pub beyond : (place : ℕ) (node : Node) → slice_get nodes place ≡ Some node → IsFalse node.opened
       → (bound < node.cost + octile_to rect node.state.cell) ⊎ (IsFalse all × IsDearer nodes node)
 
@@ -89,17 +90,21 @@ start_opened all passes hit start rect bound nodes ended state is near =
     (omega (arith, free)) near
     (λ some dearer. (let less = dearer.1.1.1.1 in omega (arith, less, free)))
 
--- a jump from an opened node
+-- a jump from an opened node, than which no node of the cell is cheaper
 
 pub jump_relaxed : (all : Bool) (passes hit : Cell → Bool) (start : Cell) (rect : Rect) (bound : ℕ) (nodes : List Node)
     → IsClosed all passes hit start rect bound nodes
     → (before state : JumpState) (cost : ℕ) (from : HasOpened nodes before cost)
     → IsJump passes hit before state → (run : ℕ) → IsLastRun passes before.cell state run
+    → (IsFalse all → HasCheaper nodes state.cell (from.node.cost + octile_between before.cell state.cell) → ⊥)
     → IsRelaxed nodes state (from.node.cost + octile_between before.cell state.cell) run
-jump_relaxed all passes hit start rect bound nodes ended before state cost from jump run last =
+jump_relaxed all passes hit start rect bound nodes ended before state cost from jump run last cheapest =
     let P = λ (s : JumpState). IsJump passes hit s state → IsLastRun passes s.cell state run
-    → IsRelaxed nodes state (from.node.cost + octile_between s.cell state.cell) run in
-    subst P from.same (ended.followed from.place from.node from.known from.opened state run) jump last
+    → IsNoted all nodes state (from.node.cost + octile_between s.cell state.cell) run in
+    elim (subst P from.same (ended.followed from.place from.node from.known from.opened state run) jump last) [
+      | inl relaxed ↦ relaxed
+      | inr left ↦ absurd (cheapest left.0 left.1)
+    ]
 
 -- each state within the bound, where the search is for all
 
@@ -115,7 +120,7 @@ bounded passes hit start rect bound nodes ended (before ∷ rest) state jumps ne
     let from = bounded passes hit start rect bound nodes ended rest before jumps.1 (omega (arith, near, through)) in
     let jump = jumped passes hit before state jumps.0 in
     let to = jump_relaxed true passes hit start rect bound nodes ended before state (jumps_cost rest before) from
-    jumps.0 jump.count (jump.dir, (jump.arrived, jump.run)) in
+    jumps.0 jump.count (jump.dir, (jump.arrived, jump.run)) (λ some. absurd (false≢true (sym some))) in
     let less = to.cheap in
     let cheap = from.cheap in
     found_opened true passes hit start rect bound nodes ended state
@@ -142,14 +147,14 @@ node_least passes hit start nodes met place node known cell same cost distance =
 
 -- the states by which a chosen walk goes
 
-not_dearer : (passes hit : Cell → Bool) (start : Cell) (nodes : List Node) → AreMet passes hit start nodes
-    → (node : Node) (cell : Cell)
-    → node.state.cell ≡ cell → (cost : ℕ) → IsDistance passes start cell cost → node.cost ≤ cost → IsDearer nodes node
-    → ⊥
-not_dearer passes hit start nodes met node cell here cost distance cheap dearer =
-    let less = dearer.1.1.1.1 in
-    let least = node_least passes hit start nodes met dearer.0 dearer.1.0 dearer.1.1.0 cell (dearer.1.1.1.0 ∙ here) cost
-    distance in
+-- no node of a cell costs less than the distance
+pub none_cheaper : (passes hit : Cell → Bool) (start : Cell) (nodes : List Node) → AreMet passes hit start nodes
+    → (at cell : Cell) → at ≡ cell → (cost distance : ℕ) → IsDistance passes start cell distance → cost ≤ distance
+    → HasCheaper nodes at cost → ⊥
+none_cheaper passes hit start nodes met at cell here cost distance is cheap cheaper =
+    let less = cheaper.1.1.1.1 in
+    let least = node_least passes hit start nodes met cheaper.0 cheaper.1.0 cheaper.1.1.0 cell
+    (cheaper.1.1.1.0 ∙ here) distance is in
     omega (arith, less, least, cheap)
 
 pub followed_opened : (all : Bool) (passes hit : Cell → Bool) (start : Cell) (rect : Rect) (bound : ℕ)
@@ -167,15 +172,18 @@ followed_opened all passes hit start rect bound nodes ended next (before ∷ res
     let from = followed_opened all passes hit start rect bound nodes ended state.arrived rest before follows.1.1
     (omega (arith, near, through)) in
     let jump = jumped passes hit before state followed.jump in
-    let to = jump_relaxed all passes hit start rect bound nodes ended before state (jumps_cost rest before) from
-    followed.jump jump.count (jump.dir, (jump.arrived, jump.run)) in
-    let less = to.cheap in
     let cheap = from.cheap in
+    let to = jump_relaxed all passes hit start rect bound nodes ended before state (jumps_cost rest before) from
+    followed.jump jump.count (jump.dir, (jump.arrived, jump.run))
+    (λ some cheaper. none_cheaper passes hit start nodes ended.met state.cell state.cell refl
+    (from.node.cost + octile_between before.cell state.cell)
+    (jumps_cost rest before + octile_between before.cell state.cell) distance (omega (arith, cheap)) cheaper) in
+    let less = to.cheap in
     let most : to.node.cost ≤ jumps_cost rest before + octile_between before.cell state.cell =
     omega (arith, less, cheap) in
     found_opened all passes hit start rect bound nodes ended state
     (jumps_cost rest before + octile_between before.cell state.cell) to.place to.node to.known to.same
     most near
-    (λ some dearer. not_dearer passes hit start nodes ended.met to.node state.cell
-    (ap (λ (s : JumpState). s.cell) to.same) (jumps_cost rest before + octile_between before.cell state.cell)
-    distance most dearer)
+    (λ some dearer. none_cheaper passes hit start nodes ended.met to.node.state.cell state.cell
+    (ap (λ (s : JumpState). s.cell) {x = to.node.state} to.same) to.node.cost
+    (jumps_cost rest before + octile_between before.cell state.cell) distance most dearer)

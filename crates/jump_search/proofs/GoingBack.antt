@@ -26,7 +26,7 @@ use Rattle.jump_search.specs.inner.Traced.{Moves}
 use Rattle.jump_search.proofs.Measuring.{run_moves, octile_to_through, octile_run, run_cost}
 use Rattle.jump_search.proofs.Measuring.{jumped, Walked, jumps_walk}
 use Rattle.jump_search.proofs.Stable.{chosen_stable}
-use Rattle.jump_search.proofs.Bounding.{IsClosed, closed, jump_relaxed, node_least, followed_opened}
+use Rattle.jump_search.proofs.Bounding.{IsClosed, closed, jump_relaxed, node_least, none_cheaper, followed_opened}
 use Rattle.jump_search.proofs.Ending.{goes_by_states, end_distance}
 use Rattle.jump_search.proofs.LastRuns.{one_count, moves_from_same, run_from_same, begin_distance, run_enters}
 use Rattle.jump_search.proofs.LastRuns.{one_pick, HasLastRun, one_last_run, chosen_run}
@@ -311,7 +311,10 @@ kept_is_followed all passes hit start rect bound nodes ended cell cost next dir 
     (ap (λ (s : JumpState). s.cell) from.same) (jumps_cost rest before) last.near in
     let cheap = from.cheap in
     let relaxed = jump_relaxed all passes hit start rect bound nodes ended before to (jumps_cost rest before) from
-    last.jump came.count (dir, (refl, last.steps)) in
+    last.jump came.count (dir, (refl, last.steps))
+    (λ some cheaper. none_cheaper passes hit start nodes ended.met cell cell refl
+    (from.node.cost + octile_between before.cell cell) cost distance (omega (arith, cheap, between, whole))
+    cheaper) in
     let one : relaxed.node ≡ has.node = one_node passes hit start nodes ended.met relaxed.place has.place relaxed.node
     has.node relaxed.known has.known (relaxed.same ∙ sym has.state) in
     let costs : relaxed.node.cost ≡ has.node.cost = ap (λ (n : Node). n.cost) one in

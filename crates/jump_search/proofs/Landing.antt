@@ -1,5 +1,5 @@
 -- Following a jump: where it leads, what it costs, and that all jumps in its direction are followed by it.
-use Rattle.std.proofs.Common.{ℕ, zero, suc, ◌≡◌, ◌+◌, ◌-◌, ◌*◌, ◌<◌, ◌≤◌, Bool, IsTrue, List, Option, Some, min, max}
+use Rattle.std.proofs.Common.{ℕ, zero, suc, ◌≡◌, ◌+◌, ◌-◌, ◌*◌, ◌<◌, ◌≤◌, Bool, IsTrue, IsFalse, List, Option, Some, min, max}
 use Rattle.std.proofs.Common.{inl, inr, ap, sym, subst, ◌∙◌, arith}
 use Rattle.std.proofs.lemmas.Bool.{both_ways}
 use Rattle.std.proofs.lemmas.Option.{same_Some}
@@ -17,7 +17,8 @@ use Rattle.jump_scan.proofs.Running.{one_stop_only}
 use Rattle.jump_search.specs.declared.nodes.Node.{Node}
 use Rattle.jump_search.specs.declared.states.JumpState.{JumpState}
 use Rattle.jump_search.specs.JumpStates.{IsStopOf, IsJump, octile_between, octile_to}
-use Rattle.jump_search.specs.inner.Searched.{IsLastRun, HasParent, IsRelaxed}
+use Rattle.jump_search.specs.inner.Numbered.{HasCheaper}
+use Rattle.jump_search.specs.inner.Searched.{IsLastRun, HasParent, IsNoted}
 use Rattle.jump_search.specs.inner.Underway.{steps_over, estimate_of, AreLater, IsOpenNode, IsFollowedAlong}
 use Rattle.jump_search.specs.inner.Underway.{IsFollowable, KeepsGoing, Relaxes, Follows}
 use Rattle.jump_search.specs.inner.Traced.{Moves}
@@ -127,11 +128,11 @@ same_state a b cells arrivals =
     one ∙ ap (λ (d : Option Dir). record { cell = b.cell; arrived = d }) arrivals
 
 -- each jump in the direction leads to the landed node's state
-along_landed : (passes hit : Cell → Bool) (nodes : List Node) (from : JumpState) (cost : ℕ) (dir : Dir) (stop : Cell)
+along_landed : (all : Bool) (passes hit : Cell → Bool) (nodes : List Node) (from : JumpState) (cost : ℕ) (dir : Dir) (stop : Cell)
     (node : Node)
     → IsStopOf passes hit dir from.cell stop → HasLanded from cost dir stop node
-    → IsRelaxed nodes node.state node.cost node.run → IsFollowedAlong passes hit nodes from cost dir
-along_landed passes hit nodes from cost dir stop node is landed relaxed = λ state run jump arrived last.
+    → IsNoted all nodes node.state node.cost node.run → IsFollowedAlong all passes hit nodes from cost dir
+along_landed all passes hit nodes from cost dir stop node is landed noted = λ state run jump arrived last.
     let dir_jump : jump.dir ≡ dir = same_Some jump.dir dir (sym jump.arrived ∙ arrived) in
     let stop_jump = subst (λ (d : Dir). IsStopOf passes hit d from.cell state.cell) dir_jump jump.stop in
     let cells : state.cell ≡ stop = one_stop_of passes hit dir from.cell state.cell stop stop_jump is in
@@ -141,9 +142,9 @@ along_landed passes hit nodes from cost dir stop node is landed relaxed = λ sta
     ∙ ap (λ (c : Cell). steps_over from.cell c) cells ∙ sym landed.run in
     let costs : cost + octile_between from.cell state.cell ≡ node.cost =
     ap (λ (c : Cell). cost + octile_between from.cell c) cells ∙ sym landed.costs in
-    subst (λ (s : JumpState). IsRelaxed nodes s (cost + octile_between from.cell state.cell) run) (sym one)
-    (subst (λ (n : ℕ). IsRelaxed nodes node.state n run) (sym costs)
-    (subst (λ (n : ℕ). IsRelaxed nodes node.state node.cost n) (sym steps) relaxed))
+    subst (λ (s : JumpState). IsNoted all nodes s (cost + octile_between from.cell state.cell) run) (sym one)
+    (subst (λ (n : ℕ). IsNoted all nodes node.state n run) (sym costs)
+    (subst (λ (n : ℕ). IsNoted all nodes node.state node.cost n) (sym steps) noted))
 
 -- an estimate does not fall along a jump
 pub estimate_landed : (rect : Rect) (from : JumpState) (cost floor : ℕ) (dir : Dir) (stop : Cell) (node : Node)
@@ -172,50 +173,63 @@ low_cell size cell inside =
     (omega (arith, few, column), omega (arith, low, row))
 
 -- following the one jump in a direction
-pub follows_landed : (passes hit : Cell → Bool) (rect : Rect) (from : JumpState) (cost : ℕ) (dir : Dir) (stop : Cell)
+pub follows_landed : (all : Bool) (passes hit : Cell → Bool) (rect : Rect) (from : JumpState) (cost : ℕ) (dir : Dir) (stop : Cell)
     (node : Node)
     (old new : List Node) (before after : Queue)
     → IsSuccessor passes from.cell from.arrived dir → IsStopOf passes hit dir from.cell stop
     → HasLanded from cost dir stop node
     → octile_between from.cell stop ≤ 189812736 → Relaxes rect node old new before after
-    → Follows passes hit rect from cost (λ other. other ≡ dir) old new before after
-follows_landed passes hit rect from cost dir stop node old new before after successor is landed most relaxes = record {
+    → Follows all passes hit rect from cost (λ other. other ≡ dir) old new before after
+follows_landed all passes hit rect from cost dir stop node old new before after successor is landed most relaxes = record {
   gains = relaxes.gains;
-  along = λ other same. subst (λ (d : Dir). IsFollowedAlong passes hit new from cost d) (sym same)
-      (along_landed passes hit new from cost dir stop node is landed relaxes.relaxed);
-  going = λ all start floor top going has early room.
+  along = λ other same. subst (λ (d : Dir). IsFollowedAlong all passes hit new from cost d) (sym same)
+      (along_landed all passes hit new from cost dir stop node is landed (inl relaxes.relaxed));
+  going = λ any start floor top going has early room.
       let costs = landed.costs in
-      relaxes.going all passes hit start floor top going
+      relaxes.going any passes hit start floor top going
       (estimate_landed rect from cost floor dir stop node landed early)
       (omega (arith, costs, room, most)) (parent_landed passes hit old from cost dir stop node successor is landed has);
 }
 
+-- the one jump in a direction is left
+pub follows_left : (all : Bool) (passes hit : Cell → Bool) (rect : Rect) (from : JumpState) (cost : ℕ) (dir : Dir)
+    (stop : Cell) (node : Node) (nodes : List Node) (queue : Queue)
+    → IsStopOf passes hit dir from.cell stop → HasLanded from cost dir stop node → IsFalse all
+    → HasCheaper nodes node.state.cell node.cost
+    → Follows all passes hit rect from cost (λ other. other ≡ dir) nodes nodes queue queue
+follows_left all passes hit rect from cost dir stop node nodes queue is landed some cheaper = record {
+  gains = gains_none nodes queue;
+  along = λ other same. subst (λ (d : Dir). IsFollowedAlong all passes hit nodes from cost d) (sym same)
+      (along_landed all passes hit nodes from cost dir stop node is landed (inr (some, cheaper)));
+  going = λ any start floor top going has early room. going;
+}
+
 -- there is no jump in the direction
-pub follows_none : (passes hit : Cell → Bool) (rect : Rect) (from : JumpState) (cost : ℕ) (dir : Dir)
+pub follows_none : (all : Bool) (passes hit : Cell → Bool) (rect : Rect) (from : JumpState) (cost : ℕ) (dir : Dir)
     (nodes : List Node) (queue : Queue)
     → ((stop : Cell) → IsStopOf passes hit dir from.cell stop → ⊥)
-    → Follows passes hit rect from cost (λ other. other ≡ dir) nodes nodes queue queue
-follows_none passes hit rect from cost dir nodes queue none = record {
+    → Follows all passes hit rect from cost (λ other. other ≡ dir) nodes nodes queue queue
+follows_none all passes hit rect from cost dir nodes queue none = record {
   gains = gains_none nodes queue;
   along = λ other same state run jump arrived last.
       let dir_jump : jump.dir ≡ dir = same_Some jump.dir dir
       (sym jump.arrived ∙ arrived ∙ ap (λ (d : Dir). Some d) same) in
       absurd (none state.cell (subst (λ (d : Dir). IsStopOf passes hit d from.cell state.cell) dir_jump jump.stop));
-  going = λ all start floor top going has early room. going;
+  going = λ any start floor top going has early room. going;
 }
 
 -- the direction is no successor
-pub follows_pruned : (passes hit : Cell → Bool) (rect : Rect) (from : JumpState) (cost : ℕ) (dir : Dir)
+pub follows_pruned : (all : Bool) (passes hit : Cell → Bool) (rect : Rect) (from : JumpState) (cost : ℕ) (dir : Dir)
     (nodes : List Node) (queue : Queue)
     → (IsSuccessor passes from.cell from.arrived dir → ⊥)
-    → Follows passes hit rect from cost (λ other. other ≡ dir) nodes nodes queue queue
-follows_pruned passes hit rect from cost dir nodes queue not = record {
+    → Follows all passes hit rect from cost (λ other. other ≡ dir) nodes nodes queue queue
+follows_pruned all passes hit rect from cost dir nodes queue not = record {
   gains = gains_none nodes queue;
   along = λ other same state run jump arrived last.
       let dir_jump : jump.dir ≡ dir = same_Some jump.dir dir
       (sym jump.arrived ∙ arrived ∙ ap (λ (d : Dir). Some d) same) in
       absurd (not (subst (λ (d : Dir). IsSuccessor passes from.cell from.arrived d) dir_jump jump.successor));
-  going = λ all start floor top going has early room. going;
+  going = λ any start floor top going has early room. going;
 }
 
 -- a jump costs little enough

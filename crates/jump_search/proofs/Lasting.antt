@@ -10,8 +10,8 @@ use Rattle.open_heap.specs.Queue.{Queue}
 use Rattle.jump_search.specs.declared.nodes.Node.{Node}
 use Rattle.jump_search.specs.declared.states.JumpState.{JumpState}
 use Rattle.jump_search.specs.JumpStates.{IsJump, octile_between}
-use Rattle.jump_search.specs.inner.Numbered.{HasState, LacksState}
-use Rattle.jump_search.specs.inner.Searched.{IsLastRun, IsKeptRun, IsReached, HasParent, IsRelaxed, IsDearer, AreMet}
+use Rattle.jump_search.specs.inner.Numbered.{HasState, LacksState, HasCheaper}
+use Rattle.jump_search.specs.inner.Searched.{IsLastRun, IsKeptRun, IsReached, HasParent, IsRelaxed, IsNoted, IsDearer, AreMet}
 use Rattle.jump_search.specs.inner.Searched.{IsFollowedFrom}
 use Rattle.jump_search.specs.inner.Underway.{IsLaterNode, AreLater, IsOpenNode, IsFollowedAlong, Gains}
 
@@ -106,6 +106,29 @@ relaxed_later old new state cost run later relaxed =
           (subst (λ (s : JumpState). IsKeptRun s.arrived next.0.run relaxed.node.run) relaxed.same (next.1.1.kept last))
           (relaxed.kept first);
     }
+
+pub cheaper_later : (old new : List Node) (cell : Cell) (cost : ℕ) → AreLater old new → HasCheaper old cell cost
+    → HasCheaper new cell cost
+cheaper_later old new cell cost later cheaper =
+    let next = later.each cheaper.0 cheaper.1.0 cheaper.1.1.0 in
+    let lower = next.1.1.cheap in let less = cheaper.1.1.1.1 in (
+      cheaper.0,
+      (
+        next.0,
+        (
+          next.1.0,
+          (ap (λ (s : JumpState). s.cell) next.1.1.same ∙ cheaper.1.1.1.0, omega (arith, lower, less)),
+        ),
+      ),
+    )
+
+pub noted_later : (all : Bool) (old new : List Node) (state : JumpState) (cost run : ℕ) → AreLater old new
+    → IsNoted all old state cost run
+    → IsNoted all new state cost run
+noted_later all old new state cost run later noted = elim noted [
+  | inl relaxed ↦ inl (relaxed_later old new state cost run later relaxed)
+  | inr left ↦ inr (left.0, cheaper_later old new state.cell cost later left.1)
+]
 
 pub dearer_later : (old new : List Node) (a b : Node) → AreLater old new → b.state ≡ a.state → a.cost ≤ b.cost
     → IsDearer old a → IsDearer new b
@@ -231,22 +254,22 @@ met_later passes hit start old new met later from =
       ];
     }
 
-pub followed_later : (passes hit : Cell → Bool) (old new : List Node) (a b : Node) → AreLater old new
+pub followed_later : (all : Bool) (passes hit : Cell → Bool) (old new : List Node) (a b : Node) → AreLater old new
     → b.state ≡ a.state → b.cost ≡ a.cost
-    → IsFollowedFrom passes hit old a → IsFollowedFrom passes hit new b
-followed_later passes hit old new a b later same cost followed = λ state run jump last.
+    → IsFollowedFrom all passes hit old a → IsFollowedFrom all passes hit new b
+followed_later all passes hit old new a b later same cost followed = λ state run jump last.
     let jump_a = subst (λ (s : JumpState). IsJump passes hit s state) same jump in
     let last_a = subst (λ (s : JumpState). IsLastRun passes s.cell state run) same last in
-    let relaxed = relaxed_later old new state (a.cost + octile_between a.state.cell state.cell) run later
+    let noted = noted_later all old new state (a.cost + octile_between a.state.cell state.cell) run later
     (followed state run jump_a last_a) in
-    subst (λ (n : ℕ). IsRelaxed new state (n + octile_between b.state.cell state.cell) run) (sym cost)
-    (subst (λ (s : JumpState). IsRelaxed new state (a.cost + octile_between s.cell state.cell) run) (sym same) relaxed)
+    subst (λ (n : ℕ). IsNoted all new state (n + octile_between b.state.cell state.cell) run) (sym cost)
+    (subst (λ (s : JumpState). IsNoted all new state (a.cost + octile_between s.cell state.cell) run) (sym same) noted)
 
-pub along_later : (passes hit : Cell → Bool) (old new : List Node) (from : JumpState) (cost : ℕ) (dir : Dir)
+pub along_later : (all : Bool) (passes hit : Cell → Bool) (old new : List Node) (from : JumpState) (cost : ℕ) (dir : Dir)
     → AreLater old new
-    → IsFollowedAlong passes hit old from cost dir → IsFollowedAlong passes hit new from cost dir
-along_later passes hit old new from cost dir later along = λ state run jump arrived last.
-    relaxed_later old new state (cost + octile_between from.cell state.cell) run later
+    → IsFollowedAlong all passes hit old from cost dir → IsFollowedAlong all passes hit new from cost dir
+along_later all passes hit old new from cost dir later along = λ state run jump arrived last.
+    noted_later all old new state (cost + octile_between from.cell state.cell) run later
     (along state run jump arrived last)
 
 pub open_later : (old new : List Node) (state : JumpState) (cost : ℕ) → AreLater old new → IsOpenNode old state cost

@@ -17,6 +17,7 @@ pub mod Landing
 pub mod Lasting
 pub mod Listing
 pub mod Numbering
+pub mod Paging
 pub mod Queueing
 pub mod Relaxing
 pub mod Starting

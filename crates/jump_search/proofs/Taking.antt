@@ -17,14 +17,15 @@ use Rattle.jump_search.specs.declared.nodes.Node.{Node}
 use Rattle.jump_search.specs.declared.searching.Best.{Best}
 use Rattle.jump_search.specs.declared.states.JumpState.{JumpState}
 use Rattle.jump_search.specs.JumpStates.{octile_to, octile_between, IsJump, AreJumps}
-use Rattle.jump_search.specs.inner.Searched.{IsLastRun, HasParent, IsDearer, AreMet, IsFollowedFrom, IsRelaxed}
+use Rattle.jump_search.specs.inner.Numbered.{HasCheaper}
+use Rattle.jump_search.specs.inner.Searched.{IsLastRun, HasParent, IsDearer, AreMet, IsFollowedFrom, IsRelaxed, IsNoted}
 use Rattle.jump_search.specs.inner.Searched.{IsKeptRun}
 use Rattle.jump_search.specs.inner.Underway.{estimate_of, opened_count, IsQueued, IsGoing, AreLater, IsOpenNode}
 use Rattle.jump_search.specs.inner.Underway.{IsFollowable, Follows, IsBestHit, NoneHit, IsBest, IsUnderway, IsNotPast}
 use Rattle.jump_search.specs.inner.Underway.{IsAsGood, IsBetter, IsTaken}
 use Rattle.jump_search.proofs.Listing.{get_set_same, get_set_other, get_set_cases, one_item}
 use Rattle.jump_search.proofs.Queueing.{removed_here, removed_apart, len_taken}
-use Rattle.jump_search.proofs.Lasting.{relaxed_later, parent_as, reached_as}
+use Rattle.jump_search.proofs.Lasting.{noted_later, parent_as, reached_as}
 use Rattle.jump_search.proofs.Landing.{stop_free}
 use Rattle.jump_search.proofs.Relaxing.{unopened_none, opened_one, count_set}
 
@@ -218,24 +219,29 @@ met_opened passes hit start nodes number a found not met =
           (parent_opened passes hit nodes number a was.0 found not (met.parents place was.0 was.1.0 some));
     }
 
-dearer_opened : (nodes : List Node) (number : ℕ) (a x y : Node) → slice_get nodes number ≡ Some a → x.state ≡ y.state
-    → x.cost ≡ y.cost
-    → IsDearer nodes y → IsDearer (set nodes number (opened_node a)) x
-dearer_opened nodes number a x y found same cost dearer =
-    let after = is_after nodes number dearer.0 a dearer.1.0 found dearer.1.1.0 in
-    let costs = after.1.1.1.0 in let less = dearer.1.1.1.1 in (
-      dearer.0,
+cheaper_opened : (nodes : List Node) (number : ℕ) (a : Node) (cell : Cell) (cost : ℕ) → slice_get nodes number ≡ Some a
+    → HasCheaper nodes cell cost → HasCheaper (set nodes number (opened_node a)) cell cost
+cheaper_opened nodes number a cell cost found cheaper =
+    let after = is_after nodes number cheaper.0 a cheaper.1.0 found cheaper.1.1.0 in
+    let costs = after.1.1.1.0 in let less = cheaper.1.1.1.1 in (
+      cheaper.0,
       (
         after.0,
         (
           after.1.0,
-          (
-            ap (λ (s : JumpState). s.cell) after.1.1.0 ∙ dearer.1.1.1.0 ∙ ap (λ (s : JumpState). s.cell) (sym same),
-            omega (arith, costs, less, cost),
-          ),
+          (ap (λ (s : JumpState). s.cell) after.1.1.0 ∙ cheaper.1.1.1.0, omega (arith, costs, less)),
         ),
       ),
     )
+
+dearer_opened : (nodes : List Node) (number : ℕ) (a x y : Node) → slice_get nodes number ≡ Some a → x.state ≡ y.state
+    → x.cost ≡ y.cost
+    → IsDearer nodes y → IsDearer (set nodes number (opened_node a)) x
+dearer_opened nodes number a x y found same cost dearer =
+    let new = set nodes number (opened_node a) in
+    subst (λ (n : ℕ). HasCheaper new x.state.cell n) (sym cost)
+    (subst (λ (s : JumpState). HasCheaper new s.cell y.cost) (sym same)
+    (cheaper_opened nodes number a y.state.cell y.cost found dearer))
 
 relaxed_opened : (nodes : List Node) (number : ℕ) (a : Node) (state : JumpState) (cost run : ℕ)
     → slice_get nodes number ≡ Some a
@@ -251,6 +257,14 @@ relaxed_opened nodes number a state cost run found relaxed =
       cheap = omega (arith, costs, cheap);
       kept = λ e. subst (λ (n : ℕ). IsKeptRun state.arrived n run) (sym after.1.1.1.1) (relaxed.kept (sym costs ∙ e));
     }
+
+noted_opened : (all : Bool) (nodes : List Node) (number : ℕ) (a : Node) (state : JumpState) (cost run : ℕ)
+    → slice_get nodes number ≡ Some a
+    → IsNoted all nodes state cost run → IsNoted all (set nodes number (opened_node a)) state cost run
+noted_opened all nodes number a state cost run found noted = elim noted [
+  | inl relaxed ↦ inl (relaxed_opened nodes number a state cost run found relaxed)
+  | inr left ↦ inr (left.0, cheaper_opened nodes number a state.cell cost found left.1)
+]
 
 queued_opened : (all : Bool) (rect : Rect) (floor : ℕ) (nodes : List Node) (before : Queue) (entry : Entry) (a : Node)
     → IsQueued all rect floor nodes before → IsLeast before entry → IsNext rect floor nodes entry a
@@ -432,25 +446,25 @@ regards nodes new key a found not later =
           (next.0, (next.1.0, (still.0, (next.1.1.same, still.1))));
     }
 
-followed_opened : (passes hit : Cell → Bool) (rect : Rect) (nodes new : List Node) (key : ℕ) (a : Node)
+followed_opened : (all : Bool) (passes hit : Cell → Bool) (rect : Rect) (nodes new : List Node) (key : ℕ) (a : Node)
     (before after : Queue)
-    → slice_get nodes key ≡ Some a → Follows passes hit rect a.state a.cost (λ other. Unit {0})
+    → slice_get nodes key ≡ Some a → Follows all passes hit rect a.state a.cost (λ other. Unit {0})
     (set nodes key (opened_node a)) new before after
-    → ((number : ℕ) (y : Node) → slice_get nodes number ≡ Some y → IsTrue y.opened → IsFollowedFrom passes hit nodes y)
+    → ((number : ℕ) (y : Node) → slice_get nodes number ≡ Some y → IsTrue y.opened → IsFollowedFrom all passes hit nodes y)
     → (number : ℕ) (x : Node)
     → ((x.state ≡ a.state) × (x.cost ≡ a.cost))
     ⊎ ((y : Node) × ((slice_get nodes number ≡ Some y) × (IsTrue y.opened × ((x.state ≡ y.state) × (x.cost ≡ y.cost)))))
-    → IsFollowedFrom passes hit new x
-followed_opened passes hit rect nodes new key a before after found follows followed number x regard =
+    → IsFollowedFrom all passes hit new x
+followed_opened all passes hit rect nodes new key a before after found follows followed number x regard =
     λ state run jump last.
     elim regard [
       | inl is ↦
           let jump_a = subst (λ (s : JumpState). IsJump passes hit s state) is.0 jump in
           let last_a = subst (λ (s : JumpState). IsLastRun passes s.cell state run) is.0 last in
-          let relaxed = follows.along jump_a.dir tt state run jump_a jump_a.arrived last_a in
-          subst (λ (n : ℕ). IsRelaxed new state (n + octile_between x.state.cell state.cell) run) (sym is.1)
-          (subst (λ (s : JumpState). IsRelaxed new state (a.cost + octile_between s.cell state.cell) run) (sym is.0)
-          relaxed)
+          let noted = follows.along jump_a.dir tt state run jump_a jump_a.arrived last_a in
+          subst (λ (n : ℕ). IsNoted all new state (n + octile_between x.state.cell state.cell) run) (sym is.1)
+          (subst (λ (s : JumpState). IsNoted all new state (a.cost + octile_between s.cell state.cell) run) (sym is.0)
+          noted)
       | inr old ↦
           let y = old.0 in
           let same = old.1.1.1.0 in let costs = old.1.1.1.1 in
@@ -458,10 +472,10 @@ followed_opened passes hit rect nodes new key a before after found follows follo
           let last_y = subst (λ (s : JumpState). IsLastRun passes s.cell state run) same last in
           let cost = y.cost + octile_between y.state.cell state.cell in
           let one = followed number y old.1.0 old.1.1.0 state run jump_y last_y in
-          let two = relaxed_opened nodes key a state cost run found one in
-          let three = relaxed_later (set nodes key (opened_node a)) new state cost run follows.gains.later two in
-          subst (λ (n : ℕ). IsRelaxed new state (n + octile_between x.state.cell state.cell) run) (sym costs)
-          (subst (λ (s : JumpState). IsRelaxed new state (y.cost + octile_between s.cell state.cell) run) (sym same)
+          let two = noted_opened all nodes key a state cost run found one in
+          let three = noted_later all (set nodes key (opened_node a)) new state cost run follows.gains.later two in
+          subst (λ (n : ℕ). IsNoted all new state (n + octile_between x.state.cell state.cell) run) (sym costs)
+          (subst (λ (s : JumpState). IsNoted all new state (y.cost + octile_between s.cell state.cell) run) (sym same)
           three)
     ]
 
@@ -656,7 +670,7 @@ pub opened_underway : (all : Bool) (passes hit : Cell → Bool) (start : Cell) (
     (best result : Option Best) (entry : Entry) (a : Node)
     → IsTaken all passes hit start rect floor nodes queue best entry
     → slice_get nodes entry.key ≡ Some a → (IsTrue (hit a.state.cell) → octile_to rect a.state.cell ≡ 0)
-    → Follows passes hit rect a.state a.cost (λ other. Unit {0}) (set nodes entry.key (opened_node a)) new queue after
+    → Follows all passes hit rect a.state a.cost (λ other. Unit {0}) (set nodes entry.key (opened_node a)) new queue after
     → (IsTrue (hit a.state.cell) → IfSome result (λ r. IsBetter best (record { cell = a.state.cell; cost = a.cost }) r)
     × IsSome result)
     → (IsFalse (hit a.state.cell) → result ≡ best)
@@ -680,7 +694,7 @@ opened_underway all passes hit start rect floor nodes new queue after best resul
     record {
       met = going.met;
       queued = going.queued;
-      followed = λ number x at opened. followed_opened passes hit rect nodes new entry.key a queue after found follows
+      followed = λ number x at opened. followed_opened all passes hit rect nodes new entry.key a queue after found follows
           taken.underway.followed number x
           (regard.back number x at opened);
       hits = elim (cases_Bool (hit a.state.cell)) [

@@ -1,6 +1,7 @@
 -- Definitions that only private contracts cite.
 pub mod Following
 pub mod Numbered
+pub mod Paged
 pub mod Searched
 pub mod Traced
 pub mod Underway

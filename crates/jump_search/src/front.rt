@@ -1,6 +1,6 @@
 //! The nodes that a search has met, and those of them that wait.
 ghost use Rattle.std.specs.Prelude.{◌≡◌, ◌↔◌, ◌<◌, ◌≤◌, ◌⊎◌, ◌++◌, ◌∷◌, ◌+◌, [], ℕ, Bool, Some, None, length};
-ghost use Rattle.std.specs.Prelude.{slice_get, slice_set, IsTrue, IsFalse, IsSomeAnd, IfSome, IfNone, OnOk, IfOk};
+ghost use Rattle.std.specs.Prelude.{slice_set, IsTrue, IsFalse, IsSomeAnd, IfSome, IfNone, OnOk, IfOk};
 ghost use Rattle.std.specs.FinMap as map;
 ghost use Rattle.nav_types.specs.declared.cells.Cell.{Cell};
 ghost use Rattle.nav_types.specs.declared.directions.Dir.{Dir};
@@ -12,7 +12,6 @@ ghost use Rattle.jump_search.specs.inner.Numbered.{HasState, LacksState};
 ghost use Rattle.jump_search.specs.inner.Searched.{IsKeptRun, IsDearer};
 ghost use Rattle.jump_search.specs.inner.Underway.{steps_over, estimate_of, priority_of, IsQueued, Relaxes};
 ghost use Rattle.jump_search.specs.inner.Underway.{IsFollowable, Follows};
-ghost use Rattle.jump_search.specs.declared.nodes.Node.{Node};
 
 use crate::nodes::{Node, Nodes};
 use crate::octile::{octile_between, octile_to, steps_between};
@@ -96,7 +95,7 @@ impl Front {
         ensures waiting { IfOk result (λ front. front.waiting ≡ map.empty) }
     {
         Ok(Front {
-            nodes: Nodes::new(alloc),
+            nodes: Nodes::new(alloc)?,
             waiting: OpenHeap::new(alloc)?,
         })
     }
@@ -154,13 +153,15 @@ impl Front {
         Ok(())
     }
 
-    /// Follows the jump from the node in the direction, where that is one of the set and its run stops.
+    /// Follows the jump from the node in the direction, where that is one of the set and its run stops. A jump to a state
+    /// that is dearer than a node of its cell is left, where the search is not for all.
     fn follow_along<R: Runs, A: Aim>(
         &mut self,
         runs: &R,
         class: Class,
         aim: &A,
         rect: &Rect,
+        all: bool,
         node: &Node,
         dirs: DirSet,
         dir: Dir,
@@ -172,7 +173,7 @@ impl Front {
         requires aim { A.sound aim.now (R.extent runs.now) }
         requires followable { IsFollowable (R.passes runs.now class) (A.hit aim.now (R.extent runs.now)) rect.now
             node.now.state node.now.cost self.old.nodes self.old.waiting }
-        ensures { OnOk result (Follows (R.passes runs.now class) (A.hit aim.now (R.extent runs.now)) rect.now
+        ensures { OnOk result (Follows all (R.passes runs.now class) (A.hit aim.now (R.extent runs.now)) rect.now
             node.now.state node.now.cost
             (λ other. other ≡ dir) self.old.nodes self.new.nodes self.old.waiting self.new.waiting) }
     {
@@ -182,17 +183,23 @@ impl Front {
         let Some(stop) = stop_of(runs, class, node.state.cell, dir, aim) else {
             return Ok(());
         };
-        self.relax(rect, dir, landed(node, dir, stop))?;
+        let next = landed(node, dir, stop);
+        if !all && self.is_dearer(&next) {
+            return Ok(());
+        }
+        self.relax(rect, dir, next)?;
         Ok(())
     }
 
-    /// Follows each jump from the node.
+    /// Follows each jump from the node, or leaves it, where the search is not for all and the jump leads to a state that
+    /// is dearer than a node of its cell.
     pub(crate) fn follow<R: Runs, A: Aim>(
         &mut self,
         runs: &R,
         class: Class,
         aim: &A,
         rect: &Rect,
+        all: bool,
         node: &Node,
     ) -> Result<(), NoMemory>
         requires class { class < R.class_count runs.now }
@@ -200,43 +207,21 @@ impl Front {
         requires aim { A.sound aim.now (R.extent runs.now) }
         requires followable { IsFollowable (R.passes runs.now class) (A.hit aim.now (R.extent runs.now)) rect.now
             node.now.state node.now.cost self.old.nodes self.old.waiting }
-        ensures { OnOk result (Follows (R.passes runs.now class) (A.hit aim.now (R.extent runs.now)) rect.now
+        ensures { OnOk result (Follows all (R.passes runs.now class) (A.hit aim.now (R.extent runs.now)) rect.now
             node.now.state node.now.cost
             (λ other. Unit {0}) self.old.nodes self.new.nodes self.old.waiting self.new.waiting) }
     {
         let dirs = successors(runs, class, node.state.cell, node.state.arrived);
         for dir in Dir::ALL {
-            self.follow_along(runs, class, aim, rect, node, dirs, dir)?;
+            self.follow_along(runs, class, aim, rect, all, node, dirs, dir)?;
         }
         Ok(())
-    }
-
-    /// Whether the state has a node that costs less.
-    fn has_cheaper(&self, state: JumpState, cost: u64) -> bool
-        ensures { IsTrue result → (number : ℕ) × ((other : Node)
-            × ((slice_get self.now.nodes number ≡ Some other) × ((other.state ≡ state) × (other.cost < cost)))) }
-    {
-        match self.nodes.find(state) {
-            Some(number) => self.nodes.at(number).cost < cost,
-            None => false,
-        }
     }
 
     /// Whether some node of the same cell costs less.
     pub(crate) fn is_dearer(&self, node: &Node) -> bool
         ensures { IsTrue result → IsDearer self.now.nodes node.now }
     {
-        let cell = node.state.cell;
-        for dir in Dir::ALL {
-            let state = JumpState {
-                cell,
-                arrived: Some(dir),
-            };
-            if self.has_cheaper(state, node.cost) {
-                return true;
-            }
-        }
-        let arrived = None;
-        self.has_cheaper(JumpState { cell, arrived }, node.cost)
+        self.nodes.has_cheaper(node.state.cell, node.cost)
     }
 }

@@ -4,10 +4,12 @@
 //! for legal steps, which cut no corner.
 #![tactic(auto)]
 
+mod framed;
 mod front;
 mod laws;
 mod nodes;
 mod octile;
+mod pages;
 mod search;
 mod searching;
 mod states;

@@ -1,12 +1,16 @@
 ghost use Rattle.std.specs.Prelude.{◌≡◌, ◌<◌, ◌≤◌, ◌++◌, ◌∷◌, [], length, slice_get, slice_set, Some, IfSome, IfNone};
-ghost use Rattle.std.specs.Prelude.{IfOk, OnOk, OnErr};
-ghost use Rattle.jump_search.specs.inner.Numbered.{arrival_number, key_of, HasState, LacksState};
+ghost use Rattle.std.specs.Prelude.{IsTrue, IfOk, OnOk, OnErr};
+ghost use Rattle.jump_search.specs.inner.Numbered.{arrival_number, key_of, same_key, HasState, LacksState, HasCheaper};
+ghost use Rattle.jump_search.specs.inner.Numbered.{IsSearchable, AreDown};
 
+use crate::pages::Pages;
 use crate::states::JumpState;
 use nav_types::{Cell, Dir, NoMemory};
 use std::alloc::Global;
-use std::collections::HashMap;
 use std::marker::Model;
+
+/// For how many nodes there is room at first.
+const ROOM: usize = 256;
 
 /// A jump state that a search has met.
 #[derive(Clone, Copy, Debug, PartialEq, Eq)]
@@ -21,23 +25,28 @@ pub struct Node {
 }
 
 /// The nodes of a search by number, each state once. Contracts see the list.
+///
+/// The pages have one more than the number of the last node of each cell, or 0, and the links have the same of the node
+/// before each. So the nodes of a cell, and of those that share its number, are found one by one.
 #[derive(Drop)]
 pub(crate) struct Nodes {
     list: Vec<Node>,
-    numbers: HashMap<(Cell, u8), u32>,
+    links: Vec<u32>,
+    pages: Pages,
 }
 
 impl Model for Nodes {
     ghost use Rattle.std.specs.Prelude.{List};
-    ghost use Rattle.std.specs.HashMap.{get};
     ghost use Rattle.jump_search.specs.declared.nodes.Node.{Node};
-    ghost use Rattle.jump_search.specs.inner.Numbered.{same_key, AreNumbered};
+    ghost use Rattle.jump_search.specs.inner.Numbered.{AreChained};
+    ghost use Rattle.jump_search.specs.inner.Paged.{slot_of, number_of};
 
     ghost Value = { List Node };
 
     ghost view = { λ n. n.list.items };
 
-    ghost invariant = { λ n. AreNumbered n.list.items (get same_key n.numbers) };
+    ghost invariant = { λ n. AreChained slot_of (number_of n.pages.table.items n.pages.numbers.items) n.list.items
+        n.links.items };
 }
 
 /// The number of an arrival: 0 for none, else that of its direction from 1.
@@ -57,22 +66,61 @@ fn arrival_number(arrived: Option<Dir>) -> u8
     }
 }
 
-/// What a state is looked up by.
-fn key_of(state: JumpState) -> (Cell, u8)
-    ensures { result ≡ key_of state }
+/// Whether the two states are the same.
+fn is_same(one: JumpState, other: JumpState) -> bool
+    ensures { result ≡ same_key (key_of one) (key_of other) }
 {
-    (state.cell, arrival_number(state.arrived))
+    (one.cell.j == other.cell.j && one.cell.i == other.cell.i)
+        && arrival_number(one.arrived) == arrival_number(other.arrived)
+}
+
+/// The number of the node of the state, among the one before the number `end` and those linked from there. None exactly
+/// where no node has it.
+fn find_before(list: &Vec<Node>, links: &Vec<u32>, end: u32, state: JumpState) -> Option<u32>
+    requires { IsSearchable list.now.items links.now.items state end }
+    ensures some { IfSome result (HasState list.now.items state) }
+    ensures none { IfNone result (LacksState list.now.items state) }
+{
+    let mut after = end;
+    'walk: while after > 0 {
+        let number = after - 1;
+        let node = list[number as usize];
+        if is_same(node.state, state) {
+            return Some(number);
+        }
+        after = links[number as usize];
+    }
+    None
+}
+
+/// Whether the node before the number `end`, or one that is linked from there, is of the cell and costs less.
+fn is_cheaper_before(list: &Vec<Node>, links: &Vec<u32>, end: u32, cell: Cell, cost: u64) -> bool
+    requires down { AreDown list.now.items links.now.items }
+    requires inside { end ≤ length list.now.items }
+    ensures { IsTrue result → HasCheaper list.now.items cell cost }
+{
+    let mut after = end;
+    'walk: while after > 0 {
+        let number = after - 1;
+        let node = list[number as usize];
+        if node.cost < cost && node.state.cell.j == cell.j && node.state.cell.i == cell.i {
+            return true;
+        }
+        after = links[number as usize];
+    }
+    false
 }
 
 impl Nodes {
     /// No node.
-    pub(crate) fn new(alloc: Global) -> Nodes
-        ensures { result ≡ [] }
+    pub(crate) fn new(alloc: Global) -> Result<Nodes, NoMemory>
+        ensures { IfOk result (λ nodes. nodes ≡ []) }
     {
-        Nodes {
-            list: Vec::new(alloc),
-            numbers: HashMap::new(alloc),
-        }
+        Ok(Nodes {
+            list: Vec::with_capacity(alloc, ROOM)?,
+            links: Vec::with_capacity(alloc, ROOM)?,
+            pages: Pages::new(alloc)?,
+        })
     }
 
     /// The number of the node of the state. None exactly where no node has it.
@@ -80,7 +128,14 @@ impl Nodes {
         ensures some { IfSome result (HasState self.now state) }
         ensures none { IfNone result (LacksState self.now state) }
     {
-        self.numbers.get(&key_of(state)).copied()
+        find_before(&self.list, &self.links, self.pages.get(state.cell), state)
+    }
+
+    /// Whether some node of the cell costs less.
+    pub(crate) fn has_cheaper(&self, cell: Cell, cost: u64) -> bool
+        ensures { IsTrue result → HasCheaper self.now cell cost }
+    {
+        is_cheaper_before(&self.list, &self.links, self.pages.get(cell), cell, cost)
     }
 
     /// The node of a number.
@@ -102,9 +157,14 @@ impl Nodes {
         let Ok(number) = u32::try_from(self.list.len()) else {
             return Err(NoMemory);
         };
+        let Some(after) = number.checked_add(1) else {
+            return Err(NoMemory);
+        };
         self.list.reserve(1)?;
-        self.numbers.insert(key_of(node.state), number)?;
-        self.list.push(node)?;
+        self.links.reserve(1)?;
+        let before = self.pages.replace(node.state.cell, after)?;
+        self.links.push_reserved(before);
+        self.list.push_reserved(node);
         Ok(number)
     }
 

@@ -8,6 +8,7 @@ ghost use Rattle.nav_types.specs.Walks.{CanReach};
 ghost use Rattle.walks.specs.Chosen.{IsAnswer};
 ghost use Rattle.jump_search.specs.JumpStates.{IsOpened};
 
+use crate::framed::Framed;
 use crate::searching::searched;
 use crate::tracing::traced;
 use jump_scan::{CellRuns, Runs};
@@ -49,7 +50,11 @@ fn answered<R: Runs, A: Aim, L: Ledger>(
         → Counts (IsOpened (R.passes runs.now class) (A.hit aim.now (R.extent runs.now)) start rect cost) n
         → ticks.new ≤ ticks.old + n }
 {
-    let outcome = searched(alloc, runs, class, start, aim, all, ticks)?;
+    let framed = Framed {
+        aim,
+        rect: aim.bounds(runs.size()),
+    };
+    let outcome = searched(alloc, runs, class, start, &framed, all, ticks)?;
     let Some(best) = outcome.best else {
         unreachable!()
     };

@@ -208,7 +208,7 @@ impl Search {
             ..*self.front.nodes.at(entry.key)
         };
         self.front.nodes.put(entry.key, node);
-        self.front.follow(runs, class, aim, rect, &node)?;
+        self.front.follow(runs, class, aim, rect, all, &node)?;
         self.best = best_with(runs, aim, self.best, &node);
         self.opened += 1;
         ticks.tick();

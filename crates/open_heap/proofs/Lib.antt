@@ -1,4 +1,5 @@
 pub mod EntryOrder
+pub mod Rows
 pub mod Gaps
 pub mod Ends
 pub mod Queues

@@ -1,8 +1,8 @@
 //! Entries as a heap: a tree of which each entry comes after the one above it, or is it.
 
-ghost use Rattle.std.specs.Prelude.{◌≡◌, ℕ, ◌<◌, ◌≤◌, [], ◌∷◌, ◌++◌, length, slice_set, Contains, IfSome, IfNone, OnOk, OnErr};
+ghost use Rattle.std.specs.Prelude.{◌≡◌, ◌≢◌, ℕ, ◌<◌, ◌≤◌, [], ◌∷◌, ◌++◌, length, slice_set, Contains, IfSome, IfNone, OnOk, OnErr};
 ghost use Rattle.open_heap.specs.Queue.{IsNotLater};
-ghost use Rattle.open_heap.specs.inner.Trees.{entry_at, parent, IsNoneSooner, IsSoonerBelow, IsHeap, CanRise, CanSink, HasSame, Lacks};
+ghost use Rattle.open_heap.specs.inner.Trees.{entry_at, parent, IsNoneSooner, IsFirstBelow, IsSoonerBelow, IsHeap, CanRise, CanSink, HasSame, Lacks};
 
 use crate::entries::Entry;
 use nav_types::NoMemory;
@@ -18,6 +18,60 @@ const ARITY: usize = 4;
 pub struct Tree {
     pub entries: Vec<Entry>,
     pub places: Vec<usize>,
+}
+
+/// The one of two places whose entry comes first.
+fn sooner_of(entries: &[Entry], left: usize, right: usize) -> usize
+    requires left { left < length entries.now }
+    requires right { right < length entries.now }
+    ensures inside { result < length entries.now }
+    ensures left { IsNotLater (entry_at entries.now result) (entry_at entries.now left) }
+    ensures right { IsNotLater (entry_at entries.now result) (entry_at entries.now right) }
+{
+    if entries[right].is_before(&entries[left]) {
+        right
+    } else {
+        left
+    }
+}
+
+/// The place of the first of four entries.
+fn first_of_four(entries: &[Entry]) -> usize
+    requires { length entries.now ≡ 4 }
+    ensures inside { result < 4 }
+    ensures first { (place : ℕ) → place < 4 → IsNotLater (entry_at entries.now result) (entry_at entries.now place) }
+{
+    sooner_of(entries, sooner_of(entries, 0, 1), sooner_of(entries, 2, 3))
+}
+
+/// The place of the first of some entries.
+fn first_of(entries: &[Entry]) -> usize
+    requires { 0 < length entries.now }
+    ensures inside { result < length entries.now }
+    ensures first { (place : ℕ) → place < length entries.now
+        → IsNotLater (entry_at entries.now result) (entry_at entries.now place) }
+{
+    let mut first = 0;
+    for place in 1..entries.len() {
+        first = sooner_of(entries, first, place);
+    }
+    first
+}
+
+/// The place of the first of the entries right below the gap.
+fn first_below(entries: &[Entry], gap: usize) -> Option<usize>
+    requires { gap < length entries.now }
+    ensures some { IfSome result (IsFirstBelow entries.now gap) }
+    ensures none { IfNone result ((place : ℕ) → 0 < place → place < length entries.now → parent place ≢ gap) }
+{
+    let from = gap * ARITY + 1;
+    if from + ARITY <= entries.len() {
+        Some(from + first_of_four(&entries[from..from + ARITY]))
+    } else if from < entries.len() {
+        Some(from + first_of(&entries[from..]))
+    } else {
+        None
+    }
 }
 
 impl Tree {
@@ -51,37 +105,13 @@ impl Tree {
         }
     }
 
-    /// The place of the first of the entries at the places from `from` to before `to`.
-    fn first_of(&self, from: usize, to: usize) -> usize
-        requires some { from < to }
-        requires inside { to ≤ length self.now.entries.items }
-        ensures after { from ≤ result }
-        ensures before { result < to }
-        ensures first { (place : ℕ) → from ≤ place → place < to
-            → IsNotLater (entry_at self.now.entries.items result) (entry_at self.now.entries.items place) }
-    {
-        let mut first = from;
-        for place in from..to {
-            if self.entries[place].is_before(&self.entries[first]) {
-                first = place;
-            }
-        }
-        first
-    }
-
     /// The place of the first of the entries right below the gap, where it comes before the entry.
     fn sooner_below(&self, gap: usize, entry: &Entry) -> Option<usize>
         requires { gap < length self.now.entries.items }
         ensures some { IfSome result (IsSoonerBelow self.now.entries.items gap entry.now) }
         ensures none { IfNone result (IsNoneSooner self.now.entries.items gap entry.now) }
     {
-        let count = self.entries.len();
-        // the places below a gap late in the tree lie past its end
-        let from = gap.saturating_mul(ARITY).saturating_add(1);
-        if from >= count {
-            return None;
-        }
-        let first = self.first_of(from, count.min(from.saturating_add(ARITY)));
+        let first = first_below(&self.entries, gap)?;
         if self.entries[first].is_before(entry) {
             Some(first)
         } else {

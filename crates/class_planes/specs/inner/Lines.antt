@@ -1,5 +1,5 @@
 -- Lines of bits in bands of 32 lines.
-use Rattle.std.specs.Prelude.{ℕ, Bool, ◌≡◌, ◌<◌, ◌+◌, ◌*◌, ◌/◌, ◌%◌, ◌==◌, ◌&&◌, nat_lt, map, [], List, length, slice_index, slice_range, slice_index_or}
+use Rattle.std.specs.Prelude.{ℕ, Bool, ◌≡◌, ◌<◌, ◌≤◌, ◌+◌, ◌-◌, ◌*◌, ◌/◌, ◌%◌, ◌==◌, ◌&&◌, nat_lt, map, take, drop, ◌++◌, [], List, length, slice_index, slice_range, slice_index_or}
 use Rattle.std.specs.Int.{bit_at}
 use Rattle.nav_types.specs.declared.cells.Cell.{Cell}
 use Rattle.nav_types.specs.declared.cells.Rect.{Rect}
@@ -39,6 +39,27 @@ pub record AreLinesBefore (free : ℕ → ℕ → Bool) (rects : List Rect) (cou
   pub lines : AreLines earlier count words table
   pub same : (n i : ℕ) → IsOutside rects (cell_at i n) → earlier n i ≡ free n i
 
+-- the lines before some places changed: in this band all of those lie in the words from `from` up to and without `to`
+pub record AreLinesBut (free : ℕ → ℕ → Bool) (band from to count words : ℕ) (table : LineTable) : Type 0 where
+  pub earlier : ℕ → ℕ → Bool
+  pub lines : AreLines earlier count words table
+  pub same : (n i : ℕ) → n / 32 ≡ band → (from ≤ i / 64 → i / 64 < to → ⊥) → earlier n i ≡ free n i
+
+-- the words of a line, with others in place of some from `from` on
+abbrev pub patched : List ℕ → ℕ → List ℕ → List ℕ
+patched old from part = take from old ++ (part ++ drop (from + length part) old)
+
+-- after some words stands a line more: bit k of each of these numbers from word `from` on, and elsewhere the bits of the
+-- old line
+pub record HasNextLine (old numbers : List ℕ) (k from : ℕ) (before after : List ℕ) : Type 0 where
+  pub line : List ℕ
+  pub appended : after ≡ before ++ line
+  pub long : length line ≡ length old
+  pub read : (i : ℕ) → from ≤ i / 64 → i / 64 < from + length numbers / 64
+      → bit_at (slice_index line (i / 64)) (i % 64) ≡ bit_at (slice_index numbers (i - 64 * from)) k
+  pub kept : (i : ℕ) → (from ≤ i / 64 → i / 64 < from + length numbers / 64 → ⊥)
+      → bit_at (slice_index line (i / 64)) (i % 64) ≡ bit_at (slice_index old (i / 64)) (i % 64)
+
 -- whether place i of line n is passable
 abbrev pub free_at : LineTable → ℕ → ℕ → Bool
 free_at table n i = bit_at (slice_index (line_at table n) (i / 64)) (i % 64) == 1
@@ -68,10 +89,6 @@ pub record AreColumnsBefore (table : RowTable) (rects : List Rect) (columns : Li
   pub lines : AreLines earlier (table.size.w / 32 + 1) (table.size.h / 64 + 1) columns
   pub same : (cell : Cell) → IsOutside rects cell → earlier cell.i cell.j ≡ free_cell table cell
 
--- the size of the map turned
-abbrev pub turned_size : Size → Size
-turned_size size = record { w = size.h; h = size.w; wide = size.high; high = size.wide }
-
 -- the plane of a map that is given by its rows
 abbrev pub plane_of : RowTable → PlaneCells
 plane_of table = record {
@@ -79,7 +96,3 @@ plane_of table = record {
   cells = map (λ place. free_at table.rows (cell_of table.size place).j (cell_of table.size place).i)
       (range_with_len 0 (table.size.w * table.size.h));
 }
-
--- the rectangle of the same cells with rows and columns changed over
-abbrev pub turned_rect : Rect → Rect
-turned_rect rect = record { i0 = rect.j0; j0 = rect.i0; i1 = rect.j1; j1 = rect.i1 }

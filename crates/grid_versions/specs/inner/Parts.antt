@@ -1,20 +1,23 @@
 -- The parts of a version of a map.
-use Rattle.std.specs.Prelude.{◌≤◌, List, Option, length}
+use Rattle.std.specs.Prelude.{ℕ, ◌≤◌, List, Option, length}
 use Rattle.nav_types.specs.Numbering.{Numbering}
 use Rattle.class_planes.specs.Planes.{PlaneCells, ArePlanes}
 use Rattle.obstruction_store.specs.Standing.{Standing, AllFit}
 use Rattle.grid_versions.specs.Maps.{Map}
 use Rattle.grid_versions.specs.Passing.{passable_at}
 use Rattle.grid_versions.specs.inner.Painting.{AreBaseChunks, ArePaintedChunks}
+use Rattle.grid_versions.specs.inner.Reachers.{AreReachers}
 use Rattle.grid_versions.specs.inner.Tables.{Tables}
 use Rattle.grid_versions.specs.inner.Tallying.{AreTablesOf}
 
--- The standing obstructions fit the map, and the numbers of all cells, those under the base rectangles alone, and the
--- planes and the tables of all classes are theirs. The mask of the planes has the bits of all 16 classes.
-pub record AreParts (map : Map) (standing : Standing) (base cells : List Numbering) (planes : List (Option PlaneCells))
-    (tables : List Tables) : Type 0 where
+-- The standing obstructions fit the map, and the numbers of all cells, those under the base rectangles alone, the lists
+-- of what reaches into each chunk, and the planes and the tables of all classes are theirs. The mask of the planes has
+-- the bits of all 16 classes.
+pub record AreParts (map : Map) (standing : Standing) (base : List Numbering) (reachers : List (List ℕ))
+    (cells : List Numbering) (planes : List (Option PlaneCells)) (tables : List Tables) : Type 0 where
   pub fit : AllFit map.size standing
   pub base_are : AreBaseChunks map base
+  pub reachers_are : AreReachers map standing reachers
   pub cells_are : ArePaintedChunks map standing cells
   pub planes_are : ArePlanes map.size (passable_at map standing) 65535 (length map.classes) planes
   pub tables_are : AreTablesOf (length map.classes) (passable_at map standing) map.size tables

@@ -1,5 +1,5 @@
 -- Rectangles that cover what edits change.
-use Rattle.std.specs.Prelude.{ℕ, ◌≡◌, Bool, List, Option, Some, IsTrue, IsFalse, IsSomeAnd}
+use Rattle.std.specs.Prelude.{ℕ, ◌≡◌, ◌⊎◌, Bool, List, Option, Some, Contains, IsTrue, IsFalse, IsSomeAnd}
 use Rattle.std.specs.List.{list_any}
 use Rattle.std.specs.FinMap as fin_map
 use Rattle.nav_types.specs.declared.cells.Cell.{Cell}
@@ -36,6 +36,18 @@ HoldsReach map standing id reach = (obstruction : Obstruction) → fin_map.get s
 pub record CoverChanges (map : Map) (before now : Standing) (rects : List Rect) : Type 0 where
   pub same : (k : ℕ) (cell : Cell) → IsInside map.size cell → IsFalse (is_in_some rects cell)
       → is_blocked map before k cell ≡ is_blocked map now k cell
+
+-- the rectangles hold each cell of the map that the obstruction of the number blocks for some class
+abbrev pub LiesWithin : Map → Standing → ℕ → List Rect → Type 0
+LiesWithin map standing id rects = (obstruction : Obstruction) → fin_map.get standing id ≡ Some obstruction
+    → (k : ℕ) (cell : Cell) → IsInside map.size cell → IsTrue (blocks_class obstruction map.classes k cell)
+    → IsTrue (is_in_some rects cell)
+
+-- Under each number stands what stood before, or the list has the number and the rectangles hold what its obstruction
+-- blocks.
+pub record NameChanges (map : Map) (before now : Standing) (rects : List Rect) (ids : List ℕ) : Type 0 where
+  pub each : (id : ℕ)
+      → (fin_map.get now id ≡ fin_map.get before id) ⊎ (Contains ids id × LiesWithin map now id rects)
 
 -- the numbers of all chunks under some earlier obstructions, with rectangles that cover what has changed since
 pub record AreBefore (map : Map) (now : Standing) (cells : List Numbering) (rects : List Rect) : Type 0 where

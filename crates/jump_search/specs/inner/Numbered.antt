@@ -1,5 +1,5 @@
 -- How the nodes of a search are found by their states.
-use Rattle.std.specs.Prelude.{ℕ, Bool, ◌≡◌, ◌≤◌, ◌&&◌, List, length, Option, None, Some, nat_eq, slice_get}
+use Rattle.std.specs.Prelude.{ℕ, Bool, ◌≡◌, ◌≢◌, ◌+◌, ◌<◌, ◌≤◌, ◌&&◌, List, length, Option, None, Some, nat_eq, slice_get, slice_index}
 use Rattle.nav_types.specs.declared.cells.Cell.{Cell}
 use Rattle.nav_types.specs.declared.directions.Dir.{Dir}
 use Rattle.nav_types.specs.declared.directions.Dir.TheVariants.{N, E, S, W, NE, SE, SW, NW}
@@ -33,9 +33,43 @@ HasState nodes state number = (node : Node) × ((slice_get nodes number ≡ Some
 abbrev pub LacksState : List Node → JumpState → Type 0
 LacksState nodes state = (number : ℕ) → HasState nodes state number → ⊥
 
--- each state is found by the number of its node, and nothing else is found
-pub record AreNumbered (nodes : List Node) (Found : Cell × ℕ → Option ℕ) : Type 0 where
-  pub each : (number : ℕ) (node : Node) → slice_get nodes number ≡ Some node → Found (key_of node.state) ≡ Some number
-  pub known : (key : Cell × ℕ) (number : ℕ) → Found key ≡ Some number
-      → (node : Node) × ((slice_get nodes number ≡ Some node) × (key_of node.state ≡ key))
-  pub few : length nodes ≤ 4294967296
+-- `after` is one more than the number of the last node of the slot before the number `bound`; 0 for none
+pub record IsLast (Slot : Cell → ℕ) (nodes : List Node) (slot bound after : ℕ) : Type 0 where
+  pub within : after ≤ bound
+  pub here : (number : ℕ) (node : Node) → number + 1 ≡ after → slice_get nodes number ≡ Some node
+      → Slot node.state.cell ≡ slot
+  pub past : (number : ℕ) (node : Node) → after ≤ number → number < bound → slice_get nodes number ≡ Some node
+      → Slot node.state.cell ≢ slot
+
+-- each node is linked to the last one before it of its slot
+pub record AreLinked (Slot : Cell → ℕ) (nodes : List Node) (links : List ℕ) : Type 0 where
+  pub long : length links ≡ length nodes
+  pub each : (number : ℕ) (node : Node) → slice_get nodes number ≡ Some node
+      → IsLast Slot nodes (Slot node.state.cell) number (slice_index links number)
+
+-- each cell leads to the last node of its slot, and that to the one before it, and so on
+pub record AreChained (Slot Head : Cell → ℕ) (nodes : List Node) (links : List ℕ) : Type 0 where
+  pub linked : AreLinked Slot nodes links
+  pub heads : (cell : Cell) → IsLast Slot nodes (Slot cell) (length nodes) (Head cell)
+
+-- a node with the state, if there is one, is `after` or linked from there
+pub record IsSought (Slot : Cell → ℕ) (nodes : List Node) (state : JumpState) (after : ℕ) : Type 0 where
+  pub within : after ≤ length nodes
+  pub here : (number : ℕ) (node : Node) → number + 1 ≡ after → slice_get nodes number ≡ Some node
+      → Slot node.state.cell ≡ Slot state.cell
+  pub past : (number : ℕ) (node : Node) → after ≤ number → slice_get nodes number ≡ Some node → node.state ≢ state
+
+-- nodes where a state can be sought from `after` on
+abbrev pub IsSearchable : List Node → List ℕ → JumpState → ℕ → Type 0
+IsSearchable nodes links state after = (Slot : Cell → ℕ)
+    × (AreLinked Slot nodes links × IsSought Slot nodes state after)
+
+-- the links lead to smaller numbers
+pub record AreDown (nodes : List Node) (links : List ℕ) : Type 0 where
+  pub long : length links ≡ length nodes
+  pub each : (number : ℕ) → number < length nodes → slice_index links number ≤ number
+
+-- some node of the cell costs less
+abbrev pub HasCheaper : List Node → Cell → ℕ → Type 0
+HasCheaper nodes cell cost = (place : ℕ) × ((other : Node) × ((slice_get nodes place ≡ Some other)
+    × ((other.state.cell ≡ cell) × (other.cost < cost))))

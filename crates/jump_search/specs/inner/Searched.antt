@@ -9,6 +9,7 @@ use Rattle.jump_scan.specs.Stops.{IsRun}
 use Rattle.jump_search.specs.declared.nodes.Node.{Node}
 use Rattle.jump_search.specs.declared.states.JumpState.{JumpState}
 use Rattle.jump_search.specs.JumpStates.{IsJump, AreJumps, jumps_cost, start_state, octile_between, octile_to}
+use Rattle.jump_search.specs.inner.Numbered.{HasCheaper}
 
 -- the last run to the state has so many steps
 abbrev pub IsLastRun : (Cell → Bool) → Cell → JumpState → ℕ → Type 0
@@ -46,8 +47,12 @@ pub record IsRelaxed (nodes : List Node) (state : JumpState) (cost run : ℕ) : 
 
 -- some node of the same cell costs less
 abbrev pub IsDearer : List Node → Node → Type 0
-IsDearer nodes node = (place : ℕ) × ((other : Node) × ((slice_get nodes place ≡ Some other)
-    × ((other.state.cell ≡ node.state.cell) × (other.cost < node.cost))))
+IsDearer nodes node = HasCheaper nodes node.state.cell node.cost
+
+-- jumps to the state at this cost and with this last run have been noted, or left, where some node of the cell costs
+-- less and the search is not for all
+abbrev pub IsNoted : Bool → List Node → JumpState → ℕ → ℕ → Type 0
+IsNoted all nodes state cost run = IsRelaxed nodes state cost run ⊎ (IsFalse all × HasCheaper nodes state.cell cost)
 
 -- Nodes that a search has met: the start's first, each state once, each with jumps to it.
 pub record AreMet (passes hit : Cell → Bool) (start : Cell) (nodes : List Node) : Type 0 where
@@ -58,11 +63,11 @@ pub record AreMet (passes hit : Cell → Bool) (start : Cell) (nodes : List Node
   pub parents : (place : ℕ) (node : Node) → slice_get nodes place ≡ Some node → 0 < place
       → HasParent passes hit nodes node
 
--- each jump from the node has been followed
-abbrev pub IsFollowedFrom : (Cell → Bool) → (Cell → Bool) → List Node → Node → Type 0
-IsFollowedFrom passes hit nodes node = (state : JumpState) (run : ℕ) → IsJump passes hit node.state state
+-- each jump from the node has been followed: noted, or left
+abbrev pub IsFollowedFrom : Bool → (Cell → Bool) → (Cell → Bool) → List Node → Node → Type 0
+IsFollowedFrom all passes hit nodes node = (state : JumpState) (run : ℕ) → IsJump passes hit node.state state
     → IsLastRun passes node.state.cell state run
-    → IsRelaxed nodes state (node.cost + octile_between node.state.cell state.cell) run
+    → IsNoted all nodes state (node.cost + octile_between node.state.cell state.cell) run
 
 -- A search that has ended. Its bound is the cost of the answer: all nodes within it are opened, but for those that are
 -- dearer than another of their cell, where the search is not for all. The end is the first in cell order of the cells
@@ -71,7 +76,7 @@ pub record IsSearched (all : Bool) (passes hit : Cell → Bool) (start : Cell) (
     (nodes : List Node) : Type 0 where
   pub met : AreMet passes hit start nodes
   pub followed : (place : ℕ) (node : Node) → slice_get nodes place ≡ Some node → IsTrue node.opened
-      → IsFollowedFrom passes hit nodes node
+      → IsFollowedFrom all passes hit nodes node
   pub within : (place : ℕ) (node : Node) → slice_get nodes place ≡ Some node → IsTrue node.opened
       → node.cost + octile_to rect node.state.cell ≤ bound
   pub beyond : (place : ℕ) (node : Node) → slice_get nodes place ≡ Some node → IsFalse node.opened

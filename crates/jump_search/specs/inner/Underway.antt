@@ -13,7 +13,7 @@ use Rattle.jump_search.specs.declared.nodes.Node.{Node}
 use Rattle.jump_search.specs.declared.searching.Best.{Best}
 use Rattle.jump_search.specs.declared.states.JumpState.{JumpState}
 use Rattle.jump_search.specs.JumpStates.{IsJump, octile_between, octile_to}
-use Rattle.jump_search.specs.inner.Searched.{IsLastRun, IsKeptRun, HasParent, IsRelaxed, IsDearer, AreMet}
+use Rattle.jump_search.specs.inner.Searched.{IsLastRun, IsKeptRun, HasParent, IsRelaxed, IsNoted, IsDearer, AreMet}
 use Rattle.jump_search.specs.inner.Searched.{IsFollowedFrom, IsSearched}
 
 -- what jumps by the node to the rectangle cost at least
@@ -71,11 +71,11 @@ pub record IsOpenNode (nodes : List Node) (state : JumpState) (cost : ℕ) : Typ
   pub same : node.state ≡ state
   pub costs : node.cost ≡ cost
 
--- each jump from the state, which costs so much, in the direction has been followed
-abbrev pub IsFollowedAlong : (Cell → Bool) → (Cell → Bool) → List Node → JumpState → ℕ → Dir → Type 0
-IsFollowedAlong passes hit nodes from cost dir = (state : JumpState) (run : ℕ) → IsJump passes hit from state
+-- each jump from the state, which costs so much, in the direction has been followed: noted, or left
+abbrev pub IsFollowedAlong : Bool → (Cell → Bool) → (Cell → Bool) → List Node → JumpState → ℕ → Dir → Type 0
+IsFollowedAlong all passes hit nodes from cost dir = (state : JumpState) (run : ℕ) → IsJump passes hit from state
     → state.arrived ≡ Some dir
-    → IsLastRun passes from.cell state run → IsRelaxed nodes state (cost + octile_between from.cell state.cell) run
+    → IsLastRun passes from.cell state run → IsNoted all nodes state (cost + octile_between from.cell state.cell) run
 
 -- what an open list has for a node
 abbrev pub priority_of : Rect → Node → Priority
@@ -118,10 +118,10 @@ KeepsGoing passes hit rect state cost old new before after = (all : Bool) (start
     → IsGoing all passes hit start rect floor most new after
 
 -- Following the jumps from a state in the directions that are within the set.
-pub record Follows (passes hit : Cell → Bool) (rect : Rect) (state : JumpState) (cost : ℕ) (Within : Dir → Type 0)
-    (old new : List Node) (before after : Queue) : Type 0 where
+pub record Follows (all : Bool) (passes hit : Cell → Bool) (rect : Rect) (state : JumpState) (cost : ℕ)
+    (Within : Dir → Type 0) (old new : List Node) (before after : Queue) : Type 0 where
   pub gains : Gains old new before after
-  pub along : (dir : Dir) → Within dir → IsFollowedAlong passes hit new state cost dir
+  pub along : (dir : Dir) → Within dir → IsFollowedAlong all passes hit new state cost dir
   pub going : KeepsGoing passes hit rect state cost old new before after
 
 -- the best hit among the opened nodes: nearest, and of equal ones first in cell order
@@ -150,7 +150,7 @@ pub record IsUnderway (all : Bool) (passes hit : Cell → Bool) (start : Cell) (
   pub met : AreMet passes hit start nodes
   pub queued : IsQueued all rect floor nodes queue
   pub followed : (number : ℕ) (node : Node) → slice_get nodes number ≡ Some node → IsTrue node.opened
-      → IsFollowedFrom passes hit nodes node
+      → IsFollowedFrom all passes hit nodes node
   pub hits : IsBest hit nodes floor best
   pub costs : (number : ℕ) (node : Node) → slice_get nodes number ≡ Some node
       → node.cost + 189812736 * map.len queue ≤ 189812736 * length nodes
@@ -190,7 +190,7 @@ pub record IsHalted (all : Bool) (passes hit : Cell → Bool) (start : Cell) (re
     (nodes : List Node) : Type 0 where
   pub met : AreMet passes hit start nodes
   pub followed : (number : ℕ) (node : Node) → slice_get nodes number ≡ Some node → IsTrue node.opened
-      → IsFollowedFrom passes hit nodes node
+      → IsFollowedFrom all passes hit nodes node
   pub within : (number : ℕ) (node : Node) → slice_get nodes number ≡ Some node → IsTrue node.opened
       → estimate_of rect node ≤ floor
   pub beyond : (number : ℕ) (node : Node) → slice_get nodes number ≡ Some node → IsFalse node.opened
@@ -203,7 +203,7 @@ pub record IsHalted (all : Bool) (passes hit : Cell → Bool) (start : Cell) (re
 pub record IsExhausted (all : Bool) (passes hit : Cell → Bool) (start : Cell) (nodes : List Node) : Type 0 where
   pub met : AreMet passes hit start nodes
   pub followed : (number : ℕ) (node : Node) → slice_get nodes number ≡ Some node → IsTrue node.opened
-      → IsFollowedFrom passes hit nodes node
+      → IsFollowedFrom all passes hit nodes node
   pub beyond : (number : ℕ) (node : Node) → slice_get nodes number ≡ Some node → IsFalse node.opened → IsFalse all
       × IsDearer nodes node
   pub missed : NoneHit hit nodes

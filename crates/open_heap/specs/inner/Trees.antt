@@ -34,6 +34,13 @@ abbrev pub IsNoneSooner : List Entry → ℕ → Entry → Type 0
 IsNoneSooner entries gap entry = (place : ℕ) → 0 < place → place < length entries → parent place ≡ gap
     → IsNotLater entry (entry_at entries place)
 
+-- the place of the first of the entries right below the gap
+pub record IsFirstBelow (entries : List Entry) (gap : ℕ) (place : ℕ) : Type 0 where
+  pub inside : place < length entries
+  pub some : 0 < place
+  pub below : parent place ≡ gap
+  pub first : IsNoneSooner entries gap (entry_at entries place)
+
 -- the place of the first of the entries right below the gap, which is not later than the entry
 pub record IsSoonerBelow (entries : List Entry) (gap : ℕ) (entry : Entry) (place : ℕ) : Type 0 where
   pub inside : place < length entries

@@ -1,6 +1,8 @@
-use Rattle.std.proofs.Common.{◌≡◌, ◌∙◌, inl, inr, subst, arith, Some}
+use Rattle.std.proofs.Common.{ℕ, ◌≡◌, ◌∙◌, inl, inr, sym, ap, subst, arith, Some}
 use Rattle.std.specs.Prelude.{slice_get, slice_index}
 use Rattle.std.proofs.lemmas.Bool.{cases_lt}
+use Rattle.std.proofs.lemmas.Option.{same_Some}
+use Rattle.chunk_regions.specs.declared.spans.Span.{Span}
 use Rattle.chunk_regions.proofs.flood.spread_to.Goals as goal
 
 pub loop-at-preserved : goal.loop-at-preserved
@@ -29,3 +31,28 @@ returns-clause-met c = λ k a b start below found_a found_b west east.
     let to = c.row-start.ensures.to in
     let past = c.loop-at-test.false in
     c.loop-at.invariant.met k a b (omega arith) (omega arith) found_a found_b west east
+
+pub returns-then-span-clause-met : goal.returns-then-span-clause-met
+returns-then-span-clause-met c = λ k a b start below found_a found_b west east.
+    let runs = c.args.rows.now in
+    let at = c.loop-at.at in
+    let beside = c.span.result in
+    let from = c.row-start.ensures.from in
+    let to = c.row-start.ensures.to in
+    let low = c.loop-at.auto.at in
+    let beyond = c.if-span.true in
+    let ordered = c.span.ensures.ordered in
+    let own : a.last ≡ c.span-span.result.last = ap (λ (s : Span). s.last) (same_Some a c.span-span.result (sym found_a ∙ c.span-span.ensures.value)) in
+    elim (cases_lt k at) [
+      | inl earlier ↦ c.loop-at.invariant.met k a b (omega arith) earlier found_a found_b west east
+      | inr later ↦ elim (cases_lt at k) [
+        | inl further ↦
+            let apart = c.row-start.ensures.are.apart c.args.row at k beside b c.requires.row (omega arith) further below c.span.ensures.value found_b in
+            absurd (omega arith)
+        | inr last ↦
+            let same : k ≡ at = omega arith in
+            let found : slice_get runs.spans at ≡ Some b = subst (λ m. slice_get runs.spans m ≡ Some b) same found_b in
+            let is : b.first ≡ beside.first = ap (λ (s : Span). s.first) (same_Some b beside (sym found ∙ c.span.ensures.value)) in
+            absurd (omega arith)
+      ]
+    ]

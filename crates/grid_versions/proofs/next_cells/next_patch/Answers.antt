@@ -1,4 +1,4 @@
-use Rattle.std.proofs.Common.{ℕ, ◌≡◌, ◌↔◌, ◌∙◌, Some, ap, sym, subst}
+use Rattle.std.proofs.Common.{ℕ, List, ◌≡◌, ◌↔◌, ◌∙◌, Some, ap, sym, subst}
 use Rattle.std.specs.Int.{bit_at}
 use Rattle.std.specs.Arc.{arc_value}
 use Rattle.std.proofs.lemmas.Option.{same_Some}
@@ -6,8 +6,11 @@ use Rattle.nav_types.specs.declared.cells.Rect.{Rect}
 use Rattle.nav_types.specs.Cells.{IsInRect}
 use Rattle.nav_types.specs.Numbering.{Numbering}
 use Rattle.navcell_grid.specs.Patches.{DiffersIn, IsPartOf}
+use Rattle.chunk_regions.specs.Labelling.{chunk_rect}
 use Rattle.grid_versions.specs.inner.ChunkLists.{chunk_numbered}
 use Rattle.grid_versions.specs.inner.Painting.{IsPaintedChunk}
+use Rattle.grid_versions.specs.inner.Reachers.{HoldReachers}
+use Rattle.grid_versions.proofs.ReacherLemmas.{HoldReachers-part}
 use Rattle.grid_versions.proofs.NextLemmas.{chunk_stays, chunk_repainted, chunk_kept, differs_in_part, part_inside}
 use Rattle.grid_versions.proofs.next_cells.next_patch.Goals as goal
 
@@ -24,6 +27,18 @@ returns-in_default-clause-painted c =
     (before.painted.are c.args.place old (c.at-cells.ensures ∙ ap (λ (n : Numbering). Some n) (sym c.patch-old.ensures)))
     (λ cell inside is. c.in_default.ensures.held cell
     (subst (λ (r : Rect). IsInRect r cell) (sym c.rect.ensures.rect) inside) is))
+
+pub repainted-requires-clause-near : goal.repainted-requires-clause-near
+repainted-requires-clause-near c =
+    let map = c.args.map.now in let now = c.args.shapes.now in
+    let chunk = chunk_numbered map.size c.args.place in
+    let part = c.in-Some.part in
+    let before = c.requires.before in
+    let was = before.painted.are c.args.place c.patch-old.result.now (c.at-cells.ensures ∙ ap (λ (n : Numbering). Some n) (sym c.patch-old.ensures)) in
+    let within = subst (λ (r : Rect). IsPartOf r part) (c.rect.ensures.rect ∙ was.extent) c.in-Some.ensures.part in
+    subst (λ (ids : List ℕ). HoldReachers map now part ids) (sym c.as_slice.ensures)
+    (HoldReachers-part map now (chunk_rect map.size chunk) part c.at-near.result.now
+    (c.requires.reachers.are c.args.place c.at-near.result.now c.at-near.ensures) within)
 
 pub repainted-requires-clause-base : goal.repainted-requires-clause-base
 repainted-requires-clause-base c =

@@ -1,71 +1,48 @@
-use Rattle.std.proofs.Common.{◌≡◌, ◌∙◌, refl, sym, subst, List, [], ◌∷◌, ℕ, Bool}
-use Rattle.std.specs.List.{Contains}
-use Rattle.std.specs.FinMap as fin_map
+use Rattle.std.proofs.Common.{ℕ, ◌∙◌, Bool, get_or}
+use Rattle.std.specs.List.{list_any}
 use Rattle.nav_types.specs.declared.cells.Cell.{Cell}
 use Rattle.nav_types.specs.Numbering.{number_of}
-use Rattle.obstruction_shapes.specs.declared.shapes.Obstruction.{Obstruction}
-use Rattle.class_config.specs.declared.table.PassabilityClass.{PassabilityClass}
-use Rattle.clearance_raster.specs.Rasters.{blocks_class}
-use Rattle.clearance_raster.proofs.Rastering.{part_moved}
-use Rattle.obstruction_store.proofs.Listing.{Contains-entries}
-use Rattle.nav_types.proofs.Items.{Contains-head, Contains-tail}
-use Rattle.grid_versions.proofs.PaintLemmas.{Ends, Ends-none, Ends-more, Ends-all}
+use Rattle.clearance_raster.proofs.Rastering.{part_alike, part_moved}
+use Rattle.obstruction_store.specs.Standing.{Standing}
+use Rattle.grid_versions.specs.Maps.{Map}
+use Rattle.grid_versions.specs.Passing.{is_blocked}
+use Rattle.grid_versions.specs.inner.Reachers.{blocks_under}
+use Rattle.grid_versions.proofs.PaintLemmas.{Ends-at, Ends-past}
+use Rattle.grid_versions.proofs.ReacherLemmas.{listed_blocked}
 use Rattle.grid_versions.proofs.painting.paint_shapes.Goals as goal
 
-abbrev blocks : List PassabilityClass → ℕ → Cell → ℕ × Obstruction → Bool
-blocks classes k cell entry = blocks_class entry.1 classes k cell
+abbrev blocks : Map → Standing → ℕ → Cell → ℕ → Bool
+blocks map standing k cell id = blocks_under map standing k cell id
 
-pub shapes-init : goal.shapes-init
-shapes-init c =
-    let all = fin_map.entries c.args.shapes.now in
-    let classes = c.args.map.now.classes in
-    let rect = c.args.patch.now.rect in
-    let first = number_of c.args.patch.now in
-    let same : all ≡ c.into_iter-obstruction-iterator.result = cc in (
-      tt,
-      tt,
-      subst (λ (rest : List (ℕ × Obstruction)). Ends rect c.args.part (blocks classes) all rest first first) same
-          (Ends-none rect c.args.part (blocks classes) all first),
-      λ entry has. c.requires.fit.each entry.0 entry.1
-          ((Contains-entries c.args.shapes.now entry.0 entry.1).0 (subst (λ (xs : List (ℕ × Obstruction)). Contains xs entry) (sym same) has)),
-      refl,
-    )
-
-pub paint_shape-requires-clause-fits : goal.paint_shape-requires-clause-fits
-paint_shape-requires-clause-fits c =
-    let entry : ℕ × Obstruction = (c.in-Some.field-0-0, c.in-Some.obstruction.now) in
-    let steps : c.shapes.obstruction-iterator ≡ entry ∷ c.next.new.self = c.in-Some.ensures.steps in
-    c.shapes.invariant.3 entry (subst (λ (xs : List (ℕ × Obstruction)). Contains xs entry) (sym steps) (Contains-head entry c.next.new.self))
-
-pub shapes-preserved : goal.shapes-preserved
-shapes-preserved c =
-    let all = fin_map.entries c.args.shapes.now in
-    let classes = c.args.map.now.classes in
+pub loop-id-preserved : goal.loop-id-preserved
+loop-id-preserved c =
+    let map = c.args.map.now in
+    let standing = c.args.shapes.now in
+    let near = c.args.near.now in
     let rect = c.args.patch.now.rect in
     let part = c.args.part in
-    let first = number_of c.args.patch.now in
-    let old = number_of c.shapes.patch in
-    let new = number_of c.paint_shape.new.patch in
-    let entry : ℕ × Obstruction = (c.in-Some.field-0-0, c.in-Some.obstruction.now) in
-    let rest = c.next.new.self in
-    let steps : c.shapes.obstruction-iterator ≡ entry ∷ rest = c.in-Some.ensures.steps in (
-      tt,
-      tt,
-      Ends-more rect part (blocks classes) all rest entry first old new
-          (subst (λ (xs : List (ℕ × Obstruction)). Ends rect part (blocks classes) all xs first old) steps c.shapes.invariant.2)
-          (part_moved c.shapes.patch.rect rect part (λ k cell. blocks_class entry.1 classes k cell) old new c.shapes.invariant.4
-          c.paint_shape.ensures.set),
-      λ other has. c.shapes.invariant.3 other (subst (λ (xs : List (ℕ × Obstruction)). Contains xs other) (sym steps) (Contains-tail entry rest other has)),
-      c.paint_shape.ensures.rect ∙ c.shapes.invariant.4,
-    )
+    let i : ℕ = c.loop-id.id-index in
+    let old = number_of c.loop-id.patch in
+    let new = number_of c.paint_listed.new.patch in
+    let here = c.loop-id.invariant in
+    record {
+      extent = c.paint_listed.ensures.rect ∙ here.extent;
+      ends = Ends-at rect part (blocks map standing) near near i 0 (number_of c.args.patch.now) old new
+          c.loop-id-test.true here.ends
+          (part_moved c.loop-id.patch.rect rect part (λ k cell. blocks map standing k cell (get_or near i 0)) old new
+          here.extent c.paint_listed.ensures.set);
+    }
 
 pub returns-clause-set : goal.returns-clause-set
 returns-clause-set c =
-    let all = fin_map.entries c.args.shapes.now in
-    let classes = c.args.map.now.classes in
+    let map = c.args.map.now in
+    let standing = c.args.shapes.now in
+    let near = c.args.near.now in
     let rect = c.args.patch.now.rect in
+    let part = c.args.part in
     let first = number_of c.args.patch.now in
-    let steps : c.shapes.obstruction-iterator ≡ [] = c.in-None.ensures.steps.0 in
-    Ends-all rect c.args.part (blocks classes) all first (number_of c.shapes.patch)
-    (subst (λ (xs : List (ℕ × Obstruction)). Ends rect c.args.part (blocks classes) all xs first (number_of c.shapes.patch)) steps
-    c.shapes.invariant.2)
+    let last = number_of c.loop-id.patch in
+    part_alike rect part (λ k cell. list_any (blocks map standing k cell) near) (is_blocked map standing) first last
+    (λ k cell inside. listed_blocked map standing k cell part near c.requires.near inside)
+    (Ends-past rect part (blocks map standing) near near c.loop-id.id-index first last c.loop-id-test.false
+    c.loop-id.invariant.ends)

@@ -10,6 +10,7 @@ use Rattle.grid_versions.specs.Passing.{is_blocked}
 use Rattle.grid_versions.specs.Chunks.{chunk_count}
 use Rattle.grid_versions.specs.inner.ChunkLists.{chunk_numbered, AreOfChunks}
 use Rattle.grid_versions.specs.inner.Painting.{IsBaseChunk, IsPaintedChunk}
+use Rattle.grid_versions.specs.inner.Reachers.{HoldReachers}
 use Rattle.grid_versions.proofs.ChunkLemmas.{AreOfChunks-push}
 use Rattle.grid_versions.proofs.NextLemmas.{whole_part}
 use Rattle.grid_versions.proofs.painting.painted_patches.Goals as goal
@@ -26,6 +27,20 @@ repainted-requires-clause-part c =
     ∙ ap (λ (s : Size). chunk_rect s (chunk_numbered s place)) c.size-size.ensures in
     subst (λ (r : Rect). IsPartOf r rect) (rect_is ∙ sym under.extent)
     (whole_part rect c.cells_of-rect.ensures.patch.columns c.cells_of-rect.ensures.patch.rows)
+
+pub repainted-requires-clause-near : goal.repainted-requires-clause-near
+repainted-requires-clause-near c =
+    let map = c.args.map.now in
+    let size = c.size-size.result in
+    let place = c.loop-place.place in
+    let rect = c.cells_of-rect.result in
+    let ids = c.at-near.result.now in
+    let rect_is : rect ≡ chunk_rect map.size (chunk_numbered map.size place) =
+    c.cells_of-rect.ensures.value ∙ ap (λ (chunk : Chunk). chunk_rect size chunk) c.numbered.ensures.value
+    ∙ ap (λ (s : Size). chunk_rect s (chunk_numbered s place)) c.size-size.ensures in
+    subst (λ (near : List ℕ). HoldReachers map c.args.shapes.now rect near) (sym c.as_slice.ensures)
+    (subst (λ (r : Rect). HoldReachers map c.args.shapes.now r ids) (sym rect_is)
+    (c.requires.reachers.are place ids c.at-near.ensures))
 
 pub loop-place-preserved : goal.loop-place-preserved
 loop-place-preserved c =

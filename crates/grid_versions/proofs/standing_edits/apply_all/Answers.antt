@@ -43,4 +43,5 @@ loop-edit-preserved c =
           c.in_ok-apply_listed.field-0 c.in_ok-push.ensures.ok c.in_ok-apply_listed.ensures.reply here.replies;
       fit = subst (λ (s : Standing). AllFit map.size s) (sym applied) (AllFit-after_edit map old _ here.fit);
       covers = λ first covers. c.in_ok-apply_listed.ensures.covers first (here.covers first covers);
+      names = λ first names. c.in_ok-apply_listed.ensures.names first (here.names first names);
     }

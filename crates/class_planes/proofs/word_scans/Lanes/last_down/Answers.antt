@@ -5,15 +5,15 @@ use Rattle.class_planes.proofs.word_scans.Lanes.last_down.Goals as goal
 
 pub returns-then-before-ne0-clause-some : goal.returns-then-before-ne0-clause-some
 returns-then-before-ne0-clause-some c =
-    last_here (end_down c.args.self.now) c.args.from c.highest.result c.ends_down.result c.bits_before-before.result
-    c.ends_down.ensures
+    last_here (end_down c.args.self.now) c.args.from c.highest.result c.first_ends_down.result c.bits_before-before.result
+    c.first_ends_down.ensures
     c.bits_before-before.ensures.kept c.bits_before-before.ensures.none c.highest.ensures.set c.highest.ensures.none
 
 pub down-init : goal.down-init
 down-init c = record {
   within = omega arith;
-  none = none_before (end_down c.args.self.now) c.args.from c.ends_down.result c.bits_before-before.result
-      c.ends_down.ensures c.bits_before-before.ensures.kept c.if-before-ne0.false;
+  none = none_before (end_down c.args.self.now) c.args.from c.first_ends_down.result c.bits_before-before.result
+      c.first_ends_down.ensures c.bits_before-before.ensures.kept c.if-before-ne0.false;
 }
 
 pub returns-then-ends-ne0-clause-some : goal.returns-then-ends-ne0-clause-some

@@ -5,14 +5,14 @@ use Rattle.class_planes.proofs.word_scans.Lanes.next_up.Goals as goal
 
 pub returns-then-after-ne0 : goal.returns-then-after-ne0
 returns-then-after-ne0 c =
-    let fits : c.ends_up.result < 2 ^ 64 = Prim.search rules in
-    next_here (end_up c.args.self.now) c.args.from c.lowest.result c.ends_up.result c.bits_after-after.result fits
-    c.ends_up.ensures c.bits_after-after.ensures c.lowest.ensures.set c.lowest.ensures.none
+    let fits : c.first_ends_up.result < 2 ^ 64 = Prim.search rules in
+    next_here (end_up c.args.self.now) c.args.from c.lowest.result c.first_ends_up.result c.bits_after-after.result fits
+    c.first_ends_up.ensures c.bits_after-after.ensures c.lowest.ensures.set c.lowest.ensures.none
 
 pub loop-w-init : goal.loop-w-init
 loop-w-init c = record {
   beyond = omega arith;
-  none = none_here (end_up c.args.self.now) c.args.from c.ends_up.result c.bits_after-after.result c.ends_up.ensures
+  none = none_here (end_up c.args.self.now) c.args.from c.first_ends_up.result c.bits_after-after.result c.first_ends_up.ensures
       c.bits_after-after.ensures (omega arith);
 }
 

@@ -1,13 +1,11 @@
 use Rattle.std.proofs.Common.{ℕ, ◌≡◌, ◌≤◌, List, sum, sym, subst, ap, ◌∙◌, arith}
 use Rattle.std.specs.Prelude.{All}
 use Rattle.std.specs.Arc.{arc_value}
-use Rattle.nav_types.specs.declared.cells.Cell.{Cell}
-use Rattle.nav_types.specs.declared.cells.Size.{Size}
 use Rattle.chunk_regions.specs.Labelling.{Labelling}
 use Rattle.reach_sets.specs.declared.regions.RegionId.{RegionId}
 use Rattle.reach_sets.specs.RegionOrder.{IsRegion}
 use Rattle.reach_sets.specs.AreaNumbers.{AreaNumbers, AreAreas}
-use Rattle.grid_versions.specs.inner.Tables.{counts_of, AreFew}
+use Rattle.grid_versions.specs.inner.Tables.{counts_of}
 use Rattle.grid_versions.proofs.BuildLemmas.{links_are, links_exist, regions_few, tables_few}
 use Rattle.grid_versions.proofs.tables.ClassTables.joined.Goals as goal
 

@@ -22,7 +22,8 @@ use Rattle.grid_versions.specs.inner.Painting.{AreBaseChunks, ArePaintedChunks, 
 use Rattle.grid_versions.specs.inner.Changing.{AreChanges}
 use Rattle.grid_versions.specs.inner.Parts.{AreParts}
 use Rattle.grid_versions.specs.Chunks.{chunk_count, chunk_place}
-use Rattle.grid_versions.specs.inner.Reaching.{is_in_some, CoverChanges}
+use Rattle.grid_versions.specs.inner.Reaching.{is_in_some, CoverChanges, NameChanges}
+use Rattle.grid_versions.specs.inner.Reachers.{AreReachersBefore}
 use Rattle.grid_versions.proofs.PlanePartLemmas.{kept_same}
 use Rattle.grid_versions.specs.inner.Tables.{Tables}
 use Rattle.grid_versions.specs.inner.Tallying.{AreTablesOf}
@@ -100,6 +101,15 @@ module _ (map spec : Map) (same : spec ≡ map) (old new : Standing) (before now
       total count (counted_here state items bits classes view_is bits_are differing many) has in
       omega arith
 
+pub next_reachers-requires-clause-before : goal.next_reachers-requires-clause-before
+next_reachers-requires-clause-before g c =
+    let map = arc_value c.self.inside.map in
+    let old = arc_value c.self.inside.shapes in
+    let names = subst (λ (s : MapState). NameChanges s.map s.standing c.args.shapes c.args.reaches.now c.args.ids.now)
+    (sym c.self.view_is) c.requires.names in
+    subst (λ (m : Map). AreReachersBefore m c.args.shapes c.self.inside.reachers c.args.reaches.now c.args.ids.now)
+    (sym c.deref-map.ensures) (record { earlier = old; lists = c.self.invariant.reachers_are; named = names })
+
 pub next_patches-requires-clause-before : goal.next_patches-requires-clause-before
 next_patches-requires-clause-before g c =
     let map = arc_value c.self.inside.map in
@@ -135,10 +145,27 @@ updated-requires-clause-before g c =
     c.in_ok-cells.ensures.painted c.new-painted.result c.self.inside.planes c.in_ok-cells.changed.items bits parts rects
     c.new-painted.ensures c.deref.ensures.value c.in_ok-cells.ensures.bits covers held c.self.invariant.planes_are)
 
+pub new-planed-requires-clause-few : goal.new-planed-requires-clause-few
+new-planed-requires-clause-few g c =
+    let few = c.self.invariant.few in
+    let each = c.self.invariant.tables_are.each in
+    let classes = ap (λ (m : Map). length m.classes) c.deref-map.ensures in
+    omega arith
+
+pub new-planed-requires-clause-planes : goal.new-planed-requires-clause-planes
+new-planed-requires-clause-planes g c =
+    let map = arc_value c.self.inside.map in
+    let spec = c.deref-map.result.now in
+    let new = c.args.shapes in
+    subst (λ (s : MapState). ArePlanes s.map.size (passes_of s) 65535 (length s.map.classes) c.in_ok-planes.planes) c.new-painted.ensures
+    (planes_after map spec c.deref-map.ensures (arc_value c.self.inside.shapes) new c.self.inside.cells c.in_ok-cells.cells
+    c.self.invariant.cells_are c.in_ok-cells.ensures.painted c.new-painted.result c.self.inside.planes c.in_ok-planes.planes
+    c.new-painted.ensures c.self.invariant.planes_are c.in_ok-planes.ensures)
+
 pub next_tables-requires-clause-before : goal.next_tables-requires-clause-before
 next_tables-requires-clause-before g c =
     tables_here (arc_value c.self.inside.map) c.deref-map.result.now c.deref-map.ensures (arc_value c.self.inside.shapes) c.args.shapes
-    c.self.inside.cells c.in_ok-cells.cells c.self.invariant.cells_are c.in_ok-cells.ensures.painted c.new-painted.result c.self.inside.tables c.in_ok-cells.changed.items c.deref-3.result.now c.new-painted.ensures
+    c.self.inside.cells c.in_ok-cells.cells c.self.invariant.cells_are c.in_ok-cells.ensures.painted c.new-planed.result c.self.inside.tables c.in_ok-cells.changed.items c.deref-3.result.now c.new-planed.ensures
     c.deref-3.ensures.value c.in_ok-cells.ensures.bits c.self.invariant.tables_are
 
 pub returns-in_err-tables-clause-most : goal.returns-in_err-tables-clause-most
@@ -182,15 +209,16 @@ invariant_of-parts g c =
     let spec = c.deref-map.result.now in
     let new = c.args.shapes in
     let base = c.in_ok-share.field-0 in
+    let reachers = c.in_ok-reachers.reachers in
     let cells = c.in_ok-cells.cells in
     let planes = c.in_ok-planes.planes in
     let tables = c.in_ok-tables.tables in
     let fit : AllFit map.size new = subst (λ (s : MapState). AllFit s.map.size new) (sym c.self.view_is) c.requires.fit in
     let under = subst (λ (b : List Numbering). AreBaseChunks map b) (sym c.in_ok-share.ensures) c.self.invariant.base_are in
-    subst (λ (m : Map). AreParts m (arc_value c.in_ok-new.field-0) base cells planes tables) (sym c.in_ok-try_clone.ensures)
-    (subst (λ (s : Standing). AreParts map s base cells planes tables) (sym c.in_ok-new.ensures.ok)
-    (parts_of map spec new c.new-painted.result (length c.self.inside.tables) base cells planes tables c.deref-map.ensures
-    c.new-painted.ensures fit under c.in_ok-cells.ensures.painted
+    subst (λ (m : Map). AreParts m (arc_value c.in_ok-new.field-0) base reachers cells planes tables) (sym c.in_ok-try_clone.ensures)
+    (subst (λ (s : Standing). AreParts map s base reachers cells planes tables) (sym c.in_ok-new.ensures.ok)
+    (parts_of map spec new c.new-painted.result c.new-planed.result (length c.self.inside.tables) base reachers cells planes tables c.deref-map.ensures
+    c.new-painted.ensures c.new-planed.ensures fit under c.in_ok-reachers.ensures c.in_ok-cells.ensures.painted
     (c.self.invariant.tables_are.each ∙ sym (ap (λ (m : Map). length m.classes) c.deref-map.ensures)) c.self.invariant.few
     (planes_after map spec c.deref-map.ensures (arc_value c.self.inside.shapes) new c.self.inside.cells cells c.self.invariant.cells_are
     c.in_ok-cells.ensures.painted c.new-painted.result c.self.inside.planes planes c.new-painted.ensures c.self.invariant.planes_are

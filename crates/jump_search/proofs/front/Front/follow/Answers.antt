@@ -29,7 +29,7 @@ loop-dir-preserved g c =
     let step = c.in_ok-follow_along.ensures in
     record {
       gains = gains_through a b d p q r known.gains step.gains;
-      along = below_more _ _ (λ k low. along_later passes hit b d node.state node.cost (get_or preference k N)
+      along = below_more _ _ (λ k low. along_later c.args.all passes hit b d node.state node.cost (get_or preference k N)
           step.gains.later (known.along k low))
           (step.along (get_or preference c.loop-dir.dir-index N) refl);
       going = keeps_through passes hit rect node.state node.cost a b d p q r known.gains.later known.going step.going;
@@ -42,7 +42,7 @@ returns g c =
     let node = c.args.node.now in
     let known = c.loop-dir.invariant in
     let all : (k : ℕ) → k < 8 → k < c.loop-dir.dir-index = λ k below. omega (arith, below, c.loop-dir-test.false) in
-    let Along = λ (dir : Dir). IsFollowedAlong passes hit c.loop-dir.self.nodes node.state node.cost dir in
+    let Along = λ (dir : Dir). IsFollowedAlong c.args.all passes hit c.loop-dir.self.nodes node.state node.cost dir in
     let along = known.along in
     record {
       gains = known.gains;

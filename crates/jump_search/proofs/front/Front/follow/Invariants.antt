@@ -10,7 +10,7 @@ invariant-loop-dir g l =
     let hit = g.A.Aim.hit l.aim (g.R.View.extent l.runs) in
     record {
       gains : Gains l.initial.self.nodes l.self.nodes l.initial.self.waiting l.self.waiting;
-      along : (k : ℕ) → k < l.dir-index → IsFollowedAlong passes hit l.self.nodes l.node.state l.node.cost
+      along : (k : ℕ) → k < l.dir-index → IsFollowedAlong l.all passes hit l.self.nodes l.node.state l.node.cost
           (get_or preference k N);
       going : KeepsGoing passes hit l.rect l.node.state l.node.cost l.initial.self.nodes l.self.nodes
           l.initial.self.waiting l.self.waiting;

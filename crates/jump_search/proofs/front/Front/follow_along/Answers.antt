@@ -1,7 +1,7 @@
 use Rattle.std.proofs.Common.{sym, ◌∙◌, IsTrue}
 use Rattle.std.proofs.lemmas.Bool.{both_ways}
 use Rattle.nav_types.specs.DirSets.{holds}
-use Rattle.jump_search.proofs.Landing.{HasLanded, estimate_landed, follows_landed, follows_none, follows_pruned}
+use Rattle.jump_search.proofs.Landing.{HasLanded, estimate_landed, follows_landed, follows_left, follows_none, follows_pruned}
 use Rattle.jump_search.proofs.Landing.{jump_most}
 use Rattle.jump_search.proofs.front.Front.follow_along.Goals as goal
 
@@ -10,7 +10,7 @@ returns-then-not-has g c =
     let passes = g.R.View.passes c.args.runs.now c.args.class in
     let hit = g.A.Aim.hit c.args.aim.now (g.R.View.extent c.args.runs.now) in
     let node = c.args.node.now in
-    follows_pruned passes hit c.args.rect.now node.state node.cost c.args.dir c.args.self.now.nodes
+    follows_pruned c.args.all passes hit c.args.rect.now node.state node.cost c.args.dir c.args.self.now.nodes
     c.args.self.now.waiting
     (λ is. both_ways c.has.result c.if-not-has.true (c.has.ensures ∙ c.requires.successors.1 is))
 
@@ -19,15 +19,27 @@ returns-in_default g c =
     let passes = g.R.View.passes c.args.runs.now c.args.class in
     let hit = g.A.Aim.hit c.args.aim.now (g.R.View.extent c.args.runs.now) in
     let node = c.args.node.now in
-    follows_none passes hit c.args.rect.now node.state node.cost c.args.dir c.args.self.now.nodes
+    follows_none c.args.all passes hit c.args.rect.now node.state node.cost c.args.dir c.args.self.now.nodes
     c.args.self.now.waiting c.in_default.ensures.none
+
+pub returns-then-is_dearer : goal.returns-then-is_dearer
+returns-then-is_dearer g c =
+    let passes = g.R.View.passes c.args.runs.now c.args.class in
+    let hit = g.A.Aim.hit c.args.aim.now (g.R.View.extent c.args.runs.now) in
+    let node = c.args.node.now in
+    let made = c.landed-next.ensures in
+    let landed : HasLanded node.state node.cost c.args.dir c.in-Some.stop c.landed-next.result =
+    record { cell = made.cell; arrived = made.arrived; costs = made.cost; run = made.run } in
+    follows_left c.args.all passes hit c.args.rect.now node.state node.cost c.args.dir c.in-Some.stop
+    c.landed-next.result c.args.self.now.nodes c.args.self.now.waiting c.in-Some.ensures.some landed
+    c.if-not-all.true (c.is_dearer.ensures c.if-is_dearer.true)
 
 pub relax-requires-clause-queued : goal.relax-requires-clause-queued
 relax-requires-clause-queued g c =
     let f = c.requires.followable in
     let node = c.args.node.now in
-    let made = c.landed.ensures in
-    let landed : HasLanded node.state node.cost c.args.dir c.in-Some.stop c.landed.result =
+    let made = c.landed-next.ensures in
+    let landed : HasLanded node.state node.cost c.args.dir c.in-Some.stop c.landed-next.result =
     record { cell = made.cell; arrived = made.arrived; costs = made.cost; run = made.run } in (
       f.all,
       (
@@ -35,7 +47,7 @@ relax-requires-clause-queued g c =
         (
           f.going.queued,
           estimate_landed c.args.rect.now node.state node.cost f.floor c.args.dir
-              c.in-Some.stop c.landed.result landed f.early,
+              c.in-Some.stop c.landed-next.result landed f.early,
         ),
       ),
     )
@@ -46,14 +58,15 @@ returns g c =
     let size = g.R.View.extent c.args.runs.now in
     let hit = g.A.Aim.hit c.args.aim.now size in
     let node = c.args.node.now in
-    let made = c.landed.ensures in
-    let landed : HasLanded node.state node.cost c.args.dir c.in-Some.stop c.landed.result =
+    let made = c.landed-next.ensures in
+    let landed : HasLanded node.state node.cost c.args.dir c.in-Some.stop c.landed-next.result =
     record { cell = made.cell; arrived = made.arrived; costs = made.cost; run = made.run } in
     let is = c.in-Some.ensures.some in
     let most = jump_most passes hit size c.args.dir node.state.cell c.in-Some.stop
     (g.met.R.View.within c.args.runs.now c.args.class) c.requires.cell is in
     let kept : IsTrue (holds c.args.dirs c.args.dir) = sym c.has.ensures ∙ c.if-not-has.false in
     let successor = c.requires.successors.0 kept in
-    follows_landed passes hit c.args.rect.now node.state node.cost c.args.dir c.in-Some.stop c.landed.result
+    follows_landed c.args.all passes hit c.args.rect.now node.state node.cost c.args.dir c.in-Some.stop
+    c.landed-next.result
     c.args.self.now.nodes c.relax.new.self.nodes c.args.self.now.waiting c.relax.new.self.waiting successor is landed
     most c.in_ok-relax.ensures

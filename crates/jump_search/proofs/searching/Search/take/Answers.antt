@@ -66,7 +66,7 @@ returns-clause-underway g c = λ start floor free taken.
     let new = c.follow.new.self in
     let met_free = node_free passes hit start front.nodes c.args.entry.key a free taken.underway.met c.at.ensures in
     let inside = g.met.R.View.within c.args.runs.now c.args.class a.state.cell met_free in
-    let follows = subst (λ (ns : List Node). Follows passes hit rect a.state a.cost (λ other. Unit {0}) ns new.nodes
+    let follows = subst (λ (ns : List Node). Follows c.args.all passes hit rect a.state a.cost (λ other. Unit {0}) ns new.nodes
     front.waiting new.waiting) c.put.ensures c.in_ok-follow.ensures in
     opened_underway c.args.all passes hit start rect floor front.nodes new.nodes front.waiting new.waiting
     c.args.self.now.best c.best_with-self.result c.args.entry a taken c.at.ensures

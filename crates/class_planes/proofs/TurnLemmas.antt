@@ -1,0 +1,244 @@
+-- Columns that are read from rows, 16 at a time.
+use Rattle.std.proofs.Common.{[], ◌∷◌, replicate, IsTrue, ◌≡◌, ◌≢◌, ℕ, ◌+◌, ◌-◌, ◌*◌, ◌/◌, ◌%◌, ◌^◌, ◌<◌, ◌≤◌, Bool, true, false, ◌&&◌, ltb, List, ◌++◌, take, drop, length, get_or, set, refl, sym, ap, ap₂, ◌∙◌, subst, ⊎_elim, arith}
+use Rattle.std.specs.Int.{bit_at}
+use Rattle.std.proofs.lemmas.Bool.{cases_lt, cases_eq, true≢false, false≢true, false_from_ne_true, le-ltb, ltb-true}
+use Rattle.std.proofs.Math.Nat.{mod-lt}
+use Rattle.std.proofs.lemmas.Nat.{div-add-mod', mul-le, pow_pos}
+use Rattle.std.proofs.lemmas.Nat.Bits.{bit_at-zero, bit_at_cat_low, bit_at_cat_high}
+use Rattle.std.proofs.lemmas.List.{get_or_past, length-take, length-replicate, get_or-set_same, get_or-set_other, get_or_append_left, get_or-append_right, get_or-take, get_or-drop, length-take-le, length-append, length-drop}
+use Rattle.std.specs.Prelude.{slice_range}
+use Rattle.nav_types.specs.declared.cells.Rect.{Rect}
+use Rattle.nav_types.specs.Cells.{cell_at}
+use Rattle.lane_rows.specs.Rows.{one_if}
+use Rattle.class_planes.specs.Planes.{AreFreeBits, IsOutside}
+use Rattle.class_planes.specs.inner.Lines.{LineTable, RowTable, IsBand, AreLines, AreLinesBut, AreColumnsBefore, HasNextLine, line_at, line_in, patched, free_at, free_cell}
+use Rattle.class_planes.specs.inner.Runs.{bit_in}
+use Rattle.class_planes.proofs.BitLemmas.{zero_at}
+use Rattle.class_planes.proofs.LineLemmas.{band_more}
+use Rattle.class_planes.proofs.PlaneLemmas.{line_free}
+
+-- the bits of a word that is moved down
+moved_bit : (word s k : ℕ) → bit_at (word / 2 ^ s) k ≡ bit_at word (s + k)
+moved_bit word s k =
+    let rest : word % 2 ^ s < 2 ^ s = mod-lt word (pow_pos s) in
+    let parts : word / 2 ^ s * 2 ^ s + word % 2 ^ s ≡ word = div-add-mod' word (2 ^ s) in
+    let place : s + k - s ≡ k = omega arith in
+    ap (bit_at (word / 2 ^ s)) (sym place)
+    ∙ sym (bit_at_cat_high (word / 2 ^ s) s (word % 2 ^ s) (s + k) rest (omega arith))
+    ∙ ap (λ n. bit_at n (s + k)) parts
+
+-- 16 bits of a word that is moved down
+pub quarter_bit : (word s k : ℕ) → k < 16 → bit_at (word / 2 ^ s % 65536) k ≡ bit_at word (s + k)
+quarter_bit word s k small =
+    let x : ℕ = word / 2 ^ s in
+    let parts : x / 65536 * 65536 + x % 65536 ≡ x = omega arith in
+    sym (bit_at_cat_low (x / 65536) 16 (x % 65536) k small)
+    ∙ ap (λ n. bit_at n k) parts
+    ∙ moved_bit word s k
+
+-- the word and the place in it of one of 16 bits
+pub sixteen_bit : (line : List ℕ) (at group k : ℕ) → at ≡ group → k < 16
+    → bit_at (get_or line (at / 4) 0) (16 * (group % 4) + k) ≡ bit_in line (16 * group + k)
+sixteen_bit line at group k is small =
+    let word : at / 4 ≡ (16 * group + k) / 64 = omega arith in
+    let place : 16 * (group % 4) + k ≡ (16 * group + k) % 64 = omega arith in
+    ap₂ (λ w p. bit_at (get_or line w 0) p) word place
+
+middle_false : (a b x : Bool) → b ≡ false → (a && b && x) ≡ false
+middle_false true true x is = absurd (true≢false is)
+middle_false true false x is = refl
+middle_false false b x is = refl
+
+-- past the last row nothing is free
+pub past_rows : (table : RowTable) (i j : ℕ) → table.size.h ≤ j → free_cell table (cell_at i j) ≡ false
+past_rows table i j past =
+    middle_false (ltb i table.size.w) (ltb j table.size.h) (free_at table.rows j i) (le-ltb j table.size.h past)
+
+-- one number more is read
+pub numbers_more : (bit : ℕ → ℕ → ℕ) (numbers : List ℕ) (i v : ℕ) → i < length numbers
+    → ((j k : ℕ) → j < i → k < 16 → bit_at (get_or numbers j 0) k ≡ bit j k)
+    → ((k : ℕ) → k < 16 → bit_at v k ≡ bit i k)
+    → (j k : ℕ) → j < i + 1 → k < 16 → bit_at (get_or (set numbers i v) j 0) k ≡ bit j k
+numbers_more bit numbers i v within old new j k below small = ⊎_elim
+    (λ (same : j ≡ i).
+    ap (λ p. bit_at (get_or (set numbers i v) p 0) k) same
+    ∙ ap (λ n. bit_at n k) (get_or-set_same numbers i v 0 within)
+    ∙ new k small
+    ∙ ap (λ p. bit p k) (sym same))
+    (λ (other : j ≢ i).
+    ap (λ n. bit_at n k) (get_or-set_other numbers i j v 0 other)
+    ∙ old j k (omega arith) small)
+    (cases_eq j i)
+
+-- the words of a line of which some are replaced
+patched_here : (old part : List ℕ) (from w : ℕ) → from + length part ≤ length old → from ≤ w → w < from + length part
+    → get_or (patched old from part) w 0 ≡ get_or part (w - from) 0
+patched_here old part from w within low high =
+    let rest : List ℕ = drop (from + length part) old in
+    let front : length (take from old) ≡ from = length-take-le from old (omega arith) in
+    get_or-append_right (take from old) (part ++ rest) from w 0 front low
+    ∙ get_or_append_left part rest 0 (w - from) (omega arith)
+
+patched_before : (old part : List ℕ) (from w : ℕ) → from + length part ≤ length old → w < from
+    → get_or (patched old from part) w 0 ≡ get_or old w 0
+patched_before old part from w within below =
+    let rest : List ℕ = drop (from + length part) old in
+    let front : length (take from old) ≡ from = length-take-le from old (omega arith) in
+    get_or_append_left (take from old) (part ++ rest) 0 w (omega arith)
+    ∙ get_or-take from old w 0 below
+
+patched_after : (old part : List ℕ) (from w : ℕ) → from + length part ≤ length old → from + length part ≤ w
+    → get_or (patched old from part) w 0 ≡ get_or old w 0
+patched_after old part from w within above =
+    let n : ℕ = length part in
+    let rest : List ℕ = drop (from + n) old in
+    let front : length (take from old) ≡ from = length-take-le from old (omega arith) in
+    let there : from + n + (w - from - n) ≡ w = omega arith in
+    get_or-append_right (take from old) (part ++ rest) from w 0 front (omega arith)
+    ∙ get_or-append_right part rest n (w - from) 0 refl (omega arith)
+    ∙ get_or-drop (from + n) old (w - from - n) 0
+    ∙ ap (λ p. get_or old p 0) there
+
+length-patched : (old part : List ℕ) (from : ℕ) → from + length part ≤ length old
+    → length (patched old from part) ≡ length old
+length-patched old part from within =
+    let rest : List ℕ = drop (from + length part) old in
+    let front : length (take from old) ≡ from = length-take-le from old (omega arith) in
+    omega (
+      arith,
+      length-append (take from old) (part ++ rest),
+      length-append part rest,
+      length-drop (from + length part) old,
+    )
+
+-- the line that is appended
+pub next_line : (old numbers part before after : List ℕ) (k from : ℕ) → length part ≡ length numbers / 64
+    → from + length numbers / 64 ≤ length old → after ≡ before ++ patched old from part
+    → ((w m : ℕ) → m < 64 → bit_at (get_or part w 0) m ≡ bit_at (get_or numbers (64 * w + m) 0) k)
+    → HasNextLine old numbers k from before after
+next_line old numbers part before after k from long within is plane =
+    let fits : from + length part ≤ length old = omega arith in
+    record {
+      line = patched old from part;
+      appended = is;
+      long = length-patched old part from fits;
+      read = λ i low high.
+          let below : i / 64 < from + length part = omega arith in
+          let there : 64 * (i / 64 - from) + i % 64 ≡ i - 64 * from = omega arith in
+          ap (λ word. bit_at word (i % 64)) (patched_here old part from (i / 64) fits low below)
+          ∙ plane (i / 64 - from) (i % 64) (omega arith)
+          ∙ ap (λ p. bit_at (get_or numbers p 0) k) there;
+      kept = λ i out. ap (λ word. bit_at word (i % 64)) (⊎_elim
+          (λ (below : i / 64 < from). patched_before old part from (i / 64) fits below)
+          (λ (low : from ≤ i / 64). ⊎_elim
+          (λ (high : i / 64 < from + length numbers / 64). absurd (out low high))
+          (λ (above : from + length numbers / 64 ≤ i / 64). patched_after old part from (i / 64) fits (omega arith))
+          (cases_lt (i / 64) (from + length numbers / 64)))
+          (cases_lt (i / 64) from));
+    }
+
+-- how long a line is
+pub line_long : (free : ℕ → ℕ → Bool) (count words n : ℕ) (table : LineTable) → AreLines free count words table
+    → n / 32 < count → length (line_at table n) ≡ words
+line_long free count words n table are below =
+    let m : ℕ = n % 32 in
+    let band : List ℕ = get_or table.bands (n / 32) [] in
+    let long : length band ≡ 32 * words = (are.each (n / 32) below).long in
+    let more : (m + 1) * words ≤ 32 * words = mul-le (m + 1) words 32 words (omega arith) (omega arith) in
+    let fits : m * words + words ≤ length band = omega arith in
+    let one : m * words + words - m * words ≡ words = omega arith in
+    subst (λ (w : ℕ). length (line_in w band m) ≡ words) (sym are.wide)
+    (length-take-le (m * words + words - m * words) (drop (m * words) band)
+    (omega (arith, length-drop (m * words) band)) ∙ one)
+
+-- a band with one column more
+pub columns_more : (free : ℕ → ℕ → Bool) (band half k from to count words : ℕ) (table : LineTable)
+    (numbers before after : List ℕ)
+    → IsBand free (32 * band) words (16 * half + k) before
+    → AreLinesBut free band from to count words table → band < count → half < 2 → k < 16 → from < to
+    → length numbers ≡ 64 * (to - from)
+    → ((j : ℕ) → j < length numbers
+    → bit_at (get_or numbers j 0) k ≡ one_if (free (16 * (2 * band + half) + k) (64 * from + j)))
+    → HasNextLine (line_at table (32 * band + 16 * half + k)) numbers k from before after
+    → IsBand free (32 * band) words (16 * half + (k + 1)) after
+columns_more free band half k from to count words table numbers before after is but known low small some long read next =
+    let n : ℕ = 32 * band + 16 * half + k in
+    let column : 16 * (2 * band + half) + k ≡ n = omega arith in
+    let line : n ≡ 32 * band + (16 * half + k) = omega arith in
+    let more : 16 * half + k + 1 ≡ 16 * half + (k + 1) = omega arith in
+    let in_table : n / 32 < count = omega arith in
+    let in_band : n / 32 ≡ band = omega arith in
+    let most : from + length numbers / 64 ≡ to = omega arith in
+    let wide : length (line_at table n) ≡ words = line_long but.earlier count words n table but.lines in_table in
+    let right : AreFreeBits (free n) next.line = λ j. ⊎_elim
+    (λ (below : j / 64 < from).
+    next.kept j (λ a b. omega (arith, a, below))
+    ∙ line_free but.earlier count words n table but.lines in_table j
+    ∙ ap one_if (but.same n j in_band (λ a b. omega (arith, a, below))))
+    (λ (at_least : from ≤ j / 64). ⊎_elim
+    (λ (within : j / 64 < to).
+    let there : 64 * from + (j - 64 * from) ≡ j = omega arith in
+    next.read j at_least (omega arith)
+    ∙ read (j - 64 * from) (omega arith)
+    ∙ ap₂ (λ i p. one_if (free i p)) column there)
+    (λ (above : to ≤ j / 64).
+    next.kept j (λ a b. omega (arith, b, above, most))
+    ∙ line_free but.earlier count words n table but.lines in_table j
+    ∙ ap one_if (but.same n j in_band (λ a b. omega (arith, b, above))))
+    (cases_lt (j / 64) to))
+    (cases_lt (j / 64) from) in
+    subst (λ m. IsBand free (32 * band) words m after) more
+    (subst (IsBand free (32 * band) words (16 * half + k + 1)) (sym next.appended)
+    (band_more free (32 * band) words (16 * half + k) before next.line is (next.long ∙ wide)
+    (subst (λ m. AreFreeBits (free m) next.line) line right)))
+
+-- a band whose places are the same
+pub band_same : (earlier free : ℕ → ℕ → Bool) (band words : ℕ) (words_of : List ℕ)
+    → IsBand earlier (32 * band) words 32 words_of
+    → ((n i : ℕ) → n / 32 ≡ band → earlier n i ≡ free n i) → IsBand free (32 * band) words 32 words_of
+band_same earlier free band words words_of is same = record {
+  long = is.long;
+  each = λ k below i. is.each k below i ∙ ap one_if (same (32 * band + k) i (omega arith));
+}
+
+-- ---- lines without a free place
+
+zero_in : (n from to w : ℕ) → get_or {A = ℕ} (slice_range (replicate n 0) from to) w 0 ≡ 0
+zero_in n from to w =
+    let zeros : List ℕ = replicate n 0 in
+    ⊎_elim
+    (λ (below : w < to - from).
+    get_or-take (to - from) (drop from zeros) w 0 below ∙ get_or-drop from zeros w 0 ∙ zero_at n (from + w))
+    (λ (above : to - from ≤ w).
+    get_or_past (take (to - from) (drop from zeros)) w 0 (omega (arith, length-take (to - from) (drop from zeros))))
+    (cases_lt w (to - from))
+
+pub blank_band : (first words n : ℕ) → n ≡ 32 * words → IsBand (λ n i. false) first words 32 (replicate n 0)
+blank_band first words n long = record {
+  long = length-replicate n 0 ∙ long;
+  each = λ k below i.
+      ap (λ word. bit_at word (i % 64)) (zero_in n (k * words) (k * words + words) (i / 64)) ∙ bit_at-zero (i % 64);
+}
+
+both_sides : (a b x : Bool) → IsTrue (a && b && x) → IsTrue a × IsTrue b
+both_sides true true x holds = (refl, refl)
+both_sides true false x holds = absurd (false≢true holds)
+both_sides false b x holds = absurd (false≢true holds)
+
+-- the blank lines are right outside of a rectangle that is the whole map
+pub blank_before : (table : RowTable) (rects : List Rect) (rect : Rect) (columns : LineTable) → rects ≡ rect ∷ []
+    → rect.i0 ≡ 0 → rect.j0 ≡ 0 → rect.i1 + 1 ≡ table.size.w → rect.j1 + 1 ≡ table.size.h
+    → AreLines (λ n i. false) (table.size.w / 32 + 1) (table.size.h / 64 + 1) columns
+    → AreColumnsBefore table rects columns
+blank_before table rects rect columns one i0 j0 i1 j1 blank = record {
+  earlier = λ n i. false;
+  lines = blank;
+  same = λ cell out.
+      let outside : IsOutside (rect ∷ []) cell = subst (λ (rs : List Rect). IsOutside rs cell) one out in
+      sym (false_from_ne_true (free_cell table cell) (λ yes.
+      let sides = both_sides (ltb cell.i table.size.w) (ltb cell.j table.size.h) (free_at table.rows cell.j cell.i) yes in
+      let east : cell.i < table.size.w = ltb-true cell.i table.size.w sides.0 in
+      let north : cell.j < table.size.h = ltb-true cell.j table.size.h sides.1 in
+      outside 0 rect (omega arith)
+      (record { west = omega arith; east = omega arith; south = omega arith; north = omega arith })));
+}

@@ -1,0 +1,30 @@
+use Rattle.std.proofs.lemmas.Bool.{both_ways}
+use Rattle.jump_scan.specs.Stops.{HaltsDiagonal}
+use Rattle.jump_scan.proofs.Running.{IsStop-next, HasPassed-more, no_stop}
+use Rattle.class_planes.specs.Planes.{is_passable}
+use Rattle.class_planes.proofs.plane_scans.diagonal_to.Goals as goal
+
+pub returns-then-halts_diagonal-clause-some : goal.returns-then-halts_diagonal-clause-some
+returns-then-halts_diagonal-clause-some g c =
+    let passes = is_passable c.args.plane.now in
+    let Halts = HaltsDiagonal passes (g.A.Aim.hit c.args.aim.now c.args.plane.now.size) c.args.dir in
+    IsStop-next passes Halts c.args.dir c.args.from c.run.cell c.in-Some.next c.run.invariant.passed
+    c.in-Some.ensures.some
+    (c.halts_diagonal.ensures.0 c.if-halts_diagonal.true)
+
+pub run-preserved : goal.run-preserved
+run-preserved g c =
+    let passes = is_passable c.args.plane.now in
+    let Halts = HaltsDiagonal passes (g.A.Aim.hit c.args.aim.now c.args.plane.now.size) c.args.dir in
+    record {
+      free = c.in-Some.ensures.some.next;
+      passed = HasPassed-more passes Halts c.args.dir c.args.from c.run.cell c.in-Some.next c.run.invariant.passed
+          c.in-Some.ensures.some
+          (λ halts. both_ways c.halts_diagonal.result c.if-halts_diagonal.false (c.halts_diagonal.ensures.1 halts));
+    }
+
+pub returns-clause-none : goal.returns-clause-none
+returns-clause-none g c =
+    let passes = is_passable c.args.plane.now in
+    let Halts = HaltsDiagonal passes (g.A.Aim.hit c.args.aim.now c.args.plane.now.size) c.args.dir in
+    no_stop passes Halts c.args.dir c.args.from c.run.cell c.run.invariant.passed c.in_default.ensures.none

@@ -1,0 +1,196 @@
+//! The numbers of the obstructions that reach into each chunk.
+ghost use Rattle.std.specs.Prelude.{ℕ, ◌≡◌, ◌⊎◌, ◌<◌, Some, Contains, IfOk, OnOk};
+ghost use Rattle.std.specs.Arc.{arc_value};
+ghost use Rattle.std.specs.FinMap as fin_map;
+ghost use Rattle.nav_types.specs.declared.cells.Cell.{Cell};
+ghost use Rattle.nav_types.specs.Cells.{IsInRect};
+ghost use Rattle.obstruction_shapes.specs.declared.shapes.Obstruction.{Obstruction};
+ghost use Rattle.obstruction_store.specs.Standing.{AllFit};
+ghost use Rattle.grid_versions.specs.Chunks.{chunk_count};
+ghost use Rattle.grid_versions.specs.inner.ChunkLists.{chunk_numbered};
+ghost use Rattle.grid_versions.specs.inner.Reachers.{HoldChunkReachers, AreReachers, AreReachersBefore, AreReachersSince, IsReached, HoldReached};
+
+use crate::chunks;
+use crate::maps::MapSpec;
+use crate::parts::{common, dirty_part};
+use crate::shared_list::SharedList;
+use crate::standing_edits::reach_under;
+use nav_types::{NoMemory, Rect};
+use obstruction_store::{Ids, Store};
+use std::alloc::Global;
+use std::sync::Arc;
+
+/// A rectangle of cells that the obstruction of a number can block.
+#[derive(Clone, Copy)]
+struct Reacher {
+    id: u32,
+    rect: Rect,
+}
+
+/// Appends the cells that the obstruction of the number can block, if there are such cells.
+fn push_reacher(
+    map: &MapSpec,
+    shapes: &Store,
+    id: u32,
+    reachers: &mut Vec<Reacher>,
+) -> Result<(), NoMemory>
+    requires { AllFit map.now.size shapes.now }
+    ensures kept { OnOk result ((n : ℕ) (cell : Cell) → IsReached reachers.old.items n cell
+        → IsReached reachers.new.items n cell) }
+    ensures reached { OnOk result (HoldReached map.now shapes.now reachers.new.items id) }
+{
+    let Some(rect) = reach_under(map, shapes, id) else {
+        return Ok(());
+    };
+    reachers.push(Reacher { id, rect })?;
+    Ok(())
+}
+
+/// The cells that the obstructions of the numbers can block.
+fn reachers_of(
+    alloc: Global,
+    map: &MapSpec,
+    shapes: &Store,
+    ids: &[u32],
+) -> Result<Vec<Reacher>, NoMemory>
+    requires { AllFit map.now.size shapes.now }
+    ensures { IfOk result (λ reachers. (id : ℕ) → Contains ids.now id
+        → HoldReached map.now shapes.now reachers.items id) }
+{
+    let mut reachers = Vec::with_capacity(alloc, ids.len())?;
+    for id in ids {
+        push_reacher(map, shapes, *id, &mut reachers)?;
+    }
+    Ok(reachers)
+}
+
+/// Appends the number, if it is not listed and its cells meet the rectangle.
+fn list_reacher(rect: Rect, reacher: Reacher, ids: &mut Ids) -> Result<(), NoMemory>
+    ensures kept { OnOk result ((n : ℕ) → Contains ids.old n → Contains ids.new n) }
+    ensures listed { OnOk result ((cell : Cell) → IsInRect reacher.rect cell → IsInRect rect cell
+        → Contains ids.new reacher.id) }
+{
+    let Some(_) = common(reacher.rect, rect) else {
+        return Ok(());
+    };
+    if ids.as_slice().contains(&reacher.id) {
+        return Ok(());
+    }
+    ids.push(reacher.id)?;
+    Ok(())
+}
+
+/// Appends the numbers whose cells meet the rectangle, each once.
+fn list_reachers(rect: Rect, reachers: &[Reacher], ids: &mut Ids) -> Result<(), NoMemory>
+    ensures kept { OnOk result ((n : ℕ) → Contains ids.old n → Contains ids.new n) }
+    ensures listed { OnOk result ((id : ℕ) (cell : Cell) → IsReached reachers.now id cell
+        → IsInRect rect cell → Contains ids.new id) }
+{
+    for reacher in reachers {
+        list_reacher(rect, *reacher, ids)?;
+    }
+    Ok(())
+}
+
+/// The numbers in two lists whose cells meet the rectangle.
+fn reachers_in(
+    alloc: Global,
+    old: &[Reacher],
+    changed: &[Reacher],
+    rect: Rect,
+) -> Result<Ids, NoMemory>
+    ensures { IfOk result (λ ids. (id : ℕ) (cell : Cell)
+        → IsReached old.now id cell ⊎ IsReached changed.now id cell → IsInRect rect cell → Contains ids id) }
+{
+    let mut ids = Ids::new(alloc);
+    list_reachers(rect, old, &mut ids)?;
+    list_reachers(rect, changed, &mut ids)?;
+    Ok(ids)
+}
+
+/// The numbers under which an obstruction stands.
+fn standing_ids(alloc: Global, shapes: &Store) -> Result<Ids, NoMemory>
+    ensures { IfOk result (λ ids. (id : ℕ) (obstruction : Obstruction)
+        → fin_map.get shapes.now id ≡ Some obstruction → Contains ids id) }
+{
+    let mut ids = Ids::new(alloc);
+    for (id, _) in shapes.entries() {
+        ids.push(id)?;
+    }
+    Ok(ids)
+}
+
+/// For each chunk of the map the numbers of the obstructions that reach into it.
+pub fn all_reachers(
+    alloc: Global,
+    map: &MapSpec,
+    shapes: &Store,
+) -> Result<SharedList<Ids>, NoMemory>
+    requires { AllFit map.now.size shapes.now }
+    ensures { IfOk result (AreReachers map.now shapes.now) }
+{
+    let size = map.size();
+    let count = chunks::count(size);
+    let ids = standing_ids(alloc, shapes)?;
+    let reachers = reachers_of(alloc, map, shapes, ids.as_slice())?;
+    let mut all = SharedList::with_capacity(alloc, count as usize)?;
+    for place in 0..count {
+        let rect = chunks::cells_of(size, chunks::numbered(size, place));
+        let made = reachers_in(alloc, &[], &reachers, rect)?;
+        all.push(alloc, made)?;
+    }
+    Ok(all)
+}
+
+/// The numbers of the obstructions of now that reach into the chunk at a place. The rectangles hold what the changed
+/// obstructions can block; the list of a chunk outside them is shared.
+fn reachers_at(
+    alloc: Global,
+    map: &MapSpec,
+    shapes: &Store,
+    before: &SharedList<Ids>,
+    reaches: &[Rect],
+    changed: &[Reacher],
+    place: u32,
+) -> Result<Arc<Ids, Global>, NoMemory>
+    requires fit { AllFit map.now.size shapes.now }
+    requires before { AreReachersSince map.now shapes.now before.now reaches.now changed.now }
+    requires place { place < chunk_count map.now.size }
+    ensures { IfOk result (λ ids. HoldChunkReachers map.now shapes.now
+        (chunk_numbered map.now.size place) (arc_value ids)) }
+{
+    let size = map.size();
+    let rect = chunks::cells_of(size, chunks::numbered(size, place));
+    let Some(_) = dirty_part(reaches, rect) else {
+        let shared = before.shared(place as usize)?;
+        return Ok(shared);
+    };
+    let ids = before.at(place as usize).as_slice();
+    let old = reachers_of(alloc, map, shapes, ids)?;
+    let made = reachers_in(alloc, &old, changed, rect)?;
+    Ok(Arc::new(alloc, made)?)
+}
+
+/// For each chunk of the map the numbers of the obstructions of now that reach into it. The rectangles hold what the
+/// obstructions of the changed numbers can block.
+pub fn next_reachers(
+    alloc: Global,
+    map: &MapSpec,
+    shapes: &Store,
+    before: &SharedList<Ids>,
+    reaches: &[Rect],
+    ids: &[u32],
+) -> Result<SharedList<Ids>, NoMemory>
+    requires fit { AllFit map.now.size shapes.now }
+    requires before { AreReachersBefore map.now shapes.now before.now reaches.now ids.now }
+    ensures { IfOk result (AreReachers map.now shapes.now) }
+{
+    let changed = reachers_of(alloc, map, shapes, ids)?;
+    let count = chunks::count(map.size());
+    let mut all = SharedList::with_capacity(alloc, count as usize)?;
+    for place in 0..count {
+        let made = reachers_at(alloc, map, shapes, before, reaches, &changed, place)?;
+        all.push_shared(alloc, made)?;
+    }
+    Ok(all)
+}

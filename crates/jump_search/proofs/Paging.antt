@@ -1,0 +1,108 @@
+-- Numbers of cells by pages.
+use Rattle.std.proofs.Common.{ℕ, ◌≡◌, ◌≢◌, ◌+◌, ◌*◌, ◌<◌, ◌≤◌, List, length, get_or, set, inl, inr}
+use Rattle.std.proofs.Common.{sym, subst, ap, ◌∙◌, arith}
+use Rattle.std.specs.Prelude.{replicate}
+use Rattle.std.proofs.lemmas.Bool.{cases_lt}
+use Rattle.std.proofs.lemmas.List.{get_or-replicate, get_or_past, length-replicate, get_or-set_same}
+use Rattle.std.proofs.lemmas.List.{get_or-set_other}
+use Rattle.nav_types.specs.declared.cells.Cell.{Cell}
+use Rattle.jump_search.specs.inner.Paged.{place_of, spot_of, slot_of, number_at, number_of, ArePages, IsSet}
+
+pub spot_low : (cell : Cell) → spot_of cell < 256
+unfolding spot_of
+spot_low cell = omega arith
+
+pub zero_in : (xs : List ℕ) (n : ℕ) → xs ≡ replicate n 0 → (i : ℕ) → get_or xs i 0 ≡ 0
+zero_in xs n is i =
+    let long : length xs ≡ n = ap length is ∙ length-replicate n 0 in
+    elim (cases_lt i n) [
+      | inl less ↦ ap (λ (l : List ℕ). get_or l i 0) is ∙ get_or-replicate n i 0 0 less
+      | inr more ↦ get_or_past xs i 0 (omega (arith, long, more))
+    ]
+
+pub pages_blank : (table numbers : List ℕ) (places size : ℕ) → table ≡ replicate places 0 → numbers ≡ replicate size 0
+    → 1024 ≤ length table → length numbers ≡ 256 → ArePages table numbers
+pages_blank table numbers places size tables is some long = record {
+  wide = some;
+  whole = omega (arith, long);
+  inside = λ place.
+      let page : get_or table place 0 ≡ 0 = zero_in table places tables place in
+      omega (arith, page, long);
+  blank = λ spot low. zero_in numbers size is spot;
+  own = λ a b same more.
+      let page : get_or table a 0 ≡ 0 = zero_in table places tables a in
+      absurd (omega (arith, page, more));
+}
+
+pub number_blank : (table numbers : List ℕ) (size : ℕ) → numbers ≡ replicate size 0 → (cell : Cell)
+    → number_of table numbers cell ≡ 0
+unfolding number_of
+number_blank table numbers size is cell =
+    zero_in numbers size is (get_or table (place_of cell) 0 * 256 + spot_of cell)
+
+set_apart : (table numbers : List ℕ) (place spot value : ℕ) → ArePages table numbers → 0 < get_or table place 0
+    → spot < 256 → (p s : ℕ) → s < 256 → p * 256 + s ≢ place * 256 + spot
+    → number_at table (set numbers (get_or table place 0 * 256 + spot) value) p s ≡ number_at table numbers p s
+set_apart table numbers place spot value pages more low p s small other =
+    let index = get_or table place 0 * 256 + spot in
+    let apart : get_or table p 0 * 256 + s ≢ index = λ (e : get_or table p 0 * 256 + s ≡ index).
+    let page : get_or table place 0 ≡ get_or table p 0 = omega (arith, e, low, small) in
+    let same : place ≡ p = pages.own place p page more in
+    other (omega (arith, e, page, same)) in
+    get_or-set_other numbers index (get_or table p 0 * 256 + s) value 0 apart
+
+-- the number of a cell was set, after its page was made
+pub set_is : (table numbers made more : List ℕ) (cell : Cell) (place spot value : ℕ) → ArePages made more
+    → ((p s : ℕ) → s < 256 → number_at made more p s ≡ number_at table numbers p s)
+    → place ≡ place_of cell → spot ≡ spot_of cell → 0 < get_or made place 0
+    → IsSet cell value (number_of table numbers)
+    (number_of made (set more (get_or made place 0 * 256 + spot) value))
+unfolding number_of slot_of
+set_is table numbers made more cell place spot value pages kept at on some =
+    let index = get_or made place 0 * 256 + spot in
+    let new = set more index value in
+    let low : spot < 256 = subst (λ (n : ℕ). n < 256) (sym on) (spot_low cell) in
+    record {
+      here = λ other same.
+          let sums : place_of other * 256 + spot_of other ≡ place_of cell * 256 + spot_of cell = same in
+          let small = spot_low other in
+          let places_same : place_of other ≡ place = omega (arith, sums, small, low, at, on) in
+          let spots_same : spot_of other ≡ spot = omega (arith, sums, small, low, at, on) in
+          let within = pages.inside place in
+          ap (λ (p : ℕ). number_at made new p (spot_of other)) places_same
+          ∙ ap (λ (s : ℕ). number_at made new place s) spots_same
+          ∙ get_or-set_same more index value 0 (omega (arith, within, low));
+      apart = λ other differ.
+          let differs : place_of other * 256 + spot_of other ≢ place * 256 + spot =
+          λ (e : place_of other * 256 + spot_of other ≡ place * 256 + spot).
+          let sums : place_of other * 256 + spot_of other ≡ place_of cell * 256 + spot_of cell =
+          e ∙ ap (λ (p : ℕ). p * 256 + spot) at ∙ ap (λ (s : ℕ). place_of cell * 256 + s) on in
+          differ sums in
+          set_apart made more place spot value pages some low (place_of other) (spot_of other)
+          (spot_low other) differs
+          ∙ kept (place_of other) (spot_of other) (spot_low other);
+    }
+
+pub page_within : (table numbers : List ℕ) (place page spot : ℕ) → ArePages table numbers → page ≡ get_or table place 0
+    → spot < 256 → page * 256 + spot < length numbers
+page_within table numbers place page spot pages is low =
+    let within = pages.inside place in omega (arith, within, is, low)
+
+pub number_read : (table numbers : List ℕ) (cell : Cell) (place page spot : ℕ) → place ≡ place_of cell
+    → page ≡ get_or table place 0 → spot ≡ spot_of cell
+    → get_or numbers (page * 256 + spot) 0 ≡ number_of table numbers cell
+unfolding number_of
+number_read table numbers cell place page spot at is on =
+    ap (λ (n : ℕ). get_or numbers (n * 256 + spot) 0) (is ∙ ap (λ (p : ℕ). get_or table p 0) at)
+    ∙ ap (λ (s : ℕ). number_at table numbers (place_of cell) s) on
+
+-- what was read after the cell's page was made
+pub number_before : (table numbers made more : List ℕ) (cell : Cell) (place page spot : ℕ)
+    → ((p s : ℕ) → s < 256 → number_at made more p s ≡ number_at table numbers p s)
+    → place ≡ place_of cell → page ≡ get_or made place 0 → spot ≡ spot_of cell → spot < 256
+    → get_or more (page * 256 + spot) 0 ≡ number_of table numbers cell
+unfolding number_of
+number_before table numbers made more cell place page spot kept at is on low =
+    ap (λ (n : ℕ). get_or more (n * 256 + spot) 0) is ∙ kept place spot low
+    ∙ ap (λ (p : ℕ). number_at table numbers p spot) at
+    ∙ ap (λ (s : ℕ). number_at table numbers (place_of cell) s) on

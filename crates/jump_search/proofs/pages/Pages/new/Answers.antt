@@ -1,0 +1,26 @@
+use Rattle.std.proofs.Common.{ℕ, ◌-◌, ◌++◌, List, ap, ◌∙◌, arith}
+use Rattle.std.specs.Prelude.{replicate, take}
+use Rattle.jump_search.proofs.Paging.{pages_blank, number_blank}
+use Rattle.jump_search.proofs.pages.Pages.new.Goals as goal
+
+pub invariant_of-result : goal.invariant_of-result
+invariant_of-result c =
+    let table = c.in_ok-table.table in
+    let room = c.in_ok-numbers.numbers in
+    let numbers = c.resize.new.self in
+    let filled = c.in_ok-resize.ensures.items in
+    record {
+      paged = pages_blank table.items numbers.items 1024 256 (c.in_ok-table.ensures.items_if_clones_equal (λ y e. e))
+          (filled ∙ ap (λ (l : List ℕ). take 256 l ++ replicate (256 - room.len) 0) c.in_ok-numbers.ensures.items
+          ∙ ap (λ (n : ℕ). replicate (256 - n) 0) c.in_ok-numbers.ensures.len)
+          (omega (arith, table.ok.0, c.in_ok-table.ensures.len))
+          (omega (arith, numbers.ok.0, c.in_ok-resize.ensures.len));
+    }
+
+pub returns : goal.returns
+returns c =
+    let room = c.in_ok-numbers.numbers in
+    number_blank c.in_ok-table.table.items c.resize.new.self.items 256
+    (c.in_ok-resize.ensures.items ∙ ap (λ (l : List ℕ). take 256 l ++ replicate (256 - room.len) 0)
+    c.in_ok-numbers.ensures.items
+    ∙ ap (λ (n : ℕ). replicate (256 - n) 0) c.in_ok-numbers.ensures.len)

@@ -1,0 +1,107 @@
+//! Numbers for the cells of a map.
+ghost use Rattle.std.specs.Prelude.{◌≡◌, ◌<◌, ℕ, length, slice_index, IfOk, OnOk, OnErr};
+ghost use Rattle.jump_search.specs.inner.Paged.{place_of, spot_of, number_at, number_of, ArePages, IsSet};
+ghost use Rattle.nav_types.specs.declared.cells.Cell.{Cell};
+
+use nav_types::{Cell, NoMemory};
+use std::alloc::Global;
+
+/// How many numbers a page has.
+const PAGE: usize = 256;
+/// How many places there are for pages.
+const PLACES: usize = 1024;
+/// For how many pages there is room at first.
+const ROOM: usize = 64;
+
+/// A number for each cell of a map; 0 where none was set. A page has the numbers of 16 by 16 cells, and is made when
+/// the first of them is set.
+///
+/// The table has the number of the page of each place. The first page is of zeros, and stands for all that are not
+/// made. So that the table is small, pages that lie 512 cells apart share a place: cells as far from each other share
+/// their number.
+#[derive(Drop)]
+pub(crate) struct Pages {
+    pub table: Vec<u16>,
+    pub numbers: Vec<u32>,
+    pub ghost paged: { ArePages table.items numbers.items },
+}
+
+/// Where the cell stands on its page.
+fn spot(cell: Cell) -> usize
+    ensures spot { result ≡ spot_of cell }
+    ensures low { result < 256 }
+{
+    usize::from(cell.j % 16) * 16 + usize::from(cell.i % 16)
+}
+
+/// The place of the cell's page.
+fn place(cell: Cell) -> usize
+    ensures place { result ≡ place_of cell }
+    ensures low { result < 1024 }
+{
+    usize::from(cell.j / 16 % 32) * 32 + usize::from(cell.i / 16 % 32)
+}
+
+impl Pages {
+    /// Pages with 0 for each cell.
+    pub(crate) fn new(alloc: Global) -> Result<Pages, NoMemory>
+        ensures { IfOk result (λ pages. (cell : Cell) → number_of pages.table.items pages.numbers.items cell ≡ 0) }
+    {
+        let table = vec![in alloc; 0; PLACES]?;
+        let mut numbers = Vec::with_capacity(alloc, ROOM * PAGE)?;
+        numbers.resize(PAGE, 0)?;
+        Ok(Pages { table, numbers })
+    }
+
+    /// The number of a cell.
+    pub(crate) fn get(&self, cell: Cell) -> u32
+        ensures { result ≡ number_of self.now.table.items self.now.numbers.items cell }
+    {
+        let place = place(cell);
+        let page = self.table[place];
+        self.numbers[page as usize * PAGE + spot(cell)]
+    }
+
+    /// The number of the page of a place, which is made where there is none.
+    fn page(&mut self, place: usize) -> Result<u16, NoMemory>
+        requires { place < length self.old.table.items }
+        ensures page { IfOk result (λ page. page ≡ slice_index self.new.table.items place) }
+        ensures some { IfOk result (λ page. 0 < page) }
+        ensures places { length self.new.table.items ≡ length self.old.table.items }
+        ensures same { OnOk result ((at spot : ℕ) → spot < 256
+            → number_at self.new.table.items self.new.numbers.items at spot
+            ≡ number_at self.old.table.items self.old.numbers.items at spot) }
+        ensures table { OnErr result (self.new.table.items ≡ self.old.table.items) }
+        ensures numbers { OnErr result (self.new.numbers.items ≡ self.old.numbers.items) }
+    {
+        let known = self.table[place];
+        if known > 0 {
+            return Ok(known);
+        }
+        let end = self.numbers.len();
+        let Ok(page) = u16::try_from(end / PAGE) else {
+            return Err(NoMemory);
+        };
+        self.numbers.resize(end + PAGE, 0)?;
+        self.table[place] = page;
+        Ok(page)
+    }
+
+    /// Sets the number of a cell, and gives the one that it had. Where there is no memory the numbers stay.
+    pub(crate) fn replace(&mut self, cell: Cell, number: u32) -> Result<u32, NoMemory>
+        ensures before { IfOk result (λ before. before
+            ≡ number_of self.old.table.items self.old.numbers.items cell) }
+        ensures set { OnOk result (IsSet cell number
+            (number_of self.old.table.items self.old.numbers.items)
+            (number_of self.new.table.items self.new.numbers.items)) }
+        ensures table { OnErr result (self.new.table.items ≡ self.old.table.items) }
+        ensures numbers { OnErr result (self.new.numbers.items ≡ self.old.numbers.items) }
+    {
+        let place = place(cell);
+        let page = self.page(place)?;
+        let at = page as usize * PAGE + spot(cell);
+        let before = self.numbers[at];
+        self.numbers[at] = number;
+        Ok(before)
+    }
+}
