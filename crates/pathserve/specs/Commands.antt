@@ -1,8 +1,10 @@
 -- The words of a command line.
-use Rattle.std.specs.Prelude.{ℕ, ◌+◌, ◌-◌, ◌*◌, ◌&&◌, List, [], ◌∷◌, Option, Some, None, if◌then◌else◌, nat_le, codes, bytes_eq, option_and_then}
+use Rattle.std.specs.Prelude.{ℕ, ◌+◌, ◌-◌, ◌*◌, ◌^◌, ◌==◌, ◌&&◌, ◌||◌, not, List, [], ◌∷◌, length, slice_index, Bool, Option, Some, None, if◌then◌else◌, nat_le, nat_lt, codes, bytes_eq, option_map, option_and_then}
 use Rattle.std.specs.Int.{is_in_range}
+use Rattle.std.specs.Str.Parse.{digits_value}
+use Rattle.fixed_point.specs.Text.{is_digits}
 use Rattle.pathserve.specs.declared.commands.Command.{Command}
-use Rattle.pathserve.specs.declared.commands.Command.TheVariants.{Replay, Profile}
+use Rattle.pathserve.specs.declared.commands.Command.TheVariants.{Replay, Profile, Make}
 
 -- the number of two digits, if it is at most 64
 abbrev pub up_to_64 : ℕ → ℕ → Option ℕ
@@ -15,24 +17,40 @@ workers_of (units ∷ []) = if is_in_range 49 57 units then Some (units - 48) el
 workers_of (tens ∷ (units ∷ [])) = if is_in_range 49 57 tens && is_in_range 48 57 units then up_to_64 tens units else None
 workers_of (first ∷ (second ∷ (third ∷ rest))) = None
 
--- the command of a first word, by so many workers
+-- one to twenty digits without a leading zero (48), or the single digit 0
+abbrev pub is_whole_number : List ℕ → Bool
+is_whole_number word = is_digits 20 word && (length word == 1 || not (slice_index word 0 == 48))
+
+-- the number below 2^64 that a word is in decimal, without a sign or a leading zero
+abbrev pub seed_of : List ℕ → Option ℕ
+seed_of word = let seed = digits_value 10 word in if is_whole_number word && nat_lt seed (2 ^ 64) then Some seed else None
+
+-- the command of one word, by so many workers
 abbrev pub command_by : List ℕ → ℕ → Option Command
 command_by word workers =
     if bytes_eq word (codes "replay") then Some (Replay workers)
     else if bytes_eq word (codes "profile") then Some (Profile workers)
     else None
 
--- The command of the words, where they are in the grammar: `replay` or `profile`, by 4 workers, or by the number behind
--- `--workers`.
+-- the command of a word and a number, by so many workers
+abbrev pub make_by : List ℕ → List ℕ → ℕ → Option Command
+make_by word number workers =
+    if bytes_eq word (codes "make") then option_map (λ seed. Make seed workers) (seed_of number) else None
+
+-- The command of the words, where they are in the grammar: `replay`, `profile`, or `make` with a number, by 4 workers, or
+-- by the number behind `--workers`.
 abbrev pub command_of : List (List ℕ) → Option Command
 command_of [] = None
 command_of (word ∷ []) = command_by word 4
-command_of (word ∷ (option ∷ [])) = None
+command_of (word ∷ (number ∷ [])) = make_by word number 4
 command_of (word ∷ (option ∷ (count ∷ []))) =
     if bytes_eq option (codes "--workers") then option_and_then (command_by word) (workers_of count) else None
-command_of (word ∷ (option ∷ (count ∷ (next ∷ words)))) = None
+command_of (word ∷ (number ∷ (option ∷ (count ∷ [])))) =
+    if bytes_eq option (codes "--workers") then option_and_then (make_by word number) (workers_of count) else None
+command_of (word ∷ (number ∷ (option ∷ (count ∷ (next ∷ words))))) = None
 
 -- the number of workers in a command
 abbrev pub workers_in : Command → ℕ
 workers_in (Replay workers) = workers
 workers_in (Profile workers) = workers
+workers_in (Make seed workers) = workers

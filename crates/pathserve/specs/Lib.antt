@@ -1,5 +1,6 @@
 pub mod Commands
 pub mod Words
 pub mod Output
+pub mod Making
 pub mod Reasons
 pub mod inner

@@ -5,12 +5,14 @@ use Rattle.grid_versions.specs.Maps.{Map}
 use Rattle.turn_core.specs.declared.posts.Post.{Post}
 use Rattle.turn_core.specs.declared.replies.TurnReplies.{TurnReplies}
 use Rattle.turn_core.specs.Words.{Standing, bare}
-use Rattle.turn_core.specs.Turns.{after_turn, jobs, IsTurnTold}
+use Rattle.turn_core.specs.Turns.{after_turn, jobs, IsTurnTold, IsOneThread}
 use Rattle.turn_core.specs.Opening.{AreOpenedNumbers}
 use Rattle.script_text.specs.Lines.{full_lines}
 use Rattle.script_text.specs.Script.{Item, begins, adds_base, ends_turn, map_after_item, Place, beginning, Stop, whole_input, too_long, bad_line, Ends, at_place, stuck_by, arrived, walk, reading}
 use Rattle.answer_text.specs.Answers.{turn_text, bad_line_text}
 use Rattle.answer_text.specs.Profiles.{profile_text}
+use Rattle.answer_text.specs.Summaries.{summary_text}
+use Rattle.pathserve.specs.Making.{made_map, made_journal}
 use Rattle.pathserve.specs.declared.reports.Report.{Report}
 use Rattle.pathserve.specs.declared.reports.Report.TheVariants.{Answers, OpenedNumbers}
 use Rattle.pathserve.specs.declared.status.Status.{Status}
@@ -146,3 +148,34 @@ abbrev pub ComesByStop : ℕ → ℕ → ℕ → ℕ → Ends → Status → Typ
 ComesByStop reads_before reads_now writes_before writes_now ends status =
     (status ≡ stop_status ends) ⊎ ((status ≡ NoMemory)
     ⊎ (((status ≡ ReadFault) × Rose reads_before reads_now) ⊎ ((status ≡ WriteFault) × Rose writes_before writes_now)))
+
+-- ---- matches made out of numbers
+
+-- the summary of the match that a number makes: that of the replies of one thread
+abbrev pub IsSummary : ℕ → List ℕ → Type 0
+IsSummary seed text = (told : List TurnReplies) × (IsOneThread (made_map seed) (made_journal seed) told × (text ≡ summary_text told))
+
+-- the first bytes of the summary
+abbrev pub IsSummaryBeginning : ℕ → List ℕ → Type 0
+IsSummaryBeginning seed out = (text : List ℕ) → IsSummary seed text → (n : ℕ) × (out ≡ take n text)
+
+-- what a status says of a run that makes a match, where these bytes were written
+abbrev pub Makes : ℕ → List ℕ → Status → Type 0
+Makes seed out Done = IsSummary seed out
+Makes seed out Usage = ⊥
+Makes seed out BadLine = ⊥
+Makes seed out ReadFault = ⊥
+Makes seed out WriteFault = IsSummaryBeginning seed out
+Makes seed out NoMemory = IsSummaryBeginning seed out
+Makes seed out TooLong = ⊥
+
+-- the same, where the sink keeps its bytes
+abbrev pub MakesTold : ℕ → Option (List ℕ) → Option (List ℕ) → Status → Type 0
+MakesTold seed None now status = ⊤
+MakesTold seed (Some kept) None status = ⊥
+MakesTold seed (Some kept) (Some now) status = (out : List ℕ) × ((now ≡ kept ++ out) × Makes seed out status)
+
+-- where the sink's count did not rise, all was written, or there was no memory
+abbrev pub ComesByMaking : ℕ → ℕ → Status → Type 0
+ComesByMaking writes_before writes_now status =
+    (status ≡ Done) ⊎ ((status ≡ NoMemory) ⊎ ((status ≡ WriteFault) × Rose writes_before writes_now))

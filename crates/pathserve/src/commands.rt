@@ -1,7 +1,9 @@
-ghost use Rattle.std.specs.Prelude.{◌≡◌, ◌≤◌, IfOk, IfSome};
+ghost use Rattle.std.specs.Prelude.{◌≡◌, ◌<◌, ◌≤◌, ◌^◌, ◌&&◌, IfOk, IfSome, length};
 ghost use Rattle.std.specs.Result.{result_ok};
+ghost use Rattle.std.specs.Str.Parse.{digits_value};
+ghost use Rattle.fixed_point.specs.Text.{some_if};
 ghost use Rattle.nav_types.specs.declared.limits.TheConstants.{MAX_WORKERS};
-ghost use Rattle.pathserve.specs.Commands.{command_of, command_by, workers_of, workers_in};
+ghost use Rattle.pathserve.specs.Commands.{command_of, command_by, make_by, is_whole_number, seed_of, workers_of, workers_in};
 
 use nav_types::Words;
 use nav_types::limits::MAX_WORKERS;
@@ -16,23 +18,33 @@ pub enum Command {
     Replay { workers: u8 },
     /// The same, and tells the opened number of each path.
     Profile { workers: u8 },
+    /// Makes a match out of a number, answers it and sums it up.
+    Make { seed: u64, workers: u8 },
 }
 
 /// The words are not in the grammar.
 #[derive(Clone, Copy, Debug, PartialEq, Eq)]
 pub struct NotWords;
 
-/// The command of the words: `replay` or `profile` for 4 workers, or with `--workers N` behind it for N workers, where
-/// N is 1 to 64 in decimal without a sign or a leading zero. Refused exactly where the words are none of these.
+/// The command of the words: `replay`, `profile`, or `make SEED`, for 4 workers, or with `--workers N` behind it for N
+/// workers. N is 1 to 64 and SEED is below 2^64, in decimal without a sign or a leading zero. Refused exactly where the
+/// words are none of these.
 pub fn read_words(words: &Words) -> Result<Command, NotWords>
     ensures command { result_ok result ≡ command_of words.now }
     ensures workers { IfOk result (λ command. (1 ≤ workers_in command) × (workers_in command ≤ MAX_WORKERS)) }
 {
     let command = match words.as_slice() {
         [word] => command_by(word.as_slice(), DEFAULT_WORKERS),
+        [word, number] => make_by(word.as_slice(), number.as_slice(), DEFAULT_WORKERS),
         [word, option, count] if option.as_slice() == b"--workers".as_slice() => {
             match worker_count(count.as_slice()) {
                 Some(workers) => command_by(word.as_slice(), workers),
+                None => None,
+            }
+        }
+        [word, number, option, count] if option.as_slice() == b"--workers".as_slice() => {
+            match worker_count(count.as_slice()) {
+                Some(workers) => make_by(word.as_slice(), number.as_slice(), workers),
                 None => None,
             }
         }
@@ -44,7 +56,7 @@ pub fn read_words(words: &Words) -> Result<Command, NotWords>
     }
 }
 
-/// The command of a first word by so many workers.
+/// The command of one word by so many workers.
 fn command_by(word: &[u8], workers: u8) -> Option<Command>
     ensures command { result ≡ command_by word.now workers }
     ensures workers { IfSome result (λ command. workers_in command ≡ workers) }
@@ -56,6 +68,47 @@ fn command_by(word: &[u8], workers: u8) -> Option<Command>
     } else {
         None
     }
+}
+
+/// The command of a word and a number by so many workers.
+fn make_by(word: &[u8], number: &[u8], workers: u8) -> Option<Command>
+    ensures command { result ≡ make_by word.now number.now workers }
+    ensures workers { IfSome result (λ command. workers_in command ≡ workers) }
+{
+    if word != b"make".as_slice() {
+        return None;
+    }
+    match seed_of(number) {
+        Some(seed) => Some(Command::Make { seed, workers }),
+        None => None,
+    }
+}
+
+/// The number below 2^64 that a word is.
+fn seed_of(word: &[u8]) -> Option<u64>
+    ensures { result ≡ seed_of word.now }
+{
+    match whole_number(word) {
+        Some(number) if number <= u128::from(u64::MAX) => Some(number as u64),
+        _ => None,
+    }
+}
+
+/// The number that a word of at most twenty digits is, without a leading zero.
+fn whole_number(word: &[u8]) -> Option<u128>
+    ensures { result ≡ some_if (is_whole_number word.now) (digits_value 10 word.now) }
+{
+    if word.is_empty() || word.len() > 20 || (word.len() > 1 && word[0] == b'0') {
+        return None;
+    }
+    let mut number: u128 = 0;
+    for digit in word {
+        if !digit.is_ascii_digit() {
+            return None;
+        }
+        number = number * 10 + u128::from(digit - b'0');
+    }
+    Some(number)
 }
 
 /// The number of workers that a word names.

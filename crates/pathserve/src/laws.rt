@@ -9,7 +9,7 @@ ghost use Rattle.turn_core.specs.Words.{bare};
 ghost use Rattle.turn_core.specs.Turns.{IsOneThread};
 ghost use Rattle.pathserve.specs.declared.reports.Report.{Report};
 ghost use Rattle.pathserve.specs.declared.reports.Report.TheVariants.{Answers, OpenedNumbers};
-ghost use Rattle.pathserve.specs.Output.{IsOut, IsBeginning, IsTakenText, IsText, turn_texts, profile_texts, AreOpenedInTurns};
+ghost use Rattle.pathserve.specs.Output.{IsOut, IsBeginning, IsTakenText, IsText, IsSummary, turn_texts, profile_texts, AreOpenedInTurns};
 
 /// An input has at most one output text of a report.
 pub fn one_out()
@@ -20,6 +20,11 @@ pub fn one_out()
 pub fn beginning_is_prefix()
     ensures { (report : Report) (bytes out whole : List ℕ) → IsBeginning report bytes out → IsOut report bytes whole
         → (rest : List ℕ) × (whole ≡ out ++ rest) }
+{}
+
+/// A number has at most one summary of the match that it makes.
+pub fn one_summary()
+    ensures { (seed : ℕ) (a b : List ℕ) → IsSummary seed a → IsSummary seed b → a ≡ b }
 {}
 
 /// The text of the turns taken is one, and it is a beginning of the output text.

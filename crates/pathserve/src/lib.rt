@@ -4,9 +4,11 @@
 mod bad_lines;
 mod commands;
 mod laws;
+mod making;
 mod replay;
 mod reports;
 mod status;
+mod summing;
 #[cfg(test)]
 mod tests;
 mod told_turns;
@@ -15,9 +17,11 @@ mod writing;
 pub use bad_lines::BadLine;
 pub use commands::{Command, NotWords, read_words};
 pub use laws::{
-    beginning_is_prefix, one_out, profile_is_one_thread, stop_is_not_taken, taken_text,
-    text_is_one_thread,
+    beginning_is_prefix, one_out, one_summary, profile_is_one_thread, stop_is_not_taken,
+    taken_text, text_is_one_thread,
 };
+pub use making::{Made, make_script};
 pub use replay::{run, run_profile, run_replay};
 pub use reports::Report;
 pub use status::Status;
+pub use summing::run_make;

@@ -9,6 +9,7 @@ use std::sync::Wait;
 use std::test::Fail;
 use std::thread::Threads;
 
+mod made_matches;
 mod scripts;
 mod side_by_side;
 mod turn_by_turn;

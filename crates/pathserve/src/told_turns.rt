@@ -1,7 +1,7 @@
-//! Turns, answered by many workers and told as text.
+//! Turns, answered by many workers, and told as text.
 ghost use Rattle.std.specs.Prelude.{◌≡◌, ◌^◌, ◌<◌, ◌≤◌, IfOk, length};
 ghost use Rattle.nav_types.specs.declared.limits.TheConstants.{MAX_WORKERS};
-ghost use Rattle.turn_core.specs.Turns.{after_turn, jobs};
+ghost use Rattle.turn_core.specs.Turns.{after_turn, jobs, IsTurnTold};
 ghost use Rattle.turn_core.specs.ReadyTurns.{after_edits_of};
 ghost use Rattle.pathserve.specs.Output.{IsTurnText};
 
@@ -42,14 +42,63 @@ pub(crate) fn answered<R: Threads + Sync, G: Gate + Sync>(
     ensures standing { IfOk result (λ told. told.after.standing
         ≡ after_turn version.now.map version.now.standing posts) }
 {
-    let ready = match ReadyTurn::new(alloc, version, posts) {
-        Ok(ready) => ready,
-        Err((NoMemory, _posts)) => return Err(NoMemory),
-    };
+    let ready = ready_turn(alloc, version, posts)?;
     match report {
         Report::Answers => with_answers(rt, alloc, ready, turn, workers, gate),
         Report::OpenedNumbers => with_opened_numbers(rt, alloc, ready, turn, workers, gate),
     }
+}
+
+/// Answers a turn on the version before it, by so many workers, each of whom passes the gate before it solves a job.
+pub(crate) fn replied<R: Threads + Sync, G: Gate + Sync>(
+    rt: &R,
+    alloc: Global,
+    version: &Version,
+    posts: TurnPosts,
+    workers: u8,
+    gate: &G,
+) -> Result<AnsweredTurn, NoMemory>
+    requires some { 1 ≤ workers }
+    requires most { workers ≤ MAX_WORKERS }
+    requires few { length (jobs posts) < 2 ^ 32 }
+    ensures told { IfOk result (λ answered. IsTurnTold version.now.map version.now.standing posts answered.replies) }
+    ensures map { IfOk result (λ answered. answered.after.map ≡ version.now.map) }
+    ensures standing { IfOk result (λ answered. answered.after.standing
+        ≡ after_turn version.now.map version.now.standing posts) }
+{
+    let ready = ready_turn(alloc, version, posts)?;
+    with_replies(rt, alloc, ready, workers, gate)
+}
+
+/// The turn with its edits made on the version before it.
+fn ready_turn(alloc: Global, version: &Version, posts: TurnPosts) -> Result<ReadyTurn, NoMemory>
+    ensures { IfOk result (λ ready.
+        ready ≡ record { map = version.now.map; before = version.now.standing; turn = posts }) }
+{
+    match ReadyTurn::new(alloc, version, posts) {
+        Ok(ready) => Ok(ready),
+        Err((NoMemory, _posts)) => Err(NoMemory),
+    }
+}
+
+/// Answers a turn whose edits are made.
+fn with_replies<R: Threads + Sync, G: Gate + Sync>(
+    rt: &R,
+    alloc: Global,
+    ready: ReadyTurn,
+    workers: u8,
+    gate: &G,
+) -> Result<AnsweredTurn, NoMemory>
+    requires some { 1 ≤ workers }
+    requires most { workers ≤ MAX_WORKERS }
+    requires few { length (jobs ready.turn) < 2 ^ 32 }
+    ensures told { IfOk result (λ answered. IsTurnTold ready.map ready.before ready.turn answered.replies) }
+    ensures map { IfOk result (λ answered. answered.after.map ≡ ready.map) }
+    ensures standing { IfOk result (λ answered. answered.after.standing ≡ after_edits_of ready) }
+{
+    let answers = run_turn(rt, alloc, ready.version(), ready.jobs(), workers, gate)?;
+    let (_posts, answered) = ready.answered(answers);
+    Ok(answered)
 }
 
 /// Answers a turn whose edits are made, and tells the answers.
@@ -68,8 +117,7 @@ fn with_answers<R: Threads + Sync, G: Gate + Sync>(
     ensures map { IfOk result (λ told. told.after.map ≡ ready.map) }
     ensures standing { IfOk result (λ told. told.after.standing ≡ after_edits_of ready) }
 {
-    let answers = run_turn(rt, alloc, ready.version(), ready.jobs(), workers, gate)?;
-    let (_posts, AnsweredTurn { replies, after }) = ready.answered(answers);
+    let AnsweredTurn { replies, after } = with_replies(rt, alloc, ready, workers, gate)?;
     let text = turn_text(alloc, turn, &replies)?;
     Ok(Told { text, after })
 }
