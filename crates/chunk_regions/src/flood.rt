@@ -34,6 +34,7 @@ pub struct Numbered {
 }
 
 /// Whether a column holds cells of both spans.
+#[inline(always)]
 fn overlap(a: Span, b: Span) -> bool
     ensures { IsTrue result ↔ ((a.first ≤ b.last) × (b.first ≤ a.last)) }
 {
@@ -41,6 +42,7 @@ fn overlap(a: Span, b: Span) -> bool
 }
 
 /// Gives a waiting span its number, and puts it into the frontier.
+#[inline(always)]
 fn give(flood: &mut Flood, place: Place, number: u16) -> Result<(), NoMemory>
     requires place { place.at < length flood.old.regions.items }
     ensures length { length flood.new.regions.items ≡ length flood.old.regions.items }
@@ -55,6 +57,7 @@ fn give(flood: &mut Flood, place: Place, number: u16) -> Result<(), NoMemory>
 }
 
 /// Numbers a span of a row beside, if it waits and overlaps.
+#[inline(always)]
 fn visit(
     rows: &RowSpans,
     flood: &mut Flood,
@@ -90,6 +93,7 @@ fn visit(
 }
 
 /// Numbers the waiting spans of a row beside that overlap the span.
+#[inline(always)]
 fn spread_to(
     rows: &RowSpans,
     flood: &mut Flood,

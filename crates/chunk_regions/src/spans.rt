@@ -83,6 +83,7 @@ impl RowSpans {
 }
 
 /// The first set bit from a place on.
+#[inline(always)]
 fn first_set(bits: u128, from: u8) -> Option<u8>
     requires few { bits < 2 ^ 96 }
     requires from { from ≤ 97 }
@@ -100,6 +101,7 @@ fn first_set(bits: u128, from: u8) -> Option<u8>
 }
 
 /// The first clear bit after a set one.
+#[inline(always)]
 fn first_clear(bits: u128, set: u8) -> u8
     requires few { bits < 2 ^ 96 }
     requires within { set < 96 }
@@ -113,6 +115,7 @@ fn first_clear(bits: u128, set: u8) -> u8
 }
 
 /// Adds the spans of a row with these bits.
+#[inline(always)]
 fn cut_row(spans: &mut Vec<Span>, bits: u128) -> Result<(), NoMemory>
     requires few { bits < 2 ^ 96 }
     ensures kept { (k : ℕ) → k < length spans.old.items

@@ -1,10 +1,16 @@
 -- Lines that are appended one after another.
 use Rattle.std.proofs.Common.{◌≡◌, ℕ, ◌+◌, ◌-◌, ◌*◌, ◌<◌, ◌≤◌, Bool, List, [], ◌∷◌, ◌++◌, length, take, drop, get_or, sym, ap, ◌∙◌, subst, ⊎_elim, arith}
 use Rattle.std.proofs.lemmas.Bool.{cases_lt}
-use Rattle.std.proofs.lemmas.List.{take-append-le, take_all, drop_at, drop-append-le, length-drop, get_or_append_left, get_or_at, length-append}
+use Rattle.std.proofs.lemmas.List.{take-append-le, take_all, drop_at, drop-append-le, length-drop, length-take-le, get_or_append_left, get_or_at, length-append}
 use Rattle.std.proofs.lemmas.Nat.{mul-le}
 use Rattle.class_planes.specs.Planes.{AreFreeBits}
 use Rattle.class_planes.specs.inner.Lines.{LineTable, line_in, IsBand, AreLines}
+
+-- how long a part of a list is
+pub part_long : (xs : List ℕ) (from to words : ℕ) → from + words ≡ to → to ≤ length xs
+    → length (take (to - from) (drop from xs)) ≡ words
+part_long xs from to words is inside =
+    length-take-le (to - from) (drop from xs) (omega (arith, is, inside, length-drop from xs)) ∙ omega (arith, is)
 
 -- a line of a band stays where more is appended
 old_line : (words k count : ℕ) (band line : List ℕ) → length band ≡ count * words → k < count

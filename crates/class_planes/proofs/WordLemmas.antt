@@ -30,6 +30,18 @@ top_bit word some fits =
       λ k above. bit_at_above word (suc j) k top.3 (omega (arith, here, above)),
     )
 
+-- a set bit that was moved down stands in the same word
+pub stays_here : (from m ends after : ℕ) → ends < 2 ^ 64
+    → ((n : ℕ) → bit_at after n ≡ bit_at ends (from % 64 + 1 + n)) → bit_at after m ≡ 1
+    → (from + 1 + m) / 64 ≡ from / 64
+stays_here from m ends after fits moved set = elim (cases_lt (from % 64 + 1 + m) 64) [
+  | inl low ↦ omega (arith, low)
+  | inr high ↦
+      let none : bit_at ends (from % 64 + 1 + m) ≡ 0 = bit_at_above ends 64 (from % 64 + 1 + m) fits high in
+      let one = moved m in
+      absurd (omega (arith, none, one, set))
+]
+
 -- the bit of a place, by its word
 pub in_word : (line : List ℕ) (w k : ℕ) → k < 64 → bit_in line (64 * w + k) ≡ bit_at (get_or line w 0) k
 in_word line w k small =
@@ -254,7 +266,7 @@ none_here bit from word after are moved none i past below =
     none ∙ bit_at-zero k)
 
 -- past the last word a run has ended
-past_line : (line : List ℕ) (i : ℕ) → length line ≤ i / 64 → bit_in line i ≡ 0
+pub past_line : (line : List ℕ) (i : ℕ) → length line ≤ i / 64 → bit_in line i ≡ 0
 past_line line i past = ap (λ n. bit_at n (i % 64)) (get_or_past line (i / 64) 0 past) ∙ bit_at-zero (i % 64)
 
 pub end_past : (lanes : LaneWords) → end_up lanes (64 * length lanes.mid) ≡ 1

@@ -1,14 +1,16 @@
 //! The plane of one class.
-ghost use Rattle.std.specs.Prelude.{◌≡◌, ◌<◌, ◌≤◌, ◌/◌, ◌+◌, All, length, IfOk};
+ghost use Rattle.std.specs.Prelude.{◌≡◌, ◌<◌, ◌≤◌, ◌/◌, ◌%◌, ◌+◌, All, length, IfOk};
 ghost use Rattle.nav_types.specs.declared.cells.Cell.{Cell};
 ghost use Rattle.nav_types.specs.Cells.{IsInside, IsRectInside, cell_at};
 ghost use Rattle.class_planes.specs.Planes.{AreFreeBits, IsOutside, is_passable};
 ghost use Rattle.class_planes.specs.inner.Lines.{AreRows, plane_of};
+ghost use Rattle.class_planes.specs.inner.Runs.{AreLanesOf};
 
 use crate::lines::Lines;
 use crate::rows::lines_of;
 use crate::turned::{columns_of, updated_columns};
 use crate::updates::updated_lines;
+use crate::word_scans::Lanes;
 use nav_types::{Cell, Class, NoMemory, Rect, Rows, Size, View};
 use std::alloc::Global;
 use std::marker::Model;
@@ -115,6 +117,30 @@ impl ClassPlane {
         ensures bits { AreFreeBits (λ j. is_passable self.now (cell_at i j)) result.now }
     {
         self.columns.line(i)
+    }
+
+    /// Row `j` with the rows beside it, where all three are in one band.
+    #[inline(always)]
+    pub fn inner_rows(&self, j: u16) -> Lanes<'_>
+        requires row { j < self.now.size.h }
+        requires low { 0 < j % 32 }
+        requires high { j % 32 < 31 }
+        ensures words { length result.mid ≡ self.now.size.w / 64 + 1 }
+        ensures bits { AreLanesOf (λ j i. is_passable self.now (cell_at i j)) j result }
+    {
+        self.rows.inner_lanes(j)
+    }
+
+    /// Column `i` with the columns beside it, where all three are in one band.
+    #[inline(always)]
+    pub fn inner_columns(&self, i: u16) -> Lanes<'_>
+        requires column { i < self.now.size.w }
+        requires low { 0 < i % 32 }
+        requires high { i % 32 < 31 }
+        ensures words { length result.mid ≡ self.now.size.h / 64 + 1 }
+        ensures bits { AreLanesOf (λ i j. is_passable self.now (cell_at i j)) i result }
+    {
+        self.columns.inner_lanes(i)
     }
 
     /// Whether a cell of the map is passable.

@@ -1,9 +1,10 @@
 //! Lines of bits in bands that several tables may share.
-ghost use Rattle.std.specs.Prelude.{ℕ, ◌≡◌, ◌<◌, ◌≤◌, ◌+◌, ◌*◌, ◌/◌, ◌++◌, ◌∷◌, [], length, slice_index_or, IfOk, OnOk};
+ghost use Rattle.std.specs.Prelude.{ℕ, ◌≡◌, ◌<◌, ◌≤◌, ◌+◌, ◌*◌, ◌/◌, ◌%◌, ◌-◌, ◌++◌, ◌∷◌, [], length, slice_index_or, IfOk, OnOk};
 ghost use Rattle.std.specs.Int.{bit_at};
-ghost use Rattle.class_planes.specs.inner.Lines.{line_at, free_at};
+ghost use Rattle.class_planes.specs.inner.Lines.{line_at, line_in, free_at};
 ghost use Rattle.class_planes.specs.inner.Runs.{bit_in};
 
+use crate::word_scans::Lanes;
 use nav_types::NoMemory;
 use std::alloc::Global;
 use std::marker::Model;
@@ -91,6 +92,22 @@ impl Lines {
         &band[start..start + self.words]
     }
 
+    /// The words of line `n` and of the lines beside it, where all three are in one band.
+    #[inline(always)]
+    pub fn inner_lanes(&self, n: u16) -> Lanes<'_>
+        requires band { n / 32 < length self.now.bands }
+        requires long { length (slice_index_or self.now.bands (n / 32) []) ≡ 32 * self.now.words }
+        requires few { self.now.words ≤ 33 }
+        requires low { 0 < n % 32 }
+        requires high { n % 32 < 31 }
+        ensures mid { result.mid ≡ line_at self.now n }
+        ensures left { result.left ≡ line_at self.now (n + 1) }
+        ensures right { result.right ≡ line_at self.now (n - 1) }
+    {
+        let band = &self.bands[usize::from(n) / 32].words;
+        lanes_in(band.as_slice(), self.words, usize::from(n) % 32)
+    }
+
     /// Whether place `i` of line `n` is passable.
     pub fn is_free(&self, n: u16, i: u16) -> bool
         requires band { n / 32 < length self.now.bands }
@@ -109,6 +126,26 @@ impl Lines {
         ensures { (k : ℕ) → k < 16 → bit_at result k ≡ bit_in (line_at self.now n) (16 * group + k) }
     {
         quarter(self.line(n)[usize::from(group) / 4], group % 4)
+    }
+}
+
+/// Line `k` of a band with the lines beside it.
+#[inline(always)]
+fn lanes_in(band: &[u64], words: usize, k: usize) -> Lanes<'_>
+    requires long { length band.now ≡ 32 * words }
+    requires few { words ≤ 33 }
+    requires low { 0 < k }
+    requires high { k < 31 }
+    ensures mid { result.mid ≡ line_in words band.now k }
+    ensures left { result.left ≡ line_in words band.now (k + 1) }
+    ensures right { result.right ≡ line_in words band.now (k - 1) }
+{
+    let start = k * words;
+    let end = start + words;
+    Lanes {
+        mid: &band[start..end],
+        left: &band[end..end + words],
+        right: &band[start - words..start],
     }
 }
 

@@ -1,5 +1,5 @@
 //! Runs over the plane of one class.
-ghost use Rattle.std.specs.Prelude.{◌≡◌, ◌<◌, ◌≤◌, ◌+◌, ◌-◌, ◌/◌, ◌↔◌, ◌⊎◌, ℕ, IsTrue, IsFalse, IfSome, IfNone, length};
+ghost use Rattle.std.specs.Prelude.{◌≡◌, ◌<◌, ◌≤◌, ◌+◌, ◌-◌, ◌/◌, ◌%◌, ◌↔◌, ◌⊎◌, ℕ, IsTrue, IsFalse, IfSome, IfNone, length};
 ghost use Rattle.nav_types.specs.declared.cells.Cell.{Cell};
 ghost use Rattle.nav_types.specs.declared.directions.Dir.TheVariants as Dir;
 ghost use Rattle.nav_types.specs.Cells.{IsInside, IsInRect, cell_at};
@@ -16,12 +16,24 @@ use crate::word_scans::{Lanes, Reach};
 use nav_types::{Aim, Cell, Dir, Rect, Size, neighbour};
 use std::marker::Model;
 
+/// Whether the line is neither the first nor the last of its band.
+fn is_inner(line: u16) -> bool
+    ensures { IsTrue result ↔ ((0 < line % 32) × (line % 32 < 31)) }
+{
+    let place = line % 32;
+    0 < place && place < 31
+}
+
 /// The row `j` with the rows beside it.
+#[inline(always)]
 fn rows_at(plane: &ClassPlane, j: u16) -> Lanes<'_>
     requires { j < plane.now.size.h }
     ensures words { length result.mid ≡ plane.now.size.w / 64 + 1 }
     ensures bits { AreLanesOf (λ j i. is_passable plane.now (cell_at i j)) j result }
 {
+    if is_inner(j) {
+        return plane.inner_rows(j);
+    }
     let before = if j == 0 { plane.size().h } else { j - 1 };
     Lanes {
         mid: plane.row_words(j),
@@ -31,11 +43,15 @@ fn rows_at(plane: &ClassPlane, j: u16) -> Lanes<'_>
 }
 
 /// The column `i` with the columns beside it.
+#[inline(always)]
 fn columns_at(plane: &ClassPlane, i: u16) -> Lanes<'_>
     requires { i < plane.now.size.w }
     ensures words { length result.mid ≡ plane.now.size.h / 64 + 1 }
     ensures bits { AreLanesOf (λ i j. is_passable plane.now (cell_at i j)) i result }
 {
+    if is_inner(i) {
+        return plane.inner_columns(i);
+    }
     let before = if i == 0 { plane.size().w } else { i - 1 };
     Lanes {
         mid: plane.column_words(i),
@@ -45,6 +61,7 @@ fn columns_at(plane: &ClassPlane, i: u16) -> Lanes<'_>
 }
 
 /// How far the run to the north goes.
+#[inline(always)]
 fn reach_north(plane: &ClassPlane, from: Cell) -> Reach
     requires { IsTrue (is_passable plane.now from) }
     ensures { RunsFar (is_passable plane.now) Dir.N from result }
@@ -53,6 +70,7 @@ fn reach_north(plane: &ClassPlane, from: Cell) -> Reach
 }
 
 /// How far the run to the east goes.
+#[inline(always)]
 fn reach_east(plane: &ClassPlane, from: Cell) -> Reach
     requires { IsTrue (is_passable plane.now from) }
     ensures { RunsFar (is_passable plane.now) Dir.E from result }
@@ -61,6 +79,7 @@ fn reach_east(plane: &ClassPlane, from: Cell) -> Reach
 }
 
 /// How far the run to the south goes.
+#[inline(always)]
 fn reach_south(plane: &ClassPlane, from: Cell) -> Reach
     requires { IsTrue (is_passable plane.now from) }
     ensures { RunsFar (is_passable plane.now) Dir.S from result }
@@ -69,6 +88,7 @@ fn reach_south(plane: &ClassPlane, from: Cell) -> Reach
 }
 
 /// How far the run to the west goes.
+#[inline(always)]
 fn reach_west(plane: &ClassPlane, from: Cell) -> Reach
     requires { IsTrue (is_passable plane.now from) }
     ensures { RunsFar (is_passable plane.now) Dir.W from result }

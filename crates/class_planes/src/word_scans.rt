@@ -21,6 +21,13 @@ impl Model for Reach {
     ghost view = { λ r. record { count = r.count; forced = r.forced } };
 }
 
+/// A place where a run halts, and whether it is free.
+#[derive(Drop)]
+struct End {
+    place: u16,
+    free: bool,
+}
+
 /// Three lines of equally many words: the one along which a run goes, and those to its two sides. Contracts see the
 /// words.
 #[derive(Drop)]
@@ -173,56 +180,71 @@ impl<'a> Lanes<'a> {
         )
     }
 
+    /// The place of word `w`, and whether it is free.
+    #[inline(always)]
+    fn end_at(&self, w: usize, place: u16) -> End
+        requires word { w < length self.now.mid }
+        requires place { place / 64 ≡ w }
+        ensures place { result.place ≡ place }
+        ensures free { result.free ≡ (bit_in self.now.mid place == 1) }
+    {
+        End {
+            place,
+            free: (self.mid[w] >> (place % 64)) & 1 == 1,
+        }
+    }
+
     /// The first place after `from` at which an upward run halts. Past the last word no place is free.
-    fn next_up(&self, from: u16) -> u16
+    #[inline(always)]
+    fn next_up(&self, from: u16) -> End
         requires { from / 64 < length self.now.mid }
-        ensures { IsNext (end_up self.now) from result }
+        ensures next { IsNext (end_up self.now) from result.place }
+        ensures free { result.free ≡ (bit_in self.now.mid result.place == 1) }
     {
         let _ = &self.mid;
         let first = from as usize / 64;
         let after = bits_after(self.first_ends_up(first), from % 64);
         if after != 0 {
-            return from + 1 + lowest(after);
+            return self.end_at(first, from + 1 + lowest(after));
         }
         for w in first + 1..self.mid.len() {
             let ends = self.ends_up(w);
             if ends != 0 {
-                return 64 * w as u16 + lowest(ends);
+                return self.end_at(w, 64 * w as u16 + lowest(ends));
             }
         }
-        64 * self.mid.len() as u16
+        End {
+            place: 64 * self.mid.len() as u16,
+            free: false,
+        }
     }
 
     /// The last place before `from` at which a downward run halts.
-    fn last_down(&self, from: u16) -> Option<u16>
+    #[inline(always)]
+    fn last_down(&self, from: u16) -> Option<End>
         requires { from / 64 < length self.now.mid }
-        ensures some { IfSome result (IsLast (end_down self.now) from) }
+        ensures some { IfSome result (λ end. IsLast (end_down self.now) from end.place) }
+        ensures free { IfSome result (λ end. end.free ≡ (bit_in self.now.mid end.place == 1)) }
         ensures none { IfNone result ((i : ℕ) → i < from → end_down self.now i ≡ 0) }
     {
         let _ = &self.mid;
         let mut w = from as usize / 64;
         let before = bits_before(self.first_ends_down(w), from % 64);
         if before != 0 {
-            return Some(64 * w as u16 + highest(before));
+            return Some(self.end_at(w, 64 * w as u16 + highest(before)));
         }
         'down: while w > 0 {
             w -= 1;
             let ends = self.ends_down(w);
             if ends != 0 {
-                return Some(64 * w as u16 + highest(ends));
+                return Some(self.end_at(w, 64 * w as u16 + highest(ends)));
             }
         }
         None
     }
 
-    /// Whether the place of the middle line is free.
-    fn is_free(&self, i: u16) -> bool
-        ensures { result ≡ (bit_in self.now.mid i == 1) }
-    {
-        (word_at(self.mid, i as usize / 64) >> (i % 64)) & 1 == 1
-    }
-
     /// How far an upward run from the place goes.
+    #[inline(always)]
     pub fn reach_up(&self, from: u16) -> Reach
         requires line { from / 64 < length self.now.mid }
         requires free { bit_in self.now.mid from ≡ 1 }
@@ -230,21 +252,22 @@ impl<'a> Lanes<'a> {
             result }
     {
         let _ = &self.mid;
-        let end = self.next_up(from);
-        if self.is_free(end) {
+        let End { place, free } = self.next_up(from);
+        if free {
             Reach {
-                count: end - from,
+                count: place - from,
                 forced: true,
             }
         } else {
             Reach {
-                count: end - from - 1,
+                count: place - from - 1,
                 forced: false,
             }
         }
     }
 
     /// How far a downward run from the place goes.
+    #[inline(always)]
     pub fn reach_down(&self, from: u16) -> Reach
         requires line { from / 64 < length self.now.mid }
         requires free { bit_in self.now.mid from ≡ 1 }
@@ -258,14 +281,14 @@ impl<'a> Lanes<'a> {
                 forced: false,
             };
         };
-        if self.is_free(end) {
+        if end.free {
             return Reach {
-                count: from - end,
+                count: from - end.place,
                 forced: true,
             };
         }
         Reach {
-            count: from - end - 1,
+            count: from - end.place - 1,
             forced: false,
         }
     }

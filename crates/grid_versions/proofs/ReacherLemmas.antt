@@ -121,17 +121,21 @@ module _ (map : Map) (earlier now : Standing) (rects : List Rect) (changed : Lis
     ];
   }
 
-  -- what is made of the old list and of the changes has all
-  pub reachers_made : (reachers : List Reacher) → ((id : ℕ) → Contains old id → HoldReached map now reachers id)
-      → (made : List ℕ) → ((id : ℕ) (cell : Cell) → IsReached reachers id cell ⊎ IsReached changed id cell
-      → IsInRect rect cell → Contains made id) → HoldReachers map now rect made
-  reachers_made reachers found made listed = record {
+  -- what is made of the old list without the changed numbers, and of the changes, has all
+  pub reachers_made : (ids made : List ℕ) → ((id : ℕ) → Contains ids id → HoldReached map now changed id)
+      → ((id : ℕ) → Contains old id → Contains ids id ⊎ Contains made id)
+      → ((id : ℕ) (cell : Cell) → IsReached changed id cell → IsInRect rect cell → Contains made id)
+      → HoldReachers map now rect made
+  reachers_made ids made named kept listed = record {
     all = λ id o stands k cell inside blocks.
         let here = inside_map map.size rect cell within inside in
+        let by_change : HoldReached map now changed id → Contains made id = λ reached.
+        listed id cell (reached o stands k cell here blocks) inside in
         elim (each id) [
-          | inl same ↦
-              listed id cell (inl (found id (holds.all id o (sym same ∙ stands) k cell inside blocks) o stands k cell here blocks))
-              inside
-          | inr named ↦ listed id cell (inr (named.0 o stands k cell here blocks)) inside
+          | inl same ↦ elim (kept id (holds.all id o (sym same ∙ stands) k cell inside blocks)) [
+            | inl changed_id ↦ by_change (named id changed_id)
+            | inr has ↦ has
+          ]
+          | inr was ↦ by_change was.0
         ];
   }

@@ -1,12 +1,11 @@
 //! The cells of one chunk of a version.
-ghost use Rattle.std.specs.Prelude.{◌≡◌, ◌<◌, not, IfOk};
+ghost use Rattle.std.specs.Prelude.{◌≡◌, ◌≤◌, not, IfOk};
 ghost use Rattle.nav_types.specs.Cells.{IsInRect};
 ghost use Rattle.nav_types.specs.Numbering.{number_of};
 ghost use Rattle.lane_rows.specs.Rows.{has_class};
 ghost use Rattle.navcell_grid.specs.Patches.{free_count};
 ghost use Rattle.grid_versions.specs.inner.Painting.{AreFree};
 
-use nav_types::limits::MAX_CLASSES;
 use nav_types::{Cell, Class, NoMemory};
 use navcell_grid::Patch;
 use std::alloc::Global;
@@ -32,11 +31,12 @@ impl Model for ChunkCells {
 }
 
 impl ChunkCells {
-    /// The cells with these numbers.
-    pub fn new(alloc: Global, patch: Patch) -> Result<ChunkCells, NoMemory>
+    /// The cells with these numbers, on a map of so many classes.
+    pub fn new(alloc: Global, patch: Patch, classes: u8) -> Result<ChunkCells, NoMemory>
+        requires { classes ≤ 16 }
         ensures { IfOk result (λ cells. cells ≡ patch) }
     {
-        let free = free_counts(alloc, &patch)?;
+        let free = free_counts(alloc, &patch, classes)?;
         Ok(ChunkCells { patch, free })
     }
 
@@ -56,21 +56,24 @@ impl ChunkCells {
         self.patch().is_free(class, cell)
     }
 
-    /// How many cells are free for the class.
+    /// How many cells are free for the class. For a class of the map no cell is looked at.
     pub fn free(&self, class: Class) -> u16
-        requires { class < 16 }
         ensures { result ≡ free_count class self.now.numbers }
     {
-        self.free[usize::from(class.number())]
+        match self.free.get(usize::from(class.number())) {
+            Some(count) => *count,
+            None => self.patch.free(class),
+        }
     }
 }
 
-/// How many cells of a patch are free for each of 16 classes.
-fn free_counts(alloc: Global, patch: &Patch) -> Result<Vec<u16>, NoMemory>
+/// How many cells of a patch are free for each of the first classes.
+fn free_counts(alloc: Global, patch: &Patch, classes: u8) -> Result<Vec<u16>, NoMemory>
+    requires { classes ≤ 16 }
     ensures { IfOk result (λ free. AreFree patch.now.numbers free.items) }
 {
-    let mut free = Vec::with_capacity(alloc, usize::from(MAX_CLASSES))?;
-    for number in 0..MAX_CLASSES {
+    let mut free = Vec::with_capacity(alloc, usize::from(classes))?;
+    for number in 0..classes {
         let class = Class::new(number);
         let count = patch.free(class);
         free.push(count)?;

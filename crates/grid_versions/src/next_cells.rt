@@ -64,7 +64,7 @@ fn next_patch(
     if bits == 0 {
         return Ok((before.shared(place)?, 0));
     }
-    let made = ChunkCells::new(alloc, patch)?;
+    let made = ChunkCells::new(alloc, patch, map.classes().count())?;
     Ok((Arc::new(alloc, made)?, bits))
 }
 

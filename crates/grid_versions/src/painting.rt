@@ -62,7 +62,7 @@ pub fn painted_patches(
         let rect = chunks::cells_of(size, chunks::numbered(size, place));
         let near = reachers.at(place as usize);
         let patch = repainted(alloc, map, shapes, near.as_slice(), under, under, rect)?;
-        all.push(alloc, ChunkCells::new(alloc, patch)?)?;
+        all.push(alloc, ChunkCells::new(alloc, patch, map.classes().count())?)?;
     }
     Ok(all)
 }

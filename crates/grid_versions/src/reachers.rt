@@ -1,11 +1,12 @@
 //! The numbers of the obstructions that reach into each chunk.
-ghost use Rattle.std.specs.Prelude.{ℕ, ◌≡◌, ◌⊎◌, ◌<◌, Some, Contains, IfOk, OnOk};
+ghost use Rattle.std.specs.Prelude.{ℕ, ◌≡◌, ◌⊎◌, ◌<◌, Some, Contains, length, IfOk, OnOk};
 ghost use Rattle.std.specs.Arc.{arc_value};
 ghost use Rattle.std.specs.FinMap as fin_map;
 ghost use Rattle.nav_types.specs.declared.cells.Cell.{Cell};
 ghost use Rattle.nav_types.specs.Cells.{IsInRect};
 ghost use Rattle.obstruction_shapes.specs.declared.shapes.Obstruction.{Obstruction};
-ghost use Rattle.obstruction_store.specs.Standing.{AllFit};
+ghost use Rattle.obstruction_store.specs.Standing.{Standing, AllFit};
+ghost use Rattle.grid_versions.specs.Maps.{Map};
 ghost use Rattle.grid_versions.specs.Chunks.{chunk_count};
 ghost use Rattle.grid_versions.specs.inner.ChunkLists.{chunk_numbered};
 ghost use Rattle.grid_versions.specs.inner.Reachers.{HoldChunkReachers, AreReachers, AreReachersBefore, AreReachersSince, IsReached, HoldReached};
@@ -15,7 +16,7 @@ use crate::maps::MapSpec;
 use crate::parts::{common, dirty_part};
 use crate::shared_list::SharedList;
 use crate::standing_edits::reach_under;
-use nav_types::{NoMemory, Rect};
+use nav_types::{NoMemory, Rect, Size};
 use obstruction_store::{Ids, Store};
 use std::alloc::Global;
 use std::sync::Arc;
@@ -92,20 +93,38 @@ fn list_reachers(rect: Rect, reachers: &[Reacher], ids: &mut Ids) -> Result<(), 
     Ok(())
 }
 
-/// The numbers in two lists whose cells meet the rectangle.
-fn reachers_in(
-    alloc: Global,
-    old: &[Reacher],
-    changed: &[Reacher],
-    rect: Rect,
-) -> Result<Ids, NoMemory>
-    ensures { IfOk result (λ ids. (id : ℕ) (cell : Cell)
-        → IsReached old.now id cell ⊎ IsReached changed.now id cell → IsInRect rect cell → Contains ids id) }
+/// The numbers whose cells meet the rectangle.
+fn reachers_in(alloc: Global, reachers: &[Reacher], rect: Rect) -> Result<Ids, NoMemory>
+    ensures { IfOk result (λ ids. (id : ℕ) (cell : Cell) → IsReached reachers.now id cell
+        → IsInRect rect cell → Contains ids id) }
 {
     let mut ids = Ids::new(alloc);
-    list_reachers(rect, old, &mut ids)?;
-    list_reachers(rect, changed, &mut ids)?;
+    list_reachers(rect, reachers, &mut ids)?;
     Ok(ids)
+}
+
+/// Appends the number, if it is not among the changed ones.
+fn keep_id(id: u32, changed: &[u32], kept: &mut Ids) -> Result<(), NoMemory>
+    ensures kept { OnOk result ((n : ℕ) → Contains kept.old n → Contains kept.new n) }
+    ensures either { OnOk result (Contains changed.now id ⊎ Contains kept.new id) }
+{
+    if changed.contains(&id) {
+        return Ok(());
+    }
+    kept.push(id)?;
+    Ok(())
+}
+
+/// The numbers of a list that are not among the changed ones.
+fn unchanged_ids(alloc: Global, ids: &[u32], changed: &[u32]) -> Result<Ids, NoMemory>
+    ensures { IfOk result (λ kept. (id : ℕ) → Contains ids.now id
+        → Contains changed.now id ⊎ Contains kept id) }
+{
+    let mut kept = Ids::new(alloc);
+    for id in ids {
+        keep_id(*id, changed, &mut kept)?;
+    }
+    Ok(kept)
 }
 
 /// The numbers under which an obstruction stands.
@@ -136,7 +155,7 @@ pub fn all_reachers(
     let mut all = SharedList::with_capacity(alloc, count as usize)?;
     for place in 0..count {
         let rect = chunks::cells_of(size, chunks::numbered(size, place));
-        let made = reachers_in(alloc, &[], &reachers, rect)?;
+        let made = reachers_in(alloc, &reachers, rect)?;
         all.push(alloc, made)?;
     }
     Ok(all)
@@ -146,28 +165,27 @@ pub fn all_reachers(
 /// obstructions can block; the list of a chunk outside them is shared.
 fn reachers_at(
     alloc: Global,
-    map: &MapSpec,
-    shapes: &Store,
+    size: Size,
     before: &SharedList<Ids>,
     reaches: &[Rect],
+    ids: &[u32],
     changed: &[Reacher],
     place: u32,
 ) -> Result<Arc<Ids, Global>, NoMemory>
-    requires fit { AllFit map.now.size shapes.now }
-    requires before { AreReachersSince map.now shapes.now before.now reaches.now changed.now }
-    requires place { place < chunk_count map.now.size }
-    ensures { IfOk result (λ ids. HoldChunkReachers map.now shapes.now
-        (chunk_numbered map.now.size place) (arc_value ids)) }
+    requires place { place < chunk_count size }
+    requires each { length before.now ≡ chunk_count size }
+    ensures { IfOk result (λ made. (map : Map) (now : Standing) → map.size ≡ size
+        → AreReachersSince map now before.now reaches.now ids.now changed.now
+        → HoldChunkReachers map now (chunk_numbered size place) (arc_value made)) }
 {
-    let size = map.size();
     let rect = chunks::cells_of(size, chunks::numbered(size, place));
     let Some(_) = dirty_part(reaches, rect) else {
         let shared = before.shared(place as usize)?;
         return Ok(shared);
     };
-    let ids = before.at(place as usize).as_slice();
-    let old = reachers_of(alloc, map, shapes, ids)?;
-    let made = reachers_in(alloc, &old, changed, rect)?;
+    let old = before.at(place as usize).as_slice();
+    let mut made = unchanged_ids(alloc, old, ids)?;
+    list_reachers(rect, changed, &mut made)?;
     Ok(Arc::new(alloc, made)?)
 }
 
@@ -185,11 +203,12 @@ pub fn next_reachers(
     requires before { AreReachersBefore map.now shapes.now before.now reaches.now ids.now }
     ensures { IfOk result (AreReachers map.now shapes.now) }
 {
+    let size = map.size();
     let changed = reachers_of(alloc, map, shapes, ids)?;
-    let count = chunks::count(map.size());
+    let count = chunks::count(size);
     let mut all = SharedList::with_capacity(alloc, count as usize)?;
     for place in 0..count {
-        let made = reachers_at(alloc, map, shapes, before, reaches, &changed, place)?;
+        let made = reachers_at(alloc, size, before, reaches, ids, &changed, place)?;
         all.push_shared(alloc, made)?;
     }
     Ok(all)

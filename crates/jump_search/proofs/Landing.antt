@@ -1,6 +1,6 @@
 -- Following a jump: where it leads, what it costs, and that all jumps in its direction are followed by it.
 use Rattle.std.proofs.Common.{ℕ, zero, suc, ◌≡◌, ◌+◌, ◌-◌, ◌*◌, ◌<◌, ◌≤◌, Bool, IsTrue, IsFalse, List, Option, Some, min, max}
-use Rattle.std.proofs.Common.{inl, inr, ap, sym, subst, ◌∙◌, arith}
+use Rattle.std.proofs.Common.{inl, inr, ◌⊎◌, refl, ap, sym, subst, ◌∙◌, arith}
 use Rattle.std.proofs.lemmas.Bool.{both_ways}
 use Rattle.std.proofs.lemmas.Option.{same_Some}
 use Rattle.nav_types.specs.declared.cells.Cell.{Cell}
@@ -19,11 +19,11 @@ use Rattle.jump_search.specs.declared.states.JumpState.{JumpState}
 use Rattle.jump_search.specs.JumpStates.{IsStopOf, IsJump, octile_between, octile_to}
 use Rattle.jump_search.specs.inner.Numbered.{HasCheaper}
 use Rattle.jump_search.specs.inner.Searched.{IsLastRun, HasParent, IsNoted}
-use Rattle.jump_search.specs.inner.Underway.{steps_over, estimate_of, AreLater, IsOpenNode, IsFollowedAlong}
-use Rattle.jump_search.specs.inner.Underway.{IsFollowable, KeepsGoing, Relaxes, Follows}
+use Rattle.jump_search.specs.inner.Underway.{steps_over, estimate_of, IsOpenNode, IsFollowedAlong}
+use Rattle.jump_search.specs.inner.Underway.{IsFollowable, Relaxes, Follows}
 use Rattle.jump_search.specs.inner.Traced.{Moves}
 use Rattle.jump_search.proofs.Measuring.{run_moves, octile_to_through}
-use Rattle.jump_search.proofs.Lasting.{gains_none, open_later}
+use Rattle.jump_search.proofs.Lasting.{gains_none, gains_through, along_later, open_later}
 
 -- how many steps a run has
 steps_moved : (dir : Dir) (count : ℕ) (from to : Cell) → Moves dir count from to → count ≡ steps_over from to
@@ -242,27 +242,47 @@ jump_most passes hit size dir from stop within free is =
     between_most from stop a.0 a.1 b.0 b.1
 
 -- a search that has followed some jumps can follow others
-pub followable_later : (passes hit : Cell → Bool) (rect : Rect) (from : JumpState) (cost : ℕ) (old new : List Node)
-    (before after : Queue)
-    → AreLater old new → KeepsGoing passes hit rect from cost old new before after
+pub followable_later : {all : Bool} {passes hit : Cell → Bool} {rect : Rect} {from : JumpState} {cost : ℕ}
+    {Within : Dir → Type 0} {old new : List Node} {before after : Queue}
+    → Follows all passes hit rect from cost Within old new before after
     → IsFollowable passes hit rect from cost old before
     → IsFollowable passes hit rect from cost new after
-followable_later passes hit rect from cost old new before after later keeps f = record {
+followable_later follows f = record {
   all = f.all;
   start = f.start;
   floor = f.floor;
   most = f.most;
-  going = keeps f.all f.start f.floor f.most f.going f.opened f.early f.room;
-  opened = open_later old new from cost later f.opened;
+  going = follows.going f.all f.start f.floor f.most f.going f.opened f.early f.room;
+  opened = open_later _ _ _ _ follows.gains.later f.opened;
   early = f.early;
   room = f.room;
   low = f.low;
 }
 
-pub keeps_through : (passes hit : Cell → Bool) (rect : Rect) (from : JumpState) (cost : ℕ) (a b c : List Node)
-    (p q r : Queue)
-    → AreLater a b → KeepsGoing passes hit rect from cost a b p q → KeepsGoing passes hit rect from cost b c q r
-    → KeepsGoing passes hit rect from cost a c p r
-keeps_through passes hit rect from cost a b c p q r later one two = λ all start floor top going has early room.
-    two all start floor top (one all start floor top going has early room) (open_later a b from cost later has) early
-    room
+-- following jumps in some directions, and then in others
+pub follows_both : {all : Bool} {passes hit : Cell → Bool} {rect : Rect} {from : JumpState} {cost : ℕ}
+    {One Two : Dir → Type 0} {a b c : List Node} {p q r : Queue}
+    → Follows all passes hit rect from cost One a b p q → Follows all passes hit rect from cost Two b c q r
+    → Follows all passes hit rect from cost (λ dir. One dir ⊎ Two dir) a c p r
+follows_both one two = record {
+  gains = gains_through _ _ _ _ _ _ one.gains two.gains;
+  along = λ dir within. elim within [
+    | inl first ↦ along_later _ _ _ _ _ _ _ dir two.gains.later (one.along dir first)
+    | inr last ↦ two.along dir last
+  ];
+  going = λ any start floor top going has early room.
+      two.going any start floor top (one.going any start floor top going has early room)
+      (open_later _ _ _ _ one.gains.later has) early room;
+}
+
+-- each direction is one of the eight
+pub each_of_eight : (dir : Dir) → (dir ≡ N) ⊎ ((dir ≡ E) ⊎ ((dir ≡ S) ⊎ ((dir ≡ W) ⊎ ((dir ≡ NE) ⊎ ((dir ≡ SE)
+    ⊎ ((dir ≡ SW) ⊎ (dir ≡ NW)))))))
+each_of_eight N = inl refl
+each_of_eight E = inr (inl refl)
+each_of_eight S = inr (inr (inl refl))
+each_of_eight W = inr (inr (inr (inl refl)))
+each_of_eight NE = inr (inr (inr (inr (inl refl))))
+each_of_eight SE = inr (inr (inr (inr (inr (inl refl)))))
+each_of_eight SW = inr (inr (inr (inr (inr (inr (inl refl))))))
+each_of_eight NW = inr (inr (inr (inr (inr (inr (inr refl))))))

@@ -63,6 +63,7 @@ fn kept_run(dir: Dir, one: u16, other: u16) -> u16
 }
 
 /// The stop of the run from the cell in the direction. None exactly where it has none.
+#[inline(always)]
 fn stop_of<R: Runs, A: Aim>(runs: &R, class: Class, from: Cell, dir: Dir, aim: &A) -> Option<Cell>
     requires class { class < R.class_count runs.now }
     requires start { IsTrue (R.passes runs.now class from) }
@@ -155,6 +156,7 @@ impl Front {
 
     /// Follows the jump from the node in the direction, where that is one of the set and its run stops. A jump to a state
     /// that is dearer than a node of its cell is left, where the search is not for all.
+    #[inline(always)]
     fn follow_along<R: Runs, A: Aim>(
         &mut self,
         runs: &R,
@@ -173,9 +175,11 @@ impl Front {
         requires aim { A.sound aim.now (R.extent runs.now) }
         requires followable { IsFollowable (R.passes runs.now class) (A.hit aim.now (R.extent runs.now)) rect.now
             node.now.state node.now.cost self.old.nodes self.old.waiting }
-        ensures { OnOk result (Follows all (R.passes runs.now class) (A.hit aim.now (R.extent runs.now)) rect.now
+        ensures follows { OnOk result (Follows all (R.passes runs.now class) (A.hit aim.now (R.extent runs.now)) rect.now
             node.now.state node.now.cost
             (λ other. other ≡ dir) self.old.nodes self.new.nodes self.old.waiting self.new.waiting) }
+        ensures followable { OnOk result (IsFollowable (R.passes runs.now class) (A.hit aim.now (R.extent runs.now))
+            rect.now node.now.state node.now.cost self.new.nodes self.new.waiting) }
     {
         if !dirs.has(dir) {
             return Ok(());
@@ -212,9 +216,14 @@ impl Front {
             (λ other. Unit {0}) self.old.nodes self.new.nodes self.old.waiting self.new.waiting) }
     {
         let dirs = successors(runs, class, node.state.cell, node.state.arrived);
-        for dir in Dir::ALL {
-            self.follow_along(runs, class, aim, rect, all, node, dirs, dir)?;
-        }
+        self.follow_along(runs, class, aim, rect, all, node, dirs, Dir::N)?;
+        self.follow_along(runs, class, aim, rect, all, node, dirs, Dir::E)?;
+        self.follow_along(runs, class, aim, rect, all, node, dirs, Dir::S)?;
+        self.follow_along(runs, class, aim, rect, all, node, dirs, Dir::W)?;
+        self.follow_along(runs, class, aim, rect, all, node, dirs, Dir::NE)?;
+        self.follow_along(runs, class, aim, rect, all, node, dirs, Dir::SE)?;
+        self.follow_along(runs, class, aim, rect, all, node, dirs, Dir::SW)?;
+        self.follow_along(runs, class, aim, rect, all, node, dirs, Dir::NW)?;
         Ok(())
     }
 

@@ -10,7 +10,7 @@ use std::alloc::Global;
 use std::marker::Model;
 
 /// For how many nodes there is room at first.
-const ROOM: usize = 256;
+const ROOM: usize = 4096;
 
 /// A jump state that a search has met.
 #[derive(Clone, Copy, Debug, PartialEq, Eq)]

@@ -10,8 +10,8 @@ use std::alloc::Global;
 const PAGE: usize = 256;
 /// How many places there are for pages.
 const PLACES: usize = 1024;
-/// For how many pages there is room at first.
-const ROOM: usize = 64;
+/// For how many pages there is room from the start: one at each place, and the page of zeros.
+const ROOM: usize = PLACES + 1;
 
 /// A number for each cell of a map; 0 where none was set. A page has the numbers of 16 by 16 cells, and is made when
 /// the first of them is set.

@@ -40,10 +40,9 @@ pub record IsPaintedChunk (map : Map) (standing : Standing) (chunk : Chunk) (cel
 abbrev pub ArePaintedChunks : Map → Standing → List Numbering → Type 0
 ArePaintedChunks map standing all = AreOfChunks map.size (chunk_count map.size) (IsPaintedChunk map standing) all
 
--- how many of the numbers leave their cells free for each of 16 classes
+-- how many of the numbers leave their cells free for each of the first classes
 pub record AreFree (numbers free : List ℕ) : Type 0 where
-  pub each : length free ≡ 16
-  pub are : (k : ℕ) → k < 16 → slice_index free k ≡ free_count k numbers
+  pub are : (k : ℕ) → k < length free → slice_index free k ≡ free_count k numbers
 
 -- one number a place, whose bit k is set exactly where bit k differs in some cell there
 pub record AreDiffering (before now : List Numbering) (bits : List ℕ) : Type 0 where

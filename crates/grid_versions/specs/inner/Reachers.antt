@@ -56,10 +56,11 @@ HoldReached map standing reachers id = (obstruction : Obstruction) → fin_map.g
     → (k : ℕ) (cell : Cell) → IsInside map.size cell → IsTrue (blocks_class obstruction map.classes k cell)
     → IsReached reachers id cell
 
--- the lists of all chunks under some earlier obstructions, with the rectangles of what has changed since
-pub record AreReachersSince (map : Map) (now : Standing) (all : List (List ℕ)) (rects : List Rect)
+-- the lists of all chunks under some earlier obstructions, with the rectangles and the numbers of what has changed since
+pub record AreReachersSince (map : Map) (now : Standing) (all : List (List ℕ)) (rects : List Rect) (ids : List ℕ)
     (changed : List Reacher) : Type 0 where
   pub earlier : Standing
   pub lists : AreReachers map earlier all
   pub each : (id : ℕ) → (fin_map.get now id ≡ fin_map.get earlier id)
       ⊎ (HoldReached map now changed id × LiesWithin map now id rects)
+  pub named : (id : ℕ) → Contains ids id → HoldReached map now changed id

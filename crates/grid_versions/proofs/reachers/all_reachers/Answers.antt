@@ -1,4 +1,4 @@
-use Rattle.std.proofs.Common.{◌≡◌, ◌+◌, ◌∙◌, ℕ, List, inr, ap, sym, subst, arith}
+use Rattle.std.proofs.Common.{◌≡◌, ◌+◌, ◌∙◌, ℕ, List, ap, sym, subst, arith}
 use Rattle.std.specs.List.{Contains}
 use Rattle.nav_types.specs.declared.cells.Chunk.{Chunk}
 use Rattle.nav_types.specs.declared.cells.Rect.{Rect}
@@ -28,8 +28,8 @@ loop-place-preserved c =
       all = λ id o stands k cell here blocks.
           let has = subst (λ (ids : List ℕ). Contains ids id) (sym c.as_slice.ensures) (c.in_ok-ids.ensures id o stands) in
           let reached = c.in_ok-reachers.ensures id has o stands k cell (inside_map map.size rect cell inside here) blocks in
-          c.in_ok-made.ensures id cell (inr (subst (λ (all : List Reacher). IsReached all id cell) (sym c.deref.ensures.value)
-          reached)) here;
+          c.in_ok-made.ensures id cell (subst (λ (all : List Reacher). IsReached all id cell) (sym c.deref.ensures.value)
+          reached) here;
     } in
     subst (λ (all : List (List ℕ)). AreOfChunks size (place + 1) (HoldChunkReachers map now) all) (sym c.in_ok-push.ensures.ok)
     (AreOfChunks-push size place (HoldChunkReachers map now) c.loop-place.all made c.loop-place.invariant

@@ -1,13 +1,14 @@
-use Rattle.std.proofs.Common.{◌-◌, arith}
-use Rattle.class_planes.specs.inner.Runs.{end_down}
+use Rattle.std.proofs.Common.{◌-◌, sym, subst, arith}
+use Rattle.class_planes.specs.inner.Runs.{end_down, IsLast}
 use Rattle.class_planes.proofs.WordLemmas.{last_here, none_before, last_in, none_under}
 use Rattle.class_planes.proofs.word_scans.Lanes.last_down.Goals as goal
 
 pub returns-then-before-ne0-clause-some : goal.returns-then-before-ne0-clause-some
 returns-then-before-ne0-clause-some c =
-    last_here (end_down c.args.self.now) c.args.from c.highest.result c.first_ends_down.result c.bits_before-before.result
+    subst (IsLast (end_down c.args.self.now) c.args.from) (sym c.end_at.ensures.place)
+    (last_here (end_down c.args.self.now) c.args.from c.highest.result c.first_ends_down.result c.bits_before-before.result
     c.first_ends_down.ensures
-    c.bits_before-before.ensures.kept c.bits_before-before.ensures.none c.highest.ensures.set c.highest.ensures.none
+    c.bits_before-before.ensures.kept c.bits_before-before.ensures.none c.highest.ensures.set c.highest.ensures.none)
 
 pub down-init : goal.down-init
 down-init c = record {
@@ -20,10 +21,11 @@ pub returns-then-ends-ne0-clause-some : goal.returns-then-ends-ne0-clause-some
 returns-then-ends-ne0-clause-some c =
     let some = c.down-test.true in
     let within = c.down.invariant.within in
-    last_in (end_down c.args.self.now) c.args.from (c.down.w - 1) c.highest-then-ends-ne0.result c.ends_down-ends.result
+    subst (IsLast (end_down c.args.self.now) c.args.from) (sym c.end_at-then-ends-ne0.ensures.place)
+    (last_in (end_down c.args.self.now) c.args.from (c.down.w - 1) c.highest-then-ends-ne0.result c.ends_down-ends.result
     c.highest-then-ends-ne0.ensures.small
     (omega (arith, some, within)) (λ i past below. c.down.invariant.none i (omega (arith, past, some)) below)
-    c.ends_down-ends.ensures c.highest-then-ends-ne0.ensures.set c.highest-then-ends-ne0.ensures.none
+    c.ends_down-ends.ensures c.highest-then-ends-ne0.ensures.set c.highest-then-ends-ne0.ensures.none)
 
 pub down-preserved : goal.down-preserved
 down-preserved c =

@@ -6,14 +6,14 @@ use Rattle.class_planes.proofs.word_scans.Lanes.reach_down.Goals as goal
 pub returns-in_default : goal.returns-in_default
 returns-in_default c = down_whole c.args.self.now c.args.from c.requires.free c.in_default.ensures.none
 
-pub returns-then-is_free : goal.returns-then-is_free
-returns-then-is_free c =
-    down_forced c.args.self.now c.args.from c.in-Some.end (c.args.from - c.in-Some.end) c.requires.free
+pub returns-then-end : goal.returns-then-end
+returns-then-end c =
+    down_forced c.args.self.now c.args.from c.in-Some.end.place (c.args.from - c.in-Some.end.place) c.requires.free
     c.in-Some.ensures.some
-    (is_set (bit_in c.args.self.now.mid c.in-Some.end) c.is_free.result c.is_free.ensures c.if-is_free.true) refl
+    (is_set (bit_in c.args.self.now.mid c.in-Some.end.place) c.in-Some.end.free c.in-Some.ensures.free c.if-end.true) refl
 
 pub returns : goal.returns
 returns c =
-    down_free c.args.self.now c.args.from c.in-Some.end (c.args.from - c.in-Some.end - 1) c.requires.free
+    down_free c.args.self.now c.args.from c.in-Some.end.place (c.args.from - c.in-Some.end.place - 1) c.requires.free
     c.in-Some.ensures.some
-    (is_clear c.args.self.now.mid c.in-Some.end c.is_free.result c.is_free.ensures c.if-is_free.false) refl
+    (is_clear c.args.self.now.mid c.in-Some.end.place c.in-Some.end.free c.in-Some.ensures.free c.if-end.false) refl

@@ -2,11 +2,11 @@ use Rattle.std.proofs.Common.{sym, ◌∙◌, IsTrue}
 use Rattle.std.proofs.lemmas.Bool.{both_ways}
 use Rattle.nav_types.specs.DirSets.{holds}
 use Rattle.jump_search.proofs.Landing.{HasLanded, estimate_landed, follows_landed, follows_left, follows_none, follows_pruned}
-use Rattle.jump_search.proofs.Landing.{jump_most}
+use Rattle.jump_search.proofs.Landing.{followable_later, jump_most}
 use Rattle.jump_search.proofs.front.Front.follow_along.Goals as goal
 
-pub returns-then-not-has : goal.returns-then-not-has
-returns-then-not-has g c =
+pub returns-then-not-has-clause-follows : goal.returns-then-not-has-clause-follows
+returns-then-not-has-clause-follows g c =
     let passes = g.R.View.passes c.args.runs.now c.args.class in
     let hit = g.A.Aim.hit c.args.aim.now (g.R.View.extent c.args.runs.now) in
     let node = c.args.node.now in
@@ -14,16 +14,16 @@ returns-then-not-has g c =
     c.args.self.now.waiting
     (λ is. both_ways c.has.result c.if-not-has.true (c.has.ensures ∙ c.requires.successors.1 is))
 
-pub returns-in_default : goal.returns-in_default
-returns-in_default g c =
+pub returns-in_default-clause-follows : goal.returns-in_default-clause-follows
+returns-in_default-clause-follows g c =
     let passes = g.R.View.passes c.args.runs.now c.args.class in
     let hit = g.A.Aim.hit c.args.aim.now (g.R.View.extent c.args.runs.now) in
     let node = c.args.node.now in
     follows_none c.args.all passes hit c.args.rect.now node.state node.cost c.args.dir c.args.self.now.nodes
     c.args.self.now.waiting c.in_default.ensures.none
 
-pub returns-then-is_dearer : goal.returns-then-is_dearer
-returns-then-is_dearer g c =
+pub returns-then-is_dearer-clause-follows : goal.returns-then-is_dearer-clause-follows
+returns-then-is_dearer-clause-follows g c =
     let passes = g.R.View.passes c.args.runs.now c.args.class in
     let hit = g.A.Aim.hit c.args.aim.now (g.R.View.extent c.args.runs.now) in
     let node = c.args.node.now in
@@ -52,8 +52,8 @@ relax-requires-clause-queued g c =
       ),
     )
 
-pub returns : goal.returns
-returns g c =
+pub returns-clause-follows : goal.returns-clause-follows
+returns-clause-follows g c =
     let passes = g.R.View.passes c.args.runs.now c.args.class in
     let size = g.R.View.extent c.args.runs.now in
     let hit = g.A.Aim.hit c.args.aim.now size in
@@ -70,3 +70,7 @@ returns g c =
     c.landed-next.result
     c.args.self.now.nodes c.relax.new.self.nodes c.args.self.now.waiting c.relax.new.self.waiting successor is landed
     most c.in_ok-relax.ensures
+
+pub returns-clause-followable : goal.returns-clause-followable
+returns-clause-followable g c =
+    followable_later (returns-clause-follows g c) c.requires.followable
