@@ -1,10 +1,10 @@
--- The bits of a row: shifted, with one more on top, and the lowest set or clear one.
-use Rattle.std.proofs.Common.{ℕ, zero, suc, Bool, true, false, ◌≡◌, ◌<◌, ◌≤◌, ◌+◌, ◌-◌, ◌*◌, ◌/◌, ◌%◌, ◌^◌, ◌==◌, if◌then◌else◌, ap, sym, subst, ◌∙◌, inl, inr, arith}
-use Rattle.std.specs.Int.{bit_at, trailing_zeros, trailing_ones, w128}
-use Rattle.std.proofs.Math.Nat.{div-add-mod, div-le_self}
+-- The bits of a row: shifted, with one more on top, and without the lowest set one.
+use Rattle.std.proofs.Common.{ℕ, zero, suc, Bool, true, false, ◌≡◌, ◌≢◌, ◌<◌, ◌≤◌, ◌+◌, ◌-◌, ◌*◌, ◌/◌, ◌%◌, ◌^◌, ◌==◌, if◌then◌else◌, bit_and, ap, sym, ◌∙◌, inl, inr, arith}
+use Rattle.std.specs.Int.{bit_at, trailing_zeros, w128}
+use Rattle.std.proofs.Math.Nat.{div-add-mod}
 use Rattle.std.proofs.lemmas.Bool.{cases_lt}
 use Rattle.std.proofs.lemmas.Nat.{mod_below, pow-add, pow_below}
-use Rattle.std.proofs.lemmas.Nat.Bits.{bit_at_cat_low, bit_at_cat_high, bit_at_above, bit_at-zero, bit_at-trailing_zeros, bit_at-trailing_ones}
+use Rattle.std.proofs.lemmas.Nat.Bits.{bit_at_cat_low, bit_at_cat_high, bit_at_above, bit_at_and, bit_at_lowest, bit_at-suc, bit_at-zero, bit_at-trailing_zeros, same_from_bits_below}
 
 pow_positive : (k : ℕ) → 0 < 2 ^ k
 pow_positive zero = omega arith
@@ -18,62 +18,71 @@ bit_at-shr n a i =
     ∙ bit_at_cat_high (n / 2 ^ a) a (n % 2 ^ a) (a + i) (mod_below n (2 ^ a) (pow_positive a)) (omega arith)
     ∙ ap (λ k. bit_at (n / 2 ^ a) k) (omega arith))
 
-bit_at-from : (n a k : ℕ) → a ≤ k → bit_at n k ≡ bit_at (n / 2 ^ a) (k - a)
-bit_at-from n a k from = ap (λ m. bit_at n m) (omega arith) ∙ sym (bit_at-shr n a (k - a))
+-- a bit's place one further up
+pub bit_at-double : (n i : ℕ) → bit_at (n * 2) (suc i) ≡ bit_at n i
+bit_at-double n i = let half : n * 2 / 2 ≡ n = omega arith in bit_at-suc (n * 2) i ∙ ap (λ m. bit_at m i) half
 
--- where nothing is left after a shift, all higher bits are clear
-pub clear_from : (n a k : ℕ) → n / 2 ^ a ≡ 0 → a ≤ k → bit_at n k ≡ 0
-clear_from n a k none from = bit_at-from n a k from ∙ ap (λ m. bit_at m (k - a)) none ∙ bit_at-zero (k - a)
+-- the lowest set bit of a number is taken away
+pub record IsTaken (old place new : ℕ) : Type 0 where
+  pub set : bit_at old place ≡ 1
+  pub lowest : (k : ℕ) → k < place → bit_at old k ≡ 0
+  pub taken : bit_at new place ≡ 0
+  pub others : (k : ℕ) → k ≢ place → bit_at new k ≡ bit_at old k
 
-shr-lt : (n a : ℕ) → n < 2 ^ 96 → n / 2 ^ a < 2 ^ 96
-shr-lt n a few = let less = div-le_self n (2 ^ a) in omega arith
+-- below its lowest set bit a number has no rest
+low_part : (n t : ℕ) → ((i : ℕ) → i < t → bit_at n i ≡ 0) → n % 2 ^ t ≡ 0
+low_part n t clear =
+    let whole : n / 2 ^ t * 2 ^ t + n % 2 ^ t ≡ n = let e = div-add-mod n (2 ^ t) in omega arith in
+    same_from_bits_below t (n % 2 ^ t) 0 (mod_below n (2 ^ t) (pow_positive t)) (pow_positive t)
+    (λ i less. sym (bit_at_cat_low (n / 2 ^ t) t (n % 2 ^ t) i less) ∙ ap (λ m. bit_at m i) whole ∙ clear i less ∙ sym (bit_at-zero i))
 
--- the lowest set bit from a place on
-pub record IsLowest (n a at : ℕ) : Type 0 where
-  pub within : at < 96
-  pub set : bit_at n at ≡ 1
-  pub clear : (k : ℕ) → a ≤ k → k < at → bit_at n k ≡ 0
+-- one less than an odd number: all bits but the lowest are the same
+odd_less : (h j : ℕ) → 0 < j → bit_at (h * 2) j ≡ bit_at (h * 2 + 1) j
+odd_less h zero some = absurd (omega arith)
+odd_less h (suc j) some =
+    let half : (h * 2 + 1) / 2 ≡ h = omega arith in
+    bit_at-double h j ∙ sym (bit_at-suc (h * 2 + 1) j ∙ ap (λ m. bit_at m j) half)
 
-pub lowest_set : (n a : ℕ) → n < 2 ^ 96 → 0 < n / 2 ^ a → IsLowest n a (a + trailing_zeros w128 (n / 2 ^ a))
-lowest_set n a few rest =
-    let low = bit_at-trailing_zeros w128 (n / 2 ^ a) rest (let small = shr-lt n a few in omega arith) in
-    let t = trailing_zeros w128 (n / 2 ^ a) in
-    let set : bit_at n (a + t) ≡ 1 = sym (bit_at-shr n a t) ∙ low.1 in
+without_lowest : (n t : ℕ) → bit_at n t ≡ 1 → ((i : ℕ) → i < t → bit_at n i ≡ 0) → IsTaken n t (bit_and n (n - 1))
+without_lowest n t one clear =
+    let p = 2 ^ t in
+    let h = n / p / 2 in
+    let whole : n / p * p + n % p ≡ n = let e = div-add-mod n p in omega arith in
+    let none = low_part n t clear in
+    let odd : h * 2 + 1 ≡ n / p = omega arith in
+    let some = pow_positive t in
+    let is : (h * 2 + 1) * p + 0 ≡ n = let e = ap (λ m. m * p) odd in omega arith in
+    let less : h * 2 * p + (p - 1) ≡ n - 1 = omega arith in
+    let both = bit_at_and n (n - 1) in
     record {
-      within = elim (cases_lt (a + t) 96) [
-        | inl less ↦ less
-        | inr more ↦ let none = bit_at_above n 96 (a + t) few more in absurd (omega arith)
+      set = one;
+      lowest = clear;
+      taken =
+          let same : t - t ≡ 0 = omega arith in
+          let even = bit_at_lowest (h * 2) in
+          let low : bit_at (n - 1) t ≡ 0 =
+          ap (λ m. bit_at m t) (sym less) ∙ bit_at_cat_high (h * 2) t (p - 1) t (omega arith) (omega arith) ∙ ap (λ k. bit_at (h * 2) k) same ∙ even ∙ omega arith in
+          let here = both t in
+          omega arith;
+      others = λ k other. let here = both k in elim (cases_lt k t) [
+        | inl below ↦ let was = clear k below in omega arith
+        | inr above ↦ elim (cases_lt t k) [
+          | inl further ↦
+              let same : bit_at (n - 1) k ≡ bit_at n k =
+              ap (λ m. bit_at m k) (sym less) ∙ bit_at_cat_high (h * 2) t (p - 1) k (omega arith) (omega arith)
+              ∙ odd_less h (k - t) (omega arith)
+              ∙ sym (ap (λ m. bit_at m k) (sym is) ∙ bit_at_cat_high (h * 2 + 1) t 0 k some (omega arith)) in
+              omega arith
+          | inr equal ↦ absurd (other (omega arith))
+        ]
       ];
-      set = set;
-      clear = λ k from before. bit_at-from n a k from ∙ low.2 (k - a) (omega arith);
     }
 
--- the lowest clear bit from a set one on
-pub record IsEnd (n a at : ℕ) : Type 0 where
-  pub after : a < at
-  pub within : at ≤ 96
-  pub clear : bit_at n at ≡ 0
-  pub set : (k : ℕ) → a ≤ k → k < at → bit_at n k ≡ 1
-
-pub lowest_clear : (n a t : ℕ) → t ≡ trailing_ones w128 (n / 2 ^ a) → n < 2 ^ 96 → a < 96 → bit_at n a ≡ 1 → IsEnd n a (a + t)
-lowest_clear n a t ones few within first =
-    let low = bit_at-trailing_ones w128 (n / 2 ^ a) (let small = shr-lt n a few in omega arith) in
-    let clear : bit_at n (a + t) ≡ 0 = sym (bit_at-shr n a t) ∙ ap (λ k. bit_at (n / 2 ^ a) k) ones ∙ low.1 in
-    let set : (k : ℕ) → a ≤ k → k < a + t → bit_at n k ≡ 1 = λ k from before.
-    let upper : k - a < trailing_ones w128 (n / 2 ^ a) = subst (λ m. k - a < m) ones (omega arith) in
-    bit_at-from n a k from ∙ low.2 (k - a) upper in
-    record {
-      after = elim (cases_lt a (a + t)) [
-        | inl less ↦ less
-        | inr more ↦ let same : a + t ≡ a = omega arith in let one = ap (λ k. bit_at n k) same ∙ first in absurd (omega arith)
-      ];
-      within = elim (cases_lt 96 (a + t)) [
-        | inl past ↦ let one = set 96 (omega arith) past in let none = bit_at_above n 96 96 few (omega arith) in absurd (omega arith)
-        | inr less ↦ less
-      ];
-      clear = clear;
-      set = set;
-    }
+-- `n & (n - 1)`
+pub lowest_taken : (n : ℕ) → 0 < n → n < 2 ^ 97 → IsTaken n (trailing_zeros w128 n) (bit_and n (n - 1))
+lowest_taken n some few =
+    let low = bit_at-trailing_zeros w128 n some (omega arith) in
+    without_lowest n (trailing_zeros w128 n) low.1 low.2
 
 -- a row with one more bit above its others
 pub record IsPushed (bits w : ℕ) (passable : Bool) (new : ℕ) : Type 0 where

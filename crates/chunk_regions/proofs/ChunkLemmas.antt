@@ -1,7 +1,7 @@
 -- From the bits of a chunk to its spans, and from the spans' regions to the chunk's labels.
-use Rattle.std.proofs.Common.{ℕ, zero, suc, Bool, true, false, ◌≡◌, ◌<◌, ◌≤◌, ◌+◌, ◌-◌, ◌*◌, ◌/◌, ◌%◌, ◌⊎◌, ◌==◌, ◌&&◌, if◌then◌else◌, List, IsTrue, map, ap, inl, inr, refl, sym, subst, ◌∙◌, arith}
+use Rattle.std.proofs.Common.{ℕ, Bool, true, false, ◌≡◌, ◌≤◌, ◌+◌, ◌-◌, ◌*◌, ◌/◌, ◌%◌, ◌⊎◌, ◌==◌, ◌&&◌, List, IsTrue, map, ap, inl, inr, refl, sym, subst, ◌∙◌, arith}
 use Rattle.std.specs.Int.{bit_at}
-use Rattle.std.specs.List.{range_with_len, slice_get}
+use Rattle.std.specs.List.{range_with_len}
 use Rattle.std.specs.Prelude.{slice_index}
 use Rattle.std.proofs.lemmas.Bool.{and_parts, and_from, eqb-true, eq-eqb, cases_Bool, both_ways}
 use Rattle.std.proofs.lemmas.List.FromFn.{get_or-map-range_with_len}
@@ -16,8 +16,8 @@ use Rattle.nav_types.specs.Numbering.{Numbering, columns, rows, number_of, place
 use Rattle.nav_types.specs.Regions.{passes_in, HasRegion}
 use Rattle.chunk_regions.specs.Labelling.{AreLabels, AreBitsOf, chunk_rect}
 use Rattle.chunk_regions.specs.declared.flood.Place.{Place}
-use Rattle.chunk_regions.specs.inner.Spans.{Runs, AreRuns, Holds, IsCut, holds, region_from, region_at, region_of, number_by}
-use Rattle.chunk_regions.specs.inner.Flooding.{IsNumbered}
+use Rattle.chunk_regions.specs.inner.Spans.{Runs, AreRuns, Holds, IsCut, region_at, region_of, number_by}
+use Rattle.chunk_regions.specs.inner.Joining.{IsNumbered}
 use Rattle.chunk_regions.proofs.SpanLemmas.{region_of-blocked}
 use Rattle.nav_types.proofs.CellOrder.{same_cell}
 
@@ -105,30 +105,6 @@ number_of-numbered_by runs regions rect cell inside =
     get_or-map-range_with_len (number_by runs regions (columns rect)) 0 (columns rect * rows rect) place place 0 (omega arith) (omega arith)
     ∙ ap (λ r. region_at runs regions r (place % columns rect)) quotient
     ∙ ap (λ x. region_at runs regions row x) rest
-
--- the number of a cell is found among its row's spans
-pub number_of-row : (runs : Runs) (regions : List ℕ) (rect : Rect) (cell : Cell) (from to : ℕ) → IsInRect rect cell
-    → from ≡ slice_index runs.starts (cell.j - rect.j0) → to ≡ slice_index runs.starts (cell.j - rect.j0 + 1)
-    → number_of (numbered_by runs regions rect) cell ≡ region_from runs regions (cell.i - rect.i0) (to - from) from
-number_of-row runs regions rect cell from to inside starts ends =
-    number_of-numbered_by runs regions rect cell inside
-    ∙ ap (λ k. region_from runs regions (cell.i - rect.i0) (slice_index runs.starts (cell.j - rect.j0 + 1) - k) k) (sym starts)
-    ∙ ap (λ k. region_from runs regions (cell.i - rect.i0) (k - from) from) (sym ends)
-
--- a span that holds the column ends the search
-pub region_from-here : (runs : Runs) (regions : List ℕ) (x count k : ℕ) → 0 < count → holds (slice_get runs.spans k) x ≡ true
-    → region_from runs regions x count k ≡ slice_index regions k
-region_from-here runs regions x zero k some_left here = absurd (omega arith)
-region_from-here runs regions x (suc count) k some_left here = ap (λ b. if b then slice_index regions k else region_from runs regions x count (k + 1)) here
-
--- a span that does not hold the column is passed over
-pub region_from-next : (runs : Runs) (regions : List ℕ) (x count k : ℕ) → 0 < count → holds (slice_get runs.spans k) x ≡ false
-    → region_from runs regions x count k ≡ region_from runs regions x (count - 1) (k + 1)
-region_from-next runs regions x zero k some_left here = absurd (omega arith)
-region_from-next runs regions x (suc count) k some_left here =
-    let less : count ≡ suc count - 1 = omega arith in
-    ap (λ b. if b then slice_index regions k else region_from runs regions x count (k + 1)) here
-    ∙ ap (λ c. region_from runs regions x c (k + 1)) less
 
 -- where each passable cell has its region's number, the numbers are the labels
 pub AreLabels-from_regions : (passes : Cell → Bool) (size : Size) (chunk : Chunk) (runs : Runs) (regions : List ℕ) (firsts : List Cell) (rect : Rect) → rect ≡ chunk_rect size chunk

@@ -1,5 +1,6 @@
 pub mod LabelLemmas
-pub mod FloodLemmas
+pub mod NumberLemmas
+pub mod GroupLemmas
 pub mod SpanLemmas
 pub mod BitLemmas
 pub mod RowLemmas

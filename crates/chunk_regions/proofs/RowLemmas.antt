@@ -1,13 +1,16 @@
 -- The spans of a row as far as they are cut, and the spans of all rows.
-use Rattle.std.proofs.Common.{ℕ, ◌≡◌, ◌<◌, ◌≤◌, ◌+◌, ◌*◌, ◌∷◌, [], ◌++◌, List, Some, length, length-append, ap, refl, inl, inr, sym, subst, ◌∙◌, arith}
+use Rattle.std.proofs.Common.{ℕ, zero, suc, ◌≡◌, ◌<◌, ◌≤◌, ◌+◌, ◌-◌, ◌*◌, ◌%◌, ◌^◌, bit_xor, ◌∷◌, [], ◌++◌, List, Some, length, length-append, ap, refl, inl, inr, sym, subst, ◌∙◌, arith}
 use Rattle.std.specs.Int.{bit_at}
 use Rattle.std.specs.List.{slice_get}
 use Rattle.std.specs.Prelude.{slice_index}
 use Rattle.std.proofs.lemmas.Bool.{cases_lt}
 use Rattle.std.proofs.lemmas.List.{get_or_append_left, get_or_push}
+use Rattle.std.proofs.lemmas.Nat.{xor_lt}
+use Rattle.std.proofs.lemmas.Nat.Bits.{bit_at_above, bit_at_lowest, bit_at_xor, bit_at-lt, bit_at-zero}
 use Rattle.std.proofs.lemmas.Option.{slice_get_within}
 use Rattle.chunk_regions.specs.declared.spans.Span.{Span}
 use Rattle.chunk_regions.specs.inner.Spans.{AreRuns, IsRowTo}
+use Rattle.chunk_regions.proofs.BitLemmas.{IsTaken, bit_at-double}
 use Rattle.nav_types.proofs.Items.{slice_get-append_left, slice_get-push_last, slice_get-push_cases}
 
 -- nothing is cut before the first column
@@ -87,9 +90,174 @@ IsRowTo-end bits from spans column r within clear =
       set = r.set;
     }
 
+-- ---- edges of spans: a bit is set where the row's bit there and the one below differ
+
+-- the bit at a place and the one below, which is clear below the lowest
+abbrev turns : ℕ → ℕ → ℕ
+turns bits k = (bit_at bits k + bit_at (bits * 2) k) % 2
+
+-- where no edge comes, the bits stay as the one before them
+steady : (bits value a d : ℕ) → bit_at (bits * 2) a ≡ value → ((k : ℕ) → a ≤ k → k ≤ a + d → turns bits k ≡ 0) → bit_at bits (a + d) ≡ value
+steady bits value a zero before none =
+    let here : a + 0 ≡ a = omega arith in
+    let turn = none a (omega arith) (omega arith) in
+    let low = bit_at-lt bits a in
+    let same : bit_at bits a ≡ value = let lower = bit_at-lt (bits * 2) a in omega arith in
+    ap (λ k. bit_at bits k) here ∙ same
+steady bits value a (suc d) before none =
+    let here : a + suc d ≡ suc (a + d) = omega arith in
+    let last = steady bits value a d before (λ k from to. none k from (omega arith)) in
+    let turn = none (suc (a + d)) (omega arith) (omega arith) in
+    let below = bit_at-double bits (a + d) in
+    let same : bit_at bits (suc (a + d)) ≡ value = let one = bit_at-lt bits (suc (a + d)) in let other = bit_at-lt bits (a + d) in omega arith in
+    ap (λ k. bit_at bits k) here ∙ same
+
+-- the row is cut below a column whose lower neighbour is clear, and the edges from there on are left
+pub record IsCutBelow (bits from : ℕ) (spans : List Span) (edges : ℕ) : Type 0 where
+  pub column : ℕ
+  pub within : column ≤ 97
+  pub few : edges < 2 ^ 97
+  pub cut : IsRowTo bits from spans column
+  pub shut : bit_at (bits * 2) column ≡ 0
+  pub none : (k : ℕ) → k < column → bit_at edges k ≡ 0
+  pub rest : (k : ℕ) → column ≤ k → bit_at edges k ≡ turns bits k
+
+pub IsCutBelow-start : (bits : ℕ) (spans : List Span) → bits < 2 ^ 96 → IsCutBelow bits (length spans) spans (bit_xor bits (bits * 2))
+IsCutBelow-start bits spans few = record {
+  column = 0;
+  within = omega arith;
+  few = xor_lt 97 bits (bits * 2) (omega arith) (omega arith);
+  cut = IsRowTo-start bits spans;
+  shut = bit_at_lowest (bits * 2) ∙ omega arith;
+  none = λ k less. absurd (omega arith);
+  rest = λ k low. bit_at_xor bits (bits * 2) k;
+}
+
+-- the next span begins at a column
+record IsOpened (bits column first mid : ℕ) : Type 0 where
+  pub from : column ≤ first
+  pub within : first < 96
+  pub gap : (k : ℕ) → column ≤ k → k < first → bit_at bits k ≡ 0
+  pub set : bit_at bits first ≡ 1
+  pub none : (k : ℕ) → k ≤ first → bit_at mid k ≡ 0
+  pub rest : (k : ℕ) → first < k → bit_at mid k ≡ turns bits k
+
+opened : (bits from : ℕ) (spans : List Span) (edges first mid : ℕ) → bits < 2 ^ 96 → (c : IsCutBelow bits from spans edges) → IsTaken edges first mid → IsOpened bits c.column first mid
+opened bits from spans edges first mid few c take =
+    let column = c.column in
+    let edge = take.set in
+    let reach : column ≤ first = elim (cases_lt first column) [
+      | inl less ↦ let none = c.none first less in absurd (omega arith)
+      | inr more ↦ more
+    ] in
+    let gap : (k : ℕ) → column ≤ k → k < first → bit_at bits k ≡ 0 = λ k low high.
+    let is : column + (k - column) ≡ k = omega arith in
+    sym (ap (λ i. bit_at bits i) is) ∙ steady bits 0 column (k - column) c.shut (λ i from to. sym (c.rest i from) ∙ take.lowest i (omega arith)) in
+    let turn : turns bits first ≡ 1 = sym (c.rest first reach) ∙ edge in
+    let before : bit_at (bits * 2) first ≡ 0 = elim (cases_lt column first) [
+      | inl less ↦
+          let is : suc (first - 1) ≡ first = omega arith in
+          sym (ap (λ i. bit_at (bits * 2) i) is) ∙ bit_at-double bits (first - 1) ∙ gap (first - 1) (omega arith) (omega arith)
+      | inr more ↦ let is : first ≡ column = omega arith in ap (λ i. bit_at (bits * 2) i) is ∙ c.shut
+    ] in
+    let set : bit_at bits first ≡ 1 = let low = bit_at-lt bits first in omega arith in
+    record {
+      from = reach;
+      within = elim (cases_lt first 96) [
+        | inl less ↦ less
+        | inr past ↦ let none = bit_at_above bits 96 first few past in absurd (omega arith)
+      ];
+      gap = gap;
+      set = set;
+      none = λ k less. elim (cases_lt k first) [
+        | inl below ↦ take.others k (λ same. absurd (omega arith)) ∙ take.lowest k below
+        | inr more ↦ let is : k ≡ first = omega arith in ap (λ i. bit_at mid i) is ∙ take.taken
+      ];
+      rest = λ k more. take.others k (λ same. absurd (omega arith)) ∙ c.rest k (omega arith);
+    }
+
+-- the bits from the begun span on to before the next edge
+inside : (bits column first mid end : ℕ) → IsOpened bits column first mid → ((k : ℕ) → k < end → bit_at mid k ≡ 0) → (k : ℕ) → first ≤ k → k < end → bit_at bits k ≡ 1
+inside bits column first mid end o none k low high = elim (cases_lt first k) [
+  | inl further ↦
+      let is : suc first + (k - suc first) ≡ k = omega arith in
+      sym (ap (λ i. bit_at bits i) is)
+      ∙ steady bits 1 (suc first) (k - suc first) (bit_at-double bits first ∙ o.set) (λ i from to. sym (o.rest i (omega arith)) ∙ none i (omega arith))
+  | inr here ↦ let is : k ≡ first = omega arith in ap (λ i. bit_at bits i) is ∙ o.set
+]
+
+-- a begun span ends
+pub IsCutBelow-open : (bits from : ℕ) (spans : List Span) (edges first mid : ℕ) → bits < 2 ^ 96 → IsCutBelow bits from spans edges → IsTaken edges first mid → 0 < mid
+IsCutBelow-open bits from spans edges first mid few c take =
+    let o = opened bits from spans edges first mid few c take in
+    elim (cases_lt 0 mid) [
+      | inl some ↦ some
+      | inr none ↦
+          let is : mid ≡ 0 = omega arith in
+          let first_in = o.within in
+          let one = inside bits c.column first mid 97 o (λ k less. ap (λ m. bit_at m k) is ∙ bit_at-zero k) 96 (omega arith) (omega arith) in
+          let clear = bit_at_above bits 96 96 few (omega arith) in
+          absurd (omega arith)
+    ]
+
+-- the next span, and the column behind it
+pub record IsNext (bits from : ℕ) (spans : List Span) (first end edges : ℕ) : Type 0 where
+  pub order : first < end
+  pub within : end ≤ 96
+  pub cut : (span : Span) → span.first ≡ first → span.last + 1 ≡ end → IsCutBelow bits from (spans ++ span ∷ []) edges
+
+pub IsCutBelow-push : (bits from : ℕ) (spans : List Span) (edges first mid end new : ℕ) → bits < 2 ^ 96 → IsCutBelow bits from spans edges → IsTaken edges first mid → IsTaken mid end new → new < edges
+    → IsNext bits from spans first end new
+IsCutBelow-push bits from spans edges first mid end new few c one other smaller =
+    let o = opened bits from spans edges first mid few c one in
+    let reach = o.from in
+    let order : first < end = elim (cases_lt first end) [
+      | inl less ↦ less
+      | inr more ↦ let none = o.none end more in let edge = other.set in absurd (omega arith)
+    ] in
+    let set = inside bits c.column first mid end o other.lowest in
+    let turn : turns bits end ≡ 1 = sym (o.rest end order) ∙ other.set in
+    let before : bit_at (bits * 2) end ≡ 1 =
+    let is : suc (end - 1) ≡ end = omega arith in
+    sym (ap (λ i. bit_at (bits * 2) i) is) ∙ bit_at-double bits (end - 1) ∙ set (end - 1) (omega arith) (omega arith) in
+    let clear : bit_at bits end ≡ 0 = let low = bit_at-lt bits end in omega arith in
+    let within : end ≤ 96 = elim (cases_lt 96 end) [
+      | inl past ↦ let inner = o.within in let one = set 96 (omega arith) past in let none = bit_at_above bits 96 96 few (omega arith) in absurd (omega arith)
+      | inr less ↦ less
+    ] in
+    record {
+      order = order;
+      within = within;
+      cut = λ span is_first is_end.
+          let column : span.last + 2 ≡ end + 1 = omega arith in
+          let after : bit_at bits (span.last + 1) ≡ 0 = ap (λ k. bit_at bits k) is_end ∙ clear in
+          record {
+            column = end + 1;
+            within = omega arith;
+            few = let before = c.few in omega arith;
+            cut = subst (λ k. IsRowTo bits from (spans ++ span ∷ []) k) column
+                (IsRowTo-push bits from spans c.column span c.cut (omega arith) (omega arith) (omega arith) (λ k low high. o.gap k low (omega arith)) (λ k low high. set k (omega arith) (omega arith)) after);
+            shut = let is : end + 1 ≡ suc end = omega arith in ap (λ k. bit_at (bits * 2) k) is ∙ bit_at-double bits end ∙ clear;
+            none = λ k less. elim (cases_lt k end) [
+              | inl below ↦ other.others k (λ same. absurd (omega arith)) ∙ other.lowest k below
+              | inr more ↦ let is : k ≡ end = omega arith in ap (λ i. bit_at new i) is ∙ other.taken
+            ];
+            rest = λ k more. other.others k (λ same. absurd (omega arith)) ∙ o.rest k (omega arith);
+          };
+    }
+
+-- where no edge is left, the row is cut
+pub IsCutBelow-end : (bits from : ℕ) (spans : List Span) (edges : ℕ) → edges ≡ 0 → IsCutBelow bits from spans edges → IsRowTo bits from spans 97
+IsCutBelow-end bits from spans edges empty c =
+    IsRowTo-end bits from spans c.column c.cut c.within (λ k low.
+    let is : c.column + (k - c.column) ≡ k = omega arith in
+    sym (ap (λ i. bit_at bits i) is)
+    ∙ steady bits 0 c.column (k - c.column) c.shut (λ i from to. sym (c.rest i from) ∙ ap (λ m. bit_at m i) empty ∙ bit_at-zero i))
+
 -- the spans of the rows before a row, and the places where each row's begin
 pub record IsCutTo (bits starts : List ℕ) (spans : List Span) (row : ℕ) : Type 0 where
   pub count : length starts ≡ row + 1
+  pub start : slice_index starts 0 ≡ 0
   pub rising : (r : ℕ) → r < row → slice_index starts r ≤ slice_index starts (r + 1)
   pub within : (r : ℕ) → r ≤ row → slice_index starts r ≤ length spans
   pub all : slice_index starts row ≡ length spans
@@ -105,6 +273,7 @@ pub record IsCutTo (bits starts : List ℕ) (spans : List Span) (row : ℕ) : Ty
 pub IsCutTo-start : (bits : List ℕ) → IsCutTo bits (0 ∷ []) [] 0
 IsCutTo-start bits = record {
   count = refl;
+  start = refl;
   rising = λ r less. absurd (omega arith);
   within = λ r less. let first : r ≡ 0 = omega arith in subst (λ k. slice_index (0 ∷ []) k ≤ 0) (sym first) (omega arith);
   all = refl;
@@ -131,6 +300,7 @@ IsCutTo-row bits starts spans new row c kept r =
     let start_of : (k : ℕ) → k ≡ row → slice_index later k ≡ n = λ k same. ap (λ i. slice_index later i) same ∙ old row (omega arith) ∙ all in
     record {
       count = length-append starts (m ∷ []) ∙ ap (λ k. k + 1) short;
+      start = old 0 (omega arith) ∙ c.start;
       rising = λ k less. elim (cases_lt k row) [
         | inl earlier ↦
             let rise = c.rising k earlier in let a = old k (omega arith) in let b = old (k + 1) (omega arith) in omega arith
@@ -185,6 +355,7 @@ IsCutTo-end bits starts spans row end c =
     record {
       are = record {
         rows = d.count;
+        start = d.start;
         rising = d.rising;
         all = d.all;
         few = d.few;

@@ -1,9 +1,8 @@
 -- The spans of a chunk's rows: their order, their cells and their regions.
-use Rattle.std.proofs.Common.{ℕ, zero, suc, Bool, true, false, replicate, ◌≡◌, ◌≢◌, ◌<◌, ◌≤◌, ◌+◌, ◌-◌, ◌*◌, ◌⊎◌, ◌&&◌, if◌then◌else◌, List, IsTrue, length, max, ap, inl, inr, refl, sym, subst, ◌∙◌, arith, Some, set, ⊎_elim}
+use Rattle.std.proofs.Common.{ℕ, zero, suc, Bool, true, false, ◌≡◌, ◌<◌, ◌≤◌, ◌+◌, ◌-◌, ◌*◌, ◌⊎◌, ◌&&◌, if◌then◌else◌, List, length, max, ap, inl, inr, refl, sym, subst, ◌∙◌, arith, Some}
 use Rattle.std.specs.List.{slice_get}
 use Rattle.std.specs.Prelude.{slice_index, nat_le}
 use Rattle.std.proofs.lemmas.Bool.{cases_lt, cases_Bool, and_parts, and_from, leb-true, le-leb, both_ways}
-use Rattle.std.proofs.lemmas.List.{get_or-set_same, get_or-set_other, get_or-replicate}
 use Rattle.std.proofs.lemmas.Option.{slice_get_within, slice_get_cases, same_Some}
 use Rattle.nav_types.specs.declared.cells.Cell.{Cell}
 use Rattle.nav_types.specs.declared.cells.Chunk.{Chunk}
@@ -14,10 +13,9 @@ use Rattle.nav_types.specs.Directions.{is_straight, Leads}
 use Rattle.nav_types.specs.Regions.{JoinedStraight, IsBeside}
 use Rattle.chunk_regions.specs.declared.flood.Place.{Place}
 use Rattle.chunk_regions.specs.declared.spans.Span.{Span}
-use Rattle.chunk_regions.specs.inner.Spans.{Runs, AreSpans, IsPlace, HasCell, IsCut, AreBeside, holds, region_from, region_at, region_of}
-use Rattle.chunk_regions.specs.inner.Flooding.{Meets}
-use Rattle.chunk_regions.proofs.FloodLemmas.{Gives}
-use Rattle.nav_types.proofs.CellOrder.{same_cell, IsBefore-irrefl}
+use Rattle.chunk_regions.specs.inner.Spans.{Runs, AreSpans, Holds, IsPlace, HasCell, IsCut, holds, region_from, region_at, region_of}
+use Rattle.chunk_regions.specs.inner.Joining.{Overlap}
+use Rattle.nav_types.proofs.CellOrder.{same_cell}
 use Rattle.nav_types.proofs.Walking.{JoinedStraight-refl, JoinedStraight-beside, JoinedStraight-sym, JoinedStraight-trans}
 use Rattle.std.proofs.lemmas.Bool.{false≢true}
 
@@ -54,6 +52,10 @@ one_row runs are p q is_p is_q same =
 same_place : (p q : Place) → p.row ≡ q.row → p.at ≡ q.at → p ≡ q
 same_place p q row at = ap (λ r. record { row = r; at = p.at }) row ∙ ap (λ k. record { row = q.row; at = k }) at
 
+-- a place is that of one span
+pub IsPlace-one : (runs : Runs) → AreSpans runs → (p q : Place) → IsPlace runs p → IsPlace runs q → p.at ≡ q.at → p ≡ q
+IsPlace-one runs are p q is_p is_q same = same_place p q (one_row runs are p q is_p is_q same) same
+
 -- a cell of a span is one of the span at that place
 pub HasCell-at : (chunk : Chunk) (runs : Runs) → AreSpans runs → (p q : Place) (cell : Cell) → IsPlace runs q → HasCell chunk runs p cell → p.at ≡ q.at → HasCell chunk runs q cell
 HasCell-at chunk runs are p q cell is_q has same =
@@ -78,16 +80,6 @@ HasCell-order chunk runs are p q a b in_p in_q less =
             inr (omega arith, omega arith)
       ]
     ]
-
--- a cell is in one span
-pub HasCell-one : (chunk : Chunk) (runs : Runs) → AreSpans runs → (p q : Place) (cell : Cell) → HasCell chunk runs p cell → HasCell chunk runs q cell → p.at ≡ q.at
-HasCell-one chunk runs are p q cell in_p in_q = elim (cases_lt p.at q.at) [
-  | inl less ↦ absurd (IsBefore-irrefl cell (HasCell-order chunk runs are p q cell cell in_p in_q less))
-  | inr more ↦ elim (cases_lt q.at p.at) [
-    | inl less ↦ absurd (IsBefore-irrefl cell (HasCell-order chunk runs are q p cell cell in_q in_p less))
-    | inr equal ↦ omega arith
-  ]
-]
 
 -- ---- regions of cells
 
@@ -126,30 +118,74 @@ held_by runs k x held = elim (slice_get_cases runs.spans k).1 [
 holds-from : (span : Span) (x : ℕ) → span.first ≤ x → x ≤ span.last → holds (Some span) x ≡ true
 holds-from span x west east = and_from (nat_le span.first x) (nat_le x span.last) (le-leb span.first x west) (le-leb x span.last east)
 
--- a span does not hold a column behind its last
-pub past_last : (span : Span) (x : ℕ) → span.last < x → holds (Some span) x ≡ false
-past_last span x past = ⊎_elim
-    (λ (yes : holds (Some span) x ≡ true).
-    let within = leb-true x span.last (and_parts (nat_le span.first x) (nat_le x span.last) yes).1 in absurd (omega arith))
-    (λ (no : holds (Some span) x ≡ false). no)
-    (cases_Bool (holds (Some span) x))
+-- the region in a column of a row is that of the span that holds it
+pub region_at-held : (runs : Runs) (regions : List ℕ) (r k x : ℕ) → AreSpans runs → Holds runs r k x → region_at runs regions r x ≡ slice_index regions k
+region_at-held runs regions r k x are held =
+    let start = slice_index runs.starts r in
+    let end = slice_index runs.starts (r + 1) in
+    let from = held.from in
+    let to = held.to in
+    let west = held.west in
+    let here : holds (slice_get runs.spans k) x ≡ true = ap (λ s. holds s x) held.found ∙ holds-from held.span x west held.east in
+    let before : (e : ℕ) → start ≤ e → e < k → holds (slice_get runs.spans e) x ≡ false = λ e later less.
+    elim (cases_Bool (holds (slice_get runs.spans e) x)) [
+      | inl yes_held ↦
+          let other = held_by runs e x yes_held in
+          let gap = are.apart r e k other.0 held.span held.row later less to other.1.0 held.found in
+          let reach = other.1.1.1 in
+          absurd (omega arith)
+      | inr not_held ↦ not_held
+    ] in
+    region_from-found runs regions x (end - start) start k from (omega arith) here before
 
--- no span of a row from place `at` on holds a column that the span there ends at or after, and does not hold
-pub none_from : (runs : Runs) (regions : List ℕ) (r at end x : ℕ) (span : Span) → AreSpans runs → r < 96 → slice_index runs.starts r ≤ at
-    → end ≡ slice_index runs.starts (r + 1) → at < end → slice_get runs.spans at ≡ Some span → x ≤ span.last → holds (Some span) x ≡ false
-    → region_from runs regions x (end - at) at ≡ 0
-none_from runs regions r at end x span are in_row from to below found west clear = region_from-none runs regions x (end - at) at (λ e later sooner. ⊎_elim
-    (λ (yes : holds (slice_get runs.spans e) x ≡ true).
-    let there = held_by runs e x yes in
-    let starts : there.0.first ≤ x = there.1.1.0 in
-    elim (cases_lt at e) [
-      | inl further ↦ let apart = are.apart r at e span there.0 in_row from further (omega arith) found there.1.0 in absurd (omega arith)
-      | inr here ↦
-          let same : e ≡ at = omega arith in
-          absurd (false≢true (sym clear ∙ ap (λ s. holds s x) (sym found) ∙ ap (λ k. holds (slice_get runs.spans k) x) (sym same) ∙ yes))
+-- there is none where no span of the row holds the column
+pub region_at-none : (runs : Runs) (regions : List ℕ) (r x : ℕ) → r < 96 → ((k : ℕ) → Holds runs r k x → ⊥) → region_at runs regions r x ≡ 0
+region_at-none runs regions r x in_row none =
+    let start = slice_index runs.starts r in
+    let end = slice_index runs.starts (r + 1) in
+    region_from-none runs regions x (end - start) start (λ e later less. elim (cases_Bool (holds (slice_get runs.spans e) x)) [
+      | inl yes_held ↦
+          let span = held_by runs e x yes_held in
+          absurd (none e (record { span = span.0; found = span.1.0; row = in_row; from = later; to = omega arith; west = span.1.1.0; east = span.1.1.1 }))
+      | inr not_held ↦ not_held
     ])
-    (λ (no : holds (slice_get runs.spans e) x ≡ false). no)
-    (cases_Bool (holds (slice_get runs.spans e) x)))
+
+-- the row's spans before place `at` end before the column
+abbrev pub EndBefore : Runs → ℕ → ℕ → ℕ → Type 0
+EndBefore runs r at x = (k : ℕ) (span : Span) → slice_index runs.starts r ≤ k → k < at → slice_get runs.spans k ≡ Some span → span.last < x
+
+-- a column before the first span that ends there or further east is held by none
+pub none_in_gap : (runs : Runs) (r at column x : ℕ) (span : Span) → AreSpans runs → slice_index runs.starts r ≤ at → EndBefore runs r at column → column ≤ x
+    → slice_get runs.spans at ≡ Some span → x < span.first → (k : ℕ) → Holds runs r k x → ⊥
+none_in_gap runs r at column x span are from before reaches found gap k held =
+    let west = held.west in
+    let east = held.east in
+    elim (cases_lt k at) [
+      | inl less ↦ let ends = before k held.span held.from less held.found in omega arith
+      | inr more ↦ elim (cases_lt at k) [
+        | inl further ↦
+            let apart = are.apart r at k span held.span held.row from further held.to found held.found in
+            let ordered = (are.ordered at span found).0 in
+            omega arith
+        | inr here ↦
+            let same : k ≡ at = omega arith in
+            let one = same_Some held.span span (sym held.found ∙ ap (λ n. slice_get runs.spans n) same ∙ found) in
+            let begins = subst (λ (s : Span). s.first ≤ x) one west in
+            omega arith
+      ]
+    ]
+
+-- behind the row's last span no column is held
+pub none_past : (runs : Runs) (r at column x : ℕ) → EndBefore runs r at column → column ≤ x → slice_index runs.starts (r + 1) ≤ at → (k : ℕ) → Holds runs r k x → ⊥
+none_past runs r at column x before reaches all k held =
+    let to = held.to in
+    let east = held.east in
+    let ends = before k held.span held.from (omega arith) held.found in
+    omega arith
+
+-- the row's spans from place `at` on begin behind the column
+abbrev pub BeginBehind : Runs → ℕ → ℕ → ℕ → Type 0
+BeginBehind runs r at x = (k : ℕ) (span : Span) → at ≤ k → k < slice_index runs.starts (r + 1) → slice_get runs.spans k ≡ Some span → x < span.first
 
 -- the number of a cell is its span's region
 pub region_of-cell : (chunk : Chunk) (runs : Runs) (regions : List ℕ) → AreSpans runs → (p : Place) (cell : Cell) → HasCell chunk runs p cell
@@ -158,24 +194,18 @@ region_of-cell chunk runs regions are p cell has =
     let row = has.row in
     let west = has.west in
     let east = has.east in
-    let start = slice_index runs.starts p.row in
-    let end = slice_index runs.starts (p.row + 1) in
-    let from = has.is.from in
-    let to = has.is.to in
     let x = cell.i - 96 * chunk.ci in
-    let here : holds (slice_get runs.spans p.at) x ≡ true = ap (λ s. holds s x) has.found ∙ holds-from has.span x (omega arith) (omega arith) in
-    let before : (e : ℕ) → start ≤ e → e < p.at → holds (slice_get runs.spans e) x ≡ false = λ e later less.
-    elim (cases_Bool (holds (slice_get runs.spans e) x)) [
-      | inl yes_held ↦
-          let other = held_by runs e x yes_held in
-          let gap = are.apart p.row e p.at other.0 has.span has.is.row later less to other.1.0 has.found in
-          let reach = other.1.1.1 in
-          absurd (omega arith)
-      | inr not_held ↦ not_held
-    ] in
+    let held : Holds runs p.row p.at x = record {
+      span = has.span;
+      found = has.found;
+      row = has.is.row;
+      from = has.is.from;
+      to = has.is.to;
+      west = omega arith;
+      east = omega arith;
+    } in
     let one_row : cell.j - 96 * chunk.cj ≡ p.row = omega arith in
-    ap (λ r. region_at runs regions r x) one_row
-    ∙ region_from-found runs regions x (end - start) start p.at from (omega arith) here before
+    ap (λ r. region_at runs regions r x) one_row ∙ region_at-held runs regions p.row p.at x are held
 
 -- a cell of the chunk that is not passable has number 0
 pub region_of-blocked : (passes : Cell → Bool) (chunk : Chunk) (runs : Runs) (regions : List ℕ) → IsCut passes chunk runs → (cell : Cell)
@@ -183,54 +213,19 @@ pub region_of-blocked : (passes : Cell → Bool) (chunk : Chunk) (runs : Runs) (
 region_of-blocked passes chunk runs regions cut cell west south north shut =
     let r = cell.j - 96 * chunk.cj in
     let x = cell.i - 96 * chunk.ci in
-    let start = slice_index runs.starts r in
-    let end = slice_index runs.starts (r + 1) in
-    region_from-none runs regions x (end - start) start (λ e later less. elim (cases_Bool (holds (slice_get runs.spans e) x)) [
-      | inl yes_held ↦
-          let span = held_by runs e x yes_held in
-          let first = span.1.1.0 in
-          let last = span.1.1.1 in
-          let place : Place = record { row = r; at = e } in
-          let has : HasCell chunk runs place cell = record {
-            is = record { row = omega arith; from = omega arith; to = omega arith; within = slice_get_within runs.spans e span.0 span.1.0 };
-            span = span.0;
-            found = span.1.0;
-            row = omega arith;
-            west = omega arith;
-            east = omega arith;
-          } in
-          absurd (both_ways (passes cell) shut (cut.passing place cell has))
-      | inr not_held ↦ not_held
-    ])
-
--- where a waiting span gets a region, its cells get the number and no others
-pub Gives-set : (passes : Cell → Bool) (chunk : Chunk) (runs : Runs) (regions : List ℕ) (place : Place) (number : ℕ) → IsCut passes chunk runs → IsPlace runs place
-    → length regions ≡ length runs.spans → slice_index regions place.at ≡ 0
-    → Gives passes (HasCell chunk runs) (region_of chunk runs regions) (region_of chunk runs (set regions place.at number)) place number
-Gives-set passes chunk runs regions place number cut is same_length waits =
-    let new = set regions place.at number in
-    let are = cut.are in
-    let within = is.within in
-    let own : (cell : Cell) → HasCell chunk runs place cell → region_of chunk runs new cell ≡ number = λ cell has.
-    region_of-cell chunk runs new are place cell has ∙ get_or-set_same regions place.at number 0 (omega arith) in
-    let other : (p : Place) (cell : Cell) → HasCell chunk runs p cell → p.at ≢ place.at
-    → (HasCell chunk runs place cell → ⊥) × (region_of chunk runs new cell ≡ region_of chunk runs regions cell) = λ p cell has apart. (
-      λ also. apart (HasCell-one chunk runs are p place cell has also),
-      region_of-cell chunk runs new are p cell has ∙ get_or-set_other regions place.at p.at number 0 apart ∙ sym (region_of-cell chunk runs regions are p cell has),
-    ) in
-    record {
-      after = λ cell passing. let p = cut.held cell passing in elim (cases_lt p.0.at place.at) [
-        | inl less ↦ inr (other p.0 cell p.1 (λ same. omega arith))
-        | inr more ↦ elim (cases_lt place.at p.0.at) [
-          | inl less ↦ inr (other p.0 cell p.1 (λ same. omega arith))
-          | inr equal ↦
-              let has = HasCell-at chunk runs are p.0 place cell is p.1 (omega arith) in
-              inl (has, own cell has)
-        ]
-      ];
-      passing = cut.passing;
-      waits = λ cell has. region_of-cell chunk runs regions are place cell has ∙ waits;
-    }
+    region_at-none runs regions r x (omega arith) (λ k held.
+    let first = held.west in
+    let last = held.east in
+    let place : Place = record { row = r; at = k } in
+    let has : HasCell chunk runs place cell = record {
+      is = record { row = held.row; from = held.from; to = held.to; within = slice_get_within runs.spans k held.span held.found };
+      span = held.span;
+      found = held.found;
+      row = omega arith;
+      west = omega arith;
+      east = omega arith;
+    } in
+    both_ways (passes cell) shut (cut.passing place cell has))
 
 -- ---- joined cells
 
@@ -281,42 +276,37 @@ span_joined passes chunk runs cut p a b in_a in_b =
     ] in
     subst (λ (z : Cell). JoinedStraight passes z b) is_a (subst (λ (z : Cell). JoinedStraight passes (cell_at a.i j) z) is_b both)
 
-north_of : (i j : ℕ) → IsBeside (cell_at i j) (cell_at i (j + 1))
-north_of i j = (N, (refl, record { columns = omega arith; rows = omega arith }))
-
 south_of : (i j : ℕ) → IsBeside (cell_at i (j + 1)) (cell_at i j)
 south_of i j = (S, (refl, record { columns = omega arith; rows = omega arith }))
 
-above_or_below : (i j k : ℕ) → AreBeside j k → IsBeside (cell_at i k) (cell_at i j)
-above_or_below i j k (inl north) = subst (λ m. IsBeside (cell_at i m) (cell_at i j)) (sym north) (south_of i j)
-above_or_below i j k (inr south) = subst (λ m. IsBeside (cell_at i k) (cell_at i m)) (sym south) (north_of i k)
-
--- the cells of a span are joined to some cell of a span that overlaps it in a row beside
-pub overlap_joined : (passes : Cell → Bool) (chunk : Chunk) (runs : Runs) → IsCut passes chunk runs → (from place : Place) (a b : Span) → IsPlace runs from → IsPlace runs place
-    → AreBeside from.row place.row → slice_get runs.spans from.at ≡ Some a → slice_get runs.spans place.at ≡ Some b → a.first ≤ b.last → b.first ≤ a.last
-    → (cell : Cell) → HasCell chunk runs place cell → (source : Cell) × (HasCell chunk runs from source × JoinedStraight passes cell source)
-overlap_joined passes chunk runs cut from place a b is_from is_place beside found_a found_b west east cell has =
-    let a_ordered = cut.are.ordered from.at a found_a in
-    let b_ordered = cut.are.ordered place.at b found_b in
-    let a_rises = a_ordered.0 in
-    let b_rises = b_ordered.0 in
-    let x = 96 * chunk.ci + max a.first b.first in
-    let source = cell_at x (96 * chunk.cj + from.row) in
-    let across = cell_at x (96 * chunk.cj + place.row) in
-    let in_from : HasCell chunk runs from source = HasCell-column chunk runs from a x is_from found_a (omega arith) (omega arith) in
-    let in_place : HasCell chunk runs place across = HasCell-column chunk runs place b x is_place found_b (omega arith) (omega arith) in
-    let rows : AreBeside (96 * chunk.cj + from.row) (96 * chunk.cj + place.row) = elim beside [
-      | inl north ↦ inl (omega arith)
-      | inr south ↦ inr (omega arith)
-    ] in
-    let side = above_or_below x (96 * chunk.cj + from.row) (96 * chunk.cj + place.row) rows in
-    let step = JoinedStraight-beside passes across source source side (cut.passing place across in_place) (cut.passing from source in_from) (JoinedStraight-refl passes source) in
-    (source, (in_from, JoinedStraight-trans passes cell across source (span_joined passes chunk runs cut place cell across has in_place) step))
+-- the cells of a span are joined to some cell of a span that overlaps it in the row before
+pub overlap_joined : (passes : Cell → Bool) (chunk : Chunk) (runs : Runs) → IsCut passes chunk runs → (south north : Place) → Overlap runs south north
+    → (cell : Cell) → HasCell chunk runs north cell → (source : Cell) × (HasCell chunk runs south source × JoinedStraight passes cell source)
+overlap_joined passes chunk runs cut south north o cell has =
+    let low = o.low in
+    let high = o.high in
+    let west = o.west in
+    let east = o.east in
+    let low_ordered = cut.are.ordered south.at low o.found_low in
+    let high_ordered = cut.are.ordered north.at high o.found_high in
+    let low_rises = low_ordered.0 in
+    let high_rises = high_ordered.0 in
+    let next = o.rows in
+    let x = 96 * chunk.ci + max low.first high.first in
+    let j = 96 * chunk.cj + south.row in
+    let source = cell_at x j in
+    let across = cell_at x (96 * chunk.cj + north.row) in
+    let in_south : HasCell chunk runs south source = HasCell-column chunk runs south low x o.south_is o.found_low (omega arith) (omega arith) in
+    let in_north : HasCell chunk runs north across = HasCell-column chunk runs north high x o.north_is o.found_high (omega arith) (omega arith) in
+    let row : j + 1 ≡ 96 * chunk.cj + north.row = omega arith in
+    let side : IsBeside across source = subst (λ k. IsBeside (cell_at x k) source) row (south_of x j) in
+    let step = JoinedStraight-beside passes across source source side (cut.passing north across in_north) (cut.passing south source in_south) (JoinedStraight-refl passes source) in
+    (source, (in_south, JoinedStraight-trans passes cell across source (span_joined passes chunk runs cut north cell across has in_north) step))
 
 -- ---- cells beside a span
 
 -- beside a cell lie the cells of the next columns in its row and those of its column in the next rows
-beside_cases : (a b : Cell) → IsBeside a b
+pub beside_cases : (a b : Cell) → IsBeside a b
     → ((a.j ≡ b.j) × ((b.i ≡ a.i + 1) ⊎ (a.i ≡ b.i + 1))) ⊎ ((a.i ≡ b.i) × ((b.j ≡ a.j + 1) ⊎ (a.j ≡ b.j + 1)))
 beside_cases a b beside =
     let P = λ (dir : Dir). is_straight dir ≡ true → Leads dir a b
@@ -352,36 +342,6 @@ one_span chunk runs are p q a b in_p in_q row near near_too =
       ]
     ]
 
--- where no overlapping span of the rows beside waits, no cell beside a span does
-pub none_waits : (passes : Cell → Bool) (chunk : Chunk) (runs : Runs) (regions : List ℕ) (from : Place) → IsCut passes chunk runs → IsPlace runs from
-    → ((r : ℕ) → r < 96 → AreBeside from.row r → Meets runs regions from r)
-    → ((c : Cell) → HasCell chunk runs from c → region_of chunk runs regions c ≢ 0)
-    → (a b : Cell) → HasCell chunk runs from a → IsTrue (passes b) → IsBeside a b → region_of chunk runs regions b ≢ 0
-none_waits passes chunk runs regions from cut is meets real a b has passing beside =
-    let q = cut.held b passing in
-    let are = cut.are in
-    let a_row = has.row in let a_west = has.west in let a_east = has.east in
-    let b_row = q.1.row in let b_west = q.1.west in let b_east = q.1.east in
-    let in_place = q.1.is in
-    elim (beside_cases a b beside) [
-      | inl along ↦
-          let row = along.0 in
-          let near : (b.i ≤ a.i + 1) × (a.i ≤ b.i + 1) = elim along.1 [
-            | inl east ↦ (omega arith, omega arith)
-            | inr west ↦ (omega arith, omega arith)
-          ] in
-          let one = one_span chunk runs are q.0 from b a q.1 has (sym row) near.1 near.0 in
-          real b (HasCell-at chunk runs are q.0 from b is q.1 one)
-      | inr across ↦
-          let column = across.0 in
-          let rows : AreBeside from.row q.0.row = elim across.1 [
-            | inl north ↦ inl (omega arith)
-            | inr south ↦ inr (omega arith)
-          ] in
-          λ waits. meets q.0.row in_place.row rows q.0.at has.span q.1.span in_place.from in_place.to has.found q.1.found (omega arith) (omega arith)
-          (sym (region_of-cell chunk runs regions are q.0 b q.1) ∙ waits)
-    ]
-
 -- the first cell of a span, in the order of cells
 pub first_of_span : (chunk : Chunk) (runs : Runs) → AreSpans runs → (p : Place) (span : Span) → IsPlace runs p → slice_get runs.spans p.at ≡ Some span
     → HasCell chunk runs p (cell_at (96 * chunk.ci + span.first) (96 * chunk.cj + p.row))
@@ -404,20 +364,3 @@ starts_to_end runs are r within =
     let last : r + (96 - r) ≡ 96 = omega arith in
     let rise = subst (λ k. slice_index runs.starts r ≤ slice_index runs.starts k) last (starts_rise runs are r (96 - r) (omega arith)) in
     omega arith
-
--- no span stands before the first row's
-pub none_before : (chunk : Chunk) (runs : Runs) → AreSpans runs → (p : Place) (cell : Cell) → HasCell chunk runs p cell → p.at < slice_index runs.starts 0 → ⊥
-none_before chunk runs are p cell has less =
-    let row = has.is.row in
-    let from = has.is.from in
-    let first : 0 + p.row ≡ p.row = omega arith in
-    let rise = subst (λ k. slice_index runs.starts 0 ≤ slice_index runs.starts k) first (starts_rise runs are 0 p.row (omega arith)) in
-    omega arith
-
--- where all spans wait, each passable cell does
-pub all_wait : (passes : Cell → Bool) (chunk : Chunk) (runs : Runs) (n : ℕ) → IsCut passes chunk runs → n ≡ length runs.spans → (cell : Cell) → IsTrue (passes cell)
-    → region_of chunk runs (replicate n 0) cell ≡ 0
-all_wait passes chunk runs n cut same cell passing =
-    let held = cut.held cell passing in
-    let within = held.1.is.within in
-    region_of-cell chunk runs (replicate n 0) cut.are held.0 cell held.1 ∙ get_or-replicate n held.0.at 0 0 (omega arith)

@@ -1,29 +1,21 @@
-ghost use Rattle.std.specs.Prelude.{ℕ, Bool, ◌≡◌, ◌≢◌, ◌+◌, ◌<◌, ◌≤◌, ◌↔◌, [], ◌∷◌, ◌++◌, length, IsTrue, All, OnOk, OnErr, IfOk, Some, slice_get, slice_index, slice_set};
+ghost use Rattle.std.specs.Prelude.{ℕ, Bool, ◌≡◌, ◌+◌, ◌-◌, ◌*◌, ◌<◌, ◌≤◌, [], ◌∷◌, ◌++◌, length, map, remove, OnOk, IfOk, Some, slice_get, slice_index};
 ghost use Rattle.nav_types.specs.declared.cells.Cell.{Cell};
+ghost use Rattle.nav_types.specs.declared.cells.Chunk.{Chunk};
+ghost use Rattle.nav_types.specs.Cells.{cell_at};
 ghost use Rattle.chunk_regions.specs.declared.spans.Span.{Span};
-ghost use Rattle.chunk_regions.specs.inner.Spans.{IsPlace, HasCell, IsCut, AreBeside, waiting, region_of};
-ghost use Rattle.chunk_regions.specs.inner.Flooding.{Floods, IsNumbered, KeepsFlood, Meets};
+ghost use Rattle.chunk_regions.specs.inner.Spans.{Runs, IsPlace, IsCut, region_of};
+ghost use Rattle.chunk_regions.specs.inner.Joining.{Overlap, Reach, MeetsTo, AreUnited, KeepsOne, AreBounded, KeepsGroups, IsNumbered, number_after};
 
 use crate::spans::{RowSpans, Span};
 use nav_types::limits::CHUNK_SIDE;
 use nav_types::{Cell, Chunk, NoMemory};
 use std::alloc::Global;
 
-/// The number of a span that waits for its region's number.
-const WAITING: u16 = 0;
-
 /// A span of a chunk: its row, and its place among the spans of all rows.
 #[derive(Debug, Clone, Copy)]
 pub struct Place {
     pub row: u16,
     pub at: u16,
-}
-
-/// The spans' regions as far as they are known, and the numbered spans whose neighbours may still wait.
-#[derive(Debug, Drop)]
-struct Flood {
-    regions: Vec<u16>,
-    frontier: Vec<Place>,
 }
 
 /// The regions of the spans, and the first cells of all regions in order.
@@ -33,253 +25,181 @@ pub struct Numbered {
     pub firsts: Vec<Cell>,
 }
 
-/// Whether a column holds cells of both spans.
+/// The number of a region once regions `a` and `b` are one, which keeps the lower number `a`.
 #[inline(always)]
-fn overlap(a: Span, b: Span) -> bool
-    ensures { IsTrue result ↔ ((a.first ≤ b.last) × (b.first ≤ a.last)) }
+fn renumbered(region: u16, a: u16, b: u16) -> u16
+    ensures { result ≡ number_after a b region }
 {
-    a.first <= b.last && b.first <= a.last
+    if region == b {
+        a
+    } else if b < region {
+        region - 1
+    } else {
+        region
+    }
 }
 
-/// Gives a waiting span its number, and puts it into the frontier.
-#[inline(always)]
-fn give(flood: &mut Flood, place: Place, number: u16) -> Result<(), NoMemory>
-    requires place { place.at < length flood.old.regions.items }
-    ensures length { length flood.new.regions.items ≡ length flood.old.regions.items }
-    ensures given { OnOk result (flood.new.regions.items ≡ slice_set flood.old.regions.items place.at number) }
-    ensures frontier { OnOk result (flood.new.frontier.items ≡ flood.old.frontier.items ++ place ∷ []) }
-    ensures err { OnErr result (flood.new.regions.items ≡ flood.old.regions.items) }
-    ensures err_frontier { OnErr result (flood.new.frontier.items ≡ flood.old.frontier.items) }
+/// Makes one region of two, whose first cell is that of the one with the lower number `a`.
+#[inline(never)]
+fn unite(all: &mut Numbered, a: u16, b: u16)
+    requires order { a < b }
+    requires within { b ≤ length all.old.firsts.items }
+    ensures regions { all.new.regions.items ≡ map (number_after a b) all.old.regions.items }
+    ensures firsts { all.new.firsts.items ≡ remove all.old.firsts.items (b - 1) }
 {
-    flood.frontier.push(place)?;
-    flood.regions[place.at as usize] = number;
-    Ok(())
+    for region in all.regions.iter_mut() {
+        *region = renumbered(*region, a, b);
+    }
+    all.firsts.remove(b as usize - 1);
 }
 
-/// Numbers a span of a row beside, if it waits and overlaps.
+/// Makes one region of those of two spans that overlap.
 #[inline(always)]
-fn visit(
-    rows: &RowSpans,
-    flood: &mut Flood,
-    from: Place,
-    place: Place,
-    number: u16,
-) -> Result<(), NoMemory>
-    requires from { IsPlace rows.now from }
+fn join(all: &mut Numbered, south: u16, north: u16)
+    requires south { south < length all.old.regions.items }
+    requires north { north < length all.old.regions.items }
+    requires bounded { AreBounded all.old.regions.items all.old.firsts.items }
+    ensures length { length all.new.regions.items ≡ length all.old.regions.items }
+    ensures bounded { AreBounded all.new.regions.items all.new.firsts.items }
+    ensures kept { KeepsOne all.old.regions.items all.new.regions.items }
+    ensures met { slice_index all.new.regions.items south ≡ slice_index all.new.regions.items north }
+    ensures groups { (chunk : Chunk) (runs : Runs) (s n : Place) → Overlap runs s n → s.at ≡ south → n.at ≡ north
+        → KeepsGroups chunk runs all.old.regions.items all.old.firsts.items all.new.regions.items all.new.firsts.items }
+{
+    let a = all.regions[south as usize];
+    let b = all.regions[north as usize];
+    if a < b {
+        unite(all, a, b);
+    } else if b < a {
+        unite(all, b, a);
+    }
+}
+
+/// Joins the newest span with those from a place on that it overlaps in the row before.
+#[inline(always)]
+fn join_rest(rows: &RowSpans, all: &mut Numbered, place: Place, span: Span, from: u16, end: u16)
     requires place { IsPlace rows.now place }
-    requires beside { AreBeside from.row place.row }
-    requires regions { length flood.old.regions.items ≡ length rows.now.spans }
-    requires frontier { All (IsPlace rows.now) flood.old.frontier.items }
-    requires real { 0 < number }
-    ensures regions { length flood.new.regions.items ≡ length rows.now.spans }
-    ensures frontier { All (IsPlace rows.now) flood.new.frontier.items }
-    ensures kept { (k : ℕ) → slice_index flood.old.regions.items k ≢ 0 → slice_index flood.new.regions.items k ≢ 0 }
-    ensures met { OnOk result ((a b : Span) → slice_get rows.now.spans from.at ≡ Some a
-        → slice_get rows.now.spans place.at ≡ Some b → a.first ≤ b.last → b.first ≤ a.last
-        → slice_index flood.new.regions.items place.at ≢ 0) }
-    ensures work { OnOk result (waiting flood.new.regions.items + length flood.new.frontier.items
-        ≡ waiting flood.old.regions.items + length flood.old.frontier.items) }
-    ensures floods { OnOk result (KeepsFlood rows.now flood.old.regions.items (flood.old.frontier.items ++ from ∷ [])
-        flood.new.regions.items (flood.new.frontier.items ++ from ∷ []) number) }
+    requires span { slice_get rows.now.spans place.at ≡ Some span }
+    requires from { slice_index rows.now.starts (place.row - 1) ≤ from }
+    requires end { end ≡ slice_index rows.now.starts place.row }
+    requires next { length all.old.regions.items ≡ place.at + 1 }
+    requires bounded { AreBounded all.old.regions.items all.old.firsts.items }
+    requires reach { Reach rows.now span.first from end }
+    requires met { MeetsTo rows.now all.old.regions.items place from }
+    ensures length { length all.new.regions.items ≡ length all.old.regions.items }
+    ensures bounded { AreBounded all.new.regions.items all.new.firsts.items }
+    ensures kept { KeepsOne all.old.regions.items all.new.regions.items }
+    ensures met { MeetsTo rows.now all.new.regions.items place end }
+    ensures groups { (chunk : Chunk) → KeepsGroups chunk rows.now all.old.regions.items all.old.firsts.items
+        all.new.regions.items all.new.firsts.items }
 {
-    if flood.regions[place.at as usize] != WAITING {
-        return Ok(());
-    }
-    if !overlap(rows.span(from.at), rows.span(place.at)) {
-        return Ok(());
-    }
-    give(flood, place, number)?;
-    Ok(())
-}
-
-/// Numbers the waiting spans of a row beside that overlap the span.
-#[inline(always)]
-fn spread_to(
-    rows: &RowSpans,
-    flood: &mut Flood,
-    from: Place,
-    row: u16,
-    number: u16,
-) -> Result<(), NoMemory>
-    requires from { IsPlace rows.now from }
-    requires row { row < 96 }
-    requires beside { AreBeside from.row row }
-    requires regions { length flood.old.regions.items ≡ length rows.now.spans }
-    requires frontier { All (IsPlace rows.now) flood.old.frontier.items }
-    requires real { 0 < number }
-    ensures regions { length flood.new.regions.items ≡ length rows.now.spans }
-    ensures frontier { All (IsPlace rows.now) flood.new.frontier.items }
-    ensures kept { (k : ℕ) → slice_index flood.old.regions.items k ≢ 0 → slice_index flood.new.regions.items k ≢ 0 }
-    ensures met { OnOk result (Meets rows.now flood.new.regions.items from row) }
-    ensures work { OnOk result (waiting flood.new.regions.items + length flood.new.frontier.items
-        ≡ waiting flood.old.regions.items + length flood.old.frontier.items) }
-    ensures floods { OnOk result (KeepsFlood rows.now flood.old.regions.items (flood.old.frontier.items ++ from ∷ [])
-        flood.new.regions.items (flood.new.frontier.items ++ from ∷ []) number) }
-{
-    let span = rows.span(from.at);
-    let (start, end) = rows.row(row);
-    for at in start..end {
+    for south in from..end {
         // the spans of a row rise, so none from here on overlaps
-        if span.last < rows.span(at).first {
-            return Ok(());
+        if span.last < rows.span(south).first {
+            return;
         }
-        visit(rows, flood, from, Place { row, at }, number)?;
+        join(all, south, place.at);
     }
-    Ok(())
 }
 
-/// Numbers the waiting spans of the row to the south that overlap the span.
-fn spread_south(
-    rows: &RowSpans,
-    flood: &mut Flood,
-    from: Place,
-    number: u16,
-) -> Result<(), NoMemory>
-    requires from { IsPlace rows.now from }
-    requires regions { length flood.old.regions.items ≡ length rows.now.spans }
-    requires frontier { All (IsPlace rows.now) flood.old.frontier.items }
-    requires real { 0 < number }
-    ensures regions { length flood.new.regions.items ≡ length rows.now.spans }
-    ensures frontier { All (IsPlace rows.now) flood.new.frontier.items }
-    ensures kept { (k : ℕ) → slice_index flood.old.regions.items k ≢ 0 → slice_index flood.new.regions.items k ≢ 0 }
-    ensures met { OnOk result ((row : ℕ) → from.row ≡ row + 1 → Meets rows.now flood.new.regions.items from row) }
-    ensures work { OnOk result (waiting flood.new.regions.items + length flood.new.frontier.items
-        ≡ waiting flood.old.regions.items + length flood.old.frontier.items) }
-    ensures floods { OnOk result (KeepsFlood rows.now flood.old.regions.items (flood.old.frontier.items ++ from ∷ [])
-        flood.new.regions.items (flood.new.frontier.items ++ from ∷ []) number) }
-{
-    if from.row == 0 {
-        return Ok(());
-    }
-    spread_to(rows, flood, from, from.row - 1, number)?;
-    Ok(())
-}
-
-/// Numbers the waiting spans of the row to the north that overlap the span.
-fn spread_north(
-    rows: &RowSpans,
-    flood: &mut Flood,
-    from: Place,
-    number: u16,
-) -> Result<(), NoMemory>
-    requires from { IsPlace rows.now from }
-    requires regions { length flood.old.regions.items ≡ length rows.now.spans }
-    requires frontier { All (IsPlace rows.now) flood.old.frontier.items }
-    requires real { 0 < number }
-    ensures regions { length flood.new.regions.items ≡ length rows.now.spans }
-    ensures frontier { All (IsPlace rows.now) flood.new.frontier.items }
-    ensures kept { (k : ℕ) → slice_index flood.old.regions.items k ≢ 0 → slice_index flood.new.regions.items k ≢ 0 }
-    ensures met { OnOk result (from.row + 1 < 96 → Meets rows.now flood.new.regions.items from (from.row + 1)) }
-    ensures work { OnOk result (waiting flood.new.regions.items + length flood.new.frontier.items
-        ≡ waiting flood.old.regions.items + length flood.old.frontier.items) }
-    ensures floods { OnOk result (KeepsFlood rows.now flood.old.regions.items (flood.old.frontier.items ++ from ∷ [])
-        flood.new.regions.items (flood.new.frontier.items ++ from ∷ []) number) }
-{
-    if from.row + 1 == CHUNK_SIDE {
-        return Ok(());
-    }
-    spread_to(rows, flood, from, from.row + 1, number)?;
-    Ok(())
-}
-
-/// Numbers the waiting spans beside a span of the frontier, which leaves it.
-fn spread(rows: &RowSpans, flood: &mut Flood, from: Place, number: u16) -> Result<(), NoMemory>
-    requires from { IsPlace rows.now from }
-    requires regions { length flood.old.regions.items ≡ length rows.now.spans }
-    requires frontier { All (IsPlace rows.now) flood.old.frontier.items }
-    requires real { 0 < number }
-    ensures regions { length flood.new.regions.items ≡ length rows.now.spans }
-    ensures frontier { All (IsPlace rows.now) flood.new.frontier.items }
-    ensures work { OnOk result (waiting flood.new.regions.items + length flood.new.frontier.items
-        ≡ waiting flood.old.regions.items + length flood.old.frontier.items) }
-    ensures floods { OnOk result (KeepsFlood rows.now flood.old.regions.items (flood.old.frontier.items ++ from ∷ [])
-        flood.new.regions.items flood.new.frontier.items number) }
-{
-    spread_south(rows, flood, from, number)?;
-    spread_north(rows, flood, from, number)?;
-    Ok(())
-}
-
-/// Numbers all that straight steps join to the frontier, until it is empty.
-fn spread_all(rows: &RowSpans, flood: &mut Flood, number: u16) -> Result<(), NoMemory>
-    requires regions { length flood.old.regions.items ≡ length rows.now.spans }
-    requires frontier { All (IsPlace rows.now) flood.old.frontier.items }
-    requires real { 0 < number }
-    ensures regions { length flood.new.regions.items ≡ length rows.now.spans }
-    ensures frontier { All (IsPlace rows.now) flood.new.frontier.items }
-    ensures emptied { OnOk result (flood.new.frontier.items ≡ []) }
-    ensures floods { OnOk result (KeepsFlood rows.now flood.old.regions.items flood.old.frontier.items
-        flood.new.regions.items [] number) }
-{
-    // in which order the frontier's spans are taken makes no difference: all of them get one number
-    while let Some(place) = flood.frontier.pop() {
-        spread(rows, flood, place, number)?;
-    }
-    Ok(())
-}
-
-/// Numbers the region of a span, if the span waits: its first cell is then the region's first.
-fn begin(
-    rows: &RowSpans,
-    flood: &mut Flood,
-    firsts: &mut Vec<Cell>,
-    chunk: Chunk,
-    place: Place,
-) -> Result<(), NoMemory>
-    requires place { IsPlace rows.now place }
-    requires regions { length flood.old.regions.items ≡ length rows.now.spans }
-    requires emptied { flood.old.frontier.items ≡ [] }
+/// Gives the newest span a region of its own: its first cell is then the region's first.
+#[inline(always)]
+fn begin(all: &mut Numbered, chunk: Chunk, place: Place, span: Span) -> Result<(), NoMemory>
     requires column { chunk.ci < 22 }
     requires row { chunk.cj < 22 }
-    requires few { length firsts.old.items ≤ place.at }
-    ensures regions { length flood.new.regions.items ≡ length rows.now.spans }
-    ensures emptied { OnOk result (flood.new.frontier.items ≡ []) }
-    ensures few { OnOk result (length firsts.new.items ≤ place.at + 1) }
-    ensures floods { OnOk result ((passes : Cell → Bool) → IsCut passes chunk rows.now
-        → Floods passes (HasCell chunk rows.now) (region_of chunk rows.now flood.old.regions.items) firsts.old.items []
-        place.at
-        → Floods passes (HasCell chunk rows.now) (region_of chunk rows.now flood.new.regions.items) firsts.new.items []
-        (place.at + 1)) }
+    requires here { place.row < 96 }
+    requires few { length all.old.firsts.items < 4608 }
+    ensures regions { OnOk result (all.new.regions.items
+        ≡ all.old.regions.items ++ (length all.old.firsts.items + 1) ∷ []) }
+    ensures firsts { OnOk result (all.new.firsts.items
+        ≡ all.old.firsts.items ++ cell_at (96 * chunk.ci + span.first) (96 * chunk.cj + place.row) ∷ []) }
 {
-    if flood.regions[place.at as usize] != WAITING {
-        return Ok(());
-    }
-    let span = rows.span(place.at);
-    firsts.push(Cell::new(
+    all.firsts.push(Cell::new(
         chunk.ci * CHUNK_SIDE + u16::from(span.first),
         chunk.cj * CHUNK_SIDE + place.row,
     ))?;
-    let number = firsts.len() as u16;
-    give(flood, place, number)?;
-    spread_all(rows, flood, number)
+    all.regions.push(all.firsts.len() as u16)?;
+    Ok(())
 }
 
-/// Numbers the regions that begin in one row.
-fn number_row(
+/// Gives the next span its region, where those of the row before that it overlaps stand from `south` on.
+#[inline(always)]
+fn number_span(
     rows: &RowSpans,
-    flood: &mut Flood,
-    firsts: &mut Vec<Cell>,
+    all: &mut Numbered,
     chunk: Chunk,
-    row: u16,
+    place: Place,
+    south: u16,
+    end: u16,
 ) -> Result<(), NoMemory>
-    requires here { row < 96 }
-    requires regions { length flood.old.regions.items ≡ length rows.now.spans }
-    requires emptied { flood.old.frontier.items ≡ [] }
+    requires place { IsPlace rows.now place }
     requires column { chunk.ci < 22 }
     requires row { chunk.cj < 22 }
-    requires few { length firsts.old.items ≤ slice_index rows.now.starts row }
-    ensures regions { length flood.new.regions.items ≡ length rows.now.spans }
-    ensures emptied { OnOk result (flood.new.frontier.items ≡ []) }
-    ensures few { OnOk result (length firsts.new.items ≤ slice_index rows.now.starts (row + 1)) }
-    ensures floods { OnOk result ((passes : Cell → Bool) → IsCut passes chunk rows.now
-        → Floods passes (HasCell chunk rows.now) (region_of chunk rows.now flood.old.regions.items) firsts.old.items []
-        (slice_index rows.now.starts row)
-        → Floods passes (HasCell chunk rows.now) (region_of chunk rows.now flood.new.regions.items) firsts.new.items []
-        (slice_index rows.now.starts (row + 1))) }
+    requires from { slice_index rows.now.starts (place.row - 1) ≤ south }
+    requires to { south ≤ end }
+    requires end { end ≡ slice_index rows.now.starts place.row }
+    requires reach { (span : Span) → slice_get rows.now.spans place.at ≡ Some span → Reach rows.now span.first south end }
+    requires passed { (s : Place) → Overlap rows.now s place → south ≤ s.at }
+    requires next { length all.old.regions.items ≡ place.at }
+    requires bounded { AreBounded all.old.regions.items all.old.firsts.items }
+    requires united { AreUnited rows.now all.old.regions.items place.at }
+    ensures length { OnOk result (length all.new.regions.items ≡ place.at + 1) }
+    ensures bounded { OnOk result (AreBounded all.new.regions.items all.new.firsts.items) }
+    ensures united { OnOk result (AreUnited rows.now all.new.regions.items (place.at + 1)) }
+    ensures groups { OnOk result (KeepsGroups chunk rows.now all.old.regions.items all.old.firsts.items
+        all.new.regions.items all.new.firsts.items) }
+{
+    let span = rows.span(place.at);
+    if south == end || span.last < rows.span(south).first {
+        begin(all, chunk, place, span)?;
+        return Ok(());
+    }
+    let region = all.regions[south as usize];
+    all.regions.push(region)?;
+    join_rest(rows, all, place, span, south + 1, end);
+    Ok(())
+}
+
+/// The first of a row's spans from a place on that reaches the column, or the row's end.
+#[inline(always)]
+fn first_reaching(rows: &RowSpans, from: u16, end: u16, column: u8) -> u16
+    requires order { from ≤ end }
+    requires within { end ≤ length rows.now.spans }
+    ensures from { from ≤ result }
+    ensures to { result ≤ end }
+    ensures short { (k : ℕ) (span : Span) → from ≤ k → k < result → slice_get rows.now.spans k ≡ Some span
+        → span.last < column }
+    ensures reaches { (span : Span) → result < end → slice_get rows.now.spans result ≡ Some span → column ≤ span.last }
+{
+    for at in from..end {
+        if column <= rows.span(at).last {
+            return at;
+        }
+    }
+    end
+}
+
+/// Gives the spans of one row their regions, side by side with those of the row before.
+#[inline(always)]
+fn number_row(rows: &RowSpans, all: &mut Numbered, chunk: Chunk, row: u16) -> Result<(), NoMemory>
+    requires here { row < 96 }
+    requires column { chunk.ci < 22 }
+    requires row { chunk.cj < 22 }
+    requires next { length all.old.regions.items ≡ slice_index rows.now.starts row }
+    requires bounded { AreBounded all.old.regions.items all.old.firsts.items }
+    requires united { AreUnited rows.now all.old.regions.items (slice_index rows.now.starts row) }
+    ensures length { OnOk result (length all.new.regions.items ≡ slice_index rows.now.starts (row + 1)) }
+    ensures bounded { OnOk result (AreBounded all.new.regions.items all.new.firsts.items) }
+    ensures united { OnOk result (AreUnited rows.now all.new.regions.items (slice_index rows.now.starts (row + 1))) }
+    ensures groups { OnOk result (KeepsGroups chunk rows.now all.old.regions.items all.old.firsts.items
+        all.new.regions.items all.new.firsts.items) }
 {
     let (start, end) = rows.row(row);
+    // before the first row there is none, and `south` is where its own spans begin
+    let (mut south, _) = rows.row(row.saturating_sub(1));
     for at in start..end {
-        begin(rows, flood, firsts, chunk, Place { row, at })?;
+        south = first_reaching(rows, south, start, rows.span(at).first);
+        number_span(rows, all, chunk, Place { row, at }, south, start)?;
     }
     Ok(())
 }
@@ -293,20 +213,17 @@ pub fn number_all(alloc: Global, chunk: Chunk, rows: &RowSpans) -> Result<Number
     ensures numbered { IfOk result (λ all. (passes : Cell → Bool) → IsCut passes chunk rows.now
         → IsNumbered passes (region_of chunk rows.now all.regions.items) all.firsts.items) }
 {
-    let regions = vec![in alloc; WAITING; rows.len()]?;
-    let mut flood = Flood {
-        regions,
-        frontier: Vec::new(alloc),
+    let mut all = Numbered {
+        regions: Vec::with_capacity(alloc, rows.len())?,
+        firsts: Vec::new(alloc),
     };
-    let mut firsts = Vec::new(alloc);
-    // in the order of spans, so that a waiting span's first cell is the first of its region
     for row in 0..CHUNK_SIDE {
-        number_row(rows, &mut flood, &mut firsts, chunk, row)?;
+        number_row(rows, &mut all, chunk, row)?;
     }
     // the first cells are kept in no more room than they fill
-    let firsts = Vec::from_slice(alloc, &firsts)?;
+    let firsts = Vec::from_slice(alloc, &all.firsts)?;
     Ok(Numbered {
-        regions: flood.regions,
+        regions: all.regions,
         firsts,
     })
 }

@@ -1,12 +1,14 @@
-ghost use Rattle.std.specs.Prelude.{Bool, ◌≡◌, ◌+◌, ◌-◌, ◌*◌, ◌<◌, ◌≤◌, IfOk, Some, slice_get, length};
+ghost use Rattle.std.specs.Prelude.{ℕ, Bool, ◌≡◌, ◌+◌, ◌-◌, ◌*◌, ◌<◌, ◌≤◌, IfOk, IfSome, IfNone, Some, slice_get, length};
 ghost use Rattle.nav_types.specs.declared.cells.Cell.{Cell};
-ghost use Rattle.nav_types.specs.Cells.{IsInRect};
+ghost use Rattle.nav_types.specs.Cells.{cell_at, IsInRect};
 ghost use Rattle.chunk_regions.specs.Labelling.{AreLabels, AreBitsOf};
+ghost use Rattle.chunk_regions.specs.inner.Spans.{AreSpans, Holds, region_at};
 
 use crate::bits::{ChunkBits, read};
 use crate::extent::cells_of;
 use crate::flood::{Numbered, number_all};
 use crate::spans::{RowSpans, cut};
+use nav_types::limits::CHUNK_SIDE;
 use nav_types::{Cell, Chunk, Class, NoMemory, Rect, Size, Ticks, View};
 use std::alloc::Global;
 use std::marker::Model;
@@ -46,6 +48,102 @@ impl Model for Labels {
         × (length l.firsts.items ≤ 9216) };
 }
 
+/// Cells of one row that lie side by side and have one number.
+#[derive(Debug, Clone, Copy)]
+pub struct Stretch {
+    /// The number of their region; 0 for impassable cells.
+    pub region: u16,
+    /// The column of the last of them in the map.
+    pub last: u16,
+}
+
+/// The place of the row's span that holds the column.
+#[inline(always)]
+fn holding(spans: &RowSpans, row: u16, column: u8) -> Option<u16>
+    requires { row < 96 }
+    ensures are { AreSpans spans.now }
+    ensures held { IfSome result (λ at. Holds spans.now row at column) }
+    ensures none { IfNone result ((at : ℕ) → Holds spans.now row at column → ⊥) }
+{
+    // from the nearer end of the row, so that a cell at the chunk's border is found at once
+    if (column as u16) < CHUNK_SIDE / 2 {
+        holding_from_west(spans, row, column)
+    } else {
+        holding_from_east(spans, row, column)
+    }
+}
+
+/// The place of the row's span that holds the column, looked for from the row's first span on.
+#[inline(always)]
+fn holding_from_west(spans: &RowSpans, row: u16, column: u8) -> Option<u16>
+    requires { row < 96 }
+    ensures are { AreSpans spans.now }
+    ensures held { IfSome result (λ at. Holds spans.now row at column) }
+    ensures none { IfNone result ((at : ℕ) → Holds spans.now row at column → ⊥) }
+{
+    let (start, end) = spans.row(row);
+    for at in start..end {
+        let span = spans.span(at);
+        // the spans of a row rise, so only the first that ends here or further east can hold the column
+        if column <= span.last {
+            if span.first <= column {
+                return Some(at);
+            }
+            return None;
+        }
+    }
+    None
+}
+
+/// The place of the row's span that holds the column, looked for from the row's last span back.
+#[inline(always)]
+fn holding_from_east(spans: &RowSpans, row: u16, column: u8) -> Option<u16>
+    requires { row < 96 }
+    ensures are { AreSpans spans.now }
+    ensures held { IfSome result (λ at. Holds spans.now row at column) }
+    ensures none { IfNone result ((at : ℕ) → Holds spans.now row at column → ⊥) }
+{
+    let (start, end) = spans.row(row);
+    let mut behind = end;
+    while start < behind {
+        let at = behind - 1;
+        let span = spans.span(at);
+        // only the last that begins here or further west can hold the column
+        if span.first <= column {
+            if column <= span.last {
+                return Some(at);
+            }
+            return None;
+        }
+        behind = at;
+    }
+    None
+}
+
+/// The region of the row's cell in that column, 0 where no span holds it, and a column up to which all cells from that
+/// one to the east have it.
+#[inline(always)]
+fn stretch_in_row(spans: &RowSpans, regions: &[u16], row: u16, column: u8) -> (u16, u8)
+    requires row { row < 96 }
+    requires column { column < 96 }
+    requires each { length regions.now ≡ length spans.now.spans }
+    ensures from { column ≤ result.1 }
+    ensures within { result.1 < 96 }
+    ensures same { (x : ℕ) → column ≤ x → x ≤ result.1 → region_at spans.now regions.now row x ≡ result.0 }
+{
+    let (start, end) = spans.row(row);
+    for at in start..end {
+        let span = spans.span(at);
+        if column <= span.last {
+            if span.first <= column {
+                return (regions[at as usize], span.last);
+            }
+            return (0, span.first - 1);
+        }
+    }
+    (0, CHUNK_SIDE as u8 - 1)
+}
+
 impl Labels {
     ghost use Rattle.nav_types.specs.Numbering.{number_of};
 
@@ -64,23 +162,35 @@ impl Labels {
     }
 
     /// The number of the cell's region, from 1; 0 exactly for an impassable cell (`HasRegion`).
+    #[inline(always)]
     pub fn at(&self, cell: Cell) -> u16
         requires { IsInRect self.now.cells.rect cell }
         ensures { result ≡ number_of self.now.cells cell }
     {
         let column = (cell.i - self.rect.i0) as u8;
-        let (start, end) = self.spans.row(cell.j - self.rect.j0);
-        for at in start..end {
-            let span = self.spans.span(at);
-            // the spans of a row rise, so only the first that ends here or further east can hold the column
-            if column <= span.last {
-                if span.holds(column) {
-                    return self.regions[at as usize];
-                }
-                return 0;
-            }
+        match holding(&self.spans, cell.j - self.rect.j0, column) {
+            Some(at) => self.regions[at as usize],
+            None => 0,
         }
-        0
+    }
+
+    /// The cell's number as [`Labels::at`] gives it, and a column of the chunk up to which all cells from this one to
+    /// the east have it: the cell's own column, or one further east.
+    #[inline(always)]
+    pub fn stretch_at(&self, cell: Cell) -> Stretch
+        requires { IsInRect self.now.cells.rect cell }
+        ensures from { cell.i ≤ result.last }
+        ensures within { result.last ≤ self.now.cells.rect.i1 }
+        ensures same { (i : ℕ) → cell.i ≤ i → i ≤ result.last
+            → number_of self.now.cells (cell_at i cell.j) ≡ result.region }
+    {
+        let row = cell.j - self.rect.j0;
+        let column = (cell.i - self.rect.i0) as u8;
+        let (region, last) = stretch_in_row(&self.spans, self.regions.as_slice(), row, column);
+        Stretch {
+            region,
+            last: self.rect.i1.min(self.rect.i0 + last as u16),
+        }
     }
 
     /// How many regions there are, at most 9216.

@@ -1,4 +1,4 @@
-ghost use Rattle.std.specs.Prelude.{ℕ, ◌≡◌, ◌<◌, ◌≤◌, ◌+◌, ◌*◌, ◌^◌, ◌==◌, OnOk, IfOk, IfSome, IfNone, Some, slice_get, slice_index, length};
+ghost use Rattle.std.specs.Prelude.{ℕ, ◌≡◌, ◌≢◌, ◌<◌, ◌≤◌, ◌+◌, ◌^◌, OnOk, IfOk, Some, slice_get, slice_index, length};
 ghost use Rattle.std.specs.Int.{bit_at};
 ghost use Rattle.chunk_regions.specs.inner.Spans.{Runs, AreRuns, IsRowTo};
 
@@ -14,17 +14,6 @@ use std::marker::Model;
 pub struct Span {
     pub first: u8,
     pub last: u8,
-}
-
-impl Span {
-    ghost use Rattle.std.specs.Prelude.{◌&&◌, nat_le};
-
-    /// Whether a cell of the column is in the span.
-    pub fn holds(self, column: u8) -> bool
-        ensures { result ≡ (nat_le self.first column && nat_le column self.last) }
-    {
-        self.first <= column && column <= self.last
-    }
 }
 
 /// The spans of a chunk's rows, row by row and from west to east. Contracts see the places of each row's first span
@@ -77,41 +66,26 @@ impl RowSpans {
         ensures ordered { result.first ≤ result.last }
         ensures within { result.last < 96 }
         ensures few { length self.now.spans ≤ 4608 }
+        ensures are { AreSpans self.now }
     {
         self.spans[at as usize]
     }
 }
 
-/// The first set bit from a place on.
+/// Takes the lowest set bit away, and gives its place.
 #[inline(always)]
-fn first_set(bits: u128, from: u8) -> Option<u8>
-    requires few { bits < 2 ^ 96 }
-    requires from { from ≤ 97 }
-    ensures from { IfSome result (λ at. from ≤ at) }
-    ensures within { IfSome result (λ at. at < 96) }
-    ensures set { IfSome result (λ at. bit_at bits at ≡ 1) }
-    ensures clear { IfSome result (λ at. (k : ℕ) → from ≤ k → k < at → bit_at bits k ≡ 0) }
-    ensures none { IfNone result ((k : ℕ) → from ≤ k → bit_at bits k ≡ 0) }
+fn take_lowest(bits: &mut u128) -> u8
+    requires some { 0 < bits.old }
+    requires few { bits.old < 2 ^ 97 }
+    ensures set { bit_at bits.old result ≡ 1 }
+    ensures lowest { (k : ℕ) → k < result → bit_at bits.old k ≡ 0 }
+    ensures taken { bit_at bits.new result ≡ 0 }
+    ensures others { (k : ℕ) → k ≢ result → bit_at bits.new k ≡ bit_at bits.old k }
+    ensures less { bits.new < bits.old }
 {
-    let rest = bits >> from;
-    if rest == 0 {
-        return None;
-    }
-    Some(from + rest.trailing_zeros() as u8)
-}
-
-/// The first clear bit after a set one.
-#[inline(always)]
-fn first_clear(bits: u128, set: u8) -> u8
-    requires few { bits < 2 ^ 96 }
-    requires within { set < 96 }
-    requires set { bit_at bits set ≡ 1 }
-    ensures after { set < result }
-    ensures within { result ≤ 96 }
-    ensures clear { bit_at bits result ≡ 0 }
-    ensures set { (k : ℕ) → set ≤ k → k < result → bit_at bits k ≡ 1 }
-{
-    set + (bits >> set).trailing_ones() as u8
+    let place = bits.trailing_zeros() as u8;
+    *bits &= *bits - 1;
+    place
 }
 
 /// Adds the spans of a row with these bits.
@@ -122,14 +96,15 @@ fn cut_row(spans: &mut Vec<Span>, bits: u128) -> Result<(), NoMemory>
         → slice_get spans.new.items k ≡ slice_get spans.old.items k }
     ensures cut { OnOk result (IsRowTo bits (length spans.old.items) spans.new.items 97) }
 {
-    let mut column = 0;
-    while let Some(first) = first_set(bits, column) {
-        let end = first_clear(bits, first);
+    // a bit where a span begins, and one behind where it ends
+    let mut edges = bits ^ (bits << 1);
+    while edges != 0 {
+        let first = take_lowest(&mut edges);
+        let end = take_lowest(&mut edges);
         spans.push(Span {
             first,
             last: end - 1,
         })?;
-        column = end + 1;
     }
     Ok(())
 }

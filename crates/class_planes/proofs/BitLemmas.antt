@@ -45,7 +45,7 @@ words_bit row plane line class n i long within wide bits turned =
     turned (i / 64) (i % 64) (omega (arith, wide)) small
     ∙ ap (λ b. 1 - b) (bits (i / 64) (i % 64) small ∙ ap (λ p. bit_at (get_or row p 0) class) there)
 
-other_bit : (free : Bool) → 1 - bit_of free ≡ one_if free
+pub other_bit : (free : Bool) → 1 - bit_of free ≡ one_if free
 other_bit true = refl
 other_bit false = refl
 

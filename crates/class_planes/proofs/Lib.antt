@@ -7,4 +7,5 @@ pub mod PlaneLemmas
 mod WordLemmas
 mod FarLemmas
 mod TrackLemmas
+mod ReadLemmas
 mod StopLemmas

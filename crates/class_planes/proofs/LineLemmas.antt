@@ -30,20 +30,25 @@ new_line words count band line long wide =
     ap (take (start + words - start)) (drop_at band line start long)
     ∙ take_all (start + words - start) line (omega arith)
 
+-- what holds of each line, where one line more is appended
+pub each_line_more : (P : ℕ → List ℕ → Type 0) (words count : ℕ) (band line : List ℕ) → length band ≡ count * words
+    → length line ≡ words → ((k : ℕ) → k < count → P k (line_in words band k)) → P count line
+    → (k : ℕ) → k < count + 1 → P k (line_in words (band ++ line) k)
+each_line_more P words count band line long wide each one k below = ⊎_elim
+    (λ (old : k < count). subst (P k) (sym (old_line words k count band line long old)) (each k old))
+    (λ (new : count ≤ k).
+    let here : k ≡ count = omega arith in
+    subst (λ n. P n (line_in words (band ++ line) n)) (sym here)
+    (subst (P count) (sym (new_line words count band line long wide)) one))
+    (cases_lt k count)
+
 -- a band with one line more
 pub band_more : (free : ℕ → ℕ → Bool) (first words count : ℕ) (band line : List ℕ) → IsBand free first words count band
     → length line ≡ words
     → AreFreeBits (free (first + count)) line → IsBand free first words (count + 1) (band ++ line)
 band_more free first words count band line is wide bits = record {
   long = omega (arith, length-append band line, is.long, wide);
-  each = λ k below. ⊎_elim
-      (λ (old : k < count). subst (AreFreeBits (free (first + k))) (sym (old_line words k count band line is.long old))
-      (is.each k old))
-      (λ (new : count ≤ k).
-      let here : k ≡ count = omega arith in
-      subst (λ n. AreFreeBits (free (first + n)) (line_in words (band ++ line) n)) (sym here)
-      (subst (AreFreeBits (free (first + count))) (sym (new_line words count band line is.long wide)) bits))
-      (cases_lt k count);
+  each = each_line_more (λ k. AreFreeBits (free (first + k))) words count band line is.long wide is.each bits;
 }
 
 -- a table with one band more

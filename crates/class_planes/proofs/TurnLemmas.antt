@@ -71,7 +71,7 @@ numbers_more bit numbers i v within old new j k below small = ⊎_elim
     (cases_eq j i)
 
 -- the words of a line of which some are replaced
-patched_here : (old part : List ℕ) (from w : ℕ) → from + length part ≤ length old → from ≤ w → w < from + length part
+pub patched_here : (old part : List ℕ) (from w : ℕ) → from + length part ≤ length old → from ≤ w → w < from + length part
     → get_or (patched old from part) w 0 ≡ get_or part (w - from) 0
 patched_here old part from w within low high =
     let rest : List ℕ = drop (from + length part) old in
@@ -98,6 +98,17 @@ patched_after old part from w within above =
     ∙ get_or-append_right part rest n (w - from) 0 refl (omega arith)
     ∙ get_or-drop (from + n) old (w - from - n) 0
     ∙ ap (λ p. get_or old p 0) there
+
+-- a word that is not replaced
+pub patched_elsewhere : (old part : List ℕ) (from w : ℕ) → from + length part ≤ length old
+    → (from ≤ w → w < from + length part → ⊥) → get_or (patched old from part) w 0 ≡ get_or old w 0
+patched_elsewhere old part from w within out = ⊎_elim
+    (λ (below : w < from). patched_before old part from w within below)
+    (λ (low : from ≤ w). ⊎_elim
+    (λ (high : w < from + length part). absurd (out low high))
+    (λ (above : from + length part ≤ w). patched_after old part from w within above)
+    (cases_lt w (from + length part)))
+    (cases_lt w from)
 
 length-patched : (old part : List ℕ) (from : ℕ) → from + length part ≤ length old
     → length (patched old from part) ≡ length old
@@ -128,13 +139,8 @@ next_line old numbers part before after k from long within is plane =
           ap (λ word. bit_at word (i % 64)) (patched_here old part from (i / 64) fits low below)
           ∙ plane (i / 64 - from) (i % 64) (omega arith)
           ∙ ap (λ p. bit_at (get_or numbers p 0) k) there;
-      kept = λ i out. ap (λ word. bit_at word (i % 64)) (⊎_elim
-          (λ (below : i / 64 < from). patched_before old part from (i / 64) fits below)
-          (λ (low : from ≤ i / 64). ⊎_elim
-          (λ (high : i / 64 < from + length numbers / 64). absurd (out low high))
-          (λ (above : from + length numbers / 64 ≤ i / 64). patched_after old part from (i / 64) fits (omega arith))
-          (cases_lt (i / 64) (from + length numbers / 64)))
-          (cases_lt (i / 64) from));
+      kept = λ i out. ap (λ word. bit_at word (i % 64)) (patched_elsewhere old part from (i / 64) fits
+          (λ low high. out low (omega (arith, high, long))));
     }
 
 -- how long a line is

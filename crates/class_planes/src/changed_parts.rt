@@ -1,5 +1,5 @@
 //! The parts of a map that have changed.
-ghost use Rattle.std.specs.Prelude.{◌≡◌, ◌<◌, All, IfOk};
+ghost use Rattle.std.specs.Prelude.{◌≡◌, ◌<◌, All, IfOk, map};
 ghost use Rattle.nav_types.specs.declared.cells.Cell.{Cell};
 ghost use Rattle.nav_types.specs.declared.cells.Size.{Size};
 ghost use Rattle.nav_types.specs.Cells.{IsRectInside};
@@ -36,6 +36,17 @@ pub fn rects_of(alloc: Global, parts: &[ChangedPart], class: Class) -> Result<Ve
         if part.is_of(class) {
             rects.push(part.rect)?;
         }
+    }
+    Ok(rects)
+}
+
+/// The rectangles of all parts.
+pub fn all_rects(alloc: Global, parts: &[ChangedPart]) -> Result<Vec<Rect>, NoMemory>
+    ensures { IfOk result (λ rects. rects.items ≡ map (λ part. part.rect) parts.now) }
+{
+    let mut rects = Vec::with_capacity(alloc, parts.len())?;
+    for part in parts {
+        rects.push(part.rect)?;
     }
     Ok(rects)
 }

@@ -4,14 +4,16 @@ ghost use Rattle.nav_types.specs.declared.cells.Cell.{Cell};
 ghost use Rattle.nav_types.specs.Cells.{IsInside, IsRectInside, cell_at};
 ghost use Rattle.class_planes.specs.Planes.{AreFreeBits, IsOutside, is_passable};
 ghost use Rattle.class_planes.specs.inner.Lines.{AreRows, plane_of};
+ghost use Rattle.class_planes.specs.inner.Reading.{AreRead, IsUnread};
 ghost use Rattle.class_planes.specs.inner.Runs.{AreLanesOf};
 
 use crate::lines::Lines;
+use crate::read_cells::{ReadRect, read_rects};
 use crate::rows::lines_of;
 use crate::turned::{columns_of, updated_columns};
 use crate::updates::updated_lines;
 use crate::word_scans::Lanes;
-use nav_types::{Cell, Class, NoMemory, Rect, Rows, Size, View};
+use nav_types::{Cell, Class, NoMemory, Rect, Rows, Size};
 use std::alloc::Global;
 use std::marker::Model;
 
@@ -66,9 +68,10 @@ impl ClassPlane {
         })
     }
 
-    /// The plane of the class in a view of the same size, where this plane is right outside of the rectangles. Their
-    /// cells are asked for the rows, the columns are made from the rows, and bands that no rectangle meets are shared.
-    pub fn updated<V: View>(
+    /// The plane of the class in a view of the same size, where this plane is right outside of the rectangles. The
+    /// words that they meet are read for the rows, the columns are made from the rows, and bands that no rectangle meets are
+    /// shared.
+    pub fn updated<V: Rows>(
         &self,
         alloc: Global,
         view: &V,
@@ -83,7 +86,32 @@ impl ClassPlane {
         ensures size { IfOk result (λ plane. plane.size ≡ V.extent view.now) }
         ensures passes { IfOk result (λ plane. is_passable plane ≡ V.passes view.now class) }
     {
-        let rows = updated_lines(alloc, view, class, &self.rows, rects)?;
+        let reads = read_rects(alloc, view, rects)?;
+        self.renewed(alloc, view, class, &reads, rects)
+    }
+
+    /// The plane of the class in a view of the same size, where this plane is right outside of the rectangles, and outside
+    /// of what was read. Bands that no rectangle meets are shared.
+    pub(crate) fn renewed<V: Rows>(
+        &self,
+        alloc: Global,
+        view: &V,
+        class: Class,
+        reads: &[ReadRect],
+        rects: &[Rect],
+    ) -> Result<ClassPlane, NoMemory>
+        requires class { class < V.class_count view.now }
+        requires extent { self.now.size ≡ V.extent view.now }
+        requires read { All (AreRead (V.extent view.now) (V.class_count view.now) (V.passes view.now)) reads.now }
+        requires inside { All (IsRectInside (V.extent view.now)) rects.now }
+        requires same { (cell : Cell) → IsOutside rects.now cell
+            → is_passable self.now cell ≡ V.passes view.now class cell }
+        requires unread { (cell : Cell) → IsUnread reads.now cell
+            → is_passable self.now cell ≡ V.passes view.now class cell }
+        ensures size { IfOk result (λ plane. plane.size ≡ V.extent view.now) }
+        ensures passes { IfOk result (λ plane. is_passable plane ≡ V.passes view.now class) }
+    {
+        let rows = updated_lines(alloc, view, class, &self.rows, reads, rects)?;
         let columns = updated_columns(alloc, &rows, self.size, &self.columns, rects)?;
         Ok(ClassPlane {
             columns,
@@ -121,7 +149,7 @@ impl ClassPlane {
 
     /// Row `j` with the rows beside it, where all three are in one band.
     #[inline(always)]
-    pub fn inner_rows(&self, j: u16) -> Lanes<'_>
+    pub(crate) fn inner_rows(&self, j: u16) -> Lanes<'_>
         requires row { j < self.now.size.h }
         requires low { 0 < j % 32 }
         requires high { j % 32 < 31 }
@@ -133,7 +161,7 @@ impl ClassPlane {
 
     /// Column `i` with the columns beside it, where all three are in one band.
     #[inline(always)]
-    pub fn inner_columns(&self, i: u16) -> Lanes<'_>
+    pub(crate) fn inner_columns(&self, i: u16) -> Lanes<'_>
         requires column { i < self.now.size.w }
         requires low { 0 < i % 32 }
         requires high { i % 32 < 31 }

@@ -8,6 +8,7 @@ mod lines;
 mod plane_runs;
 mod plane_scans;
 mod plane_sets;
+mod read_cells;
 mod rows;
 mod turned;
 mod updates;

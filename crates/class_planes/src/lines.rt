@@ -81,6 +81,14 @@ impl Lines {
         self.words
     }
 
+    /// The words of band `b`.
+    pub fn band(&self, b: u16) -> &[u64]
+        requires { b < length self.now.bands }
+        ensures { result.now ≡ slice_index_or self.now.bands b [] }
+    {
+        &self.bands[usize::from(b)].words
+    }
+
     /// The words of line `n`.
     pub fn line(&self, n: u16) -> &[u64]
         requires band { n / 32 < length self.now.bands }

@@ -7,7 +7,6 @@ ghost use Rattle.nav_types.specs.Directions.{is_straight, row_part, column_part}
 ghost use Rattle.nav_types.specs.Frames.{IsFrame};
 ghost use Rattle.nav_types.specs.Walks.{Step};
 ghost use Rattle.jump_scan.specs.Stops.{HaltsDiagonal, IsStraightStop, HasStraightStop, IsDiagonalStop};
-ghost use Rattle.lane_rows.specs.Rows.{one_if};
 ghost use Rattle.class_planes.specs.Planes.{is_passable};
 ghost use Rattle.class_planes.specs.inner.Runs.{AreLanesOf, cell_along, RunsFar, IsFirstHit, HasRoom, HoldsSteps};
 

@@ -1,15 +1,18 @@
 //! The planes of several classes of a map.
-ghost use Rattle.std.specs.Prelude.{ℕ, ◌≡◌, ◌==◌, ◌<◌, All, Some, None, is_some, slice_index_or, IfOk, IfSome, IfNone};
+ghost use Rattle.std.specs.Prelude.{◌≡◌, ◌==◌, ◌<◌, All, Some, None, is_some, slice_index_or, IfOk, IfSome, IfNone};
 ghost use Rattle.std.specs.Arc.{arc_value};
 ghost use Rattle.std.specs.Int.{bit_at};
 ghost use Rattle.std.specs.Option.{option_map};
+ghost use Rattle.nav_types.specs.declared.cells.Cell.{Cell};
 ghost use Rattle.nav_types.specs.Cells.{IsRectInside};
-ghost use Rattle.class_planes.specs.Planes.{IsPlane, IsPlaneIn, ArePlanes, AreOf, AreOfBefore, AreOfSame};
+ghost use Rattle.class_planes.specs.Planes.{IsPlane, IsPlaneIn, ArePlanes, AreOf, AreOfBefore, AreOfSame, IsKept};
 ghost use Rattle.class_planes.specs.inner.Changes.{IsPlaneBefore};
+ghost use Rattle.class_planes.specs.inner.Reading.{AreRead, IsUnread};
 
-use crate::changed_parts::{ChangedPart, rects_of};
+use crate::changed_parts::{ChangedPart, all_rects, rects_of};
 use crate::class_plane::ClassPlane;
-use nav_types::{Class, NoMemory, Rows, View};
+use crate::read_cells::{ReadRect, read_rects};
+use nav_types::{Class, NoMemory, Rows};
 use std::alloc::Global;
 use std::marker::Model;
 use std::sync::Arc;
@@ -54,7 +57,7 @@ impl Planes {
     /// The planes of a map that has changed in some parts, where these are those of before (`AreOfBefore`). They are
     /// of the same classes (`AreOfSame`). A class for which no part has changed has the same plane, and the plane of
     /// another shares with the one of before what lies outside of the parts.
-    pub fn updated<V: View>(
+    pub fn updated<V: Rows>(
         &self,
         alloc: Global,
         view: &V,
@@ -66,10 +69,12 @@ impl Planes {
         ensures { IfOk result (AreOfSame (V.extent view.now) (V.passes view.now) self.now) }
     {
         let count = self.planes.len().min(usize::from(view.classes()));
+        let rects = all_rects(alloc, parts)?;
+        let reads = read_rects(alloc, view, &rects)?;
         let mut planes = Vec::with_capacity(alloc, count)?;
         for number in 0..count {
             let class = Class::new(number as u8);
-            let plane = next_plane(alloc, view, class, parts, &self.planes[number])?;
+            let plane = next_plane(alloc, view, class, &reads, parts, &self.planes[number])?;
             planes.push(plane)?;
         }
         Ok(Planes { planes })
@@ -131,14 +136,17 @@ fn shared(
 }
 
 /// The plane of the class after some parts have changed, where there was one before.
-fn next_plane<V: View>(
+fn next_plane<V: Rows>(
     alloc: Global,
     view: &V,
     class: Class,
+    reads: &[ReadRect],
     parts: &[ChangedPart],
     before: &Option<Arc<ClassPlane, Global>>,
 ) -> Result<Option<Arc<ClassPlane, Global>>, NoMemory>
     requires class { class < V.class_count view.now }
+    requires read { All (AreRead (V.extent view.now) (V.class_count view.now) (V.passes view.now)) reads.now }
+    requires unread { (cell : Cell) → IsUnread reads.now cell → IsKept parts.now class cell }
     requires inside { All (λ part. IsRectInside (V.extent view.now) part.rect) parts.now }
     requires before { IfSome before.now (λ plane.
         IsPlaneBefore (V.extent view.now) (V.passes view.now class) parts.now class (arc_value plane)) }
@@ -147,7 +155,7 @@ fn next_plane<V: View>(
 {
     match before {
         Some(plane) => {
-            let next = updated_plane(alloc, view, class, parts, plane)?;
+            let next = updated_plane(alloc, view, class, reads, parts, plane)?;
             Ok(Some(next))
         }
         None => Ok(None),
@@ -155,14 +163,17 @@ fn next_plane<V: View>(
 }
 
 /// The plane of the class after some parts have changed. It is the same plane, where none has for the class.
-fn updated_plane<V: View>(
+fn updated_plane<V: Rows>(
     alloc: Global,
     view: &V,
     class: Class,
+    reads: &[ReadRect],
     parts: &[ChangedPart],
     before: &Arc<ClassPlane, Global>,
 ) -> Result<Arc<ClassPlane, Global>, NoMemory>
     requires class { class < V.class_count view.now }
+    requires read { All (AreRead (V.extent view.now) (V.class_count view.now) (V.passes view.now)) reads.now }
+    requires unread { (cell : Cell) → IsUnread reads.now cell → IsKept parts.now class cell }
     requires inside { All (λ part. IsRectInside (V.extent view.now) part.rect) parts.now }
     requires before { IsPlaneBefore (V.extent view.now) (V.passes view.now class) parts.now class
         (arc_value before.now) }
@@ -172,6 +183,6 @@ fn updated_plane<V: View>(
     if rects.is_empty() {
         return Ok(Arc::try_clone(before)?);
     }
-    let plane = before.updated(alloc, view, class, &rects)?;
+    let plane = before.renewed(alloc, view, class, reads, &rects)?;
     Ok(Arc::new(alloc, plane)?)
 }

@@ -117,7 +117,7 @@ impl Scratch {
 }
 
 /// Reads the numbers of row `j`. The places past the row have every bit set, as impassable cells have.
-fn read_row<V: Rows>(view: &V, j: u16, row: &mut [u16])
+pub fn read_row<V: Rows>(view: &V, j: u16, row: &mut [u16])
     requires row { j < (V.extent view.now).h }
     requires room { (V.extent view.now).w ≤ length row.old }
     ensures stays { length row.new ≡ length row.old }
@@ -129,7 +129,7 @@ fn read_row<V: Rows>(view: &V, j: u16, row: &mut [u16])
 }
 
 /// Writes the bits of the places that are free of the class.
-fn free_words(row: &[u16], class: u8, line: &mut [u64])
+pub fn free_words(row: &[u16], class: u8, line: &mut [u64])
     requires class { class < 16 }
     requires words { length row.now ≡ 64 * length line.old }
     ensures stays { length line.new ≡ length line.old }

@@ -1,6 +1,6 @@
 //! All bits of a plane, also of one that follows a change, and the runs over it against the cells of a map that is wider
 //! and higher than a word, and which classes have planes.
-ghost use Rattle.std.specs.Prelude.{true, false, ◌≡◌, ◌==◌, ◌<◌, ◌&&◌, not, nat_lt, nat_le, slice_index_or, IsTrue, IfOk, IfSome};
+ghost use Rattle.std.specs.Prelude.{ℕ, Bool, true, false, ◌≡◌, ◌==◌, ◌<◌, ◌&&◌, not, nat_lt, nat_le, slice_index_or, IsTrue, IfOk, IfSome};
 ghost use Rattle.std.specs.Int.{bit_at};
 ghost use Rattle.std.proofs.lemmas.Bool.{and_parts, ltb-true};
 ghost use Rattle.nav_types.specs.Cells.{IsRectInside};
@@ -295,12 +295,12 @@ fn runs_stop_at_the_same_cells_by_words_and_by_cells(rt: HostRuntime) -> Result<
 
 /// A map with one rectangle blocked for class 0.
 #[derive(Drop)]
-struct Walled<'a, V: View> {
+struct Walled<'a, V: Rows> {
     view: &'a V,
     wall: Rect,
 }
 
-impl<'a, V: View> View for Walled<'a, V> {
+impl<'a, V: Rows> View for Walled<'a, V> {
     ghost extent = { λ map. V.extent map.view.now };
 
     ghost class_count = { λ map. V.class_count map.view.now };
@@ -325,6 +325,24 @@ impl<'a, V: View> View for Walled<'a, V> {
         (V.passes map.view.now class cell) (not (class == 0
         && ((nat_le map.wall.i0 cell.i && nat_le cell.i map.wall.i1)
         && (nat_le map.wall.j0 cell.j && nat_le cell.j map.wall.j1)))) passing).0 };
+}
+
+impl<'a, V: Rows> Rows for Walled<'a, V> {
+    fn row_bits(&self, j: u16, out: &mut [u16]) {
+        self.view.row_bits(j, out);
+        for i in 0..self.view.size().w {
+            let place = usize::from(i);
+            out[place] = with_wall(out[place], holds(self.wall, Cell::new(i, j)));
+        }
+    }
+}
+
+/// The number of a cell that is blocked for class 0 too, where a wall stands on it.
+fn with_wall(number: u16, blocked: bool) -> u16
+    ensures { (class : ℕ) (free : Bool) → bit_at number class ≡ bit_of free
+        → bit_at result class ≡ bit_of (free && not (class == 0 && blocked)) }
+{
+    if blocked { number | 1 } else { number }
 }
 
 /// Whether the rectangle holds the cell.

@@ -190,9 +190,10 @@ fn push_columns(
         (size.h / 64 + 1) (16 * half + 16) words.new.items) }
 {
     let numbers = numbers_of(alloc, rows, size, 2 * band + half, span)?;
+    let mut part = vec![in alloc; 0; usize::from(span.to - span.from)]?;
     for k in 0..GROUP {
         let line = before.line(32 * band + 16 * half + u16::from(k));
-        push_column(alloc, line, span.from, &numbers, k, words)?;
+        push_column(line, span.from, &numbers, k, &mut part, words)?;
     }
     Ok(())
 }
@@ -249,23 +250,25 @@ fn number_at(rows: &Lines, size: Size, group: u16, j: u16) -> u16
     }
 }
 
-/// Appends a column: the bits k of the numbers from word `from` on, and elsewhere the bits of the old one.
+/// Appends a column: the bits k of the numbers from word `from` on, and elsewhere the bits of the old one. `part` has
+/// room for the words of those bits.
 fn push_column(
-    alloc: Global,
     old: &[u64],
     from: u16,
     numbers: &[u16],
     k: u8,
+    part: &mut [u64],
     words: &mut Vec<u64>,
 ) -> Result<(), NoMemory>
     requires bit { k < 16 }
     requires whole { length numbers.now ≡ 64 * (length numbers.now / 64) }
     requires within { from + length numbers.now / 64 ≤ length old.now }
-    ensures { OnOk result (HasNextLine old.now numbers.now k from words.old.items words.new.items) }
+    requires room { length part.old ≡ length numbers.now / 64 }
+    ensures stays { length part.new ≡ length part.old }
+    ensures line { OnOk result (HasNextLine old.now numbers.now k from words.old.items words.new.items) }
 {
-    let mut part = vec![in alloc; 0; numbers.len() / 64]?;
-    plane_words(numbers, k, &mut part);
-    push_patched(old, usize::from(from), &part, words)
+    plane_words(numbers, k, part);
+    push_patched(old, usize::from(from), part, words)
 }
 
 /// Appends the line with some of its words replaced.

@@ -17,7 +17,7 @@ use Rattle.chunk_regions.specs.Labelling.{chunk_rect}
 use Rattle.obstruction_store.specs.Standing.{Standing}
 use Rattle.grid_versions.specs.Maps.{Map}
 use Rattle.grid_versions.specs.Passing.{is_in_rect, has_base, is_blocked}
-use Rattle.grid_versions.specs.inner.Painting.{IsBaseChunk, IsPaintedChunk}
+use Rattle.grid_versions.specs.inner.Painting.{is_covered, IsPaintedChunk}
 use Rattle.grid_versions.specs.inner.Reaching.{is_in_some, CoverChanges}
 use Rattle.grid_versions.proofs.PassingLemmas.{in_rect_from, in_rect_to}
 use Rattle.grid_versions.proofs.VersionLemmas.{rect_inside}
@@ -52,11 +52,11 @@ module _ (map : Map) (earlier now : Standing) (rects : List Rect)
     bits = λ k cell inside. old_bit k cell inside (false_from_ne_true (is_in_some rects cell) (none cell inside));
   }
 
-  module _ (part : Rect) (base patch : Numbering) (under : IsBaseChunk map chunk base) (within : IsPartOf old.rect part)
+  module _ (part : Rect) (patch : Numbering) (within : IsPartOf old.rect part)
       (held : (cell : Cell) → IsInRect old.rect cell → IsTrue (is_in_some rects cell) → IsInRect part cell)
       (same_rect : patch.rect ≡ old.rect) (whole : length patch.numbers ≡ columns patch.rect * rows patch.rect)
       (bits : (k : ℕ) (cell : Cell) → IsInRect part cell
-      → has_class k (number_of patch cell) ≡ (has_class k (number_of base cell) || is_blocked map now k cell))
+      → has_class k (number_of patch cell) ≡ is_covered map now k cell)
       (others : (cell : Cell) → IsInRect old.rect cell → ¬ IsInRect part cell
       → number_of patch cell ≡ number_of old cell) where
     -- a chunk whose part is painted anew
@@ -66,9 +66,8 @@ module _ (map : Map) (earlier now : Standing) (rects : List Rect)
       whole = whole;
       bits = λ k cell inside.
           let in_old = subst (λ (r : Rect). IsInRect r cell) same_rect inside in
-          let in_base = subst (λ (r : Rect). IsInRect r cell) (was.extent ∙ sym under.extent) in_old in
           rect_cases part cell
-          (λ here. bits k cell here ∙ ap (λ b. b || is_blocked map now k cell) (under.bits k cell in_base))
+          (λ here. bits k cell here)
           (λ out. ap (λ n. has_class k n) (others cell in_old out)
           ∙ old_bit k cell in_old (false_from_ne_true (is_in_some rects cell) (λ is. out (held cell in_old is))));
     }

@@ -1,5 +1,5 @@
 -- Bits that are set one after another in a patch: a rectangle's rows, base rectangles and obstructions.
-use Rattle.std.proofs.Common.{◌≡◌, ℕ, ◌+◌, ◌*◌, ◌<◌, ◌≤◌, ◌==◌, Bool, true, false, ◌&&◌, ◌||◌, max, List, [], ◌∷◌}
+use Rattle.std.proofs.Common.{◌≡◌, ℕ, ◌+◌, ◌*◌, ◌<◌, ◌≤◌, ◌==◌, ◌⊎◌, inl, inr, Bool, true, false, ◌&&◌, ◌||◌, max, List, [], ◌∷◌}
 use Rattle.std.proofs.Common.{length, get_or, drop, replicate, refl, sym, ap, subst, ◌∙◌, ⊎_elim, arith}
 use Rattle.std.specs.Prelude.{nat_lt, bit_or, ◌↔◌}
 use Rattle.std.specs.Int.{bit_at}
@@ -237,3 +237,28 @@ base_bits map rect empty all extent numbers set k cell inside =
     ap (λ n. has_class k n) none ∙ ap (λ b. b == 1) (bit_at-zero k) in
     class_after (number_of empty cell) (all cell) k (has_base map k cell) (set.bits cell k inside)
     ∙ ap (λ b. b || has_base map k cell) clear
+
+-- ---- bits that are set already
+
+over_bit : (n k : ℕ) (listed all : Bool) → (listed ≡ true → all ≡ true)
+    → (all ≡ true → (has_class k n ≡ true) ⊎ (listed ≡ true))
+    → max (bit_at n k) (one_if listed) ≡ max (bit_at n k) (one_if all)
+over_bit n k true true some each = refl
+over_bit n k false false some each = refl
+over_bit n k true false some each = absurd (both_ways false refl (some refl))
+over_bit n k false true some each = elim (each refl) [
+  | inl set ↦ let one : bit_at n k ≡ 1 = eqb-true (bit_at n k) 1 set in omega arith
+  | inr holds ↦ absurd (both_ways false refl holds)
+]
+
+-- a test that holds where another one does, and besides only where the bit is set already
+pub raster_over : (rect part : Rect) (listed all : Test) (old new : Numbers)
+    → ((k : ℕ) (cell : Cell) → IsInRect part cell → listed k cell ≡ true → all k cell ≡ true)
+    → ((k : ℕ) (cell : Cell) → IsInRect part cell → all k cell ≡ true
+    → (has_class k (old cell) ≡ true) ⊎ (listed k cell ≡ true))
+    → IsRasterIn rect part listed old new → IsRasterIn rect part all old new
+raster_over rect part listed all old new some each is = record {
+  bits = λ cell k inside. is.bits cell k inside
+      ∙ over_bit (old cell) k (listed k cell) (all k cell) (some k cell inside) (each k cell inside);
+  others = is.others;
+}

@@ -1,6 +1,6 @@
 -- Lists that have the obstructions that reach into a rectangle.
-use Rattle.std.proofs.Common.{◌≡◌, ℕ, ◌⊎◌, Bool, true, false, List, [], ◌∷◌, ◌++◌, Option, None, Some, IsTrue}
-use Rattle.std.proofs.Common.{refl, sym, ap, ⊎_elim, ◌∙◌, inl, inr}
+use Rattle.std.proofs.Common.{◌≡◌, ℕ, ◌⊎◌, ◌||◌, Bool, true, false, List, [], ◌∷◌, ◌++◌, Option, None, Some, IsTrue}
+use Rattle.std.proofs.Common.{refl, sym, ap, subst, ⊎_elim, ◌∙◌, inl, inr}
 use Rattle.std.specs.List.{list_any, Contains}
 use Rattle.std.specs.Option.{option_map_or}
 use Rattle.std.specs.FinMap as fin_map
@@ -9,6 +9,7 @@ use Rattle.std.proofs.lemmas.List.Elements.{Contains-push, Contains-append_left}
 use Rattle.nav_types.specs.declared.cells.Cell.{Cell}
 use Rattle.nav_types.specs.declared.cells.Rect.{Rect}
 use Rattle.nav_types.specs.Cells.{IsInRect, IsRectInside}
+use Rattle.lane_rows.specs.Rows.{has_class}
 use Rattle.navcell_grid.specs.Patches.{IsPartOf}
 use Rattle.obstruction_shapes.specs.declared.shapes.Obstruction.{Obstruction}
 use Rattle.clearance_raster.specs.Rasters.{blocks_class}
@@ -18,9 +19,10 @@ use Rattle.obstruction_store.specs.Standing.{Standing}
 use Rattle.obstruction_store.proofs.Listing.{Contains-entries}
 use Rattle.grid_versions.specs.declared.reachers.Reacher.{Reacher}
 use Rattle.grid_versions.specs.Maps.{Map}
-use Rattle.grid_versions.specs.Passing.{is_blocked}
-use Rattle.grid_versions.specs.inner.Reaching.{is_in_some, LiesWithin}
-use Rattle.grid_versions.specs.inner.Reachers.{blocks_under, HoldReachers, IsReached, HoldReached}
+use Rattle.grid_versions.specs.Passing.{has_base, is_blocked}
+use Rattle.grid_versions.specs.inner.Painting.{is_covered}
+use Rattle.grid_versions.specs.inner.Reaching.{is_in_some, LiesWithin, NameChanges, OnlyAdds}
+use Rattle.grid_versions.specs.inner.Reachers.{blocks_under, HoldReachers, HoldUnpainted, IsReached, HoldReached}
 use Rattle.grid_versions.proofs.PassingLemmas.{none_meets, any_none}
 
 -- ---- what stands under a number
@@ -49,29 +51,128 @@ module _ (map : Map) (standing : Standing) (k : ℕ) (cell : Cell) where
       under_found id o stands
       ∙ none_meets block_test (fin_map.entries standing) none (id, o) ((Contains-entries standing id o).1 stands)
 
-  none_blocks : (rect : Rect) (ids : List ℕ) → HoldReachers map standing rect ids → IsInRect rect cell
-      → list_any (blocks_under map standing k cell) ids ≡ false → is_blocked map standing k cell ≡ false
+  -- what is listed blocks
+  pub listed_blocks : (ids : List ℕ) → list_any (blocks_under map standing k cell) ids ≡ true
+      → is_blocked map standing k cell ≡ true
+  listed_blocks ids listed = true_from_ne_false (is_blocked map standing k cell) (λ none.
+      both_ways (list_any (blocks_under map standing k cell) ids)
+      (any_none (blocks_under map standing k cell) ids (λ id has. none_under none id (fin_map.get standing id) refl))
+      listed)
+
+  -- what one obstruction blocks is blocked
+  pub one_blocks : (id : ℕ) (o : Obstruction) → fin_map.get standing id ≡ Some o
+      → blocks_class o map.classes k cell ≡ true → is_blocked map standing k cell ≡ true
   unfolding block_test
-  none_blocks rect ids holds inside none =
+  one_blocks id o stands blocks = true_from_ne_false (is_blocked map standing k cell) (λ none.
+      both_ways (blocks_class o map.classes k cell)
+      (none_meets block_test (fin_map.entries standing) none (id, o) ((Contains-entries standing id o).1 stands)) blocks)
+
+  unpainted_none : (rect : Rect) (numbers : Cell → ℕ) (ids : List ℕ) → HoldUnpainted map standing rect numbers ids
+      → IsInRect rect cell → has_class k (numbers cell) ≡ false → list_any (blocks_under map standing k cell) ids ≡ false
+      → is_blocked map standing k cell ≡ false
+  unfolding block_test
+  unpainted_none rect numbers ids holds inside clear none =
       any_none block_test (fin_map.entries standing) (λ entry listed.
       let stands = (Contains-entries standing entry.0 entry.1).0 listed in
       false_from_ne_true (blocks_class entry.1 map.classes k cell) (λ blocks.
-      both_ways (blocks_under map standing k cell entry.0)
-      (none_meets (blocks_under map standing k cell) ids none entry.0
-      (holds.all entry.0 entry.1 stands k cell inside blocks))
-      (under_found entry.0 entry.1 stands ∙ blocks)))
+      elim (holds.all entry.0 entry.1 stands k cell inside blocks) [
+        | inl set ↦ both_ways (has_class k (numbers cell)) clear set
+        | inr has ↦
+            both_ways (blocks_under map standing k cell entry.0)
+            (none_meets (blocks_under map standing k cell) ids none entry.0 has)
+            (under_found entry.0 entry.1 stands ∙ blocks)
+      ]))
 
-  -- what the listed obstructions block is what all block
-  pub listed_blocked : (rect : Rect) (ids : List ℕ) → HoldReachers map standing rect ids → IsInRect rect cell
-      → list_any (blocks_under map standing k cell) ids ≡ is_blocked map standing k cell
-  listed_blocked rect ids holds inside = ⊎_elim
-      (λ (blocked : is_blocked map standing k cell ≡ true).
-      true_from_ne_false (list_any (blocks_under map standing k cell) ids) (λ none.
-      both_ways (is_blocked map standing k cell) (none_blocks rect ids holds inside none) blocked) ∙ sym blocked)
-      (λ (none : is_blocked map standing k cell ≡ false).
-      any_none (blocks_under map standing k cell) ids (λ id has. none_under none id (fin_map.get standing id) refl)
-      ∙ sym none)
-      (cases_Bool (is_blocked map standing k cell))
+  -- what blocks is listed, or the bit is set already
+  pub blocked_listed : (rect : Rect) (numbers : Cell → ℕ) (ids : List ℕ)
+      → HoldUnpainted map standing rect numbers ids → IsInRect rect cell → is_blocked map standing k cell ≡ true
+      → (has_class k (numbers cell) ≡ true) ⊎ (list_any (blocks_under map standing k cell) ids ≡ true)
+  blocked_listed rect numbers ids holds inside blocked = ⊎_elim
+      (λ (set : has_class k (numbers cell) ≡ true). inl set)
+      (λ (clear : has_class k (numbers cell) ≡ false).
+      inr (true_from_ne_false (list_any (blocks_under map standing k cell) ids) (λ none.
+      both_ways (is_blocked map standing k cell) (unpainted_none rect numbers ids holds inside clear none) blocked)))
+      (cases_Bool (has_class k (numbers cell)))
+
+-- a list of all is one of those that have not set their bits
+pub all_unpainted : (map : Map) (standing : Standing) (rect : Rect) (numbers : Cell → ℕ) (ids : List ℕ)
+    → HoldReachers map standing rect ids → HoldUnpainted map standing rect numbers ids
+all_unpainted map standing rect numbers ids holds =
+    record { all = λ id o stands k cell inside blocks. inr (holds.all id o stands k cell inside blocks) }
+
+-- other numbers that are the same in the rectangle
+pub unpainted_same : (map : Map) (standing : Standing) (rect : Rect) (a b : Cell → ℕ) (ids : List ℕ)
+    → ((cell : Cell) → IsInRect rect cell → b cell ≡ a cell) → HoldUnpainted map standing rect a ids
+    → HoldUnpainted map standing rect b ids
+unpainted_same map standing rect a b ids same holds = record {
+  all = λ id o stands k cell inside blocks. elim (holds.all id o stands k cell inside blocks) [
+    | inl set ↦ inl (ap (λ n. has_class k n) (same cell inside) ∙ set)
+    | inr has ↦ inr has
+  ];
+}
+
+-- ---- obstructions that are added
+
+-- where nothing stood under the listed numbers, all that has changed is that theirs were added
+pub only_adds : (map : Map) (before now : Standing) (rects : List Rect) (ids added : List ℕ)
+    → NameChanges map before now rects ids → added ≡ ids
+    → ((id : ℕ) → Contains added id → fin_map.get before id ≡ None) → OnlyAdds before now added
+only_adds map before now rects ids added names all none = record {
+  kept = λ id o stood. elim (names.each id) [
+    | inl same ↦ same ∙ stood
+    | inr named ↦
+        let nothing : fin_map.get before id ≡ None =
+        none id (subst (λ (xs : List ℕ). Contains xs id) (sym all) named.0) in
+        let apart : Some o ≡ None = sym stood ∙ nothing in absurd (cc)
+  ];
+  named = λ id o stands. elim (names.each id) [
+    | inl same ↦ inl (sym same ∙ stands)
+    | inr named ↦ inr (subst (λ (xs : List ℕ). Contains xs id) (sym all) named.0)
+  ];
+}
+
+or_absorb : (b e n : Bool) → (e ≡ true → n ≡ true) → ((b || e) || n) ≡ (b || n)
+or_absorb true e n later = refl
+or_absorb false true n later = sym (later refl)
+or_absorb false false n later = refl
+
+or_second : (b e : Bool) → e ≡ true → (b || e) ≡ true
+or_second true e is = refl
+or_second false e is = is
+
+module _ (map : Map) (earlier now : Standing) (added : List ℕ) (adds : OnlyAdds earlier now added) where
+  -- what was blocked is
+  stays_blocked : (k : ℕ) (cell : Cell) → is_blocked map earlier k cell ≡ true → is_blocked map now k cell ≡ true
+  stays_blocked k cell was = true_from_ne_false (is_blocked map now k cell) (λ none.
+      both_ways (is_blocked map earlier k cell)
+      (any_none (λ (entry : ℕ × Obstruction). blocks_class entry.1 map.classes k cell) (fin_map.entries earlier)
+      (λ entry listed.
+      none_meets (λ (e : ℕ × Obstruction). blocks_class e.1 map.classes k cell) (fin_map.entries now) none entry
+      ((Contains-entries now entry.0 entry.1).1
+      (adds.kept entry.0 entry.1 ((Contains-entries earlier entry.0 entry.1).0 listed)))))
+      was)
+
+  module _ (rect : Rect) (old : Cell → ℕ)
+      (bits : (k : ℕ) (cell : Cell) → IsInRect rect cell → has_class k (old cell) ≡ is_covered map earlier k cell) where
+    -- over numbers of before, the added ones are all that are left
+    pub added_unpainted : HoldUnpainted map now rect old added
+    added_unpainted = record {
+      all = λ id o stands k cell inside blocks. elim (adds.named id o stands) [
+        | inl stood ↦
+            inl (bits k cell inside
+            ∙ or_second (has_base map k cell) (is_blocked map earlier k cell)
+            (one_blocks map earlier k cell id o stood blocks))
+        | inr listed ↦ inr listed
+      ];
+    }
+
+    -- a bit of before or of now
+    pub covered_now : (k : ℕ) (cell : Cell) → IsInRect rect cell
+        → (has_class k (old cell) || is_blocked map now k cell) ≡ is_covered map now k cell
+    covered_now k cell inside =
+        ap (λ b. b || is_blocked map now k cell) (bits k cell inside)
+        ∙ or_absorb (has_base map k cell) (is_blocked map earlier k cell) (is_blocked map now k cell)
+        (stays_blocked k cell)
 
 -- a list for a rectangle serves for a part of it
 pub HoldReachers-part : (map : Map) (standing : Standing) (rect part : Rect) (ids : List ℕ)

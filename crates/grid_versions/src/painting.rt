@@ -11,7 +11,7 @@ ghost use Rattle.clearance_raster.specs.inner.TestRasters.{IsRasterIn};
 ghost use Rattle.obstruction_store.specs.Standing.{AllFit};
 ghost use Rattle.grid_versions.specs.Passing.{is_in_rect, has_base, is_blocked};
 ghost use Rattle.grid_versions.specs.inner.Painting.{AreBaseChunks, ArePaintedChunks};
-ghost use Rattle.grid_versions.specs.inner.Reachers.{blocks_under, HoldReachers, AreReachers};
+ghost use Rattle.grid_versions.specs.inner.Reachers.{blocks_under, HoldUnpainted, AreReachers};
 
 use crate::chunk_cells::ChunkCells;
 use crate::chunks;
@@ -123,7 +123,7 @@ fn paint_part(patch: &mut Patch, rect: Rect, part: Rect, mask: u16)
 
 /// A copy of a patch in which the cells of a part are painted anew: each has the number that it has under the base
 /// rectangles, with the bits of the obstructions. The part lies in the patch and in the map, and the list has the
-/// obstructions that reach into it.
+/// obstructions that reach into it, but for those that have set their bits in `base` already.
 pub fn repainted(
     alloc: Global,
     map: &MapSpec,
@@ -134,7 +134,7 @@ pub fn repainted(
     part: Rect,
 ) -> Result<Patch, NoMemory>
     requires fit { AllFit map.now.size shapes.now }
-    requires near { HoldReachers map.now shapes.now part near.now }
+    requires near { HoldUnpainted map.now shapes.now part (number_of base.now) near.now }
     requires base { base.now.rect ≡ old.now.rect }
     requires inside { IsRectInside map.now.size part }
     requires part { IsPartOf old.now.rect part }
@@ -153,10 +153,11 @@ pub fn repainted(
     Ok(patch)
 }
 
-/// Sets the bits of all obstructions in a part of a patch. The list has those that reach into it.
+/// Sets the bits of all obstructions in a part of a patch. The list has those that reach into it, but for those that
+/// have set their bits already.
 fn paint_shapes(patch: &mut Patch, part: Rect, map: &MapSpec, shapes: &Store, near: &[u32])
     requires fit { AllFit map.now.size shapes.now }
-    requires near { HoldReachers map.now shapes.now part near.now }
+    requires near { HoldUnpainted map.now shapes.now part (number_of patch.old) near.now }
     requires inside { IsRectInside map.now.size part }
     requires part { IsPartOf patch.old.rect part }
     ensures rect { patch.new.rect ≡ patch.old.rect }

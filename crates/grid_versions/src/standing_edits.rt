@@ -1,5 +1,6 @@
 //! Edits applied to the standing obstructions.
-ghost use Rattle.std.specs.Prelude.{◌≡◌, ◌++◌, option_to_list, IfOk, OnOk};
+ghost use Rattle.std.specs.Prelude.{ℕ, ◌≡◌, ◌<◌, ◌++◌, option_to_list, None, Contains, length, IfOk, OnOk};
+ghost use Rattle.std.specs.FinMap as fin_map;
 ghost use Rattle.obstruction_store.specs.Standing.{Standing, AllFit};
 ghost use Rattle.grid_versions.specs.Fitting.{fits};
 ghost use Rattle.grid_versions.specs.Editing.{edit_reply, after_edit, add_reply, remove_reply};
@@ -61,6 +62,19 @@ pub fn reach_under(map: &MapSpec, shapes: &Store, id: u32) -> Option<Rect>
 {
     let obstruction = shapes.get(id)?;
     reach_of(obstruction, map.classes(), map.size())
+}
+
+/// The numbers, where nothing stands under any of them; else none of them.
+pub fn numbers_added<'a>(shapes: &Store, ids: &'a [u32]) -> &'a [u32]
+    ensures all { 0 < length result.now → result.now ≡ ids.now }
+    ensures added { (id : ℕ) → Contains result.now id → fin_map.get shapes.now id ≡ None }
+{
+    for id in ids {
+        if shapes.get(*id).is_some() {
+            return &ids[..0];
+        }
+    }
+    ids
 }
 
 /// Appends the rectangle, if there is one.

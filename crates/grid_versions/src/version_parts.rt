@@ -20,6 +20,7 @@ use crate::planed_map::PlanedMap;
 use crate::reachers::{all_reachers, next_reachers};
 use crate::relabelling::marks_below;
 use crate::shared_list::SharedList;
+use crate::standing_edits::numbers_added;
 use crate::tables::ClassTables;
 use crate::versions::Tallies;
 use class_planes::Planes;
@@ -147,6 +148,8 @@ impl VersionParts {
             (passes_of (map_state self.now.map shapes)) count → ticks.new ≤ ticks.old + count }
     {
         let map: &MapSpec = &self.map;
+        let earlier: &Store = &self.shapes;
+        let added = numbers_added(earlier, ids);
         let reachers = next_reachers(alloc, map, &shapes, &self.reachers, reaches, ids)?;
         let (cells, changed) = next_patches(
             alloc,
@@ -156,6 +159,7 @@ impl VersionParts {
             &reachers,
             &self.cells,
             reaches,
+            added,
         )?;
         let painted = PaintedMap::new(map, &shapes, &cells);
         let parts = changed_parts(alloc, map.size(), reaches, &changed)?;

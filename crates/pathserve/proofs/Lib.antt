@@ -16,3 +16,11 @@ pub mod SmallJournals
 pub mod SummaryTexts
 pub mod Seeds
 pub mod AnsweredTurns
+pub mod BegunWorks
+pub mod JoinedPosts
+pub mod JournalSums
+pub mod SessionEnds
+pub mod DrivenTurns
+pub mod WrittenTexts
+pub mod WholeReadings
+pub mod ServedTexts

@@ -3,7 +3,7 @@ use Rattle.std.proofs.Common.{◌≡◌, ℕ, inl, inr, List, [], ◌∷◌, ◌
 use Rattle.std.proofs.lemmas.Bool.{true≢false}
 use Rattle.turn_core.specs.declared.posts.Post.{Post}
 use Rattle.script_text.specs.Lines.{full_lines}
-use Rattle.script_text.specs.Script.{Item, begins, adds_base, ends_turn, map_after, turns_of, beginning, Stop, Walk, walk, reading}
+use Rattle.script_text.specs.Script.{Item, begins, adds_base, ends_turn, map_after, turns_of, beginning, Stop, Walk, arrived, walk, reading}
 use Rattle.script_text.specs.Reader.{Held, unread, GoesOn, StopsAtFault, stuck_after}
 use Rattle.script_text.proofs.ReadNext.{goes_nowhere}
 use Rattle.script_text.proofs.ReadStill.{full_lines-behind}
@@ -15,7 +15,8 @@ use Rattle.pathserve.specs.Output.{Said, unsaid, with_map, Says, Gives, IsText, 
 abbrev pub Went : List ℕ → List ℕ → Held → List Item → Type 0
 Went bytes left held items = GoesOn unread held bytes left items
 
-going : {A : Type 0} → IsTrue unread.ended → A
+-- a reader that was not called has not met the end
+pub going : {A : Type 0} → IsTrue unread.ended → A
 going ended = absurd (true≢false (sym ended))
 
 pub went_nowhere : (bytes : List ℕ) → Went bytes bytes unread []
@@ -109,19 +110,24 @@ begun_stop report bytes items stop state text n stopped gives = record {
 }
 
 -- at a fault of the source all full lines taken were used
+pub walked_taken : (bytes after : List ℕ) (new : Held) (items : List Item) (s : StopsAtFault unread new bytes after items)
+    → walk (full_lines s.taken) beginning ≡ arrived items new.place
+walked_taken bytes after new items s =
+    let used = s.used in
+    let lines : full_lines s.taken ≡ used.lines =
+    ap full_lines used.bytes ∙ (full_lines-behind used.lines new.bytes used.plain
+    ∙ (ap (λ (ls : List (List ℕ)). used.lines ++ ls) s.no_line ∙ append-nil used.lines)) in
+    ap (λ (ls : List (List ℕ)). walk ls beginning) lines ∙ used.walked
+
 pub taken_here : (report : Report) (bytes left after : List ℕ) (held new : Held) (items more : List Item) (state : Said) (text : List ℕ)
     → Went bytes left held items → StopsAtFault held new left after more → Gives report unsaid (items ++ more) text state → IsTakenText report bytes after text
 taken_here report bytes left after held new items more state text w s gives =
     let stopped = fault_then unread held new bytes left after items more going w s in
-    let used = stopped.used in
-    let lines : full_lines stopped.taken ≡ used.lines =
-    ap full_lines used.bytes ∙ (full_lines-behind used.lines new.bytes used.plain
-    ∙ (ap (λ (ls : List (List ℕ)). used.lines ++ ls) stopped.no_line ∙ append-nil used.lines)) in
     record {
       taken = stopped.taken;
       took = stopped.took;
       items = items ++ more;
       place = new.place;
-      walked = ap (λ (ls : List (List ℕ)). walk ls beginning) lines ∙ used.walked;
+      walked = walked_taken bytes after new (items ++ more) stopped;
       text = (state, gives);
     }

@@ -287,7 +287,8 @@ pub stop_refused : (reads reading_now writes writing_now : ℕ) (ends : Ends) (r
 stop_refused reads reading_now writes writing_now ends refusal.Failed rose = inr (inr (inr (refl, rose refl)))
 stop_refused reads reading_now writes writing_now ends refusal.NoMemory rose = inr (inl refl)
 
-stop_bad_line : (reads reading_now writes writing_now : ℕ) (ends : Ends) (n : ℕ) (written : Result (Unit {0}) WriteRefusal) (status : Status)
+-- a bad line was named, or its name was refused
+pub stop_bad_line : (reads reading_now writes writing_now : ℕ) (ends : Ends) (n : ℕ) (written : Result (Unit {0}) WriteRefusal) (status : Status)
     → status ≡ status_after written BadLine → ends ≡ stuck_by (bad_line n) → (status ≡ WriteFault → Rose writes writing_now)
     → ComesByStop reads reading_now writes writing_now ends status
 stop_bad_line reads reading_now writes writing_now ends n (Ok whole) status is stop rose = inl (is ∙ ap stop_status (sym stop))

@@ -4,7 +4,7 @@ use Rattle.std.specs.Int.{is_in_range}
 use Rattle.std.specs.Str.Parse.{digits_value}
 use Rattle.fixed_point.specs.Text.{is_digits}
 use Rattle.pathserve.specs.declared.commands.Command.{Command}
-use Rattle.pathserve.specs.declared.commands.Command.TheVariants.{Replay, Profile, Make}
+use Rattle.pathserve.specs.declared.commands.Command.TheVariants.{Replay, Profile, Serve, Make}
 
 -- the number of two digits, if it is at most 64
 abbrev pub up_to_64 : ℕ → ℕ → Option ℕ
@@ -30,6 +30,7 @@ abbrev pub command_by : List ℕ → ℕ → Option Command
 command_by word workers =
     if bytes_eq word (codes "replay") then Some (Replay workers)
     else if bytes_eq word (codes "profile") then Some (Profile workers)
+    else if bytes_eq word (codes "serve") then Some (Serve workers)
     else None
 
 -- the command of a word and a number, by so many workers
@@ -37,8 +38,8 @@ abbrev pub make_by : List ℕ → List ℕ → ℕ → Option Command
 make_by word number workers =
     if bytes_eq word (codes "make") then option_map (λ seed. Make seed workers) (seed_of number) else None
 
--- The command of the words, where they are in the grammar: `replay`, `profile`, or `make` with a number, by 4 workers, or
--- by the number behind `--workers`.
+-- The command of the words, where they are in the grammar: `replay`, `profile`, `serve`, or `make` with a number, by 4
+-- workers, or by the number behind `--workers`.
 abbrev pub command_of : List (List ℕ) → Option Command
 command_of [] = None
 command_of (word ∷ []) = command_by word 4
@@ -53,4 +54,5 @@ command_of (word ∷ (number ∷ (option ∷ (count ∷ (next ∷ words))))) = N
 abbrev pub workers_in : Command → ℕ
 workers_in (Replay workers) = workers
 workers_in (Profile workers) = workers
+workers_in (Serve workers) = workers
 workers_in (Make seed workers) = workers

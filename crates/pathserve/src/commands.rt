@@ -18,6 +18,8 @@ pub enum Command {
     Replay { workers: u8 },
     /// The same, and tells the opened number of each path.
     Profile { workers: u8 },
+    /// Serves the callers of a script, and writes the journal that comes of it with its answers.
+    Serve { workers: u8 },
     /// Makes a match out of a number, answers it and sums it up.
     Make { seed: u64, workers: u8 },
 }
@@ -26,9 +28,9 @@ pub enum Command {
 #[derive(Clone, Copy, Debug, PartialEq, Eq)]
 pub struct NotWords;
 
-/// The command of the words: `replay`, `profile`, or `make SEED`, for 4 workers, or with `--workers N` behind it for N
-/// workers. N is 1 to 64 and SEED is below 2^64, in decimal without a sign or a leading zero. Refused exactly where the
-/// words are none of these.
+/// The command of the words: `replay`, `profile`, `serve`, or `make SEED`, for 4 workers, or with `--workers N` behind it
+/// for N workers. N is 1 to 64 and SEED is below 2^64, in decimal without a sign or a leading zero. Refused exactly
+/// where the words are none of these.
 pub fn read_words(words: &Words) -> Result<Command, NotWords>
     ensures command { result_ok result ≡ command_of words.now }
     ensures workers { IfOk result (λ command. (1 ≤ workers_in command) × (workers_in command ≤ MAX_WORKERS)) }
@@ -65,6 +67,8 @@ fn command_by(word: &[u8], workers: u8) -> Option<Command>
         Some(Command::Replay { workers })
     } else if word == b"profile".as_slice() {
         Some(Command::Profile { workers })
+    } else if word == b"serve".as_slice() {
+        Some(Command::Serve { workers })
     } else {
         None
     }

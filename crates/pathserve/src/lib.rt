@@ -7,11 +7,14 @@ mod laws;
 mod making;
 mod replay;
 mod reports;
+mod serving;
+mod sessions;
 mod status;
 mod summing;
 #[cfg(test)]
 mod tests;
 mod told_turns;
+mod works;
 mod writing;
 
 pub use bad_lines::BadLine;
@@ -23,5 +26,7 @@ pub use laws::{
 pub use making::{Made, make_script};
 pub use replay::{run, run_profile, run_replay};
 pub use reports::Report;
+pub use serving::run_serve;
+pub use sessions::serve_session;
 pub use status::Status;
 pub use summing::run_make;

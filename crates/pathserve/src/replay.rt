@@ -3,11 +3,12 @@ ghost use Rattle.std.specs.Prelude.{◌≡◌, ◌≢◌, ◌≤◌, ◌⊎◌, 
 ghost use Rattle.nav_types.specs.declared.limits.TheConstants.{MAX_WORKERS};
 ghost use Rattle.io_edges.specs.Faults.{Rose};
 ghost use Rattle.io_edges.specs.Passing.{HasGiven, HasTaken};
-ghost use Rattle.pathserve.specs.declared.commands.Command.TheVariants.{Replay, Profile, Make};
+ghost use Rattle.pathserve.specs.declared.commands.Command.TheVariants.{Replay, Profile, Serve, Make};
 ghost use Rattle.pathserve.specs.Commands.{command_of};
 ghost use Rattle.script_text.specs.Script.{reading, beginning};
 ghost use Rattle.script_text.specs.Reader.{HoldsRefused};
 ghost use Rattle.pathserve.specs.Output.{ReplaysTold, ComesByStop, MakesTold, ComesByMaking};
+ghost use Rattle.pathserve.specs.Serving.{ServesTold};
 ghost use Rattle.pathserve.specs.Reasons.{IsWhyBad};
 ghost use Rattle.pathserve.specs.inner.Stopping.{IsHeldBad};
 ghost use Rattle.pathserve.specs.inner.Writing.{StopsWith};
@@ -15,6 +16,7 @@ ghost use Rattle.pathserve.specs.inner.Writing.{StopsWith};
 use crate::bad_lines::{BadLine, why_bad};
 use crate::commands::{Command, NotWords, read_words};
 use crate::reports::Report;
+use crate::serving::run_serve;
 use crate::status::Status;
 use crate::summing::run_make;
 use crate::told_turns::answered;
@@ -28,7 +30,7 @@ use std::thread::Threads;
 use turn_core::bare_version;
 
 /// All that the program does: reads the words, and does what they ask for. Where the words are not in the grammar the
-/// status is Usage, and nothing is read or written. `make` reads nothing.
+/// status is Usage, and nothing is read or written. `make` reads nothing. Under `serve` it may wait.
 ///
 /// At every status what was read and what is left in the source are what was left in it before, the sink keeps what it
 /// took behind what it had kept, and neither count of faults has fallen.
@@ -67,6 +69,12 @@ pub fn run<R: Threads + Wait + Sync, S: Source, K: Sink, G: Gate + Sync>(
         → S.left source.old ≡ Some bytes
         → ComesByStop (S.faults source.old) (S.faults source.new) (K.faults sink.old) (K.faults sink.new)
         (reading bytes beginning).ends result }
+    ensures serve { (workers : ℕ) → command_of words.now ≡ Some (Serve workers)
+        → ServesTold (S.left source.old) (S.left source.new) (K.kept sink.old) (K.kept sink.new) result }
+    ensures serve_stop { (workers : ℕ) (bytes : List ℕ) → command_of words.now ≡ Some (Serve workers)
+        → S.left source.old ≡ Some bytes
+        → ComesByStop (S.faults source.old) (S.faults source.new) (K.faults sink.old) (K.faults sink.new)
+        (reading bytes beginning).ends result }
     ensures make { (seed workers : ℕ) → command_of words.now ≡ Some (Make seed workers)
         → MakesTold seed (K.kept sink.old) (K.kept sink.new) result }
     ensures make_status { (seed workers : ℕ) → command_of words.now ≡ Some (Make seed workers)
@@ -87,6 +95,7 @@ pub fn run<R: Threads + Wait + Sync, S: Source, K: Sink, G: Gate + Sync>(
         Ok(Command::Profile { workers }) => {
             run_profile(rt, alloc, workers, source, sink, gate, why)
         }
+        Ok(Command::Serve { workers }) => run_serve(rt, alloc, workers, source, sink, gate, why),
         Ok(Command::Make { seed, workers }) => {
             *why = None;
             run_make(rt, alloc, seed, workers, sink, gate)
@@ -241,7 +250,7 @@ fn run_report<R: Threads + Sync, S: Source, K: Sink, G: Gate + Sync>(
 }
 
 /// The status where no part of the script came. A bad line is named, and then it is found why it is bad.
-fn stop_at<K: Sink>(
+pub(crate) fn stop_at<K: Sink>(
     alloc: Global,
     sink: &mut K,
     reader: &ScriptReader,

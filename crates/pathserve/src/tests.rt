@@ -11,6 +11,7 @@ use std::thread::Threads;
 
 mod made_matches;
 mod scripts;
+mod serving;
 mod side_by_side;
 mod turn_by_turn;
 

@@ -1,8 +1,7 @@
 -- Collecting the pairs that meet along a border, place by place.
-use Rattle.std.proofs.Common.{ℕ, ◌≡◌, ◌≢◌, ◌+◌, ◌↔◌, ◌⊎◌, List, [], ◌∷◌, ◌++◌, ap, inl, inr, sym, subst, ◌∙◌, arith}
+use Rattle.std.proofs.Common.{ℕ, ◌≡◌, ◌≢◌, ◌<◌, ◌≤◌, ◌↔◌, ◌⊎◌, List, [], inl, inr, sym, subst, ◌∙◌, arith}
 use Rattle.std.specs.List.{Contains}
 use Rattle.std.proofs.lemmas.Bool.{cases_lt}
-use Rattle.std.proofs.lemmas.List.Elements.{Contains-push, Contains-append_left, Contains-push_cases}
 use Rattle.chunk_regions.specs.Labelling.{Labelling}
 use Rattle.region_edges.specs.declared.neighbours.Side.{Side}
 use Rattle.region_edges.specs.inner.Borders.{Meets, numbers_at}
@@ -15,46 +14,33 @@ pub AreMeetings-none : (side : Side) (here there : Labelling) → AreMeetings si
 AreMeetings-none side here there pair =
     (λ inside. absurd (omega (arith, inside.1)), λ meets. let less = meets.within in absurd (omega arith))
 
--- what meets at the first places still does with one place more
-Meets-more : (side : Side) (here there : Labelling) (places : ℕ) (pair : ℕ × ℕ) → Meets side here there places pair → Meets side here there (places + 1) pair
-Meets-more side here there places pair meets = let less = meets.within in
+-- what meets at the first places still does with more places
+Meets-more : (side : Side) (here there : Labelling) (places more : ℕ) (pair : ℕ × ℕ) → places ≤ more → Meets side here there places pair
+    → Meets side here there more pair
+Meets-more side here there places more pair rises meets = let less = meets.within in
     record { at = meets.at; within = omega arith; is = meets.is; near_passable = meets.near_passable; far_passable = meets.far_passable }
 
--- what meets with one place more did so before, or is the pair there
-Meets-cases : (side : Side) (here there : Labelling) (places : ℕ) (pair : ℕ × ℕ) → Meets side here there (places + 1) pair
-    → Meets side here there places pair ⊎ (numbers_at side here there places ≡ pair)
-Meets-cases side here there places pair meets =
-    let less = meets.within in
-    elim (cases_lt meets.at places) [
-      | inl before ↦ inl (record { at = meets.at; within = before; is = meets.is; near_passable = meets.near_passable; far_passable = meets.far_passable })
-      | inr last ↦ let same : places ≡ meets.at = omega arith in inr (ap (λ (at : ℕ). numbers_at side here there at) same ∙ meets.is)
-    ]
-
-pub AreMeetings-push : (side : Side) (here there : Labelling) (places : ℕ) (pairs : List (ℕ × ℕ)) (next : ℕ × ℕ)
-    → AreMeetings side here there places pairs → next ≡ numbers_at side here there places → next.0 ≢ 0 → next.1 ≢ 0
-    → AreMeetings side here there (places + 1) (pairs ++ next ∷ [])
-AreMeetings-push side here there places pairs next are is near far pair = (
-  λ inside. elim (Contains-push_cases pairs next pair inside) [
-    | inl before ↦ Meets-more side here there places pair ((are pair).0 before)
-    | inr same ↦
-        subst (λ (p : ℕ × ℕ). Meets side here there (places + 1) p) same
-        (record { at = places; within = omega arith; is = sym is; near_passable = near; far_passable = far })
-  ],
-  λ meets. elim (Meets-cases side here there places pair meets) [
-    | inl before ↦ Contains-append_left pairs (next ∷ []) pair ((are pair).1 before)
-    | inr last ↦ subst (λ (p : ℕ × ℕ). Contains (pairs ++ next ∷ []) p) (is ∙ last) (Contains-push pairs next)
-  ],
-)
-
-pub AreMeetings-skip : (side : Side) (here there : Labelling) (places : ℕ) (pairs : List (ℕ × ℕ)) (next : ℕ × ℕ)
-    → AreMeetings side here there places pairs → next ≡ numbers_at side here there places → (next.0 ≢ 0 → next.1 ≢ 0 → ⊥)
-    → AreMeetings side here there (places + 1) pairs
-AreMeetings-skip side here there places pairs next are is blocked pair = (
-  λ inside. Meets-more side here there places pair ((are pair).0 inside),
-  λ meets. elim (Meets-cases side here there places pair meets) [
-    | inl before ↦ (are pair).1 before
+-- the pair of the next part of the border, if it is one of two regions, is put to those that meet before
+pub AreMeetings-part : (side : Side) (here there : Labelling) (places end : ℕ) (pairs more : List (ℕ × ℕ)) (next : ℕ × ℕ)
+    → AreMeetings side here there places pairs → places < end → ((place : ℕ) → places ≤ place → place < end → numbers_at side here there place ≡ next)
+    → ((other : ℕ × ℕ) → Contains more other ↔ (Contains pairs other ⊎ ((other ≡ next) × (next.0 ≢ 0) × (next.1 ≢ 0))))
+    → AreMeetings side here there end more
+AreMeetings-part side here there places end pairs more next are further along added pair = (
+  λ inside. elim ((added pair).0 inside) [
+    | inl before ↦ Meets-more side here there places end pair (omega arith) ((are pair).0 before)
     | inr last ↦
-        let same : pair ≡ next = sym (is ∙ last) in
-        absurd (blocked (subst (λ (p : ℕ × ℕ). p.0 ≢ 0) same meets.near_passable) (subst (λ (p : ℕ × ℕ). p.1 ≢ 0) same meets.far_passable))
+        subst (λ (p : ℕ × ℕ). Meets side here there end p) (sym last.0)
+        (record { at = places; within = further; is = along places (omega arith) further; near_passable = last.1; far_passable = last.2 })
+  ],
+  λ meets. elim (cases_lt meets.at places) [
+    | inl before ↦ (added pair).1 (inl ((are pair).1
+        (record { at = meets.at; within = before; is = meets.is; near_passable = meets.near_passable; far_passable = meets.far_passable })))
+    | inr later ↦
+        let same : pair ≡ next = sym meets.is ∙ along meets.at (omega arith) meets.within in
+        (added pair).1 (inr (
+          same,
+          subst (λ (p : ℕ × ℕ). p.0 ≢ 0) same meets.near_passable,
+          subst (λ (p : ℕ × ℕ). p.1 ≢ 0) same meets.far_passable,
+        ))
   ],
 )

@@ -1,4 +1,4 @@
-ghost use Rattle.std.specs.Prelude.{ℕ, ◌≡◌, ◌<◌, ◌≤◌, ◌↔◌, IfOk, Contains, AllPairs};
+ghost use Rattle.std.specs.Prelude.{ℕ, ◌≡◌, ◌≢◌, ◌<◌, ◌≤◌, ◌↔◌, ◌⊎◌, IsTrue, IfOk, OnOk, Contains, AllPairs};
 ghost use Rattle.nav_types.specs.Numbering.{IsPatch};
 ghost use Rattle.region_edges.specs.Edges.{AreNeighbours, IsPairBefore};
 ghost use Rattle.region_edges.specs.inner.Borders.{border_length, numbers_at, Meets};
@@ -19,23 +19,44 @@ fn length(rect: Rect, side: Side) -> u16
     }
 }
 
-/// The region numbers of the two cells that lie side by side at a place along the border.
-fn numbers(here: &Labels, there: &Labels, side: Side, at: u16) -> (u16, u16)
+/// A part of a border along which the numbers of the two cells that lie side by side are the same.
+#[derive(Clone, Copy)]
+struct Part {
+    /// The region numbers here and there.
+    pair: (u16, u16),
+    /// The first place along the border behind it.
+    end: u16,
+}
+
+/// The part of the border from a place on, with the region numbers of its cells here and there.
+#[inline(always)]
+fn part_at(here: &Labels, there: &Labels, side: Side, at: u16) -> Part
     requires neighbours { AreNeighbours side here.now there.now }
     requires within { at < border_length side here.now.cells.rect }
-    ensures { result ≡ numbers_at side here.now there.now at }
+    ensures further { at < result.end }
+    ensures within { result.end ≤ border_length side here.now.cells.rect }
+    ensures same { (place : ℕ) → at ≤ place → place < result.end
+        → numbers_at side here.now there.now place ≡ result.pair }
 {
     let near = here.rect();
     let far = there.rect();
     match side {
-        Side::East => (
-            here.at(Cell::new(near.i1, near.j0 + at)),
-            there.at(Cell::new(far.i0, far.j0 + at)),
-        ),
-        Side::North => (
-            here.at(Cell::new(near.i0 + at, near.j1)),
-            there.at(Cell::new(far.i0 + at, far.j0)),
-        ),
+        Side::East => Part {
+            pair: (
+                here.at(Cell::new(near.i1, near.j0 + at)),
+                there.at(Cell::new(far.i0, far.j0 + at)),
+            ),
+            end: at + 1,
+        },
+        Side::North => {
+            let one = here.stretch_at(Cell::new(near.i0 + at, near.j1));
+            let other = there.stretch_at(Cell::new(far.i0 + at, far.j0));
+            // up to the end of the shorter of the two
+            Part {
+                pair: (one.region, other.region),
+                end: one.last.min(other.last) - near.i0 + 1,
+            }
+        }
     }
 }
 
@@ -50,15 +71,47 @@ pub fn meetings(
     ensures { IfOk result (λ pairs. (pair : ℕ × ℕ) → Contains pairs.items pair
         ↔ Meets side here.now there.now (border_length side here.now.cells.rect) pair) }
 {
-    let mut pairs = Vec::new(alloc);
-    for at in 0..length(here.rect(), side) {
-        let pair = numbers(here, there, side, at);
-        // the number 0 is that of impassable cells, which are of no region
-        if pair.0 != 0 && pair.1 != 0 {
-            pairs.push(pair)?;
-        }
+    // room for the pairs of most borders
+    let mut pairs = Vec::with_capacity(alloc, 8)?;
+    let length = length(here.rect(), side);
+    let mut at = 0;
+    while at < length {
+        let part = part_at(here, there, side, at);
+        add_meeting(&mut pairs, part.pair)?;
+        at = part.end;
     }
     Ok(pairs)
+}
+
+/// Appends the pair, if it is one of two regions and the list does not end with it.
+#[inline(always)]
+fn add_meeting(pairs: &mut Vec<(u16, u16)>, pair: (u16, u16)) -> Result<(), NoMemory>
+    ensures { OnOk result ((other : ℕ × ℕ) → Contains pairs.new.items other
+        ↔ (Contains pairs.old.items other ⊎ ((other ≡ pair) × (pair.0 ≢ 0) × (pair.1 ≢ 0)))) }
+{
+    // the number 0 is that of impassable cells, which are of no region
+    if pair.0 == 0 {
+        return Ok(());
+    }
+    if pair.1 == 0 {
+        return Ok(());
+    }
+    if ends_with(pairs.as_slice(), pair) {
+        return Ok(());
+    }
+    pairs.push(pair)?;
+    Ok(())
+}
+
+/// Whether the pair is the list's last.
+#[inline(always)]
+fn ends_with(pairs: &[(u16, u16)], pair: (u16, u16)) -> bool
+    ensures { IsTrue result → Contains pairs.now pair }
+{
+    match pairs.last() {
+        Some(last) => last.0 == pair.0 && last.1 == pair.1,
+        None => false,
+    }
 }
 
 /// Puts the pairs in order and drops doubles.

@@ -24,7 +24,7 @@ pub type Edges = Sequence<(u16, u16)>;
 /// The region edges across the border of two neighbouring chunks of one class and map: the pairs (region here,
 /// region there) that have passable cells side by side, each once, by the region here and then by the region there
 /// (`AreEdges`). The chunk there lies on that side of the chunk here (`AreNeighbours`). It looks at each cell
-/// along the border once, at most 96 on each side. It refuses for want of memory alone.
+/// along the border at most once, so at 96 on each side or fewer. It refuses for want of memory alone.
 pub fn between(alloc: Global, here: &Labels, there: &Labels, side: Side) -> Result<Edges, NoMemory>
     requires neighbours { AreNeighbours side here.now there.now }
     ensures edges { IfOk result (λ edges. (passes : Cell → Bool) (size : Size) → PassesInside passes size
@@ -35,7 +35,5 @@ pub fn between(alloc: Global, here: &Labels, there: &Labels, side: Side) -> Resu
     put_in_order(&mut pairs);
     // A cell has one region number at most, so the labels' numbers are those of the edges.
     one_region();
-    let mut edges = Edges::new(alloc);
-    edges.extend(pairs.as_slice())?;
-    Ok(edges)
+    Ok(Edges::from(pairs))
 }

@@ -145,7 +145,7 @@ fn edges_text(alloc: Global, edges: &Edges) -> Result<String, AllocError> {
 }
 
 // The side, the part round the border with the first row first, and the edges.
-const BORDERS: [(Side, &str, &str); 9] = [
+const BORDERS: [(Side, &str, &str); 10] = [
     (Side::East, "......", "1-1"),
     (Side::East, "...#../....#.", ""),
     (Side::East, "....##/####..", ""),
@@ -158,6 +158,11 @@ const BORDERS: [(Side, &str, &str); 9] = [
         Side::North,
         "...../###../#.#../#.#../#.#../#.#..",
         "1-2 2-1",
+    ),
+    (
+        Side::North,
+        "#######/#######/#######/...#.../.#....#",
+        "1-1 1-2 2-2",
     ),
 ];
 

@@ -16,6 +16,7 @@ pub mod GrammarValues
 pub mod GrammarLines
 pub mod GrammarGoals
 pub mod GrammarPosts
+pub mod PostVersions
 pub mod CanonTexts
 pub mod BackForms
 pub mod BackTexts

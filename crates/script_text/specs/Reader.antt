@@ -10,6 +10,7 @@ use Rattle.script_text.specs.declared.parts.Part.{Part}
 use Rattle.script_text.specs.declared.parts.Part.TheVariants.{BeforeMap, InBase, InTurns}
 use Rattle.script_text.specs.declared.causes.Cause.{Cause}
 use Rattle.script_text.specs.Causes.{next_cause, stop_cause, bad_number}
+use Rattle.script_text.specs.Canon.{HaveLines}
 use Rattle.script_text.specs.Script.{Place, beginning, Item, ends_turn, Stop, whole_input, too_long, bad_line, stuck_by, Walk, arrived, stuck, chain, map_after, turns_of, walk, reading}
 
 -- The place that the reading has come to, the bytes taken that no line has used yet, whether the end of the input was
@@ -40,6 +41,10 @@ abbrev pub callers_of : Part → ℕ
 callers_of BeforeMap = 0
 callers_of (InBase rules) = rules.callers
 callers_of (InTurns rules) = rules.callers
+
+-- the version of the script has a line for each of a turn's posts
+abbrev pub HaveLinesAt : Part → List (List Post) → Type 0
+HaveLinesAt part turn = (rules : Rules) → rules_at part ≡ Some rules → HaveLines rules.version turn
 
 -- how many posts a turn has, over all callers
 abbrev pub post_count : List (List Post) → ℕ

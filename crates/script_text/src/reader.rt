@@ -7,7 +7,8 @@ ghost use Rattle.io_edges.specs.Passing.{HasGiven};
 ghost use Rattle.script_text.specs.declared.intake.TheConstants.{READ_SIZE};
 ghost use Rattle.script_text.specs.declared.parts.Part.TheVariants.{InBase};
 ghost use Rattle.script_text.specs.Script.{accept, beginning, counted, rules_of};
-ghost use Rattle.script_text.specs.Reader.{HoldsRefused, HoldsTurn, IsWholeMap, MapTold, TakesNoneAhead, TurnTold};
+ghost use Rattle.script_text.specs.Reader.{HaveLinesAt, HoldsRefused, HoldsTurn, IsWholeMap, MapTold, TakesNoneAhead};
+ghost use Rattle.script_text.specs.Reader.{TurnTold};
 ghost use Rattle.script_text.specs.Reader.{callers_of, held_cause, is_last, post_count, rules_at};
 ghost use Rattle.script_text.specs.inner.Judging.{BaseTold, BeginsMap, CountsPosts, GivesTurn, IsBadAt, IsBase};
 ghost use Rattle.script_text.specs.inner.Judging.{IsBetweenTurns, IsInTurns, IsNoBaseAt, IsNoBaseNext, TakesBase};
@@ -109,7 +110,8 @@ impl ScriptReader {
     }
 
     /// Reads the next turn: one list of posts for each caller. None exactly where the input ended after the map line, a
-    /// base line or an end line. No call follows None or a refusal.
+    /// base line or an end line. No call follows None or a refusal. Each post has a line in the script's version
+    /// (`HaveLinesAt`).
     ///
     /// It reads only while the lines that are held neither end the turn nor stop the script, so a turn is answered
     /// before anything more is taken than the read that completed it (`HoldsTurn`, `TakesNoneAhead`).
@@ -132,6 +134,7 @@ impl ScriptReader {
         ensures rules { rules_at self.new.place.part ≡ rules_at self.old.place.part }
         ensures few { IfOk result (λ next. IfSome next (λ turn. length self.new.bytes ≤ READ_SIZE)) }
         ensures lists { IfOk result (λ next. IfSome next (λ turn. length turn ≡ callers_of self.old.place.part)) }
+        ensures lines { IfOk result (λ next. IfSome next (HaveLinesAt self.old.place.part)) }
         ensures used { IfOk result (λ next. IfSome next
             (λ turn. self.old.place.bytes + 2 * post_count turn + 2 ≤ self.new.place.bytes)) }
         ensures limit { self.new.place.bytes ≤ MAX_INPUT_BYTES }
@@ -356,6 +359,7 @@ fn read_turn<S: Source>(
     ensures rules { rules_at progress.new.part ≡ rules_at progress.old.part }
     ensures few { IfOk result (λ next. IfSome next (λ turn. length (bytes_of lines.new) ≤ READ_SIZE)) }
     ensures lists { IfOk result (λ next. IfSome next (λ turn. length turn ≡ callers_of progress.old.part)) }
+    ensures lines { IfOk result (λ next. IfSome next (HaveLinesAt progress.old.part)) }
     ensures used { IfOk result (λ next. IfSome next
         (λ turn. progress.old.bytes + 2 * post_count turn + 2 ≤ progress.new.bytes)) }
     ensures ready { IfOk result (λ next. IfSome next (λ turn. IsBetweenTurns progress.new lines.new)) }

@@ -1,5 +1,5 @@
 -- Passable cells of a chunk's rows that lie side by side.
-use Rattle.std.specs.Prelude.{ℕ, zero, suc, Bool, false, ◌≡◌, ◌+◌, ◌-◌, ◌*◌, ◌/◌, ◌%◌, ◌<◌, ◌≤◌, ◌⊎◌, ◌&&◌, ◌==◌, if◌then◌else◌, List, Option, Some, None, IsTrue, length, slice_get, slice_index, count_by, nat_le}
+use Rattle.std.specs.Prelude.{ℕ, zero, suc, Bool, false, ◌≡◌, ◌+◌, ◌-◌, ◌*◌, ◌/◌, ◌%◌, ◌<◌, ◌≤◌, ◌&&◌, if◌then◌else◌, List, Option, Some, None, IsTrue, length, slice_get, slice_index, nat_le}
 use Rattle.std.specs.Int.{bit_at}
 use Rattle.nav_types.specs.declared.cells.Cell.{Cell}
 use Rattle.nav_types.specs.declared.cells.Chunk.{Chunk}
@@ -14,6 +14,7 @@ pub record Runs : Type 0 where
 -- the spans are in order: 96 rows of spans that rise and do not touch
 pub record AreSpans (runs : Runs) : Type 0 where
   pub rows : length runs.starts ≡ 97
+  pub start : slice_index runs.starts 0 ≡ 0
   pub rising : (r : ℕ) → r < 96 → slice_index runs.starts r ≤ slice_index runs.starts (r + 1)
   pub all : slice_index runs.starts 96 ≡ length runs.spans
   pub few : length runs.spans ≤ 4608
@@ -58,10 +59,6 @@ pub record IsPlace (runs : Runs) (place : Place) : Type 0 where
   pub to : place.at < slice_index runs.starts (place.row + 1)
   pub within : place.at < length runs.spans
 
--- the rows lie side by side
-abbrev pub AreBeside : ℕ → ℕ → Type 0
-AreBeside a b = (b ≡ a + 1) ⊎ (a ≡ b + 1)
-
 -- the cell of the chunk is one of the span at the place
 pub record HasCell (chunk : Chunk) (runs : Runs) (place : Place) (cell : Cell) : Type 0 where
   pub is : IsPlace runs place
@@ -102,7 +99,3 @@ number_by runs regions columns place = region_at runs regions (place / columns) 
 -- the region of a cell of the chunk
 abbrev pub region_of : Chunk → Runs → List ℕ → Cell → ℕ
 region_of chunk runs regions cell = region_at runs regions (cell.j - 96 * chunk.cj) (cell.i - 96 * chunk.ci)
-
--- how many spans have no region yet
-abbrev pub waiting : List ℕ → ℕ
-waiting regions = count_by (λ region. region == 0) regions

@@ -33,11 +33,12 @@ pub record AreLines (free : ℕ → ℕ → Bool) (count words : ℕ) (table : L
   pub many : length table.bands ≡ count
   pub each : (b : ℕ) → b < count → IsBand free (32 * b) words 32 (slice_index_or table.bands b [])
 
--- the lines before some places changed: place i of line n is as it was, where no rectangle holds the cell (i, n)
-pub record AreLinesBefore (free : ℕ → ℕ → Bool) (rects : List Rect) (count words : ℕ) (table : LineTable) : Type 0 where
+-- the lines before some places changed: place i of line n is as it was, where the cell (i, n) is kept
+pub record AreLinesBefore (free : ℕ → ℕ → Bool) (Kept : Cell → Type 0) (count words : ℕ)
+    (table : LineTable) : Type 0 where
   pub earlier : ℕ → ℕ → Bool
   pub lines : AreLines earlier count words table
-  pub same : (n i : ℕ) → IsOutside rects (cell_at i n) → earlier n i ≡ free n i
+  pub same : (n i : ℕ) → Kept (cell_at i n) → earlier n i ≡ free n i
 
 -- the lines before some places changed: in this band all of those lie in the words from `from` up to and without `to`
 pub record AreLinesBut (free : ℕ → ℕ → Bool) (band from to count words : ℕ) (table : LineTable) : Type 0 where

@@ -6,6 +6,7 @@ use Rattle.nav_types.specs.declared.cells.Cell.{Cell}
 use Rattle.nav_types.specs.declared.cells.Chunk.{Chunk}
 use Rattle.nav_types.specs.declared.cells.Rect.{Rect}
 use Rattle.nav_types.specs.Cells.{IsInside, IsInRect}
+use Rattle.lane_rows.specs.Rows.{has_class}
 use Rattle.chunk_regions.specs.Labelling.{chunk_rect}
 use Rattle.obstruction_shapes.specs.declared.shapes.Obstruction.{Obstruction}
 use Rattle.clearance_raster.specs.Rasters.{blocks_class}
@@ -35,6 +36,14 @@ HoldChunkReachers map standing chunk ids = HoldReachers map standing (chunk_rect
 -- the lists of all chunks
 abbrev pub AreReachers : Map → Standing → List (List ℕ) → Type 0
 AreReachers map standing all = AreOfChunks map.size (chunk_count map.size) (HoldChunkReachers map standing) all
+
+-- The list has the number of each standing obstruction that blocks a cell of the rectangle for a class whose bit the cell
+-- has not. It may have others.
+pub record HoldUnpainted (map : Map) (standing : Standing) (rect : Rect) (numbers : Cell → ℕ) (ids : List ℕ)
+    : Type 0 where
+  pub all : (id : ℕ) (obstruction : Obstruction) → fin_map.get standing id ≡ Some obstruction → (k : ℕ) (cell : Cell)
+      → IsInRect rect cell → IsTrue (blocks_class obstruction map.classes k cell)
+      → IsTrue (has_class k (numbers cell)) ⊎ Contains ids id
 
 -- the lists of all chunks under some earlier obstructions, with the rectangles and the numbers of what has changed since
 pub record AreReachersBefore (map : Map) (now : Standing) (all : List (List ℕ)) (rects : List Rect) (ids : List ℕ)

@@ -1,11 +1,12 @@
 -- Rectangles that cover what edits change.
-use Rattle.std.specs.Prelude.{ℕ, ◌≡◌, ◌⊎◌, Bool, List, Option, Some, Contains, IsTrue, IsFalse, IsSomeAnd}
+use Rattle.std.specs.Prelude.{ℕ, ◌≡◌, ◌⊎◌, ◌<◌, Bool, List, length, Option, Some, Contains, IsTrue, IsFalse, IsSomeAnd}
 use Rattle.std.specs.List.{list_any}
 use Rattle.std.specs.FinMap as fin_map
 use Rattle.nav_types.specs.declared.cells.Cell.{Cell}
 use Rattle.nav_types.specs.declared.cells.Rect.{Rect}
 use Rattle.nav_types.specs.Cells.{IsInside, IsInRect}
-use Rattle.nav_types.specs.Numbering.{Numbering}
+use Rattle.nav_types.specs.Numbering.{Numbering, number_of}
+use Rattle.lane_rows.specs.Rows.{has_class}
 use Rattle.obstruction_shapes.specs.declared.shapes.Obstruction.{Obstruction}
 use Rattle.clearance_raster.specs.Rasters.{blocks_class}
 use Rattle.obstruction_store.specs.Standing.{Standing}
@@ -13,7 +14,7 @@ use Rattle.grid_versions.specs.declared.edits.Edit.{Edit}
 use Rattle.grid_versions.specs.declared.edits.Edit.TheVariants.{Add, Remove, Move}
 use Rattle.grid_versions.specs.Maps.{Map}
 use Rattle.grid_versions.specs.Passing.{is_in_rect, is_blocked}
-use Rattle.grid_versions.specs.inner.Painting.{ArePaintedChunks}
+use Rattle.grid_versions.specs.inner.Painting.{is_covered, ArePaintedChunks}
 
 -- the number of the obstruction that an edit names
 abbrev pub edited_id : Edit → ℕ
@@ -49,8 +50,26 @@ pub record NameChanges (map : Map) (before now : Standing) (rects : List Rect) (
   pub each : (id : ℕ)
       → (fin_map.get now id ≡ fin_map.get before id) ⊎ (Contains ids id × LiesWithin map now id rects)
 
--- the numbers of all chunks under some earlier obstructions, with rectangles that cover what has changed since
-pub record AreBefore (map : Map) (now : Standing) (cells : List Numbering) (rects : List Rect) : Type 0 where
+-- What stood stands, and what stands now stood, or the list has its number.
+pub record OnlyAdds (before now : Standing) (ids : List ℕ) : Type 0 where
+  pub kept : (id : ℕ) (obstruction : Obstruction) → fin_map.get before id ≡ Some obstruction
+      → fin_map.get now id ≡ Some obstruction
+  pub named : (id : ℕ) (obstruction : Obstruction) → fin_map.get now id ≡ Some obstruction
+      → (fin_map.get before id ≡ Some obstruction) ⊎ Contains ids id
+
+-- the bits of the rectangle's cells say what was covered under some earlier obstructions, to which some were added, if
+-- the list has numbers
+pub record IsCoveredBefore (map : Map) (now : Standing) (rect : Rect) (old : Numbering) (added : List ℕ) : Type 0 where
+  pub earlier : Standing
+  pub bits : (k : ℕ) (cell : Cell) → IsInRect rect cell
+      → has_class k (number_of old cell) ≡ is_covered map earlier k cell
+  pub adds : 0 < length added → OnlyAdds earlier now added
+
+-- the numbers of all chunks under some earlier obstructions, with rectangles that cover what has changed since, and with
+-- the numbers of what was added, where nothing else has changed
+pub record AreBefore (map : Map) (now : Standing) (cells : List Numbering) (rects : List Rect) (added : List ℕ)
+    : Type 0 where
   pub earlier : Standing
   pub painted : ArePaintedChunks map earlier cells
   pub covered : CoverChanges map earlier now rects
+  pub adds : 0 < length added → OnlyAdds earlier now added

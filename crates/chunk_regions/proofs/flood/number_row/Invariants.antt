@@ -1,15 +1,16 @@
-use Rattle.std.proofs.Common.{Bool, ◌≡◌, ◌≤◌, [], length}
-use Rattle.nav_types.specs.declared.cells.Cell.{Cell}
-use Rattle.chunk_regions.specs.inner.Spans.{HasCell, IsCut, region_of}
-use Rattle.chunk_regions.specs.inner.Flooding.{Floods}
+use Rattle.std.proofs.Common.{◌≡◌, ◌≤◌, ◌-◌, length}
+use Rattle.std.specs.Prelude.{slice_index}
+use Rattle.chunk_regions.specs.declared.flood.Place.{Place}
+use Rattle.chunk_regions.specs.inner.Joining.{Overlap, AreUnited, AreBounded, KeepsGroups}
 use Rattle.chunk_regions.proofs.flood.number_row.Given as goal
 
 abbrev pub invariant-loop-at : goal.invariant-loop-at
 invariant-loop-at l = record {
-  regions : length l.flood.regions.items ≡ length l.rows.spans;
-  emptied : l.flood.frontier.items ≡ [];
-  few : length l.firsts.items ≤ l.at;
-  floods : (passes : Cell → Bool) → IsCut passes l.chunk l.rows
-      → Floods passes (HasCell l.chunk l.rows) (region_of l.chunk l.rows l.initial.flood.regions.items) l.initial.firsts.items [] l.start
-      → Floods passes (HasCell l.chunk l.rows) (region_of l.chunk l.rows l.flood.regions.items) l.firsts.items [] l.at;
+  next : length l.all.regions.items ≡ l.at;
+  bounded : AreBounded l.all.regions.items l.all.firsts.items;
+  united : AreUnited l.rows l.all.regions.items l.at;
+  from : slice_index l.rows.starts (l.row - 1) ≤ l.south;
+  to : l.south ≤ l.start;
+  passed : (s n : Place) → Overlap l.rows s n → n.row ≡ l.row → l.at ≤ n.at → l.south ≤ s.at;
+  groups : KeepsGroups l.chunk l.rows l.initial.all.regions.items l.initial.all.firsts.items l.all.regions.items l.all.firsts.items;
 }

@@ -1,36 +1,47 @@
-use Rattle.std.proofs.Common.{List, ◌≡◌, ◌+◌, ◌-◌, ◌∙◌, ◌∷◌, [], ◌++◌, ap, refl, sym, subst, arith, length}
-use Rattle.std.specs.Int.{bit_at}
+use Rattle.std.proofs.Common.{List, ◌-◌, ◌∙◌, ◌∷◌, [], ap, bit_xor, refl, sym, subst, arith, length}
 use Rattle.std.specs.Prelude.{slice_get}
+use Rattle.std.proofs.lemmas.Nat.{shl_whole}
 use Rattle.chunk_regions.specs.declared.spans.Span.{Span}
-use Rattle.chunk_regions.specs.inner.Spans.{IsRowTo}
-use Rattle.chunk_regions.proofs.RowLemmas.{IsRowTo-start, IsRowTo-push, IsRowTo-end}
+use Rattle.chunk_regions.proofs.BitLemmas.{IsTaken}
+use Rattle.chunk_regions.proofs.RowLemmas.{IsCutBelow, IsCutBelow-start, IsCutBelow-open, IsCutBelow-push, IsCutBelow-end}
 use Rattle.nav_types.proofs.Items.{slice_get-before}
 use Rattle.chunk_regions.proofs.spans.cut_row.Goals as goal
 
-pub loop-first-init : goal.loop-first-init
-loop-first-init c = record { within = omega arith; kept = λ k less. refl; cut = IsRowTo-start c.args.bits c.args.spans.now.items }
-
-pub loop-first-preserved : goal.loop-first-preserved
-loop-first-preserved c =
-    let kept = c.loop-first.invariant in
+pub loop-edges-init : goal.loop-edges-init
+loop-edges-init c =
     let bits = c.args.bits in
-    let old = c.loop-first.spans.items in
-    let end = c.first_clear-end.result in
-    let after = c.first_clear-end.ensures.after in
-    let within = c.first_clear-end.ensures.within in
-    let from = c.in-Some.ensures.from in
-    let longer = kept.cut.longer in
-    let span : Span = record { first = c.in-Some.first; last = end - 1 } in
-    let last : span.last + 1 ≡ end = omega arith in
-    let next : span.last + 2 ≡ end + 1 = omega arith in
-    let grown = IsRowTo-push bits (length c.args.spans.now.items) old c.loop-first.column span kept.cut from (omega arith) (omega arith) c.in-Some.ensures.clear
-    (λ k low high. c.first_clear-end.ensures.set k low (omega arith)) (ap (λ k. bit_at bits k) last ∙ c.first_clear-end.ensures.clear) in
+    let spans = c.args.spans.now.items in
     record {
-      within = omega arith;
-      kept = λ k less. ap (λ (items : List Span). slice_get items k) c.in_ok-push.ensures.items ∙ slice_get-before old (span ∷ []) k (omega arith) ∙ kept.kept k less;
-      cut = subst (λ (items : List Span). IsRowTo bits (length c.args.spans.now.items) items (end + 1)) (sym c.in_ok-push.ensures.items)
-          (subst (λ column. IsRowTo bits (length c.args.spans.now.items) (old ++ span ∷ []) column) next grown);
+      kept = λ k less. refl;
+      cut = subst (λ above. IsCutBelow bits (length spans) spans (bit_xor bits above)) (sym (shl_whole bits 96 1 128 c.requires.few (omega arith))) (IsCutBelow-start bits spans c.requires.few);
+    }
+
+pub take_lowest-end-requires-clause-some : goal.take_lowest-end-requires-clause-some
+take_lowest-end-requires-clause-some c =
+    let one = c.take_lowest-first in
+    let first : IsTaken c.loop-edges.edges one.result one.new.bits = record { set = one.ensures.set; lowest = one.ensures.lowest; taken = one.ensures.taken; others = one.ensures.others } in
+    IsCutBelow-open c.args.bits (length c.args.spans.now.items) c.loop-edges.spans.items c.loop-edges.edges one.result one.new.bits c.requires.few c.loop-edges.invariant.cut first
+
+pub loop-edges-preserved : goal.loop-edges-preserved
+loop-edges-preserved c =
+    let before = c.loop-edges.invariant in
+    let bits = c.args.bits in
+    let from = length c.args.spans.now.items in
+    let old = c.loop-edges.spans.items in
+    let one = c.take_lowest-first in
+    let other = c.take_lowest-end in
+    let first : IsTaken c.loop-edges.edges one.result one.new.bits = record { set = one.ensures.set; lowest = one.ensures.lowest; taken = one.ensures.taken; others = one.ensures.others } in
+    let last : IsTaken one.new.bits other.result other.new.bits = record { set = other.ensures.set; lowest = other.ensures.lowest; taken = other.ensures.taken; others = other.ensures.others } in
+    let less = one.ensures.less in
+    let lesser = other.ensures.less in
+    let next = IsCutBelow-push bits from old c.loop-edges.edges one.result one.new.bits other.result other.new.bits c.requires.few before.cut first last (omega arith) in
+    let order = next.order in
+    let span : Span = record { first = one.result; last = other.result - 1 } in
+    record {
+      kept = λ k less. ap (λ (items : List Span). slice_get items k) c.in_ok-push.ensures.items ∙ slice_get-before old (span ∷ []) k (omega (arith, before.cut.cut.longer)) ∙ before.kept k less;
+      cut = subst (λ (items : List Span). IsCutBelow bits from items other.new.bits) (sym c.in_ok-push.ensures.items) (next.cut span refl (omega arith));
     }
 
 pub returns-clause-cut : goal.returns-clause-cut
-returns-clause-cut c = IsRowTo-end c.args.bits (length c.args.spans.now.items) c.loop-first.spans.items c.loop-first.column c.loop-first.invariant.cut c.loop-first.invariant.within c.in_default.ensures.none
+returns-clause-cut c =
+    IsCutBelow-end c.args.bits (length c.args.spans.now.items) c.loop-edges.spans.items c.loop-edges.edges (omega (arith, c.loop-edges-test.false)) c.loop-edges.invariant.cut

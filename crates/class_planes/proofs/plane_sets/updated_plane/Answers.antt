@@ -18,14 +18,19 @@ returns-then-is_empty g c =
       cells = λ p cell. before.same cell (c.in_ok-rects.ensures.kept cell (λ k d below. absurd (omega (arith, none)))) p;
     })
 
-pub updated-requires-clause-inside : goal.updated-requires-clause-inside
-updated-requires-clause-inside g c =
+pub renewed-requires-clause-inside : goal.renewed-requires-clause-inside
+renewed-requires-clause-inside g c =
     let extent = g.V.View.extent c.args.view.now in
     subst (λ (rs : List Rect). All (IsRectInside extent) rs) (sym c.deref-2.ensures.value)
     (c.in_ok-rects.ensures.inside extent c.requires.inside)
 
-pub updated-requires-clause-same : goal.updated-requires-clause-same
-updated-requires-clause-same g c cell out =
+pub renewed-requires-clause-same : goal.renewed-requires-clause-same
+renewed-requires-clause-same g c cell out =
     ap (λ (p : PlaneCells). is_passable p cell) c.deref.ensures
     ∙ c.requires.before.same cell (c.in_ok-rects.ensures.kept cell
     (subst (λ (rs : List Rect). IsOutside rs cell) c.deref-2.ensures.value out))
+
+pub renewed-requires-clause-unread : goal.renewed-requires-clause-unread
+renewed-requires-clause-unread g c cell out =
+    ap (λ (p : PlaneCells). is_passable p cell) c.deref.ensures
+    ∙ c.requires.before.same cell (c.requires.unread cell out)

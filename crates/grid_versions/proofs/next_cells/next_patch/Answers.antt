@@ -6,6 +6,7 @@ use Rattle.nav_types.specs.declared.cells.Rect.{Rect}
 use Rattle.nav_types.specs.Cells.{IsInRect}
 use Rattle.nav_types.specs.Numbering.{Numbering}
 use Rattle.navcell_grid.specs.Patches.{DiffersIn, IsPartOf}
+use Rattle.clearance_raster.proofs.Rastering.{in_whole}
 use Rattle.chunk_regions.specs.Labelling.{chunk_rect}
 use Rattle.grid_versions.specs.inner.ChunkLists.{chunk_numbered}
 use Rattle.grid_versions.specs.inner.Painting.{IsPaintedChunk}
@@ -28,8 +29,8 @@ returns-in_default-clause-painted c =
     (λ cell inside is. c.in_default.ensures.held cell
     (subst (λ (r : Rect). IsInRect r cell) (sym c.rect.ensures.rect) inside) is))
 
-pub repainted-requires-clause-near : goal.repainted-requires-clause-near
-repainted-requires-clause-near c =
+pub next_numbers-requires-clause-near : goal.next_numbers-requires-clause-near
+next_numbers-requires-clause-near c =
     let map = c.args.map.now in let now = c.args.shapes.now in
     let chunk = chunk_numbered map.size c.args.place in
     let part = c.in-Some.part in
@@ -40,15 +41,37 @@ repainted-requires-clause-near c =
     (HoldReachers-part map now (chunk_rect map.size chunk) part c.at-near.result.now
     (c.requires.reachers.are c.args.place c.at-near.result.now c.at-near.ensures) within)
 
-pub repainted-requires-clause-base : goal.repainted-requires-clause-base
-repainted-requires-clause-base c =
+pub next_numbers-requires-clause-same : goal.next_numbers-requires-clause-same
+next_numbers-requires-clause-same c =
     let before = c.requires.before in
     let was = before.painted.are c.args.place c.patch-old.result.now (c.at-cells.ensures ∙ ap (λ (n : Numbering). Some n) (sym c.patch-old.ensures)) in
     let under = c.requires.base.are c.args.place c.at.result.now c.at.ensures in
     under.extent ∙ sym was.extent
 
-pub repainted-requires-clause-inside : goal.repainted-requires-clause-inside
-repainted-requires-clause-inside c =
+pub next_numbers-requires-clause-base : goal.next_numbers-requires-clause-base
+next_numbers-requires-clause-base c = λ k cell inside.
+    let before = c.requires.before in
+    let part = c.in-Some.part in
+    let was = before.painted.are c.args.place c.patch-old.result.now (c.at-cells.ensures ∙ ap (λ (n : Numbering). Some n) (sym c.patch-old.ensures)) in
+    let under = c.requires.base.are c.args.place c.at.result.now c.at.ensures in
+    let within = subst (λ (r : Rect). IsPartOf r part) (c.rect.ensures.rect ∙ was.extent ∙ sym under.extent) c.in-Some.ensures.part in
+    under.bits k cell (in_whole c.at.result.now.rect part cell within inside)
+
+pub next_numbers-requires-clause-before : goal.next_numbers-requires-clause-before
+next_numbers-requires-clause-before c =
+    let before = c.requires.before in
+    let part = c.in-Some.part in
+    let old = c.patch-old.result.now in
+    let was = before.painted.are c.args.place old (c.at-cells.ensures ∙ ap (λ (n : Numbering). Some n) (sym c.patch-old.ensures)) in
+    let within = subst (λ (r : Rect). IsPartOf r part) c.rect.ensures.rect c.in-Some.ensures.part in
+    record {
+      earlier = before.earlier;
+      bits = λ k cell inside. was.bits k cell (in_whole old.rect part cell within inside);
+      adds = before.adds;
+    }
+
+pub next_numbers-requires-clause-inside : goal.next_numbers-requires-clause-inside
+next_numbers-requires-clause-inside c =
     let map = c.args.map.now in
     let before = c.requires.before in
     let was = before.painted.are c.args.place c.patch-old.result.now (c.at-cells.ensures ∙ ap (λ (n : Numbering). Some n) (sym c.patch-old.ensures)) in
@@ -64,12 +87,11 @@ returns-then-bits-eq0-clause-painted c =
     let part = c.in-Some.part in
     let patch = c.in_ok-patch.patch in
     let was = before.painted.are c.args.place old (c.at-cells.ensures ∙ ap (λ (n : Numbering). Some n) (sym c.patch-old.ensures)) in
-    let under = c.requires.base.are c.args.place c.at.result.now c.at.ensures in
     let within = subst (λ (r : Rect). IsPartOf r part) c.rect.ensures.rect c.in-Some.ensures.part in
     let same : old ≡ arc_value c.in_ok-shared-2.field-0 =
     same_Some old (arc_value c.in_ok-shared-2.field-0) (sym (c.at-cells.ensures ∙ ap (λ (n : Numbering). Some n) (sym c.patch-old.ensures)) ∙ c.in_ok-shared-2.ensures) in
     subst (λ (n : Numbering). IsPaintedChunk map now chunk n) same
-    (chunk_kept map before.earlier now c.args.reaches.now before.covered chunk old was part c.at.result.now patch under within
+    (chunk_kept map before.earlier now c.args.reaches.now before.covered chunk old was part patch within
     (λ cell inside is. c.in-Some.ensures.held cell (subst (λ (r : Rect). IsInRect r cell) (sym c.rect.ensures.rect) inside) is)
     c.in_ok-patch.ensures.rect c.in_ok-patch.ensures.whole c.in_ok-patch.ensures.bits c.in_ok-patch.ensures.others
     (λ k. subst (λ (n : ℕ). (bit_at n k ≡ 1) ↔ DiffersIn k part old patch) c.if-bits-eq0.true (c.differs_in-bits.ensures k)))
@@ -83,10 +105,9 @@ returns-clause-painted c =
     let part = c.in-Some.part in
     let patch = c.in_ok-patch.patch in
     let was = before.painted.are c.args.place old (c.at-cells.ensures ∙ ap (λ (n : Numbering). Some n) (sym c.patch-old.ensures)) in
-    let under = c.requires.base.are c.args.place c.at.result.now c.at.ensures in
     let within = subst (λ (r : Rect). IsPartOf r part) c.rect.ensures.rect c.in-Some.ensures.part in
     subst (λ (n : Numbering). IsPaintedChunk map now chunk n) (sym (c.in_ok-new.ensures.ok ∙ c.in_ok-made.ensures))
-    (chunk_repainted map before.earlier now c.args.reaches.now before.covered chunk old was part c.at.result.now patch under within
+    (chunk_repainted map before.earlier now c.args.reaches.now before.covered chunk old was part patch within
     (λ cell inside is. c.in-Some.ensures.held cell (subst (λ (r : Rect). IsInRect r cell) (sym c.rect.ensures.rect) inside) is)
     c.in_ok-patch.ensures.rect c.in_ok-patch.ensures.whole c.in_ok-patch.ensures.bits c.in_ok-patch.ensures.others)
 
@@ -100,12 +121,11 @@ returns-clause-bits c = λ found at k.
     let patch = c.in_ok-patch.patch in
     let set = c.differs_in-bits.result in
     let was = before.painted.are c.args.place old (c.at-cells.ensures ∙ ap (λ (n : Numbering). Some n) (sym c.patch-old.ensures)) in
-    let under = c.requires.base.are c.args.place c.at.result.now c.at.ensures in
     let within = subst (λ (r : Rect). IsPartOf r part) c.rect.ensures.rect c.in-Some.ensures.part in
     let same : old ≡ found = same_Some old found (sym (c.at-cells.ensures ∙ ap (λ (n : Numbering). Some n) (sym c.patch-old.ensures)) ∙ at) in
     subst (λ (n : Numbering). (bit_at set k ≡ 1) ↔ DiffersIn k n.rect found n) (sym (c.in_ok-new.ensures.ok ∙ c.in_ok-made.ensures))
     (subst (λ (n : Numbering). (bit_at set k ≡ 1) ↔ DiffersIn k patch.rect n patch) same
-    (differs_in_part map before.earlier now c.args.reaches.now before.covered chunk old was part c.at.result.now patch under within
+    (differs_in_part map before.earlier now c.args.reaches.now before.covered chunk old was part patch within
     (λ cell inside is. c.in-Some.ensures.held cell (subst (λ (r : Rect). IsInRect r cell) (sym c.rect.ensures.rect) inside) is)
     c.in_ok-patch.ensures.rect c.in_ok-patch.ensures.whole c.in_ok-patch.ensures.bits c.in_ok-patch.ensures.others
     k set (c.differs_in-bits.ensures k)))

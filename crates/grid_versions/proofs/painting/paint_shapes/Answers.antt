@@ -2,13 +2,13 @@ use Rattle.std.proofs.Common.{ℕ, ◌∙◌, Bool, get_or}
 use Rattle.std.specs.List.{list_any}
 use Rattle.nav_types.specs.declared.cells.Cell.{Cell}
 use Rattle.nav_types.specs.Numbering.{number_of}
-use Rattle.clearance_raster.proofs.Rastering.{part_alike, part_moved}
+use Rattle.clearance_raster.proofs.Rastering.{part_moved}
 use Rattle.obstruction_store.specs.Standing.{Standing}
 use Rattle.grid_versions.specs.Maps.{Map}
 use Rattle.grid_versions.specs.Passing.{is_blocked}
 use Rattle.grid_versions.specs.inner.Reachers.{blocks_under}
-use Rattle.grid_versions.proofs.PaintLemmas.{Ends-at, Ends-past}
-use Rattle.grid_versions.proofs.ReacherLemmas.{listed_blocked}
+use Rattle.grid_versions.proofs.PaintLemmas.{Ends-at, Ends-past, raster_over}
+use Rattle.grid_versions.proofs.ReacherLemmas.{listed_blocks, blocked_listed}
 use Rattle.grid_versions.proofs.painting.paint_shapes.Goals as goal
 
 abbrev blocks : Map → Standing → ℕ → Cell → ℕ → Bool
@@ -42,7 +42,8 @@ returns-clause-set c =
     let part = c.args.part in
     let first = number_of c.args.patch.now in
     let last = number_of c.loop-id.patch in
-    part_alike rect part (λ k cell. list_any (blocks map standing k cell) near) (is_blocked map standing) first last
-    (λ k cell inside. listed_blocked map standing k cell part near c.requires.near inside)
+    raster_over rect part (λ k cell. list_any (blocks map standing k cell) near) (is_blocked map standing) first last
+    (λ k cell inside. listed_blocks map standing k cell near)
+    (λ k cell inside. blocked_listed map standing k cell part first near c.requires.near inside)
     (Ends-past rect part (blocks map standing) near near c.loop-id.id-index first last c.loop-id-test.false
     c.loop-id.invariant.ends)

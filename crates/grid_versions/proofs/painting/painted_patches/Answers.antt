@@ -3,7 +3,7 @@ use Rattle.nav_types.specs.declared.cells.Chunk.{Chunk}
 use Rattle.nav_types.specs.declared.cells.Rect.{Rect}
 use Rattle.nav_types.specs.declared.cells.Size.{Size}
 use Rattle.nav_types.specs.Cells.{IsInRect}
-use Rattle.nav_types.specs.Numbering.{Numbering}
+use Rattle.nav_types.specs.Numbering.{Numbering, number_of}
 use Rattle.navcell_grid.specs.Patches.{IsPartOf}
 use Rattle.chunk_regions.specs.Labelling.{chunk_rect}
 use Rattle.grid_versions.specs.Passing.{is_blocked}
@@ -13,6 +13,7 @@ use Rattle.grid_versions.specs.inner.Painting.{IsBaseChunk, IsPaintedChunk}
 use Rattle.grid_versions.specs.inner.Reachers.{HoldReachers}
 use Rattle.grid_versions.proofs.ChunkLemmas.{AreOfChunks-push}
 use Rattle.grid_versions.proofs.NextLemmas.{whole_part}
+use Rattle.grid_versions.proofs.ReacherLemmas.{all_unpainted}
 use Rattle.grid_versions.proofs.painting.painted_patches.Goals as goal
 
 pub repainted-requires-clause-part : goal.repainted-requires-clause-part
@@ -38,9 +39,10 @@ repainted-requires-clause-near c =
     let rect_is : rect ≡ chunk_rect map.size (chunk_numbered map.size place) =
     c.cells_of-rect.ensures.value ∙ ap (λ (chunk : Chunk). chunk_rect size chunk) c.numbered.ensures.value
     ∙ ap (λ (s : Size). chunk_rect s (chunk_numbered s place)) c.size-size.ensures in
-    subst (λ (near : List ℕ). HoldReachers map c.args.shapes.now rect near) (sym c.as_slice.ensures)
+    all_unpainted map c.args.shapes.now rect (number_of c.at-under.result.now) c.as_slice.result.now
+    (subst (λ (near : List ℕ). HoldReachers map c.args.shapes.now rect near) (sym c.as_slice.ensures)
     (subst (λ (r : Rect). HoldReachers map c.args.shapes.now r ids) (sym rect_is)
-    (c.requires.reachers.are place ids c.at-near.ensures))
+    (c.requires.reachers.are place ids c.at-near.ensures)))
 
 pub loop-place-preserved : goal.loop-place-preserved
 loop-place-preserved c =

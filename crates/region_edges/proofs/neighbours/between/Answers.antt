@@ -1,4 +1,4 @@
-use Rattle.std.proofs.Common.{ℕ, ◌≡◌, ◌++◌, ◌∙◌, ◌↔◌, List, ap, subst, sym}
+use Rattle.std.proofs.Common.{ℕ, ◌≡◌, ◌↔◌, List, subst, sym}
 use Rattle.std.specs.List.{Contains}
 use Rattle.region_edges.specs.Edges.{AreEdges}
 use Rattle.region_edges.specs.inner.Borders.{border_length, Meets}
@@ -15,8 +15,7 @@ returns c =
       λ within. (c.in_ok-pairs.ensures pair).0 ((c.put_in_order.ensures.same pair).0 within),
       λ meets. (c.put_in_order.ensures.same pair).1 ((c.in_ok-pairs.ensures pair).1 meets),
     ) in
-    let kept : c.extend.new.self ≡ pairs =
-    c.in_ok-extend.ensures.ok ∙ ap (λ (xs : List (ℕ × ℕ)). xs ++ c.as_slice.result.now) c.new-edges.ensures ∙ c.as_slice.ensures.value in
+    let kept : c.from.result ≡ pairs = c.from.ensures in
     record {
       edges = λ passes size inside own other.
           subst (λ (edges : List (ℕ × ℕ)). AreEdges passes here.chunk there.chunk edges) (sym kept)

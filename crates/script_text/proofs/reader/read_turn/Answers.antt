@@ -1,10 +1,11 @@
-use Rattle.std.proofs.Common.{[], ◌≡◌, ◌∙◌, ℕ, ◌+◌, ◌≤◌, List, Option, Ok, IsTrue, refl, ap, sym, subst, arith}
+use Rattle.std.proofs.Common.{[], ◌≡◌, ◌∙◌, ℕ, ◌+◌, ◌≤◌, List, Option, Some, Ok, IsTrue, refl, ap, sym, subst, arith}
 use Rattle.std.proofs.lemmas.Result.{err_from_is_err_and}
 use Rattle.turn_core.specs.declared.posts.Post.{Post}
 use Rattle.script_text.specs.Script.{accept}
 use Rattle.script_text.specs.Reader.{UsesLines, post_count}
 use Rattle.script_text.specs.inner.Taking.{Taken, HeldLine, FindsLine, NextTold}
 use Rattle.script_text.specs.inner.Judging.{CountsPosts, GivesTurn, held_at}
+use Rattle.script_text.proofs.PostVersions.{have_all, have_on, none_have_at}
 use Rattle.script_text.proofs.ReadCalls.{goes_begun, goes_post, turn_told, turn_refused, turn_fault, turn_none, turn_missing, in_turns_next}
 use Rattle.script_text.proofs.ReadNeed.{ahead-none, ahead_on}
 use Rattle.script_text.proofs.ReadStill.{holds_line, still_unread, uses_held, uses_none}
@@ -17,6 +18,7 @@ lines-init g c = record {
   rules = refl;
   between = c.requires.ready.between;
   no_base = c.requires.ready.no_base;
+  have = none_have_at c.args.progress.now.part c.args.progress.now.posts c.requires.ready.no_post;
   counted = omega (arith, c.requires.ready.no_post);
   stays = λ ended. ended;
   still = λ holds. (refl, uses_none (held_at c.args.progress.now c.args.lines.now));
@@ -50,6 +52,8 @@ lines-preserved g c =
       rules = c.take_turn_line.ensures.rules ∙ c.lines.invariant.rules;
       between = λ none. ap (λ h. h.line) c.in_ok-turn.ensures.line;
       no_base = in_turns_next new.part after c.in_ok-turn.ensures.part;
+      have = have_on c.args.progress.now.part c.in-Some.size now.line old new c.lines.invariant.rules c.lines.invariant.have
+          (subst Given c.in_default-2.is c.in_ok-turn.ensures.gives);
       counted = omega (arith, c.lines.invariant.counted, more, size, used);
       stays = λ ended. subst Ended (sym c.take_turn_line.ensures.rest) (c.in_ok-size.ensures.stays (c.lines.invariant.stays ended));
       still = λ holds.
@@ -77,6 +81,12 @@ returns-in-Some-2-clause-told g c =
     (subst Found c.in-Some.is c.in_ok-size.ensures.finds) c.in_ok-size.ensures.plain
     (subst Given c.in-Some-2.is c.in_ok-turn.ensures.gives) c.in_ok-turn.ensures.line c.lines.invariant.told
     (subst Next c.in-Some.is c.in_ok-size.ensures.told)
+
+pub returns-in-Some-2-clause-lines : goal.returns-in-Some-2-clause-lines
+returns-in-Some-2-clause-lines g c =
+    let Counts : Option (List (List Post)) → Type 0 = λ next. CountsPosts c.lines.progress.posts c.take_turn_line.new.progress.posts next in
+    let counts : CountsPosts c.lines.progress.posts c.take_turn_line.new.progress.posts (Some c.in-Some-2.turn) = subst Counts c.in-Some-2.is c.in_ok-turn.ensures.counts in
+    have_all c.args.progress.now.part c.in-Some-2.turn c.lines.progress.posts counts.0 c.lines.invariant.have
 
 -- the line is refused
 pub returns-in_err-turn-clause-told : goal.returns-in_err-turn-clause-told

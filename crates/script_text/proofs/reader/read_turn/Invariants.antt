@@ -1,6 +1,7 @@
--- The lines used so far ended no turn, and each post took at least two bytes. Where a turn was held, they were held too.
+-- The lines used so far ended no turn, and each post took at least two bytes and has a line in the script's
+-- version. Where a turn was held, they were held too.
 use Rattle.std.proofs.Common.{◌≡◌, ◌+◌, ◌*◌, ◌≤◌, ◌-◌, [], None, IsTrue}
-use Rattle.script_text.specs.Reader.{HoldsTurn, TakesNoneAhead, UsesLines, post_count, rules_at}
+use Rattle.script_text.specs.Reader.{HaveLinesAt, HoldsTurn, TakesNoneAhead, UsesLines, post_count, rules_at}
 use Rattle.script_text.specs.inner.Judging.{IsNoBaseNext, held_at}
 use Rattle.script_text.proofs.ReadCalls.{GoesTold}
 use Rattle.script_text.proofs.reader.read_turn.Given as goal
@@ -12,6 +13,7 @@ invariant-lines g l = record {
   rules : rules_at l.progress.part ≡ rules_at l.initial.progress.part;
   between : l.lines.line_end ≡ None → l.lines.line ≡ [];
   no_base : IsNoBaseNext l.progress.part l.lines;
+  have : HaveLinesAt l.initial.progress.part l.progress.posts;
   counted : l.initial.progress.bytes + 2 * post_count l.progress.posts ≤ l.progress.bytes;
   stays : IsTrue l.initial.lines.rest.ended → IsTrue l.lines.rest.ended;
   still : HoldsTurn (held_at l.initial.progress l.initial.lines)

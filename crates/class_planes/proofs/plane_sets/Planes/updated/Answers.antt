@@ -1,9 +1,13 @@
 use Rattle.std.proofs.Common.{ℕ, Bool, ◌≡◌, ◌<◌, ◌∙◌, ◌∷◌, [], Option, None, List, length, get_or, map, option_map, ap, sym, subst, arith}
-use Rattle.std.specs.Prelude.{is_some}
+use Rattle.std.specs.Prelude.{All, is_some}
 use Rattle.std.specs.Arc.{arc_value}
 use Rattle.std.proofs.lemmas.List.{length-map, map-append, get_or-map}
-use Rattle.class_planes.specs.Planes.{PlaneCells, IsPlaneIn}
+use Rattle.nav_types.specs.declared.cells.Rect.{Rect}
+use Rattle.nav_types.specs.Cells.{IsRectInside}
+use Rattle.class_planes.specs.Planes.{PlaneCells, IsPlaneIn, IsOutside}
+use Rattle.class_planes.specs.inner.Reading.{ReadCells, AreRead, IsUnread}
 use Rattle.class_planes.proofs.PlaneLemmas.{each_more, plane_before, is_some_mapped}
+use Rattle.class_planes.proofs.UpdateLemmas.{rects_inside, kept_outside}
 use Rattle.class_planes.proofs.plane_sets.Planes.updated.Goals as goal
 
 pub next_plane-requires-clause-before : goal.next_plane-requires-clause-before
@@ -18,6 +22,27 @@ next_plane-requires-clause-before g c =
     ∙ sym (get_or-map (option_map arc_value) items number c.index.result.now None below)
     ∙ ap (λ (ps : List (Option PlaneCells)). get_or ps number None) c.self.view_is
     ∙ ap (λ (k : ℕ). get_or c.args.self.now k None) (sym c.new-class.ensures))
+
+pub read_rects-requires : goal.read_rects-requires
+read_rects-requires g c =
+    let extent = g.V.View.extent c.args.view.now in
+    record {
+      inside = subst (λ (rs : List Rect). All (IsRectInside extent) rs) (sym c.deref.ensures.value)
+          (rects_inside extent c.args.parts.now c.in_ok-rects.rects.items c.in_ok-rects.ensures c.requires.inside);
+    }
+
+pub next_plane-requires-clause-read : goal.next_plane-requires-clause-read
+next_plane-requires-clause-read g c =
+    let view = c.args.view.now in
+    subst (λ (reads : List ReadCells). All (AreRead (g.V.View.extent view) (g.V.View.class_count view)
+    (g.V.View.passes view)) reads) (sym c.deref-in-loop-number.ensures.value) c.in_ok-reads.ensures.read
+
+pub next_plane-requires-clause-unread : goal.next_plane-requires-clause-unread
+next_plane-requires-clause-unread g c cell out =
+    kept_outside c.args.parts.now c.in_ok-rects.rects.items c.new-class.result cell c.in_ok-rects.ensures
+    (subst (λ (rs : List Rect). IsOutside rs cell) c.deref.ensures.value
+    (c.in_ok-reads.ensures.covered cell
+    (subst (λ (reads : List ReadCells). IsUnread reads cell) c.deref-in-loop-number.ensures.value out)))
 
 pub loop-number-preserved : goal.loop-number-preserved
 loop-number-preserved g c =

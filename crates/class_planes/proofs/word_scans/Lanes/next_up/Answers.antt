@@ -1,4 +1,4 @@
-use Rattle.std.proofs.Common.{ℕ, eqb, ◌≡◌, ◌*◌, ◌^◌, ◌<◌, length, sym, ap, subst, arith, rules}
+use Rattle.std.proofs.Common.{eqb, ◌≡◌, ◌*◌, ◌^◌, ◌<◌, length, sym, ap, subst, arith, rules}
 use Rattle.class_planes.specs.inner.Runs.{LaneWords, IsNext, bit_in, end_up}
 use Rattle.class_planes.proofs.WordLemmas.{stays_here, next_here, none_here, next_in, none_in, past_line, end_past}
 use Rattle.class_planes.proofs.word_scans.Lanes.next_up.Goals as goal

@@ -1,5 +1,6 @@
 use Rattle.std.proofs.Common.{ℕ, List, ◌≡◌, ◌≢◌, ◌∙◌, ◌+◌, ◌<◌, ◌≤◌, Bool, Option, length, get_or, ap, sym, subst, arith}
-use Rattle.std.specs.Prelude.{IsTrue, IsFalse}
+use Rattle.std.specs.Prelude.{IsTrue, IsFalse, None, Contains}
+use Rattle.std.specs.FinMap as fin_map
 use Rattle.std.specs.Arc.{arc_value}
 use Rattle.std.specs.List.{count_by, sum_by, range_with_len}
 use Rattle.nav_types.specs.declared.cells.Cell.{Cell}
@@ -25,6 +26,7 @@ use Rattle.grid_versions.specs.Chunks.{chunk_count, chunk_place}
 use Rattle.grid_versions.specs.inner.Reaching.{is_in_some, CoverChanges, NameChanges}
 use Rattle.grid_versions.specs.inner.Reachers.{AreReachersBefore}
 use Rattle.grid_versions.proofs.PlanePartLemmas.{kept_same}
+use Rattle.grid_versions.proofs.ReacherLemmas.{only_adds}
 use Rattle.grid_versions.specs.inner.Tables.{Tables}
 use Rattle.grid_versions.specs.inner.Tallying.{AreTablesOf}
 use Rattle.grid_versions.proofs.VersionLemmas.{changes_of, relabelled_counted, parts_of, chunks_of_one_map}
@@ -116,10 +118,17 @@ next_patches-requires-clause-before g c =
     let spec = c.deref-map.result.now in
     let old = arc_value c.self.inside.shapes in
     let covers = subst (λ (s : MapState). CoverChanges s.map s.standing c.args.shapes c.args.reaches.now) (sym c.self.view_is) c.requires.covers in
+    let names = subst (λ (s : MapState). NameChanges s.map s.standing c.args.shapes c.args.reaches.now c.args.ids.now)
+    (sym c.self.view_is) c.requires.names in
+    let added = c.numbers_added-added.result.now in
     record {
       earlier = old;
       painted = chunks_of_one_map map spec old c.self.inside.cells (sym c.deref-map.ensures) c.self.invariant.cells_are;
       covered = subst (λ (m : Map). CoverChanges m old c.args.shapes c.args.reaches.now) (sym c.deref-map.ensures) covers;
+      adds = λ listed. only_adds map old c.args.shapes c.args.reaches.now c.args.ids.now added names
+          (c.numbers_added-added.ensures.all listed)
+          (subst (λ (s : Standing). (id : ℕ) → Contains added id → fin_map.get s id ≡ None) c.deref-earlier.ensures
+          c.numbers_added-added.ensures.added);
     }
 
 pub changed_parts-requires : goal.changed_parts-requires

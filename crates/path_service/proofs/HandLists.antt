@@ -1,0 +1,110 @@
+-- The posts in hand, which are the last of those that were taken off the lanes.
+use Rattle.std.proofs.Common.{◌≡◌, ℕ, zero, suc, ◌+◌, ◌-◌, ◌<◌, ◌≤◌, List, [], ◌∷◌, ◌++◌, length, map, take, drop, get_or, replicate, slice_index, refl, sym, ap, ◌∙◌, arith, append-nil, append_assoc, length-append}
+use Rattle.std.proofs.lemmas.List.Sums.{sum_by-cons}
+use Rattle.std.proofs.lemmas.List.{drop_at, take_more}
+use Rattle.turn_core.specs.declared.posts.Post.{Post}
+use Rattle.turn_core.specs.declared.posts.Post.TheVariants.{Edit as Editing, Ask as Asking}
+use Rattle.turn_core.specs.Turns.{requests, jobs}
+use Rattle.turn_core.specs.States.{list_of}
+use Rattle.turn_core.specs.Effects.{joined_up, added_up}
+use Rattle.turn_core.proofs.CallerLists.{first_at, rest_at}
+use Rattle.path_service.specs.Services.{past_first, post_count}
+use Rattle.path_service.specs.inner.Holding.{taken_before, AreLast}
+use Rattle.path_service.proofs.PortLists.{count_more}
+
+-- they stay the last, where the same is put behind both
+pub last_joined : (posted hands got : List (List Post)) → length got ≡ length hands → AreLast posted hands → AreLast (joined_up posted got) (joined_up hands got)
+last_joined [] [] [] e last = tt
+last_joined [] [] (g ∷ got) e last = absurd (omega (arith, e))
+last_joined [] (h ∷ hands) got e last = absurd last
+last_joined (p ∷ posted) [] got e last = absurd last
+last_joined (p ∷ posted) (h ∷ hands) [] e last = absurd (omega (arith, e))
+last_joined (p ∷ posted) (h ∷ hands) (g ∷ got) e last =
+    ((last.0.0, sym (append_assoc last.0.0 h g) ∙ ap (λ (l : List Post). l ++ g) last.0.1), last_joined posted hands got (omega (arith, e)) last.1)
+
+pub last_wide : (posted hands : List (List Post)) → AreLast posted hands → length hands ≡ length posted
+last_wide [] [] last = refl
+last_wide [] (h ∷ hands) last = absurd last
+last_wide (p ∷ posted) [] last = absurd last
+last_wide (p ∷ posted) (h ∷ hands) last = ap suc (last_wide posted hands last.1)
+
+-- as many are before them as were
+pub before_joined : (posted hands got : List (List Post)) → length got ≡ length hands → AreLast posted hands → taken_before (joined_up posted got) (joined_up hands got) ≡ taken_before posted hands
+before_joined [] [] [] e last = refl
+before_joined [] [] (g ∷ got) e last = absurd (omega (arith, e))
+before_joined [] (h ∷ hands) got e last = absurd last
+before_joined (p ∷ posted) [] got e last = absurd last
+before_joined (p ∷ posted) (h ∷ hands) [] e last = absurd (omega (arith, e))
+before_joined (p ∷ posted) (h ∷ hands) (g ∷ got) e last =
+    let head : length (p ++ g) - length (h ++ g) ≡ length p - length h = omega (arith, length-append p g, length-append h g) in
+    ap (λ (n : ℕ). n ∷ taken_before (joined_up posted got) (joined_up hands got)) head
+    ∙ ap (λ (ns : List ℕ). (length p - length h) ∷ ns) (before_joined posted hands got (omega (arith, e)) last.1)
+
+cut : (p front h : List Post) → front ++ h ≡ p → drop (length p - length h) p ≡ h
+cut p front h e =
+    let n : length p - length h ≡ length front = omega (arith, ap length e, length-append front h) in
+    ap (λ (k : ℕ). drop k p) n ∙ ap (drop (length front)) (sym e) ∙ drop_at front h (length front) refl
+
+-- what follows those before them
+pub hands_are : (posted hands : List (List Post)) → AreLast posted hands → past_first posted (taken_before posted hands) ≡ hands
+hands_are [] [] last = refl
+hands_are [] (h ∷ hands) last = absurd last
+hands_are (p ∷ posted) [] last = absurd last
+hands_are (p ∷ posted) (h ∷ hands) last =
+    ap (λ (l : List Post). l ∷ past_first posted (taken_before posted hands)) (cut p last.0.0 h last.0.1)
+    ∙ ap (λ (l : List (List Post)). h ∷ l) (hands_are posted hands last.1)
+
+abbrev pub no_posts : List Post
+no_posts = []
+
+-- once all of them are in a turn, as many more are taken as the turn has
+pub before_staged : (posted hands : List (List Post)) → AreLast posted hands → taken_before posted (replicate (length hands) no_posts) ≡ added_up (taken_before posted hands) (map length hands)
+before_staged [] [] last = refl
+before_staged [] (h ∷ hands) last = absurd last
+before_staged (p ∷ posted) [] last = absurd last
+before_staged (p ∷ posted) (h ∷ hands) last =
+    let head : length p - length no_posts ≡ (length p - length h) + length h = omega (arith, ap length last.0.1, length-append last.0.0 h) in
+    ap (λ (n : ℕ). n ∷ taken_before posted (replicate (length hands) no_posts)) head
+    ∙ ap (λ (ns : List ℕ). ((length p - length h) + length h) ∷ ns) (before_staged posted hands last.1)
+
+-- and none is in hand
+pub last_staged : (posted hands : List (List Post)) → AreLast posted hands → AreLast posted (replicate (length hands) no_posts)
+last_staged [] [] last = tt
+last_staged [] (h ∷ hands) last = absurd last
+last_staged (p ∷ posted) [] last = absurd last
+last_staged (p ∷ posted) (h ∷ hands) last = ((p, append-nil p), last_staged posted hands last.1)
+
+drop_none : (k : ℕ) → drop k no_posts ≡ []
+drop_none zero = refl
+drop_none (suc k) = refl
+
+pub past_first_at : (posted : List (List Post)) (numbers : List ℕ) (c : ℕ) → list_of (past_first posted numbers) c ≡ drop (slice_index numbers c) (list_of posted c)
+past_first_at [] numbers c = sym (drop_none (slice_index numbers c))
+past_first_at (p ∷ posted) numbers zero = ap (λ (k : ℕ). drop k p) (first_at numbers)
+past_first_at (p ∷ posted) numbers (suc c) = past_first_at posted (drop 1 numbers) c ∙ ap (λ (k : ℕ). drop k (list_of posted c)) (rest_at numbers c 0)
+
+-- a turn without posts has none of any caller
+pub none_counted : (turn : List (List Post)) (c : ℕ) → post_count turn ≡ 0 → list_of turn c ≡ []
+none_counted [] c e = refl
+none_counted ([] ∷ turn) zero e = refl
+none_counted ((p ∷ ps) ∷ turn) zero e = absurd (omega (arith, e, sum_by-cons length (p ∷ ps) turn))
+none_counted (ps ∷ turn) (suc c) e = none_counted turn c (omega (arith, e, sum_by-cons length ps turn))
+
+pub count_next : (turn : List (List Post)) (i : ℕ) (d : List Post) → i < length turn → post_count (take (i + 1) turn) ≡ post_count (take i turn) + length (get_or turn i d)
+count_next turn i d less = ap post_count (take_more turn i d less) ∙ count_more (take i turn) (get_or turn i d)
+
+pub count_none : (n : ℕ) → post_count (replicate n no_posts) ≡ 0
+count_none zero = refl
+count_none (suc n) = count_none n
+
+requests_few : (ps : List Post) → length (requests ps) ≤ length ps
+requests_few [] = omega arith
+requests_few (Editing e ∷ ps) = omega (arith, requests_few ps)
+requests_few (Asking q ∷ ps) = omega (arith, requests_few ps)
+
+-- a turn has no more jobs than posts
+pub jobs_few : (turn : List (List Post)) → length (jobs turn) ≤ post_count turn
+jobs_few [] = omega arith
+jobs_few (ps ∷ turn) =
+    let all : length (jobs (ps ∷ turn)) ≡ length (requests ps ++ jobs turn) = refl in
+    omega (arith, requests_few ps, jobs_few turn, all, length-append (requests ps) (jobs turn), sum_by-cons length ps turn)

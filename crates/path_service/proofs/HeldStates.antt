@@ -1,0 +1,64 @@
+-- The states that drivers stand for, and what is taken into them.
+use Rattle.std.proofs.Common.{◌≡◌, ℕ, zero, suc, ◌<◌, List, [], ◌∷◌, ◌++◌, Option, None, Some, length, map, take, replicate, slice_index, refl, sym, ap, ◌∙◌, subst, arith, append-nil}
+use Rattle.std.proofs.lemmas.List.{take-append-drop}
+use Rattle.grid_versions.specs.Maps.{Map}
+use Rattle.turn_core.specs.declared.events.Event.{Event}
+use Rattle.turn_core.specs.declared.events.Event.TheVariants.{Stage}
+use Rattle.turn_core.specs.declared.posts.Post.{Post}
+use Rattle.turn_core.specs.declared.replies.TurnReplies.{TurnReplies}
+use Rattle.turn_core.specs.Turns.{of_caller}
+use Rattle.turn_core.specs.States.{State, Run, list_of}
+use Rattle.turn_core.specs.Effects.{IsStep, joined_up}
+use Rattle.turn_core.specs.Facts.{all_turns, Facts}
+use Rattle.turn_core.specs.Arrival.{post_events, CanStage, in_stage}
+use Rattle.turn_core.proofs.Reaching.{reach_step, reach_none, all_post, stage_step}
+use Rattle.turn_core.proofs.Keeping.{kept_run_of}
+use Rattle.path_service.specs.Services.{in_hand}
+use Rattle.path_service.specs.Steps.{Reaches, staging}
+use Rattle.path_service.specs.inner.Holding.{AreLast, state_with}
+use Rattle.path_service.proofs.HandLists.{last_wide, before_joined, hands_are, before_staged, past_first_at, no_posts}
+
+-- posts are taken off the lanes, whatever else the state has
+pub received : (m : Map) (posted hands got : List (List Post)) (staged : Option (List (List Post))) (running : Option Run) (journal : List (List (List Post))) (all : List TurnReplies)
+    → Facts (state_with m posted hands staged running journal all) → AreLast posted hands → length got ≡ m.callers
+    → Reaches (state_with m posted hands staged running journal all) (post_events 0 got) (state_with m (joined_up posted got) (joined_up hands got) staged running journal all)
+received m posted hands got staged running journal all facts last wide =
+    let s : State = state_with m posted hands staged running journal all in
+    let each : length got ≡ length hands = wide ∙ sym facts.wide.posted ∙ sym (last_wide posted hands last) in
+    subst (λ (taken : List ℕ). Reaches s (post_events 0 got) (record s { posted = joined_up posted got; taken = taken })) (sym (before_joined posted hands got each last))
+    (all_post s got facts.wide.posted wide)
+
+-- what holds after a run
+pub facts_after : (old : State) (events : List Event) (new : State) → Facts old → Reaches old events new → Facts new
+facts_after old events new facts run = kept_run_of old events run.0 new facts run.1
+
+-- the posts in hand can be staged
+can_stage : (s : State) (hands : List (List Post)) → Facts s → in_hand s ≡ hands → CanStage s hands
+can_stage s hands facts is = λ c. (
+  [],
+  append-nil (of_caller c (all_turns s) ++ list_of hands c)
+      ∙ ap (λ (l : List Post). l ++ list_of hands c) (facts.posts c)
+      ∙ ap (λ (l : List Post). take (slice_index s.taken c) (list_of s.posted c) ++ l) (ap (λ (l : List (List Post)). list_of l c) (sym is) ∙ past_first_at s.posted s.taken c)
+      ∙ take-append-drop (slice_index s.taken c) (list_of s.posted c),
+)
+
+-- the posts in hand are staged
+pub staged_hands : (m : Map) (posted hands : List (List Post)) (running : Option Run) (journal : List (List (List Post))) (all : List TurnReplies)
+    → Facts (state_with m posted hands None running journal all) → AreLast posted hands
+    → Reaches (state_with m posted hands None running journal all) (Stage (map length hands) ∷ []) (state_with m posted (replicate (length hands) no_posts) (Some hands) running journal all)
+staged_hands m posted hands running journal all facts last =
+    let s : State = state_with m posted hands None running journal all in
+    let wide : length hands ≡ m.callers = last_wide posted hands last ∙ facts.wide.posted in
+    let step : IsStep s (Stage (map length hands)) None (in_stage s hands) = stage_step s hands facts refl wide (can_stage s hands facts (hands_are posted hands last)) in
+    let new : State = state_with m posted (replicate (length hands) no_posts) (Some hands) running journal all in
+    let same : in_stage s hands ≡ new = ap (λ (taken : List ℕ). record s { taken = taken; staged = Some hands }) (sym (before_staged posted hands last)) in
+    reach_step s (Stage (map length hands)) None (in_stage s hands) [] new step (reach_none (in_stage s hands) new same)
+
+-- the stage of some posts is one event
+pub staging_some : (count : ℕ) (turn : List (List Post)) → 0 < count → staging count turn ≡ Stage (map length turn) ∷ []
+staging_some zero turn more = absurd (omega (arith, more))
+staging_some (suc count) turn more = refl
+
+pub staging_none : (count : ℕ) (turn : List (List Post)) → count ≡ 0 → staging count turn ≡ []
+staging_none zero turn none = refl
+staging_none (suc count) turn none = absurd (omega (arith, none))

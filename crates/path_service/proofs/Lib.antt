@@ -1,0 +1,15 @@
+pub mod Zips
+pub mod PortLists
+pub mod LaneSteps
+pub mod IntakeEnds
+pub mod HandLists
+pub mod HeldStates
+pub mod NextTurns
+pub mod RunStarts
+pub mod StartedTurns
+pub mod Deliveries
+pub mod ClosedLanes
+pub mod NewDrivers
+pub mod HeardPorts
+pub mod ReachedServices
+pub mod FreshCallers

@@ -1,0 +1,10 @@
+use Rattle.std.proofs.Common.{List}
+use Rattle.turn_core.specs.declared.posts.Post.{Post}
+use Rattle.path_service.specs.inner.Ports.{Took}
+use Rattle.path_service.proofs.ports.take_posts.Given as goal
+
+abbrev pub invariant-taking : goal.invariant-taking
+invariant-taking g l = (got : List Post) × Took l.fn.lane l.lane l.fn.hand.items l.hand.items l.room l.left got
+
+abbrev pub decreases-taking : goal.decreases-taking
+decreases-taking g l = l.left

@@ -1,0 +1,5 @@
+pub mod Callers
+pub mod Services
+pub mod Steps
+pub mod Closings
+pub mod inner

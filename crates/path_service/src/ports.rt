@@ -1,0 +1,167 @@
+//! The driver's ends of the lanes of its callers.
+ghost use Rattle.std.specs.Prelude.{◌≡◌, ◌^◌, ◌<◌, ◌≤◌, ◌++◌, List, Ok, length, All};
+ghost use Rattle.turn_core.specs.declared.posts.Post.{Post as APost};
+ghost use Rattle.turn_core.specs.declared.replies.Reply.{Reply as AReply};
+ghost use Rattle.path_service.specs.inner.Zips.{AllPaired};
+ghost use Rattle.path_service.specs.inner.Ports.{IsInRoom, HasRoomFor, TakesPosts, FillsPort, FillsAt, FillsPorts};
+ghost use Rattle.path_service.specs.inner.Ports.{HasRoomOn, SendsPart, SendsAt, SendsParts};
+
+use nav_types::{NoMemory, Sequence};
+use request_lanes::{LaneIn, LaneOut};
+use std::alloc::Global;
+use std::mem;
+use std::sync::Wait;
+use turn_core::{Post, Posts, Replies, Reply};
+
+/// The driver's ends of the two lanes of a caller.
+#[derive(Drop)]
+pub(crate) struct Port {
+    pub posts: LaneOut<Post>,
+    pub replies: LaneIn<Reply>,
+}
+
+/// Takes posts off a lane, behind those in hand, until it is found empty or there is no room for more, and answers how
+/// much room is left. Memory is taken before each post, so each post that is taken is in hand.
+fn take_posts(
+    rt: &impl Wait,
+    lane: &mut LaneOut<Post>,
+    hand: &mut Vec<Post>,
+    room: u64,
+) -> Result<u64, NoMemory>
+    ensures { (got : List APost) × TakesPosts lane.old lane.new hand.old.items hand.new.items room result got }
+{
+    let mut left = room;
+    'taking: while left > 0 {
+        hand.reserve(1)?;
+        let Some(next) = lane.take(rt) else {
+            return Ok(left);
+        };
+        let (_, post) = next;
+        hand.push_reserved(post);
+        left -= 1;
+    }
+    Ok(left)
+}
+
+impl Port {
+    /// Takes posts off the lane where there is room left, and answers how much room is left then.
+    fn fill(
+        &mut self,
+        rt: &impl Wait,
+        alloc: Global,
+        hand: &mut Posts,
+        room: Result<u64, NoMemory>,
+    ) -> Result<u64, NoMemory>
+        ensures { (got : List APost) × FillsPort self.old self.new hand.old hand.new room result got }
+    {
+        match room {
+            Ok(room) => self.fill_to(rt, alloc, hand, room),
+            Err(NoMemory) => Err(NoMemory),
+        }
+    }
+
+    /// Takes so many posts at most off the lane, and answers how much room is left.
+    fn fill_to(
+        &mut self,
+        rt: &impl Wait,
+        alloc: Global,
+        hand: &mut Posts,
+        room: u64,
+    ) -> Result<u64, NoMemory>
+        ensures { (got : List APost) × FillsPort self.old self.new hand.old hand.new (Ok room) result got }
+    {
+        let mut posts = mem::replace(hand, Sequence::new(alloc)).into_items();
+        let left = take_posts(rt, &mut self.posts, &mut posts, room);
+        *hand = Sequence::from(posts);
+        left
+    }
+}
+
+/// Takes posts off all lanes, behind those in hand, and answers how much room is left. Where memory is short it takes no
+/// more.
+pub(crate) fn fill_all(
+    rt: &impl Wait,
+    alloc: Global,
+    ports: &mut Vec<Port>,
+    hands: &mut Vec<Posts>,
+    room: u64,
+) -> Result<u64, NoMemory>
+    requires wide { length hands.old.items ≡ length ports.old.items }
+    requires room { All IsInRoom ports.old.items }
+    ensures { (got : List (List APost)) × FillsPorts ports.old.items ports.new.items hands.old.items hands.new.items room result got }
+{
+    let mut left = Ok(room);
+    for caller in 0..ports.len() {
+        left = fill_at(rt, alloc, ports, hands, caller, left);
+    }
+    left
+}
+
+/// Takes posts off the lane of one caller.
+fn fill_at(
+    rt: &impl Wait,
+    alloc: Global,
+    ports: &mut Vec<Port>,
+    hands: &mut Vec<Posts>,
+    caller: usize,
+    room: Result<u64, NoMemory>,
+) -> Result<u64, NoMemory>
+    requires port { caller < length ports.old.items }
+    requires hand { caller < length hands.old.items }
+    ensures { (got : List APost) × FillsAt ports.old.items ports.new.items hands.old.items hands.new.items caller room result got }
+{
+    let port = &mut ports[caller];
+    port.fill(rt, alloc, &mut hands[caller], room)
+}
+
+/// Sends replies on a lane. Where memory is short the first of them are sent.
+fn send_replies(
+    rt: &impl Wait,
+    alloc: Global,
+    lane: &mut LaneIn<Reply>,
+    replies: &[Reply],
+) -> Result<(), NoMemory>
+    requires { length (lane.old.posted ++ replies.now) ≤ 2 ^ 62 }
+    ensures { (part : List AReply) × SendsPart lane.old lane.new replies.now result part }
+{
+    for reply in replies {
+        let copied = reply.copy(alloc)?;
+        let Ok(_place) = lane.post(rt, copied) else {
+            return Err(NoMemory);
+        };
+    }
+    Ok(())
+}
+
+/// Sends the replies of one caller.
+fn send_at(
+    rt: &impl Wait,
+    alloc: Global,
+    ports: &mut Vec<Port>,
+    caller: usize,
+    replies: &[Reply],
+) -> Result<(), NoMemory>
+    requires port { caller < length ports.old.items }
+    requires room { HasRoomFor ports.old.items caller replies.now }
+    ensures { (part : List AReply) × SendsAt ports.old.items ports.new.items caller replies.now result part }
+{
+    let port = &mut ports[caller];
+    send_replies(rt, alloc, &mut port.replies, replies)
+}
+
+/// Sends each caller its replies, caller by caller. Where memory is short the first of them are sent.
+pub(crate) fn send_all(
+    rt: &impl Wait,
+    alloc: Global,
+    ports: &mut Vec<Port>,
+    replies: &[Replies],
+) -> Result<(), NoMemory>
+    requires wide { length replies.now ≡ length ports.old.items }
+    requires room { AllPaired HasRoomOn ports.old.items replies.now }
+    ensures { (parts : List (List AReply)) × SendsParts ports.old.items ports.new.items replies.now result parts }
+{
+    for (caller, list) in replies.iter().enumerate() {
+        send_at(rt, alloc, ports, caller, list.as_slice())?;
+    }
+    Ok(())
+}

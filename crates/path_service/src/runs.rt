@@ -1,0 +1,152 @@
+//! The running turn.
+ghost use Rattle.std.specs.Prelude.{◌≡◌, ◌≤◌, ◌^◌, ◌<◌, All, IfOk, Ok, length};
+ghost use denote.Param.Send.{IsSync};
+ghost use Rattle.nav_types.specs.declared.limits.TheConstants.{MAX_STAGED_POSTS as MOST};
+ghost use Rattle.grid_versions.specs.Versions.{map_state};
+ghost use Rattle.turn_core.specs.Solving.{AreAnswersTo};
+ghost use Rattle.turn_core.specs.Turns.{jobs};
+ghost use Rattle.turn_core.specs.ReadyTurns.{after_edits_of};
+ghost use Rattle.path_service.specs.Services.{post_count};
+ghost use Rattle.path_service.specs.inner.Ports.{IsInRoom};
+ghost use Rattle.path_service.specs.inner.Intakes.{HasTakenIn};
+ghost use Rattle.path_service.specs.inner.Running.{base_of, HoldsRun};
+
+use crate::intakes::{Intake, next_turn};
+use crate::ports::Port;
+use grid_versions::Version;
+use nav_types::NoMemory;
+use std::alloc::Global;
+use std::snapshot::Snapshot;
+use std::sync::Wait;
+use std::thread::{Threads, join};
+use turn_core::{AnsweredTurn, Answers, Posts, ReadyTurn, Runner, TurnPosts, TurnReplies};
+
+/// A running turn whose jobs are answered: its posts, the replies to them and the version after it.
+#[derive(Drop)]
+pub(crate) struct AnsweredRun {
+    pub posts: TurnPosts,
+    pub answers: Snapshot<Answers>,
+    pub replies: TurnReplies,
+    pub after: Version,
+}
+
+/// What came of running a turn beside the intake of the next.
+#[derive(Drop)]
+pub(crate) struct Beside {
+    pub answers: Result<Answers, NoMemory>,
+    pub intake: Intake,
+}
+
+/// The answers to a turn, and the number of posts in the next.
+#[derive(Drop)]
+pub(crate) struct RunAndNext {
+    pub answers: Answers,
+    pub count: u64,
+}
+
+impl AnsweredRun {
+    /// The turn with the answers to its jobs.
+    pub(crate) fn new(ready: ReadyTurn, answers: Answers) -> AnsweredRun
+        requires { AreAnswersTo ready.map (after_edits_of ready) (jobs ready.turn) answers }
+        ensures posts { result.posts ≡ ready.turn }
+        ensures answers { result.answers.value ≡ answers }
+        ensures holds { HoldsRun (map_state ready.map ready.before) result }
+    {
+        let answered = Snapshot::of(&answers);
+        let (posts, turn) = ready.answered(answers);
+        let AnsweredTurn { replies, after } = turn;
+        AnsweredRun {
+            posts,
+            answers: answered,
+            replies,
+            after,
+        }
+    }
+}
+
+/// The version on which the next turn stands: the one after the running turn, where there is one.
+pub(crate) fn base_of<'a>(version: &'a Version, running: &'a Option<AnsweredRun>) -> &'a Version
+    ensures map { result.now.map ≡ (base_of version.now running.now).map }
+    ensures standing { result.now.standing ≡ (base_of version.now running.now).standing }
+{
+    match running {
+        None => version,
+        Some(run) => &run.after,
+    }
+}
+
+/// Runs the jobs of a turn on its version, and beside them takes in the next turn, which stands on it. The runner is then
+/// told of the posts of the next turn.
+pub(crate) fn run_beside<W: Runner + Sync, R: Threads + Wait + Sync>(
+    rt: &R,
+    alloc: Global,
+    runner: &W,
+    ready: &ReadyTurn,
+    ports: Vec<Port>,
+    hands: Vec<Posts>,
+) -> Beside
+    requires ready { W.ready runner.now }
+    requires jobs { length (jobs ready.now.turn) < 2 ^ 32 }
+    requires wide { length hands.items ≡ length ports.items }
+    requires room { All IsInRoom ports.items }
+    requires few { post_count hands.items ≤ MOST }
+    ensures answers { IfOk result.answers
+        (AreAnswersTo ready.now.map (after_edits_of ready.now) (jobs ready.now.turn)) }
+    ensures intake { HasTakenIn ready.now.map (after_edits_of ready.now) ports.items hands.items result.intake }
+{
+    let version = ready.version();
+    let asked = ready.jobs();
+    let (answers, intake) = join(
+        rt,
+        move || -> Result<Answers, NoMemory>
+            requires { W.ready runner.now × (length asked.now < 2 ^ 32) }
+            ensures { IfOk result
+                (AreAnswersTo version.entry.now.map version.entry.now.standing asked.entry.now) }
+        { runner.run(alloc, version, asked) },
+        move || -> Intake
+            requires { IsSync R.row × W.ready runner.now × (length hands.items ≡ length ports.items)
+                × All IsInRoom ports.items × (post_count hands.items ≤ MOST) }
+            ensures { HasTakenIn version.entry.now.map version.entry.now.standing ports.items hands.items result }
+        { take_in(rt, alloc, runner, version, ports, hands) },
+    );
+    Beside { answers, intake }
+}
+
+/// Takes in the next turn on a version, and tells the runner of its posts.
+fn take_in<W: Runner, R: Wait>(
+    rt: &R,
+    alloc: Global,
+    runner: &W,
+    version: &Version,
+    ports: Vec<Port>,
+    hands: Vec<Posts>,
+) -> Intake
+    requires ready { W.ready runner.now }
+    requires wide { length hands.items ≡ length ports.items }
+    requires room { All IsInRoom ports.items }
+    requires few { post_count hands.items ≤ MOST }
+    ensures { HasTakenIn version.now.map version.now.standing ports.items hands.items result }
+{
+    let intake = next_turn(rt, alloc, version, ports, hands);
+    if let Ok(count) = &intake.count {
+        runner.staged(*count);
+    }
+    intake
+}
+
+/// Both, where there was memory for both.
+pub(crate) fn both(
+    answers: Result<Answers, NoMemory>,
+    count: Result<u64, NoMemory>,
+) -> Result<RunAndNext, NoMemory>
+    ensures answers { IfOk result (λ both. answers ≡ Ok both.answers) }
+    ensures count { IfOk result (λ both. count ≡ Ok both.count) }
+{
+    let Ok(answers) = answers else {
+        return Err(NoMemory);
+    };
+    let Ok(count) = count else {
+        return Err(NoMemory);
+    };
+    Ok(RunAndNext { answers, count })
+}

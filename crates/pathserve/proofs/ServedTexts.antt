@@ -1,0 +1,276 @@
+-- What is written for a script that is served, over a source that may tell its bytes and a sink that may keep them.
+use Rattle.std.proofs.Common.{◌≡◌, ℕ, List, [], ◌∷◌, ◌++◌, take, zero, suc, Bool, true, Option, Some, None, Result, Ok, Err, inl, inr, refl, sym, ap, ◌∙◌, subst}
+use Rattle.std.specs.Prelude.{All, IfSome}
+use Rattle.std.specs.List.{list_all}
+use Rattle.std.specs.Io.KnownBytes.{Appends}
+use Rattle.std.proofs.KnownBytes.{Appends-nil}
+use Rattle.std.proofs.lemmas.Bool.{and_parts}
+use Rattle.std.proofs.lemmas.List.Folds.{list_all-append}
+use Rattle.std.proofs.lemmas.List.Sums.{AllPass-from_list_all}
+use Rattle.io_edges.specs.Faults.{Rose}
+use Rattle.io_edges.specs.declared.edges.WriteRefusal.{WriteRefusal}
+use Rattle.io_edges.specs.declared.edges.WriteRefusal.TheVariants as refusal
+use Rattle.grid_versions.specs.Maps.{Map}
+use Rattle.turn_core.specs.declared.posts.Post.{Post}
+use Rattle.turn_core.specs.declared.replies.TurnReplies.{TurnReplies}
+use Rattle.turn_core.specs.Turns.{of_caller, IsOneThread}
+use Rattle.turn_core.specs.States.{list_of}
+use Rattle.script_text.specs.declared.faults.ScriptFault.{ScriptFault}
+use Rattle.script_text.specs.declared.faults.ScriptFault.TheVariants as fault
+use Rattle.script_text.specs.Canon.{is_post_of, HaveLines}
+use Rattle.script_text.specs.Script.{Item, map_after, turns_of, beginning, Stop, whole_input, too_long, bad_line, Ends, stuck_by, Walk, reading}
+use Rattle.script_text.specs.Reader.{Held, unread, IsWholeMap, MapTold, StopsAtFault, WhereTold, stuck_after}
+use Rattle.script_text.proofs.GrammarLines.{and_both}
+use Rattle.script_text.proofs.ReadCalls.{stuck_then}
+use Rattle.script_text.proofs.ReadTold.{told-then, told-weaker}
+use Rattle.answer_text.specs.Answers.{bad_line_text}
+use Rattle.pathserve.specs.declared.status.Status.{Status}
+use Rattle.pathserve.specs.declared.status.Status.TheVariants.{Done, BadLine, ReadFault, WriteFault, NoMemory, TooLong}
+use Rattle.pathserve.specs.declared.bad_lines.BadLine as reason
+use Rattle.pathserve.specs.Output.{ComesByStop, stop_status, stop_text}
+use Rattle.pathserve.specs.Reasons.{IsWhyBad}
+use Rattle.pathserve.specs.Serving.{IsJournalOf, IsServed, IsServedTo, IsServedBeginning, Serves, ServesTold, TakesNoStop, journal_text}
+use Rattle.pathserve.specs.inner.Stopping.{IsHeldBad}
+use Rattle.pathserve.specs.inner.WholeScripts.{AllTold, RefusesAll}
+use Rattle.pathserve.specs.inner.Writing.{WritesPiece, StopsWith, refused_status, status_after}
+use Rattle.pathserve.proofs.Progress.{going, walked_taken}
+use Rattle.pathserve.proofs.Replaying.{map_refusal, stop_bad_line}
+use Rattle.pathserve.proofs.WholeReadings.{refuses_then, turns_of-append}
+
+-- ---- the whole script
+
+-- The input is whole and read to its end. It gives this map, and these are the posts of each caller in its turns.
+pub record IsWholeScript (m : Map) (lists : List (List Post)) (bytes rest : List ℕ) : Type 0 where
+  pub items : List Item
+  pub whole : reading bytes beginning ≡ stuck_after items whole_input
+  pub nothing : rest ≡ []
+  pub on_map : map_after None items ≡ Some m
+  pub posts : (caller : ℕ) → list_of lists caller ≡ of_caller caller (turns_of items)
+
+abbrev pub WholeTold : Map → List (List Post) → Option (List ℕ) → Option (List ℕ) → Type 0
+WholeTold m lists start now = WhereTold start now (IsWholeScript m lists)
+
+pub whole_read : (held new : Held) (start mid now : Option (List ℕ)) (m : Map) (lists : List (List Post)) → MapTold unread held start mid (Ok m)
+    → IsWholeMap unread start m → AllTold held new mid now (Ok lists) → WholeTold m lists start now
+whole_read held new None mid now m lists a w b = tt
+whole_read held new (Some bytes) None now m lists a w b = absurd a
+whole_read held new (Some bytes) (Some left) None m lists a w b = absurd b
+whole_read held new (Some bytes) (Some left) (Some rest) m lists a w b =
+    let first = a going in
+    let all = b first.on.at_end in
+    let whole : reading bytes beginning ≡ stuck_after (first.items ++ all.items) whole_input =
+    stuck_then unread held bytes left first.items all.items whole_input first.on all.whole in
+    record {
+      items = first.items ++ all.items;
+      whole = whole;
+      nothing = all.nothing;
+      on_map = ap (λ (v : Walk). map_after None v.items) (sym whole) ∙ w going;
+      posts = λ caller. all.posts caller ∙ ap (λ (turns : List (List (List Post))). of_caller caller turns)
+          (sym (turns_of-append first.items all.items ∙ ap (λ (turns : List (List (List Post))). turns ++ turns_of all.items) first.no_turn));
+    }
+
+-- ---- a script that is refused
+
+abbrev pub RefusedTold : Held → ScriptFault → Option (List ℕ) → Option (List ℕ) → Type 0
+RefusedTold new met start now = WhereTold start now (λ bytes rest. RefusesAll unread new bytes rest met)
+
+pub map_stops : (new : Held) (met : ScriptFault) (start now : Option (List ℕ)) → MapTold unread new start now (Err met) → RefusedTold new met start now
+map_stops new met start now a =
+    told-weaker start now _ _ (λ bytes rest said. let r = said going in record { items = r.items; refused = r.refused })
+    (map_refusal unread new start now met a)
+
+pub turns_stop : (held new : Held) (m : Map) (met : ScriptFault) (start mid now : Option (List ℕ)) → MapTold unread held start mid (Ok m)
+    → AllTold held new mid now (Err met) → RefusedTold new met start now
+turns_stop held new m met start mid now a b =
+    told-then start mid now _ _ _ (λ bytes left rest said refused.
+    let first = said going in
+    let r = refused first.on.at_end in
+    record {
+      items = first.items ++ r.items;
+      refused = refuses_then unread held new bytes left rest first.items r.items met going first.on r.refused;
+    }) a b
+
+-- ---- what is written
+
+serves_told : (start now kept final : Option (List ℕ)) (Says : List ℕ → List ℕ → Type 0) (out : List ℕ) (status : Status) → WhereTold start now Says
+    → Appends kept final out → ((bytes rest : List ℕ) → Says bytes rest → Serves bytes rest out status) → ServesTold start now kept final status
+serves_told None now kept final Says out status s wrote here = tt
+serves_told (Some bytes) None kept final Says out status s wrote here = absurd s
+serves_told (Some bytes) (Some rest) None final Says out status s wrote here = tt
+serves_told (Some bytes) (Some rest) (Some kept) None Says out status s wrote here = absurd wrote
+serves_told (Some bytes) (Some rest) (Some kept) (Some final) Says out status s wrote here = (out, (wrote, here bytes rest s))
+
+-- there was no memory before anything was written
+pub told_short : (start now kept : Option (List ℕ)) (Says : List ℕ → List ℕ → Type 0) → WhereTold start now Says → ServesTold start now kept kept NoMemory
+told_short start now kept Says s = serves_told start now kept kept Says [] NoMemory s (Appends-nil kept) (λ bytes rest said. inl refl)
+
+begun_refused : (refused : WriteRefusal) (bytes rest out : List ℕ) → IsServedBeginning bytes out → Serves bytes rest out (refused_status refused)
+begun_refused refusal.Failed bytes rest out begun = begun
+begun_refused refusal.NoMemory bytes rest out begun = begun
+
+-- the first bytes of a text for the stop of the input
+begun_by : (bytes text : List ℕ) (ends : Ends) (n : ℕ) → (reading bytes beginning).ends ≡ ends → IsServedTo bytes ends text
+    → IsServedBeginning bytes (take n text)
+begun_by bytes text ends n is served = inr (text, (subst (λ (e : Ends). IsServedTo bytes e text) (sym is) served, (n, refl)))
+
+ends_of : (bytes : List ℕ) (items : List Item) (stop : Stop) → reading bytes beginning ≡ stuck_after items stop → (reading bytes beginning).ends ≡ stuck_by stop
+ends_of bytes items stop is = ap (λ (v : Walk). v.ends) is
+
+served : (m : Map) (lists : List (List Post)) (journal : List (List (List Post))) (told : List TurnReplies) (bytes rest : List ℕ)
+    → IsWholeScript m lists bytes rest → IsJournalOf m.callers (list_of lists) journal → IsOneThread m journal told
+    → IsServed bytes (journal_text m journal told)
+served m lists journal told bytes rest w made answers = record {
+  map = m;
+  on_map = ap (λ (v : Walk). map_after None v.items) w.whole ∙ w.on_map;
+  journal = journal;
+  of_callers = record {
+    wide = made.wide;
+    posts = λ caller. made.posts caller ∙ w.posts caller ∙ ap (λ (v : Walk). of_caller caller (turns_of v.items)) (sym w.whole);
+    some = made.some;
+  };
+  told = told;
+  one_thread = answers;
+  text = refl;
+}
+
+-- the session was run, and its text was written, or a part of it
+pub told_served : (m : Map) (lists : List (List Post)) (journal : List (List (List Post))) (told : List TurnReplies) (start now kept final : Option (List ℕ))
+    (written : Result (Unit {0}) WriteRefusal) → WholeTold m lists start now → IsJournalOf m.callers (list_of lists) journal → IsOneThread m journal told
+    → WritesPiece kept final (journal_text m journal told) written → ServesTold start now kept final (status_after written Done)
+told_served m lists journal told start now kept final (Ok done) s made answers wrote =
+    serves_told start now kept final (IsWholeScript m lists) (journal_text m journal told) Done s wrote
+    (λ bytes rest w. (w.nothing, (ends_of bytes w.items whole_input w.whole, served m lists journal told bytes rest w made answers)))
+told_served m lists journal told start now kept final (Err refused) s made answers (n, wrote) =
+    serves_told start now kept final (IsWholeScript m lists) (take n (journal_text m journal told)) (refused_status refused) s wrote
+    (λ bytes rest w. begun_refused refused bytes rest (take n (journal_text m journal told))
+    (begun_by bytes (journal_text m journal told) (stuck_by whole_input) n (ends_of bytes w.items whole_input w.whole)
+    (served m lists journal told bytes rest w made answers)))
+
+-- the session was run on this map
+pub told_session : (m on : Map) (lists : List (List Post)) (journal : List (List (List Post))) (told : List TurnReplies) (start now kept final : Option (List ℕ))
+    (written : Result (Unit {0}) WriteRefusal) → on ≡ m → WholeTold m lists start now → IsJournalOf m.callers (list_of lists) journal → IsOneThread m journal told
+    → WritesPiece kept final (journal_text on journal told) written → ServesTold start now kept final (status_after written Done)
+told_session m on lists journal told start now kept final written same s made answers wrote =
+    told_served m lists journal told start now kept final written s made answers
+    (subst (λ (n : Map). WritesPiece kept final (journal_text n journal told) written) same wrote)
+
+-- a bad line was named, or a part of its name was written
+told_bad : (new : Held) (n : ℕ) (start now kept final : Option (List ℕ)) (written : Result (Unit {0}) WriteRefusal) → RefusedTold new (fault.BadLine n) start now
+    → WritesPiece kept final (stop_text (bad_line n)) written → ServesTold start now kept final (status_after written BadLine)
+told_bad new n start now kept final (Ok done) s wrote =
+    serves_told start now kept final (λ bytes rest. RefusesAll unread new bytes rest (fault.BadLine n)) (bad_line_text n) BadLine s wrote
+    (λ bytes rest r. (n, (ends_of bytes r.items (bad_line n) r.refused.stuck, refl)))
+told_bad new n start now kept final (Err refused) s (k, wrote) =
+    serves_told start now kept final (λ bytes rest. RefusesAll unread new bytes rest (fault.BadLine n)) (take k (bad_line_text n)) (refused_status refused) s wrote
+    (λ bytes rest r. begun_refused refused bytes rest (take k (bad_line_text n))
+    (begun_by bytes (bad_line_text n) (stuck_by (bad_line n)) k (ends_of bytes r.items (bad_line n) r.refused.stuck) refl))
+
+-- no line among the bytes taken stops the input
+no_stop_taken : (new : Held) (bytes rest : List ℕ) (items : List Item) → StopsAtFault unread new bytes rest items → TakesNoStop bytes rest
+no_stop_taken new bytes rest items s = record {
+  taken = s.taken;
+  took = s.took;
+  items = items;
+  place = new.place;
+  walked = walked_taken bytes rest new items s;
+}
+
+-- no part of the script came
+pub told_refused : (new : Held) (met : ScriptFault) (start now kept final : Option (List ℕ)) (status : Status) → RefusedTold new met start now
+    → StopsWith met kept final status → ServesTold start now kept final status
+told_refused new (fault.BadLine n) start now kept final status s (written, (wrote, is)) =
+    subst (λ (x : Status). ServesTold start now kept final x) (sym is) (told_bad new n start now kept final written s wrote)
+told_refused new fault.TooLong start now kept final status s (is, wrote) =
+    subst (λ (x : Status). ServesTold start now kept final x) (sym is)
+    (serves_told start now kept final (λ bytes rest. RefusesAll unread new bytes rest fault.TooLong) [] TooLong s wrote
+    (λ bytes rest r. (ends_of bytes r.items too_long r.refused, refl)))
+told_refused new fault.ReadFault start now kept final status s (is, wrote) =
+    subst (λ (x : Status). ServesTold start now kept final x) (sym is)
+    (serves_told start now kept final (λ bytes rest. RefusesAll unread new bytes rest fault.ReadFault) [] ReadFault s wrote
+    (λ bytes rest r. (no_stop_taken new bytes rest r.items r.refused, refl)))
+told_refused new fault.NoMemory start now kept final status s (is, wrote) =
+    subst (λ (x : Status). ServesTold start now kept final x) (sym is)
+    (serves_told start now kept final (λ bytes rest. RefusesAll unread new bytes rest fault.NoMemory) [] NoMemory s wrote (λ bytes rest r. inl refl))
+
+-- ---- the status
+
+-- what is told of the bytes of the source
+at_bytes : (P : List ℕ → Type 0) (start now : Option (List ℕ)) (Says : List ℕ → List ℕ → Type 0) (bytes : List ℕ) → WhereTold start now Says
+    → start ≡ Some bytes → ((left rest : List ℕ) → Says left rest → P left) → P bytes
+at_bytes P None now Says bytes s is here = absurd (cc)
+at_bytes P (Some first) None Says bytes s is here = absurd s
+at_bytes P (Some first) (Some rest) Says bytes s is here =
+    let same : first ≡ bytes = cc in
+    subst P same (here first rest s)
+
+pub stop_served : (m : Map) (lists : List (List Post)) (start now : Option (List ℕ)) (reads reading_now writes writing_now : ℕ) → WholeTold m lists start now
+    → (bytes : List ℕ) → start ≡ Some bytes → ComesByStop reads reading_now writes writing_now (reading bytes beginning).ends Done
+stop_served m lists start now reads reading_now writes writing_now s bytes is =
+    at_bytes (λ (l : List ℕ). ComesByStop reads reading_now writes writing_now (reading l beginning).ends Done) start now (IsWholeScript m lists) bytes s is
+    (λ left rest w. inl (ap stop_status (sym (ends_of left w.items whole_input w.whole))))
+
+pub stop_of_refusal : (new : Held) (met : ScriptFault) (start now kept final : Option (List ℕ)) (status : Status) (reads reading_now writes writing_now : ℕ)
+    → RefusedTold new met start now → StopsWith met kept final status → (met ≡ fault.ReadFault → Rose reads reading_now)
+    → (status ≡ WriteFault → Rose writes writing_now) → (bytes : List ℕ) → start ≡ Some bytes
+    → ComesByStop reads reading_now writes writing_now (reading bytes beginning).ends status
+stop_of_refusal new (fault.BadLine n) start now kept final status reads reading_now writes writing_now s (written, (wrote, is)) rose_read rose bytes told =
+    at_bytes (λ (l : List ℕ). ComesByStop reads reading_now writes writing_now (reading l beginning).ends status) start now
+    (λ bytes rest. RefusesAll unread new bytes rest (fault.BadLine n)) bytes s told
+    (λ left rest r. stop_bad_line reads reading_now writes writing_now (reading left beginning).ends n written status is
+    (ends_of left r.items (bad_line n) r.refused.stuck) rose)
+stop_of_refusal new fault.TooLong start now kept final status reads reading_now writes writing_now s (is, wrote) rose_read rose bytes told =
+    at_bytes (λ (l : List ℕ). ComesByStop reads reading_now writes writing_now (reading l beginning).ends status) start now
+    (λ bytes rest. RefusesAll unread new bytes rest fault.TooLong) bytes s told
+    (λ left rest r. inl (is ∙ ap stop_status (sym (ends_of left r.items too_long r.refused))))
+stop_of_refusal new fault.ReadFault start now kept final status reads reading_now writes writing_now s (is, wrote) rose_read rose bytes told =
+    inr (inr (inl (is, rose_read refl)))
+stop_of_refusal new fault.NoMemory start now kept final status reads reading_now writes writing_now s (is, wrote) rose_read rose bytes told = inr (inl is)
+
+-- ---- why a line is bad
+
+pub why_refused : (new : Held) (met : ScriptFault) (start now : Option (List ℕ)) (why : Option reason.BadLine) → RefusedTold new met start now
+    → IfSome why (IsHeldBad new met) → (bytes : List ℕ) → start ≡ Some bytes → IfSome why (IsWhyBad bytes)
+why_refused new met start now None s h bytes is = tt
+why_refused new met start now (Some bad) s h bytes is =
+    at_bytes (λ (l : List ℕ). IsWhyBad l bad) start now (λ bytes rest. RefusesAll unread new bytes rest met) bytes s is
+    (λ left rest r.
+    let bad_one = subst (λ (f : ScriptFault). RefusesAll unread new left rest f) h.line r in
+    record {
+      stops = ends_of left bad_one.items (bad_line bad.number) bad_one.refused.stuck;
+      cause = bad_one.refused.cause ∙ h.cause;
+    })
+
+-- ---- the lines of the journal
+
+-- where the posts of each caller pass a test, all posts of a turn do
+each_list : (passes : Post → Bool) (turn : List (List Post)) → ((caller : ℕ) → list_all passes (list_of turn caller) ≡ true)
+    → list_all (λ posts. list_all passes posts) turn ≡ true
+each_list passes [] each = refl
+each_list passes (posts ∷ turn) each =
+    and_both (list_all passes posts) (list_all (λ posts. list_all passes posts) turn) (each 0) (each_list passes turn (λ caller. each (suc caller)))
+
+-- and all posts of a journal
+each_turn : (passes : Post → Bool) (journal : List (List (List Post))) → ((caller : ℕ) → list_all passes (of_caller caller journal) ≡ true)
+    → list_all (λ turn. list_all (λ posts. list_all passes posts) turn) journal ≡ true
+each_turn passes [] each = refl
+each_turn passes (turn ∷ journal) each =
+    let parts : (caller : ℕ) → (list_all passes (list_of turn caller) ≡ true) × (list_all passes (of_caller caller journal) ≡ true) = λ caller.
+    and_parts (list_all passes (list_of turn caller)) (list_all passes (of_caller caller journal))
+    (sym (list_all-append passes (list_of turn caller) (of_caller caller journal)) ∙ each caller) in
+    and_both (list_all (λ posts. list_all passes posts) turn) (list_all (λ turn. list_all (λ posts. list_all passes posts) turn) journal)
+    (each_list passes turn (λ caller. (parts caller).0)) (each_turn passes journal (λ caller. (parts caller).1))
+
+one_list : (passes : Post → Bool) (lists : List (List Post)) (caller : ℕ) → list_all (λ posts. list_all passes posts) lists ≡ true
+    → list_all passes (list_of lists caller) ≡ true
+one_list passes [] caller all = refl
+one_list passes (posts ∷ lists) zero all = (and_parts (list_all passes posts) (list_all (λ posts. list_all passes posts) lists) all).0
+one_list passes (posts ∷ lists) (suc caller) all =
+    one_list passes lists caller (and_parts (list_all passes posts) (list_all (λ posts. list_all passes posts) lists) all).1
+
+-- a journal of posts that have lines
+pub journal_lines : (version callers : ℕ) (lists : List (List Post)) (journal : List (List (List Post))) → HaveLines version lists
+    → IsJournalOf callers (list_of lists) journal → All (HaveLines version) journal
+journal_lines version callers lists journal have made =
+    AllPass-from_list_all (λ turn. list_all (λ posts. list_all (is_post_of version) posts) turn) journal
+    (each_turn (is_post_of version) journal
+    (λ caller. ap (λ (l : List Post). list_all (is_post_of version) l) (made.posts caller) ∙ one_list (is_post_of version) lists caller have))

@@ -1,0 +1,40 @@
+-- The driver of a session.
+use Rattle.std.specs.Prelude.{ℕ, ◌≡◌, ◌≤◌, ◌<◌, false, List, All, sum_by, Option, Some, None}
+use Rattle.nav_types.specs.declared.limits.TheConstants.{MAX_STAGED_POSTS}
+use Rattle.turn_core.specs.declared.posts.Post.{Post}
+use Rattle.path_service.specs.Callers.{EndedState}
+use Rattle.path_service.specs.Services.{DriverState, started_on, post_count}
+use Rattle.pathserve.specs.Serving.{HasPost}
+use Rattle.pathserve.specs.inner.Works.{HaveAllPosted}
+
+-- a driver as its service starts
+abbrev pub IsAtStart : DriverState → Type 0
+IsAtStart d = d ≡ started_on d.machine.map d.callers
+
+-- so many posts are staged
+abbrev pub Stages : ℕ → Option (List (List Post)) → Type 0
+Stages count None = count ≡ 0
+Stages count (Some turn) = (count ≡ post_count turn) × ((0 < count) × (count ≤ MAX_STAGED_POSTS))
+
+-- A driver that began so, while no turn runs: turns with so many posts in all are delivered, each with a post, and so many
+-- posts are staged.
+pub record HasComeTo (start d : DriverState) (delivered next : ℕ) : Type 0 where
+  pub on_map : d.machine.map ≡ start.machine.map
+  pub callers : d.callers ≡ start.callers
+  pub sound : d.failed ≡ false
+  pub idle : d.machine.running ≡ None
+  pub staged : Stages next d.machine.staged
+  pub some : All HasPost d.machine.done
+  pub count : delivered ≡ sum_by post_count d.machine.done
+
+-- so many posts at least are delivered
+pub record HasServed (start d : DriverState) (posts : ℕ) : Type 0 where
+  pub delivered : ℕ
+  pub next : ℕ
+  pub enough : posts ≤ delivered
+  pub now : HasComeTo start d delivered next
+
+-- all callers have ended, after posts out of their lists, and as many as there are in all are delivered
+pub record IsDriven (start d : DriverState) (posts : List (List Post)) (ended : List EndedState) : Type 0 where
+  pub served : HasServed start d (post_count posts)
+  pub callers : HaveAllPosted start.callers posts ended

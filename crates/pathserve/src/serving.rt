@@ -1,0 +1,179 @@
+//! Scripts that are served: a script is read whole, a session of its callers is run, and the journal that came of it is
+//! written with the answers.
+ghost use Rattle.std.specs.Prelude.{◌≡◌, ◌≢◌, ◌<◌, ◌≤◌, ◌^◌, ℕ, All, IfErr, IfOk, IfSome, IsErrOf, IsFalse, IsSome, List, OnOk, Some, length, slice_set, ◌++◌};
+ghost use Rattle.nav_types.specs.declared.limits.TheConstants.{MAX_WORKERS};
+ghost use Rattle.io_edges.specs.Faults.{Rose};
+ghost use Rattle.io_edges.specs.Passing.{HasGiven, HasTaken};
+ghost use Rattle.turn_core.specs.States.{list_of};
+ghost use Rattle.turn_core.specs.Effects.{joined_up};
+ghost use Rattle.script_text.specs.Canon.{HaveLines};
+ghost use Rattle.script_text.specs.ReadsBack.{canon_script};
+ghost use Rattle.script_text.specs.Reader.{HaveLinesAt, HoldsRefused, callers_of, post_count, rules_at};
+ghost use Rattle.script_text.specs.Script.{reading, beginning};
+ghost use Rattle.pathserve.specs.Output.{ComesByStop, turn_texts};
+ghost use Rattle.pathserve.specs.Reasons.{IsWhyBad};
+ghost use Rattle.pathserve.specs.Serving.{ServesTold, journal_text};
+ghost use Rattle.pathserve.specs.inner.WholeScripts.{AllTold};
+ghost use Rattle.pathserve.specs.inner.Writing.{WritesPiece};
+
+use crate::bad_lines::BadLine;
+use crate::replay::stop_at;
+use crate::sessions::serve_session;
+use crate::status::Status;
+use crate::writing::{status_of, write_text};
+use answer_text::turn_text;
+use io_edges::{Gate, Sink, Source, WriteRefusal};
+use nav_types::{NoMemory, Sequence};
+use path_service::Closed;
+use script_text::{ScriptFault, ScriptReader, write_journal, write_map};
+use std::alloc::Global;
+use std::sync::Wait;
+use std::thread::Threads;
+use turn_core::{Posts, TurnPosts, empty_lists};
+
+/// Serves a script: it is read whole, without regard to where its turns end, each of its callers posts its posts by
+/// itself ([`serve_session`]), and the journal that came of it is written as a canonical script, followed by the answers
+/// to it (`IsServed`). Nothing is written before every post has its reply. It may wait.
+///
+/// Where a line is bad its number is all that is written.
+///
+/// `why` has at the end what it has behind `run`.
+pub fn run_serve<R: Threads + Wait + Sync, S: Source, K: Sink, G: Gate + Sync>(
+    rt: &R,
+    alloc: Global,
+    workers: u8,
+    source: &mut S,
+    sink: &mut K,
+    gate: &G,
+    why: &mut Option<BadLine>,
+) -> Status
+    requires some { 1 ≤ workers }
+    requires few { workers ≤ MAX_WORKERS }
+    ensures told { ServesTold (S.left source.old) (S.left source.new) (K.kept sink.old) (K.kept sink.new) result }
+    ensures stop { (bytes : List ℕ) → S.left source.old ≡ Some bytes
+        → ComesByStop (S.faults source.old) (S.faults source.new) (K.faults sink.old) (K.faults sink.new)
+        (reading bytes beginning).ends result }
+    ensures usage { result ≢ Status.Usage }
+    ensures given { HasGiven (S.left source.old) (S.left source.new) }
+    ensures taken { HasTaken (K.kept sink.old) (K.kept sink.new) }
+    ensures source_later { S.faults source.old ≤ S.faults source.new }
+    ensures sink_later { K.faults sink.old ≤ K.faults sink.new }
+    ensures read { result ≡ Status.ReadFault → Rose (S.faults source.old) (S.faults source.new) }
+    ensures write { result ≡ Status.WriteFault → Rose (K.faults sink.old) (K.faults sink.new) }
+    ensures why { (bytes : List ℕ) → S.left source.old ≡ Some bytes → IfSome why.new (IsWhyBad bytes) }
+    ensures only { IsSome why.new → result ≡ Status.BadLine }
+{
+    *why = None;
+    let mut reader = match ScriptReader::new(alloc) {
+        Ok(reader) => reader,
+        Err(NoMemory) => return Status::NoMemory,
+    };
+    let map = match reader.read_map(alloc, source) {
+        Ok(map) => map,
+        Err(fault) => return stop_at(alloc, sink, &reader, fault, why),
+    };
+    let posts = match read_posts(alloc, source, &mut reader, map.callers()) {
+        Ok(posts) => posts,
+        Err(fault) => return stop_at(alloc, sink, &reader, fault, why),
+    };
+    let closed = match serve_session(rt, alloc, &map, &posts, workers, gate) {
+        Ok(closed) => closed,
+        Err(NoMemory) => return Status::NoMemory,
+    };
+    match write_session(alloc, sink, &closed) {
+        Ok(()) => Status::Done,
+        Err(refusal) => status_of(refusal),
+    }
+}
+
+/// Reads the turns to the end of the script, and gives all posts, caller by caller.
+fn read_posts<S: Source>(
+    alloc: Global,
+    source: &mut S,
+    reader: &mut ScriptReader,
+    callers: u8,
+) -> Result<TurnPosts, ScriptFault>
+    requires map { IsSome (rules_at reader.old.place.part) }
+    requires callers { callers ≡ callers_of reader.old.place.part }
+    requires going { IsFalse reader.old.over }
+    ensures told { AllTold reader.old reader.new (S.left source.old) (S.left source.new) result }
+    ensures lists { IfOk result (λ lists. length lists ≡ callers) }
+    ensures count { IfOk result (λ lists. post_count lists < 2 ^ 32) }
+    ensures lines { IfOk result (HaveLinesAt reader.old.place.part) }
+    ensures given { HasGiven (S.left source.old) (S.left source.new) }
+    ensures later { S.faults source.old ≤ S.faults source.new }
+    ensures fault { IsErrOf result ScriptFault.ReadFault → Rose (S.faults source.old) (S.faults source.new) }
+    ensures bad { IfErr result (HoldsRefused reader.new) }
+{
+    let mut lists = empty_lists(alloc, usize::from(callers))?;
+    'turns: loop {
+        match reader.next_turn(alloc, source)? {
+            Some(turn) => append_turn(&mut lists, turn)?,
+            None => return Ok(Sequence::from(lists)),
+        }
+    }
+}
+
+/// Appends the posts of a turn to those of each caller.
+fn append_turn(lists: &mut Vec<Posts>, turn: TurnPosts) -> Result<(), NoMemory>
+    requires { length turn ≡ length lists.old.items }
+    ensures { OnOk result (lists.new.items ≡ joined_up lists.old.items turn) }
+{
+    for (caller, posts) in turn.into_items().into_iter().enumerate() {
+        append_posts(lists, caller, posts)?;
+    }
+    Ok(())
+}
+
+/// Appends posts to those of a caller.
+fn append_posts(lists: &mut Vec<Posts>, caller: usize, posts: Posts) -> Result<(), NoMemory>
+    requires { caller < length lists.old.items }
+    ensures { OnOk result (lists.new.items ≡ slice_set lists.old.items caller (list_of lists.old.items caller ++ posts)) }
+{
+    let mut more = posts;
+    lists[caller].append(&mut more)
+}
+
+/// Writes the journal of a session, and behind it the answers to it.
+fn write_session<K: Sink>(alloc: Global, sink: &mut K, closed: &Closed) -> Result<(), WriteRefusal>
+    requires lines { All (HaveLines closed.now.map.version) closed.now.journal }
+    ensures written { WritesPiece (K.kept sink.old) (K.kept sink.new)
+        (journal_text closed.now.map closed.now.journal closed.now.replies) result }
+    ensures later { K.faults sink.old ≤ K.faults sink.new }
+    ensures fault { IsErrOf result WriteRefusal.Failed → Rose (K.faults sink.old) (K.faults sink.new) }
+{
+    write_script(alloc, sink, closed)?;
+    write_answers(alloc, sink, closed)
+}
+
+/// Writes the map and the journal of a session as a canonical script.
+fn write_script<K: Sink>(alloc: Global, sink: &mut K, closed: &Closed) -> Result<(), WriteRefusal>
+    requires lines { All (HaveLines closed.now.map.version) closed.now.journal }
+    ensures written { WritesPiece (K.kept sink.old) (K.kept sink.new)
+        (canon_script closed.now.map closed.now.journal) result }
+    ensures later { K.faults sink.old ≤ K.faults sink.new }
+    ensures fault { IsErrOf result WriteRefusal.Failed → Rose (K.faults sink.old) (K.faults sink.new) }
+{
+    let map = closed.map();
+    write_text(sink, write_map(alloc, map))?;
+    let mut number: u64 = 0;
+    for turn in closed.journal().as_slice() {
+        number += 1;
+        write_text(sink, write_journal(alloc, map, number, turn))?;
+    }
+    Ok(())
+}
+
+/// Writes the answers to the turns of a session.
+fn write_answers<K: Sink>(alloc: Global, sink: &mut K, closed: &Closed) -> Result<(), WriteRefusal>
+    ensures written { WritesPiece (K.kept sink.old) (K.kept sink.new) (turn_texts 1 closed.now.replies) result }
+    ensures later { K.faults sink.old ≤ K.faults sink.new }
+    ensures fault { IsErrOf result WriteRefusal.Failed → Rose (K.faults sink.old) (K.faults sink.new) }
+{
+    let mut number: u64 = 0;
+    for told in closed.replies().as_slice() {
+        number += 1;
+        write_text(sink, turn_text(alloc, number, told))?;
+    }
+    Ok(())
+}

@@ -1,0 +1,172 @@
+//! Sessions: callers that post by themselves, and a driver that makes turns out of what has come and has them answered.
+ghost use Rattle.std.specs.Prelude.{ℕ, ◌≡◌, ◌<◌, ◌≤◌, ◌^◌, All, IfOk, OnOk, length, map};
+ghost use Rattle.nav_types.specs.declared.limits.TheConstants.{MAX_WORKERS};
+ghost use Rattle.turn_core.specs.Solving.{AreAnswersTo};
+ghost use Rattle.turn_core.specs.States.{list_of};
+ghost use Rattle.turn_core.specs.Turns.{of_caller, replies_in, IsOneThread};
+ghost use Rattle.path_service.specs.Callers.{caller_id};
+ghost use Rattle.path_service.specs.Services.{post_count};
+ghost use Rattle.pathserve.specs.Serving.{IsJournalOf, all_taken, post_lane, sent_to};
+ghost use Rattle.pathserve.specs.inner.Sessions.{HasServed, IsAtStart, IsDriven};
+ghost use Rattle.pathserve.specs.inner.Works.{HasPostedNone};
+
+use crate::works::{begin_all, end_all};
+use grid_versions::{MapSpec, Version};
+use io_edges::Gate;
+use nav_types::NoMemory;
+use path_service::{Callers, Closed, Driver, EndedCallers, start_service};
+use path_workers::run_turn;
+use std::alloc::Global;
+use std::sync::Wait;
+use std::sync::atomic::{AtomicBool, Ordering};
+use std::thread;
+use std::thread::Threads;
+use turn_core::{Answers, Jobs, RunBy, TurnPosts};
+
+/// A service all of whose callers have ended.
+#[derive(Drop)]
+struct Driven {
+    driver: Driver,
+    ended: EndedCallers,
+}
+
+/// Serves callers who post by themselves: each of the map's callers has a work of its own, which posts its list of posts
+/// in order, and a driver makes turns of what has come and delivers the replies, until each post has its reply. What was
+/// made of the posts is told by the journal of the service, which is then closed.
+///
+/// The work of a caller passes the gate once, before its first post, and collects once after each post. It waits for no
+/// reply. So many workers, 1 to 64, answer the jobs of a turn, while the next turn is staged. The session may wait. It
+/// refuses for want of memory alone.
+///
+/// Into which turns the posts fall differs from one session to the next.
+pub fn serve_session<R: Threads + Wait + Sync, G: Gate + Sync>(
+    rt: &R,
+    alloc: Global,
+    spec: &MapSpec,
+    posts: &TurnPosts,
+    workers: u8,
+    gate: &G,
+) -> Result<Closed, NoMemory>
+    requires wide { length posts.now ≡ spec.now.callers }
+    requires count { post_count posts.now < 2 ^ 32 }
+    requires some { 1 ≤ workers }
+    requires few { workers ≤ MAX_WORKERS }
+    ensures map { IfOk result (λ closed. closed.map ≡ spec.now) }
+    ensures journal { IfOk result (λ closed. IsJournalOf spec.now.callers (list_of posts.now) closed.journal) }
+    ensures replies { IfOk result (λ closed. IsOneThread spec.now closed.journal closed.replies) }
+    ensures posted { IfOk result (λ closed. map post_lane closed.callers ≡ map all_taken posts.now) }
+    ensures sent { IfOk result (λ closed. (caller : ℕ)
+        → list_of (map sent_to closed.callers) caller ≡ of_caller caller (replies_in closed.replies)) }
+{
+    let (driver, callers) = start_service(rt, alloc, spec.copy(alloc)?)?;
+    let Driven { driver, ended } = run_works(rt, alloc, driver, callers, posts, workers, gate)?;
+    match driver.close(rt, ended) {
+        Ok(closed) => Ok(closed),
+        Err(_) => Err(NoMemory),
+    }
+}
+
+/// Runs the works of the callers, and the driver beside them, until each post has its reply.
+fn run_works<R: Threads + Wait + Sync, G: Gate + Sync>(
+    rt: &R,
+    alloc: Global,
+    driver: Driver,
+    callers: Callers,
+    posts: &TurnPosts,
+    workers: u8,
+    gate: &G,
+) -> Result<Driven, NoMemory>
+    requires driver { IsAtStart driver }
+    requires callers { map caller_id callers ≡ driver.callers }
+    requires first { All HasPostedNone callers }
+    requires wide { length posts.now ≡ length callers }
+    requires count { post_count posts.now < 2 ^ 32 }
+    requires some { 1 ≤ workers }
+    requires few { workers ≤ MAX_WORKERS }
+    ensures { IfOk result (λ driven. IsDriven driver driven.driver posts.now driven.ended) }
+{
+    let flag = AtomicBool::new(false);
+    let short = &flag;
+    thread::scope(
+        thread::scope_env(),
+        rt,
+        move |scope| -> Result<Driven, NoMemory>
+            requires { IsAtStart driver × (map caller_id callers ≡ driver.callers)
+                × All HasPostedNone callers × (length posts.now ≡ length callers) × (post_count posts.now < 2 ^ 32)
+                × (1 ≤ workers) × (workers ≤ MAX_WORKERS) }
+            ensures { IfOk result (λ driven. IsDriven driver driven.driver posts.entry.now driven.ended) }
+        {
+            let mut driver = driver;
+            let works = begin_all(scope, rt, alloc, gate, short, callers, posts)?;
+            drive(
+                rt,
+                alloc,
+                &mut driver,
+                count_posts(posts),
+                workers,
+                gate,
+                short,
+            )?;
+            let ended = end_all(rt, alloc, works)?;
+            Ok(Driven { driver, ended })
+        },
+    )
+}
+
+/// How many posts there are in all.
+fn count_posts(posts: &TurnPosts) -> u64
+    requires { post_count posts.now < 2 ^ 32 }
+    ensures { result ≡ post_count posts.now }
+{
+    let mut count = 0;
+    for list in posts.as_slice() {
+        count += list.len() as u64;
+    }
+    count
+}
+
+/// Has turns answered by so many workers, who pass the gate, until so many posts have their replies.
+fn drive<R: Threads + Wait + Sync, G: Gate + Sync>(
+    rt: &R,
+    alloc: Global,
+    driver: &mut Driver,
+    posts: u64,
+    workers: u8,
+    gate: &G,
+    short: &AtomicBool,
+) -> Result<(), NoMemory>
+    requires begins { IsAtStart driver.old }
+    requires count { posts < 2 ^ 32 }
+    requires some { 1 ≤ workers }
+    requires few { workers ≤ MAX_WORKERS }
+    ensures { OnOk result (HasServed driver.old driver.new posts) }
+{
+    let run = |version: &Version, jobs: &Jobs| -> Result<Answers, NoMemory>
+        requires { (1 ≤ workers) × (workers ≤ MAX_WORKERS) × (length jobs.now < 2 ^ 32) }
+        ensures { IfOk result (AreAnswersTo version.now.map version.now.standing jobs.now) }
+    { run_turn(rt, alloc, version, jobs, workers, gate) };
+    let staged = |posts: u64| gate.staged(posts);
+    let runner = RunBy {
+        run: &run,
+        staged: &staged,
+    };
+    let mut delivered = 0;
+    let mut next = 0;
+    for _ in rt.forever() {
+        if delivered >= posts {
+            return Ok(());
+        }
+        if short.load(Ordering::SeqCst) {
+            return Err(NoMemory);
+        }
+        if next == 0 {
+            thread::yield_now();
+            next = driver.stage(rt)?;
+        } else {
+            delivered += next;
+            next = driver.start(rt, &runner)?;
+            driver.deliver(rt)?;
+        }
+    }
+    unreachable!()
+}
