@@ -1,7 +1,7 @@
 #!/usr/bin/env python3
 """measure.py PROGRAM [PART ..]: what the program costs, in instructions counted by valgrind (Debian's package `valgrind`).
 
-The parts are basics, growth, classes, paths, profile, edits, crowd and workers; all of them where none is named.
+The parts are basics, near, growth, classes, paths, profile, edits, crowd and workers; all of them where none is named.
 A count is the difference of two scripts that differ by the work that is counted, so starting up, reading the map and
 building it are not in it unless it says so. Counts are in thousands of instructions with one worker; only the part
 workers is by the clock, and wants four processors that do nothing else. The maps and queries are drawn from fixed
@@ -182,6 +182,16 @@ def basics(bench):
     told("turn", (bench.count([map_line(64), *map(end, range(1, 102))]) - bare) / 100)
 
 
+def near(bench):
+    print("near: to a goal, and from a start, in the middle of a blocked square so far from its rim, less the same to and from the rim")
+    for far in (2, 8, 32, 128):
+        low, high = 256 - far, 255 + far
+        script = [map_line(512), f'{{"base":[[{low},{low},{high},{high},1]]}}']
+        bare, corner, middle, rim = bench.count([*script, end(1)]), (0, 0), (256, 255), (256, low - 1)
+        cost = lambda start, goal: bench.count([*script, path(start, goal), end(1)]) - bare
+        told(f"{far}", cost(corner, middle) - cost(corner, rim), cost(middle, corner) - cost(rim, corner))
+
+
 def growth(bench):
     print("growth: on open maps of one class, by the side: set-up, an edit of one 6 by 6 building, a path across")
     empty = bench.count([map_line(1), end(1)])
@@ -259,7 +269,7 @@ def workers(bench):
         print(f"  {many:<58}{bench.seconds([*script, *queries, end(1)], many) - bare:13.2f}", flush=True)
 
 
-PARTS = [basics, growth, classes, paths, profile, edits, crowd, workers]
+PARTS = [basics, near, growth, classes, paths, profile, edits, crowd, workers]
 
 
 def main(words):

@@ -8,8 +8,6 @@ mod lines;
 mod pieces;
 mod profiles;
 mod summary;
-#[cfg(test)]
-mod tests;
 mod turns;
 
 pub use laws::waypoint_is_canonical;

@@ -362,9 +362,9 @@ overlaps_before runs are south north k low high o found_high found_low beyond fr
 
 -- ---- numbers of spans
 
-pub AreBounded-join : (regions : List ℕ) (firsts : List Cell) (a b : ℕ) → a < b → b ≤ length firsts → AreBounded regions firsts
+pub AreBounded-join : (regions : List ℕ) (firsts : List Cell) (a b : ℕ) → 1 ≤ a → a < b → b ≤ length firsts → AreBounded regions firsts
     → AreBounded (map (number_after a b) regions) (remove firsts (b - 1))
-AreBounded-join regions firsts a b order within bounded =
+AreBounded-join regions firsts a b some order within bounded =
     let shorter = length-remove firsts (b - 1) (omega arith) in
     let count : length (map (number_after a b) regions) ≡ length regions = length-map regions (number_after a b) in
     let few = bounded.few in
@@ -375,12 +375,42 @@ AreBounded-join regions firsts a b order within bounded =
           let was = bounded.within k here in
           let new = get_or-map (number_after a b) regions k 0 0 here in
           elim (cases_lt (slice_index regions k) b) [
-            | inl less ↦ let same = after_below a b (slice_index regions k) less in omega arith
+            | inl less ↦ let same = after_below a b (slice_index regions k) less in (omega arith, omega arith)
             | inr more ↦ elim (cases_lt b (slice_index regions k)) [
-              | inl less ↦ let down = after_above a b (slice_index regions k) less in omega arith
-              | inr equal ↦ let same = after_same a b (slice_index regions k) (omega arith) in omega arith
+              | inl less ↦ let down = after_above a b (slice_index regions k) less in (omega arith, omega arith)
+              | inr equal ↦ let same = after_same a b (slice_index regions k) (omega arith) in (omega arith, omega arith)
             ]
           ];
+    }
+
+-- a span that begins a region has the count of regions as its number
+pub AreBounded-begin : (regions : List ℕ) (firsts : List Cell) (cell : Cell) → AreBounded regions firsts
+    → AreBounded (regions ++ (length firsts + 1) ∷ []) (firsts ++ cell ∷ [])
+AreBounded-begin regions firsts cell bounded =
+    let n = length firsts + 1 in
+    let longer : length (regions ++ n ∷ []) ≡ length regions + 1 = length-append regions (n ∷ []) in
+    let more : length (firsts ++ cell ∷ []) ≡ length firsts + 1 = length-append firsts (cell ∷ []) in
+    let few = bounded.few in
+    record {
+      few = omega arith;
+      within = λ k inside. elim (cases_lt k (length regions)) [
+        | inl less ↦ let same = older_region regions n k less in let was = bounded.within k less in (omega arith, omega arith)
+        | inr last ↦ let same = newest_region regions n k (omega arith) in (omega arith, omega arith)
+      ];
+    }
+
+-- a span that takes an earlier span's region has its number
+pub AreBounded-follow : (regions : List ℕ) (firsts : List Cell) (south n : ℕ) → south < length regions → n ≡ slice_index regions south → AreBounded regions firsts
+    → AreBounded (regions ++ n ∷ []) firsts
+AreBounded-follow regions firsts south n before is bounded =
+    let longer : length (regions ++ n ∷ []) ≡ length regions + 1 = length-append regions (n ∷ []) in
+    let few = bounded.few in
+    record {
+      few = omega arith;
+      within = λ k inside. elim (cases_lt k (length regions)) [
+        | inl less ↦ let same = older_region regions n k less in let was = bounded.within k less in (omega arith, omega arith)
+        | inr last ↦ let same = newest_region regions n k (omega arith) in let was = bounded.within south before in (omega arith, omega arith)
+      ];
     }
 
 -- ---- spans of the row before

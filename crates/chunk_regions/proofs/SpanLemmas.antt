@@ -175,6 +175,27 @@ none_in_gap runs r at column x span are from before reaches found gap k held =
       ]
     ]
 
+-- the column behind a span is held by none
+pub none_behind : (runs : Runs) (r at : ℕ) (span : Span) → AreSpans runs → slice_index runs.starts r ≤ at → at < slice_index runs.starts (r + 1)
+    → slice_get runs.spans at ≡ Some span → (k : ℕ) → Holds runs r k (span.last + 1) → ⊥
+none_behind runs r at span are from to found k held =
+    let west = held.west in
+    let east = held.east in
+    elim (cases_lt k at) [
+      | inl less ↦
+          let apart = are.apart r k at held.span span held.row held.from less to held.found found in
+          let ordered = (are.ordered at span found).0 in
+          omega arith
+      | inr more ↦ elim (cases_lt at k) [
+        | inl further ↦ let apart = are.apart r at k span held.span held.row from further held.to found held.found in omega arith
+        | inr here ↦
+            let same : k ≡ at = omega arith in
+            let one = same_Some held.span span (sym held.found ∙ ap (λ n. slice_get runs.spans n) same ∙ found) in
+            let ends = subst (λ (s : Span). span.last + 1 ≤ s.last) one east in
+            omega arith
+      ]
+    ]
+
 -- behind the row's last span no column is held
 pub none_past : (runs : Runs) (r at column x : ℕ) → EndBefore runs r at column → column ≤ x → slice_index runs.starts (r + 1) ≤ at → (k : ℕ) → Holds runs r k x → ⊥
 none_past runs r at column x before reaches all k held =

@@ -210,6 +210,7 @@ pub fn number_all(alloc: Global, chunk: Chunk, rows: &RowSpans) -> Result<Number
     requires row { chunk.cj < 22 }
     ensures regions { IfOk result (λ all. length all.regions.items ≡ length rows.now.spans) }
     ensures few { IfOk result (λ all. length all.firsts.items ≤ 4608) }
+    ensures bounded { IfOk result (λ all. AreBounded all.regions.items all.firsts.items) }
     ensures numbered { IfOk result (λ all. (passes : Cell → Bool) → IsCut passes chunk rows.now
         → IsNumbered passes (region_of chunk rows.now all.regions.items) all.firsts.items) }
 {

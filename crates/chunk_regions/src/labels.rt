@@ -1,4 +1,4 @@
-ghost use Rattle.std.specs.Prelude.{ℕ, Bool, ◌≡◌, ◌+◌, ◌-◌, ◌*◌, ◌<◌, ◌≤◌, IfOk, IfSome, IfNone, Some, slice_get, length};
+ghost use Rattle.std.specs.Prelude.{ℕ, Bool, ◌≡◌, ◌≢◌, ◌+◌, ◌-◌, ◌*◌, ◌<◌, ◌≤◌, IfOk, IfSome, IfNone, Some, slice_get, slice_index, length};
 ghost use Rattle.nav_types.specs.declared.cells.Cell.{Cell};
 ghost use Rattle.nav_types.specs.Cells.{cell_at, IsInRect};
 ghost use Rattle.chunk_regions.specs.Labelling.{AreLabels, AreBitsOf};
@@ -26,7 +26,7 @@ pub struct Labels {
 }
 
 impl Model for Labels {
-    ghost use Rattle.std.specs.Prelude.{◌≡◌, ◌≤◌, ◌*◌, length, map};
+    ghost use Rattle.std.specs.Prelude.{ℕ, ◌≡◌, ◌<◌, ◌≤◌, ◌*◌, length, map, slice_index};
     ghost use Rattle.std.specs.List.{range_with_len};
     ghost use Rattle.nav_types.specs.Numbering.{IsPatch, columns, rows};
     ghost use Rattle.chunk_regions.specs.Labelling.{Labelling};
@@ -45,7 +45,8 @@ impl Model for Labels {
     } };
 
     ghost invariant = { λ l. IsPatch l.rect × (length l.regions.items ≡ length l.spans.spans)
-        × (length l.firsts.items ≤ 9216) };
+        × (length l.firsts.items ≤ 9216)
+        × ((at : ℕ) → at < length l.regions.items → 1 ≤ slice_index l.regions.items at) };
 }
 
 /// Cells of one row that lie side by side and have one number.
@@ -120,16 +121,18 @@ fn holding_from_east(spans: &RowSpans, row: u16, column: u8) -> Option<u16>
     None
 }
 
-/// The region of the row's cell in that column, 0 where no span holds it, and a column up to which all cells from that
-/// one to the east have it.
+/// The region of the row's cell in that column, 0 where no span holds it, and the last of the 96 columns up to which all
+/// cells from that one to the east have it.
 #[inline(always)]
 fn stretch_in_row(spans: &RowSpans, regions: &[u16], row: u16, column: u8) -> (u16, u8)
     requires row { row < 96 }
     requires column { column < 96 }
     requires each { length regions.now ≡ length spans.now.spans }
+    requires some { (at : ℕ) → at < length regions.now → 1 ≤ slice_index regions.now at }
     ensures from { column ≤ result.1 }
     ensures within { result.1 < 96 }
     ensures same { (x : ℕ) → column ≤ x → x ≤ result.1 → region_at spans.now regions.now row x ≡ result.0 }
+    ensures longest { result.1 < 95 → region_at spans.now regions.now row (result.1 + 1) ≢ result.0 }
 {
     let (start, end) = spans.row(row);
     for at in start..end {
@@ -174,8 +177,8 @@ impl Labels {
         }
     }
 
-    /// The cell's number as [`Labels::at`] gives it, and a column of the chunk up to which all cells from this one to
-    /// the east have it: the cell's own column, or one further east.
+    /// The cell's number as [`Labels::at`] gives it, and the last column of the chunk up to which all cells from this
+    /// one to the east have it: the chunk ends there, or the next cell has another number.
     #[inline(always)]
     pub fn stretch_at(&self, cell: Cell) -> Stretch
         requires { IsInRect self.now.cells.rect cell }
@@ -183,6 +186,8 @@ impl Labels {
         ensures within { result.last ≤ self.now.cells.rect.i1 }
         ensures same { (i : ℕ) → cell.i ≤ i → i ≤ result.last
             → number_of self.now.cells (cell_at i cell.j) ≡ result.region }
+        ensures longest { result.last < self.now.cells.rect.i1
+            → number_of self.now.cells (cell_at (result.last + 1) cell.j) ≢ result.region }
     {
         let row = cell.j - self.rect.j0;
         let column = (cell.i - self.rect.i0) as u8;

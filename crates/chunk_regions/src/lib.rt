@@ -11,6 +11,3 @@ mod spans;
 pub use bits::ChunkBits;
 pub use labels::{Labels, Stretch, label, label_bits};
 pub use laws::{one_area, one_region, same_area, same_region, straight_steps_join};
-
-#[cfg(test)]
-mod tests;

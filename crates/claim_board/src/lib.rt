@@ -4,7 +4,5 @@
 
 mod claims;
 mod rule;
-#[cfg(test)]
-mod tests;
 
 pub use claims::{Claims, Drawings, Drawn, Seat, WHOLE_CREDIT};

@@ -9,6 +9,3 @@ mod table;
 pub use forms::{has_keys, text_under};
 pub use names::{ClassName, NameRefusal};
 pub use table::{ClassRefusal, ClassTable, PassabilityClass};
-
-#[cfg(test)]
-mod tests;

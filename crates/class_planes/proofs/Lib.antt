@@ -9,3 +9,10 @@ mod FarLemmas
 mod TrackLemmas
 mod ReadLemmas
 mod StopLemmas
+mod FillLemmas
+mod StopLineLemmas
+mod StopWordLemmas
+mod StopBandLemmas
+mod StopChangeLemmas
+mod StopTableLemmas
+mod TightLemmas

@@ -51,7 +51,8 @@ passable_is table cell =
     (place_of-lt size cell inside) (omega arith)
     ∙ ap (λ (c : Cell). free_at table.rows c.j c.i) (cell_of-place_of size cell inside))
 
-told : (free : Bool) → eqb (one_if free) 1 ≡ free
+-- whether a bit is set
+pub told : (free : Bool) → eqb (one_if free) 1 ≡ free
 told true = refl
 told false = refl
 

@@ -1,5 +1,5 @@
 -- Words that are read from a map and written into a band.
-use Rattle.std.proofs.Common.{◌≡◌, ◌≢◌, ℕ, ◌+◌, ◌-◌, ◌*◌, ◌/◌, ◌%◌, ◌<◌, ◌≤◌, Bool, false, List, take, drop, length, get_or, sym, ap, ◌∙◌, subst, ⊎_elim, max, min, arith}
+use Rattle.std.proofs.Common.{◌≡◌, ◌≢◌, ℕ, ◌+◌, ◌-◌, ◌*◌, ◌/◌, ◌%◌, ◌<◌, ◌≤◌, Bool, false, List, drop, length, get_or, sym, ap, ◌∙◌, subst, ⊎_elim, max, min, arith}
 use Rattle.std.specs.Int.{bit_at}
 use Rattle.std.specs.Prelude.{slice_range}
 use Rattle.std.proofs.lemmas.Bool.{cases_lt, cases_eq}
@@ -211,7 +211,7 @@ row_within all k rows wide long below =
     let more : (k + 1) * wide ≤ rows * wide = mul-le (k + 1) wide rows wide (omega arith) (omega arith) in
     omega (arith, long, more)
 
-row_long : (xs : List ℕ) (k rows wide : ℕ) → length xs ≡ rows * wide → k < rows → length (line_in wide xs k) ≡ wide
+pub row_long : (xs : List ℕ) (k rows wide : ℕ) → length xs ≡ rows * wide → k < rows → length (line_in wide xs k) ≡ wide
 row_long xs k rows wide long below =
     part_long xs (k * wide) (k * wide + wide) wide (omega arith) (row_within (length xs) k rows wide long below)
 

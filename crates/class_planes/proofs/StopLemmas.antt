@@ -12,6 +12,8 @@ use Rattle.nav_types.specs.Frames.{IsFrame}
 use Rattle.jump_scan.specs.Successors.{HasForced}
 use Rattle.jump_scan.specs.Stops.{HaltsStraight, IsStraightStop, HasStraightStop}
 use Rattle.jump_scan.proofs.Running.{HasPassed, HasPassed-none, HasPassed-more, IsStop-next, no_stop}
+use Rattle.class_planes.specs.Planes.{PlaneCells, is_passable}
+use Rattle.class_planes.proofs.PlaneLemmas.{only_inside}
 use Rattle.class_planes.specs.inner.Runs.{Far, RunsFar, IsFirstHit, cell_along, HasRoom}
 
 -- a run has halted nowhere on its first steps
@@ -126,6 +128,17 @@ pub misses_outside : (hit framed : Cell → Bool) (size : Size) (rect : Rect) (c
     → (IsTrue (hit cell) → IsTrue (framed cell)) → (IsInRect rect cell → ⊥) → IsFalse (hit cell)
 misses_outside hit framed size rect cell frame inside within outside =
     false_from_ne_true (hit cell) (λ hits. outside ((frame.exact cell inside).1 (within hits)))
+
+-- a run along a line that does not meet the aim's rectangle hits nothing
+pub run_misses : (plane : PlaneCells) (hit framed : Cell → Bool) (rect : Rect) (dir : Dir) (from : Cell) (far : Far)
+    → IsFrame framed plane.size rect
+    → ((cell : Cell) → IsInside plane.size cell → IsTrue (hit cell) → IsTrue (framed cell))
+    → ((n : ℕ) → IsInRect rect (cell_along dir from n) → ⊥) → RunsFar (is_passable plane) dir from far
+    → (n : ℕ) → 0 < n → n ≤ far.count → IsFalse (hit (cell_along dir from n))
+run_misses plane hit framed rect dir from far frame within apart runs n some few =
+    let inside = only_inside plane (cell_along dir from n) (runs.free n few) in
+    misses_outside hit framed plane.size rect (cell_along dir from n) frame inside (within (cell_along dir from n) inside)
+    (apart n)
 
 -- a run in a map has few steps
 pub few_steps : (size : Size) (dir : Dir) (from : Cell) (count : ℕ) → is_straight dir ≡ true → HasRoom dir from count

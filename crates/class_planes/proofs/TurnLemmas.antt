@@ -1,5 +1,5 @@
 -- Columns that are read from rows, 16 at a time.
-use Rattle.std.proofs.Common.{[], ◌∷◌, replicate, IsTrue, ◌≡◌, ◌≢◌, ℕ, ◌+◌, ◌-◌, ◌*◌, ◌/◌, ◌%◌, ◌^◌, ◌<◌, ◌≤◌, Bool, true, false, ◌&&◌, ltb, List, ◌++◌, take, drop, length, get_or, set, refl, sym, ap, ap₂, ◌∙◌, subst, ⊎_elim, arith}
+use Rattle.std.proofs.Common.{[], ◌∷◌, replicate, IsTrue, ◌≡◌, ◌≢◌, ℕ, ◌+◌, ◌-◌, ◌*◌, ◌/◌, ◌%◌, ◌^◌, ◌<◌, ◌≤◌, Bool, true, false, ◌&&◌, ltb, List, ◌++◌, take, drop, length, get_or, set, refl, sym, ap, ap₂, ◌∙◌, subst, ⊎_elim, drop-drop, arith}
 use Rattle.std.specs.Int.{bit_at}
 use Rattle.std.proofs.lemmas.Bool.{cases_lt, cases_eq, true≢false, false≢true, false_from_ne_true, le-ltb, ltb-true}
 use Rattle.std.proofs.Math.Nat.{mod-lt}
@@ -18,7 +18,7 @@ use Rattle.class_planes.proofs.LineLemmas.{band_more}
 use Rattle.class_planes.proofs.PlaneLemmas.{line_free}
 
 -- the bits of a word that is moved down
-moved_bit : (word s k : ℕ) → bit_at (word / 2 ^ s) k ≡ bit_at word (s + k)
+pub moved_bit : (word s k : ℕ) → bit_at (word / 2 ^ s) k ≡ bit_at word (s + k)
 moved_bit word s k =
     let rest : word % 2 ^ s < 2 ^ s = mod-lt word (pow_pos s) in
     let parts : word / 2 ^ s * 2 ^ s + word % 2 ^ s ≡ word = div-add-mod' word (2 ^ s) in
@@ -69,6 +69,15 @@ numbers_more bit numbers i v within old new j k below small = ⊎_elim
     ap (λ n. bit_at n k) (get_or-set_other numbers i j v 0 other)
     ∙ old j k (omega arith) small)
     (cases_eq j i)
+
+-- the band with the words in the place of so many
+pub put_is : (band out : List ℕ) (start count : ℕ) → length out ≡ count
+    → take start band ++ (out ++ drop (start + count - start) (drop start band)) ≡ patched band start out
+put_is band out start count long =
+    let k : ℕ = start + count - start in
+    let there : start + k ≡ start + length out = omega (arith, long) in
+    ap (λ (rest : List ℕ). take start band ++ (out ++ rest))
+    (drop-drop k start band ∙ ap (λ (n : ℕ). drop n band) there)
 
 -- the words of a line of which some are replaced
 pub patched_here : (old part : List ℕ) (from w : ℕ) → from + length part ≤ length old → from ≤ w → w < from + length part

@@ -103,6 +103,18 @@ rows_before table plane size passes Kept is extent are same =
       same = λ n i kept. free_passable table plane is (cell_at i n) ∙ same (cell_at i n) kept;
     })
 
+pub cells_same : (table : RowTable) (plane : PlaneCells) (size : Size) (passes : Cell → Bool) (rects : List Rect)
+    (rows : LineTable) → plane_of table ≡ plane → table.size ≡ size
+    → ((cell : Cell) → IsTrue (passes cell) → IsInside size cell)
+    → AreLines (λ j i. passes (cell_at i j)) (size.h / 32 + 1) (size.w / 64 + 1) rows
+    → ((cell : Cell) → IsOutside rects cell → is_passable plane cell ≡ passes cell)
+    → (cell : Cell) → IsOutside rects cell
+    → free_cell table cell ≡ free_cell (record { size = table.size; rows = rows }) cell
+cells_same table plane size passes rects rows is extent within are same cell out =
+    free_passable table plane is cell ∙ same cell out
+    ∙ sym (ap (λ (s : Size). free_cell (record { size = s; rows = rows }) cell) extent
+    ∙ rows_free size rows passes within are cell)
+
 pub columns_were : (table : RowTable) (plane : PlaneCells) (size : Size) (passes : Cell → Bool) (rects : List Rect)
     (rows columns : LineTable) → plane_of table ≡ plane → table.size ≡ size
     → ((cell : Cell) → IsTrue (passes cell) → IsInside size cell)
@@ -112,9 +124,7 @@ pub columns_were : (table : RowTable) (plane : PlaneCells) (size : Size) (passes
 columns_were table plane size passes rects rows columns is extent within are columns_are same = record {
   earlier = λ i j. free_cell table (cell_at i j);
   lines = columns_are;
-  same = λ cell out. free_passable table plane is cell ∙ same cell out
-      ∙ sym (ap (λ (s : Size). free_cell (record { size = s; rows = rows }) cell) extent
-      ∙ rows_free size rows passes within are cell);
+  same = cells_same table plane size passes rects rows is extent within are same;
 }
 
 -- ---- the rectangles of all parts

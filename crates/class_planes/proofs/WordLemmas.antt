@@ -62,7 +62,7 @@ doubled x m below =
     ∙ ap (λ n. bit_at n m) whole
 
 -- a word moved up by one bit, with another bit let in
-moved_low : (x c : ℕ) → bit_at (bit_or (x * 2 % 18446744073709551616) c) 0 ≡ bit_at c 0
+pub moved_low : (x c : ℕ) → bit_at (bit_or (x * 2 % 18446744073709551616) c) 0 ≡ bit_at c 0
 moved_low x c =
     let even : bit_at (x * 2 % 18446744073709551616) 0 ≡ 0 = bit_at_lowest (x * 2 % 18446744073709551616) ∙ omega arith
     in

@@ -2,3 +2,4 @@ pub mod Lines
 pub mod Runs
 pub mod Changes
 pub mod Reading
+pub mod StopLines

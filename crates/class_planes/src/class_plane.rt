@@ -1,19 +1,23 @@
 //! The plane of one class.
-ghost use Rattle.std.specs.Prelude.{◌≡◌, ◌<◌, ◌≤◌, ◌/◌, ◌%◌, ◌+◌, All, length, IfOk};
+ghost use Rattle.std.specs.Prelude.{◌≡◌, ◌<◌, ◌≤◌, ◌/◌, ◌%◌, ◌+◌, All, length, IfOk, IsTrue};
 ghost use Rattle.nav_types.specs.declared.cells.Cell.{Cell};
 ghost use Rattle.nav_types.specs.Cells.{IsInside, IsRectInside, cell_at};
+ghost use Rattle.nav_types.specs.Directions.{is_straight};
+ghost use Rattle.nav_types.specs.declared.directions.Dir.TheVariants as Dir;
 ghost use Rattle.class_planes.specs.Planes.{AreFreeBits, IsOutside, is_passable};
 ghost use Rattle.class_planes.specs.inner.Lines.{AreRows, plane_of};
 ghost use Rattle.class_planes.specs.inner.Reading.{AreRead, IsUnread};
-ghost use Rattle.class_planes.specs.inner.Runs.{AreLanesOf};
+ghost use Rattle.class_planes.specs.inner.Runs.{AreLanesOf, TellsStop};
 
 use crate::lines::Lines;
 use crate::read_cells::{ReadRect, read_rects};
 use crate::rows::lines_of;
+use crate::stop_table::StopTable;
+use crate::stops::{stops_of, turned, updated_stops};
 use crate::turned::{columns_of, updated_columns};
 use crate::updates::updated_lines;
 use crate::word_scans::Lanes;
-use nav_types::{Cell, Class, NoMemory, Rect, Rows, Size};
+use nav_types::{Cell, Class, Dir, NoMemory, Rect, Rows, Size};
 use std::alloc::Global;
 use std::marker::Model;
 
@@ -21,17 +25,22 @@ use std::marker::Model;
 /// see the size of the map and the set of those cells.
 ///
 /// Bits past the map are 0, so that a run over set bits ends at the border by itself. The line after the last is one of
-/// zeros, and serves before the first one too.
+/// zeros, and serves before the first one too. Beside the cells it keeps for each straight direction from which cells
+/// the run has a stop for a side that opens.
 #[derive(Drop)]
 pub struct ClassPlane {
     rows: Lines,
     columns: Lines,
+    row_stops: StopTable,
+    column_stops: StopTable,
     size: Size,
 }
 
 impl Model for ClassPlane {
     ghost use Rattle.class_planes.specs.Planes.{PlaneCells};
     ghost use Rattle.class_planes.specs.inner.Lines.{AreRows, AreColumns, plane_of};
+    ghost use Rattle.class_planes.specs.inner.StopLines.{AreStops};
+    ghost use Rattle.class_planes.specs.declared.stop_words.Way.TheVariants.{Up, Down};
 
     ghost Value = { PlaneCells };
 
@@ -40,6 +49,10 @@ impl Model for ClassPlane {
     ghost invariant = { λ p. record {
       rows : AreRows (record { size = p.size; rows = p.rows });
       columns : AreColumns (record { size = p.size; rows = p.rows }) p.columns;
+      east : AreStops Up p.size.h p.rows p.row_stops.up;
+      west : AreStops Down p.size.h p.rows p.row_stops.down;
+      north : AreStops Up p.size.w p.columns p.column_stops.up;
+      south : AreStops Down p.size.w p.columns p.column_stops.down;
     } };
 }
 
@@ -61,9 +74,14 @@ impl ClassPlane {
         requires { AreRows (record { size = size; rows = rows }) }
         ensures { IfOk result (λ plane. plane ≡ plane_of (record { size = size; rows = rows })) }
     {
+        let columns = columns_of(alloc, &rows, size)?;
+        let row_stops = stops_of(alloc, &rows, size.h)?;
+        let column_stops = stops_of(alloc, &columns, size.w)?;
         Ok(ClassPlane {
-            columns: columns_of(alloc, &rows, size)?,
             rows,
+            columns,
+            row_stops,
+            column_stops,
             size,
         })
     }
@@ -113,10 +131,23 @@ impl ClassPlane {
     {
         let rows = updated_lines(alloc, view, class, &self.rows, reads, rects)?;
         let columns = updated_columns(alloc, &rows, self.size, &self.columns, rects)?;
+        let size = self.size;
+        let row_stops = updated_stops(alloc, &self.rows, &rows, size.h, &self.row_stops, rects)?;
+        let across = turned(alloc, rects)?;
+        let column_stops = updated_stops(
+            alloc,
+            &self.columns,
+            &columns,
+            size.w,
+            &self.column_stops,
+            &across,
+        )?;
         Ok(ClassPlane {
-            columns,
             rows,
-            size: self.size,
+            columns,
+            row_stops,
+            column_stops,
+            size,
         })
     }
 
@@ -177,5 +208,56 @@ impl ClassPlane {
         ensures { result ≡ is_passable self.now cell }
     {
         self.rows.is_free(cell.j, cell.i)
+    }
+
+    /// Whether the straight run from the cell has a stop for a side that opens.
+    #[inline(always)]
+    pub(crate) fn has_stop(&self, cell: Cell, dir: Dir) -> bool
+        requires passable { IsTrue (is_passable self.now cell) }
+        requires straight { IsTrue (is_straight dir) }
+        ensures { TellsStop (is_passable self.now) dir cell result }
+    {
+        match dir {
+            Dir::N => self.stops_north(cell),
+            Dir::E => self.stops_east(cell),
+            Dir::W => self.stops_west(cell),
+            Dir::S | Dir::NE | Dir::SE | Dir::SW | Dir::NW => self.stops_south(cell),
+        }
+    }
+
+    /// Whether the run to the north has a stop for a side that opens.
+    #[inline(always)]
+    fn stops_north(&self, cell: Cell) -> bool
+        requires { IsTrue (is_passable self.now cell) }
+        ensures { TellsStop (is_passable self.now) Dir.N cell result }
+    {
+        self.column_stops.stops_up(cell.i, cell.j)
+    }
+
+    /// Whether the run to the east has a stop for a side that opens.
+    #[inline(always)]
+    fn stops_east(&self, cell: Cell) -> bool
+        requires { IsTrue (is_passable self.now cell) }
+        ensures { TellsStop (is_passable self.now) Dir.E cell result }
+    {
+        self.row_stops.stops_up(cell.j, cell.i)
+    }
+
+    /// Whether the run to the south has a stop for a side that opens.
+    #[inline(always)]
+    fn stops_south(&self, cell: Cell) -> bool
+        requires { IsTrue (is_passable self.now cell) }
+        ensures { TellsStop (is_passable self.now) Dir.S cell result }
+    {
+        self.column_stops.stops_down(cell.i, cell.j)
+    }
+
+    /// Whether the run to the west has a stop for a side that opens.
+    #[inline(always)]
+    fn stops_west(&self, cell: Cell) -> bool
+        requires { IsTrue (is_passable self.now cell) }
+        ensures { TellsStop (is_passable self.now) Dir.W cell result }
+    {
+        self.row_stops.stops_down(cell.j, cell.i)
     }
 }

@@ -4,12 +4,17 @@
 
 mod changed_parts;
 mod class_plane;
+mod fills;
 mod lines;
 mod plane_runs;
 mod plane_scans;
 mod plane_sets;
 mod read_cells;
 mod rows;
+mod stop_table;
+mod stop_words;
+mod stops;
+mod tight_rects;
 mod turned;
 mod updates;
 mod word_scans;
@@ -18,6 +23,3 @@ pub use changed_parts::ChangedPart;
 pub use class_plane::ClassPlane;
 pub use plane_runs::PlaneRuns;
 pub use plane_sets::Planes;
-
-#[cfg(test)]
-mod tests;

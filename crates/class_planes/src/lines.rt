@@ -1,5 +1,5 @@
 //! Lines of bits in bands that several tables may share.
-ghost use Rattle.std.specs.Prelude.{ℕ, ◌≡◌, ◌<◌, ◌≤◌, ◌+◌, ◌*◌, ◌/◌, ◌%◌, ◌-◌, ◌++◌, ◌∷◌, [], length, slice_index_or, IfOk, OnOk};
+ghost use Rattle.std.specs.Prelude.{ℕ, ◌≡◌, ◌<◌, ◌≤◌, ◌+◌, ◌*◌, ◌/◌, ◌%◌, ◌-◌, ◌++◌, ◌∷◌, ◌↔◌, [], length, slice_index_or, IfOk, OnOk, IsTrue};
 ghost use Rattle.std.specs.Int.{bit_at};
 ghost use Rattle.class_planes.specs.inner.Lines.{line_at, line_in, free_at};
 ghost use Rattle.class_planes.specs.inner.Runs.{bit_in};
@@ -135,6 +135,31 @@ impl Lines {
     {
         quarter(self.line(n)[usize::from(group) / 4], group % 4)
     }
+}
+
+/// Whether the line is neither the first nor the last of its band.
+pub fn is_inner(line: u16) -> bool
+    ensures { IsTrue result ↔ ((0 < line % 32) × (line % 32 < 31)) }
+{
+    let place = line % 32;
+    0 < place && place < 31
+}
+
+/// How many words are copied at once.
+const PIECE: usize = 256;
+
+/// A copy of the words. It is made piece by piece, since a long piece costs more for each word.
+pub fn copied(alloc: Global, words: &[u64]) -> Result<Vec<u64>, NoMemory>
+    ensures { IfOk result (λ copy. copy.items ≡ words.now) }
+{
+    let mut copy = Vec::with_capacity(alloc, words.len())?;
+    let mut rest = words;
+    while !rest.is_empty() {
+        let (piece, others) = rest.split_at(rest.len().min(PIECE));
+        copy.extend_from_slice(piece)?;
+        rest = others;
+    }
+    Ok(copy)
 }
 
 /// Line `k` of a band with the lines beside it.

@@ -8,20 +8,13 @@ ghost use Rattle.nav_types.specs.Frames.{IsFrame};
 ghost use Rattle.nav_types.specs.Walks.{Step};
 ghost use Rattle.jump_scan.specs.Stops.{HaltsDiagonal, IsStraightStop, HasStraightStop, IsDiagonalStop};
 ghost use Rattle.class_planes.specs.Planes.{is_passable};
-ghost use Rattle.class_planes.specs.inner.Runs.{AreLanesOf, cell_along, RunsFar, IsFirstHit, HasRoom, HoldsSteps};
+ghost use Rattle.class_planes.specs.inner.Runs.{AreLanesOf, Far, cell_along, RunsFar, IsFirstHit, HasRoom, HoldsSteps};
 
 use crate::class_plane::ClassPlane;
+use crate::lines::is_inner;
 use crate::word_scans::{Lanes, Reach};
 use nav_types::{Aim, Cell, Dir, Rect, Size, neighbour};
 use std::marker::Model;
-
-/// Whether the line is neither the first nor the last of its band.
-fn is_inner(line: u16) -> bool
-    ensures { IsTrue result ↔ ((0 < line % 32) × (line % 32 < 31)) }
-{
-    let place = line % 32;
-    0 < place && place < 31
-}
 
 /// The row `j` with the rows beside it.
 #[inline(always)]
@@ -212,9 +205,6 @@ fn first_hit<A: Aim>(
     ensures none { IfNone result
         ((n : ℕ) → 0 < n → n ≤ count → IsFalse (A.hit aim.now size (cell_along dir from n))) }
 {
-    if !meets(rect, from, dir) {
-        return None;
-    }
     let Steps { first, last } = steps_into(rect, from, dir, count);
     for steps in first..last + 1 {
         if aim.hits(size, cell_along(from, dir, steps)) {
@@ -236,7 +226,7 @@ fn has_hit<A: Aim>(size: Size, from: Cell, dir: Dir, count: u16, rect: Rect, aim
     ensures misses { IsFalse result
         → (n : ℕ) → 0 < n → n ≤ count → IsFalse (A.hit aim.now size (cell_along dir from n)) }
 {
-    meets(rect, from, dir) && first_hit(size, from, dir, count, rect, aim).is_some()
+    first_hit(size, from, dir, count, rect, aim).is_some()
 }
 
 /// The stop of the straight run from the cell, where the aim has the rectangle.
@@ -256,11 +246,30 @@ pub fn straight<A: Aim>(
     ensures none { IfNone result
         ((stop : Cell) → ¬ IsStraightStop (is_passable plane.now) (A.hit aim.now plane.now.size) dir from stop) }
 {
+    if !meets(rect, from, dir) {
+        return forced_stop(plane, from, dir);
+    }
     let Reach { count, forced } = reach(plane, from, dir);
     match first_hit(plane.size(), from, dir, count, rect, aim) {
         Some(steps) => Some(cell_along(from, dir, steps)),
         None => end_of(from, dir, count, forced),
     }
+}
+
+/// The cell at which a side opens for the straight run from the cell. The run is scanned only where there is one.
+#[inline(always)]
+fn forced_stop(plane: &ClassPlane, from: Cell, dir: Dir) -> Option<Cell>
+    requires start { IsTrue (is_passable plane.now from) }
+    requires straight { IsTrue (is_straight dir) }
+    ensures some { IfSome result (λ cell. (far : Far) × (RunsFar (is_passable plane.now) dir from far
+        × (IsTrue far.forced × (cell ≡ cell_along dir from far.count)))) }
+    ensures none { IfNone result ((far : Far) × (RunsFar (is_passable plane.now) dir from far × IsFalse far.forced)) }
+{
+    if !plane.has_stop(from, dir) {
+        return None;
+    }
+    let Reach { count, forced } = reach(plane, from, dir);
+    end_of(from, dir, count, forced)
 }
 
 /// The last cell of the run, where a side opens there.
@@ -278,6 +287,18 @@ fn end_of(from: Cell, dir: Dir, count: u16, forced: bool) -> Option<Cell>
     }
 }
 
+/// Whether the straight run from the cell, which is scanned, has a stop.
+fn has_scanned_stop<A: Aim>(plane: &ClassPlane, cell: Cell, dir: Dir, rect: Rect, aim: &A) -> bool
+    requires passable { IsTrue (is_passable plane.now cell) }
+    requires straight { IsTrue (is_straight dir) }
+    requires aim { A.sound aim.now plane.now.size }
+    requires frame { IsFrame (A.framed aim.now plane.now.size) plane.now.size rect }
+    ensures { IsTrue result ↔ HasStraightStop (is_passable plane.now) (A.hit aim.now plane.now.size) dir cell }
+{
+    let Reach { count, forced } = reach(plane, cell, dir);
+    forced || has_hit(plane.size(), cell, dir, count, rect, aim)
+}
+
 /// Whether the straight run from the cell has a stop.
 #[inline(always)]
 fn has_straight_stop<A: Aim>(plane: &ClassPlane, cell: Cell, dir: Dir, rect: Rect, aim: &A) -> bool
@@ -287,8 +308,10 @@ fn has_straight_stop<A: Aim>(plane: &ClassPlane, cell: Cell, dir: Dir, rect: Rec
     requires frame { IsFrame (A.framed aim.now plane.now.size) plane.now.size rect }
     ensures { IsTrue result ↔ HasStraightStop (is_passable plane.now) (A.hit aim.now plane.now.size) dir cell }
 {
-    let Reach { count, forced } = reach(plane, cell, dir);
-    forced || has_hit(plane.size(), cell, dir, count, rect, aim)
+    if !meets(rect, cell, dir) {
+        return plane.has_stop(cell, dir);
+    }
+    has_scanned_stop(plane, cell, dir, rect, aim)
 }
 
 /// The straight part of the direction along the row.

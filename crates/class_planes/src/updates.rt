@@ -7,7 +7,7 @@ ghost use Rattle.class_planes.specs.Planes.{IsOutside};
 ghost use Rattle.class_planes.specs.inner.Lines.{IsBand, AreLines, AreLinesBefore};
 ghost use Rattle.class_planes.specs.inner.Reading.{AreRead, AreWhole, IsOfWords, IsUnread, band_bit, numbers_in};
 
-use crate::lines::Lines;
+use crate::lines::{Lines, copied};
 use crate::read_cells::ReadRect;
 use crate::rows::free_words;
 use nav_types::{Class, NoMemory, Rect, Rows};
@@ -101,7 +101,7 @@ fn updated_band<V: Rows>(
     ensures { IfOk result (λ words. IsBand (λ j i. V.passes view.now class (cell_at i j)) (32 * band)
         ((V.extent view.now).w / 64 + 1) 32 words.items) }
 {
-    let mut words = Vec::from_slice(alloc, before.band(band))?;
+    let mut words = copied(alloc, before.band(band))?;
     write_rects(view, class, reads, BAND * band, &mut words);
     Ok(words)
 }

@@ -63,17 +63,27 @@ fn shifted_down(line: &[u64], w: usize) -> u64
     line[w] >> 1
 }
 
-/// Word `w` of the line, with each bit a place up.
-fn moved_up(line: &[u64], w: usize) -> u64
+/// The highest bit of the word before word `w`, at the lowest place. There is none before the first word.
+pub fn top_before(line: &[u64], w: usize) -> u64
     requires { w < length line.now }
-    ensures { (k : ℕ) → k < 64 → 0 < 64 * w + k → bit_at result k ≡ bit_in line.now (64 * w + k - 1) }
+    ensures small { result < 2 }
+    ensures bit { 0 < w → bit_at result 0 ≡ bit_in line.now (64 * w - 1) }
+    ensures none { w ≡ 0 → result ≡ 0 }
 {
-    let carry = if w == 0 { 0 } else { line[w - 1] >> 63 };
-    line[w] << 1 | carry
+    if w == 0 { 0 } else { line[w - 1] >> 63 }
+}
+
+/// Word `w` of the line, with each bit a place up. Nothing comes to the lowest place of the first word.
+pub fn moved_up(line: &[u64], w: usize) -> u64
+    requires { w < length line.now }
+    ensures bits { (k : ℕ) → k < 64 → 0 < 64 * w + k → bit_at result k ≡ bit_in line.now (64 * w + k - 1) }
+    ensures first { w ≡ 0 → bit_at result 0 ≡ 0 }
+{
+    line[w] << 1 | top_before(line, w)
 }
 
 /// Word `w` of the line, and 0 past its end.
-fn word_at(line: &[u64], w: usize) -> u64
+pub fn word_at(line: &[u64], w: usize) -> u64
     ensures { result ≡ slice_index line.now w }
 {
     match line.get(w) {
@@ -83,7 +93,7 @@ fn word_at(line: &[u64], w: usize) -> u64
 }
 
 /// Word `w` of the line, with each bit a place down.
-fn moved_down(line: &[u64], w: usize) -> u64
+pub fn moved_down(line: &[u64], w: usize) -> u64
     requires { w < length line.now }
     ensures { (k : ℕ) → k < 64 → bit_at result k ≡ bit_in line.now (64 * w + k + 1) }
 {

@@ -10,8 +10,6 @@ mod masks;
 mod rasters;
 mod reaches;
 mod runs;
-#[cfg(test)]
-mod tests;
 mod windows;
 
 pub use rasters::{raster, raster_in};

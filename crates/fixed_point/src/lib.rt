@@ -13,8 +13,6 @@ use std::marker::Model;
 mod laws;
 mod plane;
 mod reading;
-#[cfg(test)]
-mod tests;
 mod writing;
 
 pub use laws::{text_is_exact, text_is_in_grammar, text_is_shortest, text_reads_back};

@@ -5,6 +5,4 @@ pub mod Edges
 pub mod Turned
 pub mod Beyond
 pub mod Starting
-pub mod TwoRooms
-pub mod Corner
 pub mod Targeting

@@ -11,8 +11,6 @@ mod remote;
 mod rings;
 mod starts;
 mod targets;
-#[cfg(test)]
-mod tests;
 
 pub use laws::{one_start_cell, one_target};
 pub use reaching::made_reachable;

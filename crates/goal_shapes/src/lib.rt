@@ -16,8 +16,6 @@ mod growing;
 mod laws;
 mod points;
 mod squares;
-#[cfg(test)]
-mod tests;
 
 pub use checking::{GoalRefusal, check};
 pub use circles::squared_distance;

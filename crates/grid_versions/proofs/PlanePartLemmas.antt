@@ -16,7 +16,7 @@ use Rattle.class_planes.specs.Planes.{IsKept}
 use Rattle.chunk_regions.specs.Labelling.{chunk_rect}
 use Rattle.chunk_regions.proofs.LabelLemmas.{in_rect}
 use Rattle.obstruction_store.specs.Standing.{Standing}
-use Rattle.grid_versions.specs.Chunks.{chunk_count, chunk_place}
+use Rattle.grid_versions.specs.Chunks.{chunk_place}
 use Rattle.grid_versions.specs.Maps.{Map}
 use Rattle.grid_versions.specs.Passing.{has_base, passable_at}
 use Rattle.grid_versions.specs.inner.ChunkLists.{chunk_numbered}

@@ -1,5 +1,5 @@
 -- Lists of which items are made anew, one place after another.
-use Rattle.std.proofs.Common.{ℕ, Bool, true, ◌==◌, ◌&&◌, ◌≡◌, ◌≢◌, ◌+◌, ◌<◌, ◌≤◌, List, length, map, set, get_or, option_map, ap, sym, subst, ◌∙◌, inl, inr, arith, Some}
+use Rattle.std.proofs.Common.{ℕ, ◌==◌, ◌&&◌, ◌≡◌, ◌≢◌, ◌+◌, ◌<◌, ◌≤◌, List, length, map, set, get_or, option_map, ap, sym, subst, ◌∙◌, inl, inr, arith, Some}
 use Rattle.std.specs.List.{slice_get}
 use Rattle.std.specs.Bool.{Decides}
 use Rattle.std.proofs.lemmas.Bool.{cases_lt, and_parts, and_from, eqb-true, eq-eqb}

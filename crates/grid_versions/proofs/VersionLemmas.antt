@@ -326,29 +326,22 @@ pub free_is_passable : (map : Map) (standing : Standing) (cell : Cell) (found : 
 free_is_passable map standing cell found k inside class painted =
     chunk-passes map standing (chunk_of cell) found k cell painted class (own_rect map standing cell inside)
 
--- two versions of one map have the chunks of one another
-pub chunks_of_one_map : (one other : Map) (standing : Standing) (cells : List Numbering) → one ≡ other → ArePaintedChunks one standing cells → ArePaintedChunks other standing cells
-chunks_of_one_map one other standing cells same of = subst (λ (m : Map). ArePaintedChunks m standing cells) same of
-
 -- ---- a version from its parts
 
-pub parts_of : (map spec : Map) (standing : Standing) (painted planed : MapState) (count : ℕ) (base : List Numbering)
+pub parts_of : (map : Map) (standing : Standing) (planed : MapState) (count : ℕ) (base : List Numbering)
     (reachers : List (List ℕ)) (cells : List Numbering) (planes : List (Option PlaneCells)) (tables : List Tables)
-    → spec ≡ map → painted ≡ map_state spec standing → planed ≡ map_state spec standing → AllFit map.size standing → AreBaseChunks map base
-    → AreReachers spec standing reachers → ArePaintedChunks spec standing cells → count ≡ length spec.classes → count ≤ 16
-    → ArePlanes painted.map.size (passes_of painted) 65535 (length painted.map.classes) planes
-    → AreTablesOf count (passes_of planed) planed.map.size tables → AreParts map standing base reachers cells planes tables
-parts_of map spec standing painted planed count base reachers cells planes tables same is planed_is fit under near are many few planes_of of =
-    let each = of.each in
-    let one = subst (λ (s : MapState). AreTablesOf count (passes_of s) s.map.size tables) planed_is of in
-    let two = subst (λ (n : ℕ). AreTablesOf n (passable_at spec standing) spec.size tables) many one in
-    let all = subst (λ (s : MapState). ArePlanes s.map.size (passes_of s) 65535 (length s.map.classes) planes) is planes_of in
+    → planed ≡ map_state map standing → AllFit map.size standing → AreBaseChunks map base → AreReachers map standing reachers
+    → ArePaintedChunks map standing cells → ArePlanes map.size (passable_at map standing) 65535 (length map.classes) planes
+    → count ≡ length map.classes → count ≤ 16 → AreTablesOf count (passes_of planed) planed.map.size tables
+    → AreParts map standing base reachers cells planes tables
+parts_of map standing planed count base reachers cells planes tables planed_is fit under near are planes_are many few of =
+    let all = subst (λ (s : MapState). AreTablesOf count (passes_of s) s.map.size tables) planed_is of in
     record {
       fit = fit;
       base_are = under;
-      reachers_are = subst (λ (m : Map). AreReachers m standing reachers) same near;
-      cells_are = chunks_of_one_map spec map standing cells same are;
-      planes_are = subst (λ (m : Map). ArePlanes m.size (passable_at m standing) 65535 (length m.classes) planes) same all;
-      tables_are = subst (λ (m : Map). AreTablesOf (length m.classes) (passable_at m standing) m.size tables) same two;
-      few = omega arith;
+      reachers_are = near;
+      cells_are = are;
+      planes_are = planes_are;
+      tables_are = subst (λ (n : ℕ). AreTablesOf n (passable_at map standing) map.size tables) many all;
+      few = subst (λ (n : ℕ). n ≤ 16) (sym of.each) few;
     }

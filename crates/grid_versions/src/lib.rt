@@ -8,7 +8,9 @@ mod chunk_cells;
 mod chunks;
 mod class_tables;
 mod edits;
+mod ground;
 mod laws;
+mod layers;
 mod maps;
 mod next_cells;
 mod painted_map;
@@ -30,6 +32,3 @@ pub use laws::{
 };
 pub use maps::{BaseRects, MapSpec};
 pub use versions::{Next, Tallies, Version};
-
-#[cfg(test)]
-mod tests;

@@ -68,9 +68,8 @@ impl<T> SharedList<T> {
         if self.blocks.len() >= MOST_BLOCKS {
             return Err(NoMemory);
         }
-        let mut block = self.rest.share(alloc)?;
-        block.push(item)?;
-        self.blocks.push(Arc::new(alloc, block)?)?;
+        let block = self.rest.with(alloc, item)?;
+        self.blocks.push(block)?;
         self.rest = Block::new(alloc);
         Ok(())
     }

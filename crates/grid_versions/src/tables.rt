@@ -9,6 +9,7 @@ ghost use Rattle.grid_versions.specs.inner.Changing.{AreChanges};
 ghost use Rattle.grid_versions.specs.inner.Tables.{AreTables, AreOfMap, counts_of, region_counts, region_in};
 ghost use Rattle.grid_versions.specs.inner.Tables.{region_total, edge_total};
 
+mod areas;
 mod borders;
 mod labelling;
 mod sums;
@@ -94,24 +95,28 @@ impl ClassTables {
         ensures most { ticks.new ≤ ticks.old + count_by (has_class class) changed.now }
     {
         let size = view.size();
-        let mut labels = self.labels.share(alloc)?;
-        let mut east = self.east.share(alloc)?;
-        let mut north = self.north.share(alloc)?;
-        let counts = labelling::relabel(alloc, view, class, &mut labels, changed, ticks)?;
-        let to_east = borders::reconnect(
+        let (labels, counts) = labelling::next_labels(
+            alloc,
+            view,
+            class,
+            &self.labels,
+            changed,
+            ticks,
+        )?;
+        let (east, to_east) = borders::next_edges(
             alloc,
             size,
             &labels,
-            &mut east,
+            &self.east,
             changed,
             class,
             Side::East,
         )?;
-        let to_north = borders::reconnect(
+        let (north, to_north) = borders::next_edges(
             alloc,
             size,
             &labels,
-            &mut north,
+            &self.north,
             changed,
             class,
             Side::North,
@@ -158,10 +163,7 @@ impl ClassTables {
         ensures { IfOk result (λ tables. (passes : Cell → Bool) → AreSides passes size labels east north
             → AreTables passes size tables) }
     {
-        let counts = sums::region_counts(alloc, &labels)?;
-        let links = borders::all_links(alloc, size, &east, &north)?;
-        let table = AreaTable::build(alloc, counts.as_slice(), &links)?;
-        let areas = Arc::new(alloc, table)?;
+        let areas = areas::areas_of(alloc, size, &labels, &east, &north)?;
         let regions = sums::region_sum(&labels);
         let edges = sums::edge_sum(&east) + sums::edge_sum(&north);
         Ok(ClassTables {

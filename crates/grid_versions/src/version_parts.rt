@@ -9,24 +9,12 @@ ghost use Rattle.class_planes.specs.Planes.{AreOf};
 ghost use Rattle.obstruction_store.specs.Standing.{AllFit};
 ghost use Rattle.grid_versions.specs.Chunks.{chunk_count, chunk_place};
 
-use crate::changed_parts::changed_parts;
-use crate::chunk_cells::ChunkCells;
-use crate::class_tables::{class_tables, next_tables};
+use crate::layers::Layers;
 use crate::maps::MapSpec;
-use crate::next_cells::next_patches;
-use crate::painted_map::PaintedMap;
-use crate::painting::{base_patches, painted_patches};
-use crate::planed_map::PlanedMap;
-use crate::reachers::{all_reachers, next_reachers};
-use crate::relabelling::marks_below;
-use crate::shared_list::SharedList;
-use crate::standing_edits::numbers_added;
-use crate::tables::ClassTables;
 use crate::versions::Tallies;
 use class_planes::Planes;
 use nav_types::{Areas, Cell, Class, NoMemory, Rect, Size, Ticks, View};
-use navcell_grid::Patch;
-use obstruction_store::{Ids, Store};
+use obstruction_store::Store;
 use reach_sets::RegionId;
 use std::alloc::Global;
 use std::marker::Model;
@@ -39,13 +27,7 @@ use std::sync::ledger::Ledger;
 pub struct VersionParts {
     map: Arc<MapSpec, Global>,
     shapes: Arc<Store, Global>,
-    // The cells under the base rectangles alone.
-    base: SharedList<Patch>,
-    // For each chunk the numbers of the obstructions that reach into it.
-    reachers: SharedList<Ids>,
-    cells: SharedList<ChunkCells>,
-    planes: Planes,
-    tables: SharedList<ClassTables>,
+    layers: Layers,
 }
 
 impl Model for VersionParts {
@@ -64,7 +46,8 @@ impl Model for VersionParts {
 
     ghost view = { λ v. map_state (arc_value v.map) (arc_value v.shapes) };
 
-    ghost invariant = { λ v. AreParts (arc_value v.map) (arc_value v.shapes) v.base v.reachers v.cells v.planes v.tables };
+    ghost invariant = { λ v. AreParts (arc_value v.map) (arc_value v.shapes) v.layers.ground.base v.layers.ground.reachers
+        v.layers.ground.cells v.layers.planes v.layers.tables };
 }
 
 impl VersionParts {
@@ -86,43 +69,13 @@ impl VersionParts {
             ≡ ticks.old + length map.now.classes * chunk_count map.now.size) }
         ensures most { ticks.new ≤ ticks.old + length map.now.classes * chunk_count map.now.size }
     {
-        let map = Arc::new(alloc, map.copy(alloc)?)?;
-        VersionParts::build_shared(alloc, map, shapes.copy(alloc)?, ticks)
-    }
-
-    /// The parts of the version of this map, which other versions may share, and these obstructions.
-    fn build_shared<L: Ledger>(
-        alloc: Global,
-        map: Arc<MapSpec, Global>,
-        shapes: Store,
-        ticks: &mut Ticks<L>,
-    ) -> Result<VersionParts, NoMemory>
-        requires { AllFit (arc_value map).size shapes }
-        ensures map { IfOk result (λ parts. parts.map ≡ arc_value map) }
-        ensures standing { IfOk result (λ parts. parts.standing ≡ shapes) }
-        ensures ticks { OnOk result (ticks.new
-            ≡ ticks.old + length (arc_value map).classes * chunk_count (arc_value map).size) }
-        ensures most { ticks.new
-            ≤ ticks.old + length (arc_value map).classes * chunk_count (arc_value map).size }
-    {
-        let spec: &MapSpec = &map;
-        let base = base_patches(alloc, spec)?;
-        let reachers = all_reachers(alloc, spec, &shapes)?;
-        let cells = painted_patches(alloc, spec, &shapes, &reachers, &base)?;
-        let painted = PaintedMap::new(spec, &shapes, &cells);
-        let planes = Planes::build(alloc, &painted, u16::MAX)?;
-        let classes = spec.classes().count();
-        let planed = PlanedMap::new(spec, &shapes, &planes);
-        let tables = class_tables(alloc, &planed, classes, ticks)?;
-        let shapes = Arc::new(alloc, shapes)?;
+        let shared = shared_map(alloc, map)?;
+        let standing = shared_store(alloc, shapes)?;
+        let layers = Layers::build(alloc, map, shapes, ticks)?;
         Ok(VersionParts {
-            map,
-            shapes,
-            base,
-            reachers,
-            cells,
-            planes,
-            tables,
+            map: shared,
+            shapes: standing,
+            layers,
         })
     }
 
@@ -147,34 +100,18 @@ impl VersionParts {
         ensures most { (count : ℕ) → HasRelabelled (length self.now.map.classes) (passes_of self.now)
             (passes_of (map_state self.now.map shapes)) count → ticks.new ≤ ticks.old + count }
     {
+        let shared = Arc::try_clone(&self.map)?;
+        let standing = Arc::new(alloc, shapes)?;
         let map: &MapSpec = &self.map;
-        let earlier: &Store = &self.shapes;
-        let added = numbers_added(earlier, ids);
-        let reachers = next_reachers(alloc, map, &shapes, &self.reachers, reaches, ids)?;
-        let (cells, changed) = next_patches(
-            alloc,
-            map,
-            &shapes,
-            &self.base,
-            &reachers,
-            &self.cells,
-            reaches,
-            added,
-        )?;
-        let painted = PaintedMap::new(map, &shapes, &cells);
-        let parts = changed_parts(alloc, map.size(), reaches, &changed)?;
-        let planes = self.planes.updated(alloc, &painted, &parts)?;
-        let planed = PlanedMap::new(map, &shapes, &planes);
-        let tables = next_tables(alloc, &planed, &self.tables, &changed, ticks)?;
-        let relabelled = marks_below(&changed, map.classes().count());
+        let before: &Store = &self.shapes;
+        let now: &Store = &standing;
+        let (layers, relabelled) = self
+            .layers
+            .updated(alloc, map, before, now, reaches, ids, ticks)?;
         let parts = VersionParts {
-            map: Arc::try_clone(&self.map)?,
-            shapes: Arc::new(alloc, shapes)?,
-            base: self.base.share(alloc)?,
-            reachers,
-            cells,
-            planes,
-            tables,
+            map: shared,
+            shapes: standing,
+            layers,
         };
         Ok((parts, relabelled))
     }
@@ -186,7 +123,7 @@ impl VersionParts {
         ensures chunk { result.chunk ≡ chunk_place self.now.map.size (chunk_of cell) }
         ensures region { HasRegion (passes_of self.now class) (chunk_of cell) cell result.region }
     {
-        let tables = self.tables.at(usize::from(class.number()));
+        let tables = self.layers.tables.at(usize::from(class.number()));
         tables.region(self.map.size(), cell)
     }
 
@@ -200,8 +137,8 @@ impl VersionParts {
             edges: 0,
             areas: 0,
         };
-        for class in 0..self.tables.len() {
-            let tables = self.tables.at(class);
+        for class in 0..self.layers.tables.len() {
+            let tables = self.layers.tables.at(class);
             tallies.regions += tables.regions();
             tallies.edges += tables.edges();
             tallies.areas += u64::from(tables.areas());
@@ -215,8 +152,8 @@ impl VersionParts {
         ensures { Counts (λ (cell : Cell). IsTrue (passes_of self.now class cell)) result }
     {
         let mut count = 0;
-        for place in 0..self.cells.len() {
-            count += u32::from(self.cells.at(place).free(class));
+        for place in 0..self.layers.ground.cells.len() {
+            count += u32::from(self.layers.ground.cells.at(place).free(class));
         }
         count
     }
@@ -227,7 +164,7 @@ impl VersionParts {
         ensures each { (class : ℕ) → class < length self.now.map.classes
             → IsSome (slice_index_or result.now class None) }
     {
-        &self.planes
+        &self.layers.planes
     }
 
     /// The map.
@@ -244,6 +181,20 @@ impl VersionParts {
     {
         &self.shapes
     }
+}
+
+/// A copy of a map that versions may share.
+fn shared_map(alloc: Global, map: &MapSpec) -> Result<Arc<MapSpec, Global>, NoMemory>
+    ensures { IfOk result (λ shared. arc_value shared ≡ map.now) }
+{
+    Ok(Arc::new(alloc, map.copy(alloc)?)?)
+}
+
+/// A copy of the standing obstructions that versions may share.
+fn shared_store(alloc: Global, shapes: &Store) -> Result<Arc<Store, Global>, NoMemory>
+    ensures { IfOk result (λ shared. arc_value shared ≡ shapes.now) }
+{
+    Ok(Arc::new(alloc, shapes.copy(alloc)?)?)
 }
 
 impl View for VersionParts {
@@ -272,7 +223,7 @@ impl View for VersionParts {
     /// Whether the cell is passable for the class (`passable_at`): no base rectangle and no standing obstruction covers
     /// it for the class.
     fn passable(&self, class: Class, cell: Cell) -> bool {
-        match self.planes.plane(class) {
+        match self.layers.planes.plane(class) {
             Some(plane) => plane.passable(cell),
             None => false,
         }
@@ -292,7 +243,7 @@ impl Areas for VersionParts {
 
     /// The number of the cell's area for the class; 0 exactly for an impassable cell (`HasArea`).
     fn area(&self, class: Class, cell: Cell) -> u32 {
-        let tables = self.tables.at(usize::from(class.number()));
+        let tables = self.layers.tables.at(usize::from(class.number()));
         tables.area(self.map.size(), cell)
     }
 }

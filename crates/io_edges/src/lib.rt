@@ -13,6 +13,3 @@ pub use edges::{Failed, Gate, Sink, Source, WriteRefusal};
 pub use memory::{MemorySink, MemorySource};
 pub use never_fails::{InMemory, NeverFails};
 pub use open_gate::OpenGate;
-
-#[cfg(test)]
-mod tests;

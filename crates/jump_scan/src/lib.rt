@@ -9,8 +9,6 @@ mod laws;
 mod pruning;
 mod run_views;
 mod scans;
-#[cfg(test)]
-mod tests;
 mod turns;
 
 pub use cell_runs::CellRuns;

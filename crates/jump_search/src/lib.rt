@@ -13,8 +13,6 @@ mod pages;
 mod search;
 mod searching;
 mod states;
-#[cfg(test)]
-mod tests;
 mod tracing;
 
 pub use laws::{one_opened_number, one_pruned_cost};

@@ -136,6 +136,3 @@ fn class_word(block: u16x64, class: u8) -> u64
     let bit = u16x64::splat(1 << class);
     (block & bit).simd_eq(bit).to_bitmask()
 }
-
-#[cfg(test)]
-mod tests;

@@ -13,6 +13,3 @@ pub use directions::{Dir, DirSet};
 pub use sequences::{Bytes, NoMemory, Sequence, Words};
 pub use ticks::Ticks;
 pub use views::{Aim, Areas, Rows, View, is_free_beside, legal_steps, neighbour, step};
-
-#[cfg(test)]
-mod tests;

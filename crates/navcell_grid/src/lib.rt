@@ -9,6 +9,3 @@ mod patches;
 
 pub use grids::{Grid, one_grid};
 pub use patches::Patch;
-
-#[cfg(test)]
-mod tests;

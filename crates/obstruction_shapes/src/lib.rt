@@ -8,8 +8,6 @@ mod blocking;
 mod laws;
 mod reaching;
 mod shapes;
-#[cfg(test)]
-mod tests;
 
 pub use blocking::blocks;
 pub use laws::blocked_cells_are_one_run;

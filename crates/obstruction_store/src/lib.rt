@@ -8,8 +8,6 @@ mod entries;
 mod laws;
 mod refusals;
 mod stores;
-#[cfg(test)]
-mod tests;
 mod touching;
 
 pub use entries::Entries;

@@ -5,8 +5,6 @@
 
 mod entries;
 mod heaps;
-#[cfg(test)]
-mod tests;
 mod tree;
 
 pub use entries::{Entry, Priority};

@@ -12,8 +12,6 @@ mod laws;
 mod ports;
 mod runs;
 mod services;
-#[cfg(test)]
-mod tests;
 
 pub use callers::{Caller, Callers, EndedCaller, EndedCallers};
 pub use closing::{Closed, ClosedCaller, ClosedCallers};

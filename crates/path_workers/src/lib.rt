@@ -4,8 +4,6 @@
 mod asking;
 mod drawing;
 mod placing;
-#[cfg(test)]
-mod tests;
 mod turns;
 
 pub use placing::TracedAnswers;

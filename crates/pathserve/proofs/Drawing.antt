@@ -1,5 +1,5 @@
 -- Draws, one after another.
-use Rattle.std.proofs.Common.{◌≡◌, ℕ, add-one, ◌+◌, ◌*◌, ◌^◌, ◌%◌, ◌<◌, zero, suc, arith, All, slice_index_or, List, [], ◌∷◌, ◌++◌, refl}
+use Rattle.std.proofs.Common.{◌≡◌, ℕ, add-one, ◌+◌, ◌^◌, ◌%◌, ◌<◌, zero, suc, arith, All, slice_index_or, List, [], ◌∷◌, ◌++◌, refl}
 use Rattle.std.proofs.Math.Nat.{mod-add-mod}
 use Rattle.pathserve.specs.Making.{Draw, drawn, draw_each}
 

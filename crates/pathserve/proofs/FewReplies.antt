@@ -1,13 +1,12 @@
 -- How many replies a journal has, what their paths cost together, and how many waypoints they have together.
-use Rattle.std.proofs.Common.{◌≡◌, ℕ, zero, suc, ◌+◌, ◌*◌, ◌<◌, ◌≤◌, ◌^◌, Bool, true, false, IsTrue, ◌⊎◌, inl, inr, List, [], ◌∷◌, ◌++◌, length, map, Option, Some, None, Result, Ok, Err, ℤ, refl, sym, subst, ap, ◌∙◌, arith}
-use Rattle.std.specs.List.{sum_by, flat_map, AllByRecursion}
+use Rattle.std.proofs.Common.{◌≡◌, ℕ, ◌+◌, ◌*◌, ◌≤◌, Bool, true, false, IsTrue, inl, inr, List, [], ◌∷◌, ◌++◌, length, Option, Some, None, Result, Ok, Err, ℤ, sym, subst, arith}
+use Rattle.std.specs.List.{sum_by, AllByRecursion}
 use Rattle.std.proofs.lemmas.List.{length-append}
 use Rattle.std.proofs.lemmas.List.Sums.{sum_by-cons, sum_by-append}
 use Rattle.nav_types.specs.declared.cells.Cell.{Cell}
 use Rattle.goal_shapes.specs.declared.goals.Goal.{Goal}
 use Rattle.grid_versions.specs.declared.edits.Refusal.{Refusal}
 use Rattle.grid_versions.specs.Maps.{Map}
-use Rattle.grid_versions.specs.Editing.{edit_reply}
 use Rattle.grid_versions.specs.Passing.{passable_at}
 use Rattle.grid_versions.proofs.PassingLemmas.{passable_in_words}
 use Rattle.turn_core.specs.declared.posts.Post.{Post}
@@ -17,14 +16,14 @@ use Rattle.turn_core.specs.declared.posts.Request.TheVariants.{Path as AsksPath,
 use Rattle.turn_core.specs.declared.replies.Answer.{Answer}
 use Rattle.turn_core.specs.declared.replies.Answer.TheVariants as answer
 use Rattle.turn_core.specs.declared.replies.Reply.{Reply}
-use Rattle.turn_core.specs.declared.replies.Reply.TheVariants.{Edit as Edited, Answer as Answered}
+use Rattle.turn_core.specs.declared.replies.Reply.TheVariants.{Answer as Answered}
 use Rattle.turn_core.specs.declared.replies.TurnReplies.{TurnReplies}
 use Rattle.turn_core.specs.NamedGoals.{class_named, is_on_map, goal_found}
-use Rattle.turn_core.specs.Solving.{IsAnswerTo, IsAnswerAt, IsPathFound, IsPathTo, IsPathAnswer, IsRegionAt}
+use Rattle.turn_core.specs.Solving.{IsAnswerTo, IsAnswerAt, IsPathFound, IsPathTo, IsRegionAt}
 use Rattle.turn_core.specs.Words.{Standing, bare, edited}
 use Rattle.turn_core.specs.Turns.{after, after_turn, Gets, AreReplies, AreTurnReplies, OneThread, IsOneThread, replies_in}
 use Rattle.answer_text.specs.Summaries.{path_cost, waypoint_count, turn_replies, all_replies, HasFewReplies, HasCountableCosts, HasCountableWaypoints}
-use Rattle.pathserve.proofs.ShortWalks.{IsNear, IsShort, short_answer}
+use Rattle.pathserve.proofs.ShortWalks.{IsNear, short_answer}
 
 -- ---- one reply
 

@@ -1,5 +1,5 @@
 -- The classes of the map, as their text is read.
-use Rattle.std.proofs.Common.{◌≡◌, List, ℕ, Option, Some, None, codes, option_and_then, refl, sym, ap, ◌∙◌}
+use Rattle.std.proofs.Common.{◌≡◌, List, ℕ, Some, None, codes, option_and_then, refl, sym, ap, ◌∙◌}
 use Rattle.serde_json.specs.Data.{Data}
 use Rattle.class_config.specs.declared.table.PassabilityClass.{PassabilityClass}
 use Rattle.serde_json.specs.Read.{read as read_text}

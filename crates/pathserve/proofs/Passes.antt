@@ -1,12 +1,12 @@
 -- What a source gave in the reads of a replay, and what a sink took in its writes.
-use Rattle.std.proofs.Common.{ℕ, List, [], take, Option, Some, None, Result, Ok, Err}
+use Rattle.std.proofs.Common.{ℕ, List, [], take, inl, inr, Option, Some, None, Result, Ok, Err}
 use Rattle.io_edges.specs.Passing.{HasGiven, HasTaken}
 use Rattle.io_edges.specs.declared.edges.WriteRefusal.{WriteRefusal}
 use Rattle.script_text.specs.declared.faults.ScriptFault.{ScriptFault}
 use Rattle.script_text.specs.declared.faults.ScriptFault.TheVariants as fault
 use Rattle.script_text.specs.Script.{Item, bad_line}
 use Rattle.pathserve.specs.declared.status.Status.{Status}
-use Rattle.pathserve.specs.inner.Writing.{WritesPiece, StopsWith}
+use Rattle.pathserve.specs.inner.Writing.{WritesPiece, WritesSome, StopsWith, EndsWith}
 use Rattle.pathserve.specs.declared.reports.Report.{Report}
 use Rattle.pathserve.specs.Output.{Said, stop_text}
 use Rattle.script_text.specs.Reader.{Held}
@@ -32,6 +32,15 @@ stands_taken report start now kept keeps held state s = record { taken = s.text;
 pub piece_taken : (kept now : Option (List ℕ)) (piece : List ℕ) (result : Result (Unit {0}) WriteRefusal) → WritesPiece kept now piece result → HasTaken kept now
 piece_taken kept now piece (Ok done) wrote = record { taken = piece; behind = wrote }
 piece_taken kept now piece (Err refused) wrote = record { taken = take wrote.0 piece; behind = wrote.1 }
+
+-- a text of a kind, a part of one or none
+pub some_taken : (Is : List ℕ → Type 0) (kept now : Option (List ℕ)) (result : Result (Unit {0}) WriteRefusal) → WritesSome Is kept now result → HasTaken kept now
+some_taken Is kept now result (inl (text, (is, wrote))) = piece_taken kept now text result wrote
+some_taken Is kept now result (inr (refused, wrote)) = record { taken = []; behind = wrote }
+
+-- what a run leaves that ends with a text
+pub ends_taken : (Is : List ℕ → Type 0) (kept now : Option (List ℕ)) (status : Status) → EndsWith Is kept now status → HasTaken kept now
+ends_taken Is kept now status (written, (wrote, is)) = some_taken Is kept now written wrote
 
 -- what a stop of the input leaves
 pub stop_taken : (kept now : Option (List ℕ)) (met : ScriptFault) (status : Status) → StopsWith met kept now status → HasTaken kept now

@@ -21,7 +21,7 @@ use Rattle.pathserve.specs.Output.{Said, unsaid, with_map, with_turn, IsTurnText
 use Rattle.pathserve.specs.declared.bad_lines.BadLine as reason
 use Rattle.pathserve.specs.Reasons.{IsWhyBad}
 use Rattle.pathserve.specs.inner.Stopping.{IsHeldBad}
-use Rattle.pathserve.specs.inner.Writing.{WritesPiece, refused_status, status_after, StopsWith}
+use Rattle.pathserve.specs.inner.Writing.{WritesPiece, WritesSome, refused_status, status_after, StopsWith}
 use Rattle.pathserve.proofs.Progress.{Went, went_nowhere, gives_on, gives_one, gives_map, begun_here, begun_item, out_here, begun_stop, taken_here}
 
 -- the same where the source tells its bytes
@@ -56,11 +56,11 @@ went_on_told start before now held new items more w a stays =
     told-then start before now _ _ _ (λ bytes left after went said. goes_then unread held new bytes left after items more stays went (said went.at_end)) w a
 
 -- a turn was read, and its text was written whole
-pub stands_turn : (report : Report) (start before now kept keeps final : Option (List ℕ)) (held new : Held) (state : Said) (m : Map) (posts : List (List Post)) (piece : List ℕ)
+pub stands_turn : (report : Report) (start before now kept keeps final : Option (List ℕ)) (held new : Held) (state : Said) (m : Map) (posts : List (List Post)) (done : Unit {0})
     → Stands report start before kept keeps held state → TurnTold held new before now (Ok (Some posts)) → (IsTrue held.ended → IsTrue new.ended)
-    → state.map ≡ Some m → IsTurnText report m state.standing (state.turns + 1) posts piece → Appends keeps final piece
+    → state.map ≡ Some m → WritesSome (IsTurnText report m state.standing (state.turns + 1) posts) keeps final (Ok done)
     → Stands report start now kept final new (with_turn state m posts)
-stands_turn report start before now kept keeps final held new state m posts piece s a stays map text wrote = record {
+stands_turn report start before now kept keeps final held new state m posts done s a stays map (inl (piece, (text, wrote))) = record {
   items = s.items ++ ends_turn posts ∷ [];
   text = s.text ++ piece;
   went = went_on_told start before now held new s.items (ends_turn posts ∷ []) s.went a stays;
@@ -68,6 +68,7 @@ stands_turn report start before now kept keeps final held new state m posts piec
       (gives_one report state (with_turn state m posts) (ends_turn posts) piece (m, (map, (text, refl))));
   wrote = Appends-trans kept keeps final s.text piece s.wrote wrote;
 }
+stands_turn report start before now kept keeps final held new state m posts done s a stays map (inr (refused, wrote)) = absurd (cc)
 
 -- the map was read, of which nothing is written
 pub stands_map : (report : Report) (start before now kept keeps : Option (List ℕ)) (held new : Held) (state : Said) (m : Map)
@@ -146,15 +147,19 @@ refused_begun report refusal.Failed bytes after out b = b
 refused_begun report refusal.NoMemory bytes after out b = b
 
 -- a turn was read, and its text was not written, or not whole
-pub told_turn : (report : Report) (start before now kept keeps final : Option (List ℕ)) (held new : Held) (state : Said) (m : Map) (posts : List (List Post)) (piece : List ℕ) (refused : WriteRefusal)
+pub told_turn : (report : Report) (start before now kept keeps final : Option (List ℕ)) (held new : Held) (state : Said) (m : Map) (posts : List (List Post)) (refused : WriteRefusal)
     → Stands report start before kept keeps held state → TurnTold held new before now (Ok (Some posts)) → state.map ≡ Some m
-    → IsTurnText report m state.standing (state.turns + 1) posts piece → WritesPiece keeps final piece (Err refused)
+    → WritesSome (IsTurnText report m state.standing (state.turns + 1) posts) keeps final (Err refused)
     → ReplaysTold report start now kept final (refused_status refused)
-told_turn report start before now kept keeps final held new state m posts piece refused s a map text wrote =
+told_turn report start before now kept keeps final held new state m posts refused s a map (inl (piece, (text, (n, wrote)))) =
     replays_told report start before now kept keeps final held state (λ left after. GoesOn held new left after (ends_turn posts ∷ [])) (refused_status refused)
-    (take wrote.0 piece) s a wrote.1
-    (λ bytes left after items said w gives given. refused_begun report refused bytes after (said ++ take wrote.0 piece)
-    (begun_item report bytes left after held new items (ends_turn posts) state (with_turn state m posts) said piece wrote.0 w given gives (m, (map, (text, refl)))))
+    (take n piece) s a wrote
+    (λ bytes left after items said w gives given. refused_begun report refused bytes after (said ++ take n piece)
+    (begun_item report bytes left after held new items (ends_turn posts) state (with_turn state m posts) said piece n w given gives (m, (map, (text, refl)))))
+told_turn report start before now kept keeps final held new state m posts refused s a map (inr (is, wrote)) =
+    replays_told report start before now kept keeps final held state (λ left after. GoesOn held new left after (ends_turn posts ∷ [])) (refused_status refused) [] s a wrote
+    (λ bytes left after items said w gives given. refused_begun report refused bytes after (said ++ [])
+    (subst (IsBeginning report bytes) (sym (append-nil said)) (begun_here report bytes left held items state said w gives)))
 
 -- there was no memory for more
 pub told_no_memory : (report : Report) (start before now kept keeps : Option (List ℕ)) (held : Held) (state : Said) (Says : List ℕ → List ℕ → Type 0)

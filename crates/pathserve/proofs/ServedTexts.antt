@@ -1,9 +1,8 @@
 -- What is written for a script that is served, over a source that may tell its bytes and a sink that may keep them.
-use Rattle.std.proofs.Common.{◌≡◌, ℕ, List, [], ◌∷◌, ◌++◌, take, zero, suc, Bool, true, Option, Some, None, Result, Ok, Err, inl, inr, refl, sym, ap, ◌∙◌, subst}
+use Rattle.std.proofs.Common.{◌≡◌, ◌≢◌, ℕ, List, [], ◌∷◌, ◌++◌, take, zero, suc, Bool, true, Option, Some, None, Result, Ok, Err, inl, inr, refl, sym, ap, ◌∙◌, subst}
 use Rattle.std.specs.Prelude.{All, IfSome}
 use Rattle.std.specs.List.{list_all}
 use Rattle.std.specs.Io.KnownBytes.{Appends}
-use Rattle.std.proofs.KnownBytes.{Appends-nil}
 use Rattle.std.proofs.lemmas.Bool.{and_parts}
 use Rattle.std.proofs.lemmas.List.Folds.{list_all-append}
 use Rattle.std.proofs.lemmas.List.Sums.{AllPass-from_list_all}
@@ -25,30 +24,19 @@ use Rattle.script_text.proofs.ReadCalls.{stuck_then}
 use Rattle.script_text.proofs.ReadTold.{told-then, told-weaker}
 use Rattle.answer_text.specs.Answers.{bad_line_text}
 use Rattle.pathserve.specs.declared.status.Status.{Status}
-use Rattle.pathserve.specs.declared.status.Status.TheVariants.{Done, BadLine, ReadFault, WriteFault, NoMemory, TooLong}
+use Rattle.pathserve.specs.declared.status.Status.TheVariants.{Done, Usage, BadLine, ReadFault, WriteFault, NoMemory, TooLong}
 use Rattle.pathserve.specs.declared.bad_lines.BadLine as reason
 use Rattle.pathserve.specs.Output.{ComesByStop, stop_status, stop_text}
 use Rattle.pathserve.specs.Reasons.{IsWhyBad}
 use Rattle.pathserve.specs.Serving.{IsJournalOf, IsServed, IsServedTo, IsServedBeginning, Serves, ServesTold, TakesNoStop, journal_text}
 use Rattle.pathserve.specs.inner.Stopping.{IsHeldBad}
-use Rattle.pathserve.specs.inner.WholeScripts.{AllTold, RefusesAll}
-use Rattle.pathserve.specs.inner.Writing.{WritesPiece, StopsWith, refused_status, status_after}
+use Rattle.pathserve.specs.inner.WholeScripts.{AllTold, IsTextOfSession, IsWholeScript, RefusedTold, RefusesAll, WholeTold}
+use Rattle.pathserve.specs.inner.Writing.{WritesPiece, WritesSome, StopsWith, EndsWith, refused_status, status_after}
 use Rattle.pathserve.proofs.Progress.{going, walked_taken}
-use Rattle.pathserve.proofs.Replaying.{map_refusal, stop_bad_line}
+use Rattle.pathserve.proofs.Replaying.{map_refusal, refused_by_fault, refused_no_read, refused_no_usage, stop_bad_line}
 use Rattle.pathserve.proofs.WholeReadings.{refuses_then, turns_of-append}
 
 -- ---- the whole script
-
--- The input is whole and read to its end. It gives this map, and these are the posts of each caller in its turns.
-pub record IsWholeScript (m : Map) (lists : List (List Post)) (bytes rest : List ℕ) : Type 0 where
-  pub items : List Item
-  pub whole : reading bytes beginning ≡ stuck_after items whole_input
-  pub nothing : rest ≡ []
-  pub on_map : map_after None items ≡ Some m
-  pub posts : (caller : ℕ) → list_of lists caller ≡ of_caller caller (turns_of items)
-
-abbrev pub WholeTold : Map → List (List Post) → Option (List ℕ) → Option (List ℕ) → Type 0
-WholeTold m lists start now = WhereTold start now (IsWholeScript m lists)
 
 pub whole_read : (held new : Held) (start mid now : Option (List ℕ)) (m : Map) (lists : List (List Post)) → MapTold unread held start mid (Ok m)
     → IsWholeMap unread start m → AllTold held new mid now (Ok lists) → WholeTold m lists start now
@@ -70,9 +58,6 @@ whole_read held new (Some bytes) (Some left) (Some rest) m lists a w b =
     }
 
 -- ---- a script that is refused
-
-abbrev pub RefusedTold : Held → ScriptFault → Option (List ℕ) → Option (List ℕ) → Type 0
-RefusedTold new met start now = WhereTold start now (λ bytes rest. RefusesAll unread new bytes rest met)
 
 pub map_stops : (new : Held) (met : ScriptFault) (start now : Option (List ℕ)) → MapTold unread new start now (Err met) → RefusedTold new met start now
 map_stops new met start now a =
@@ -99,10 +84,6 @@ serves_told (Some bytes) None kept final Says out status s wrote here = absurd s
 serves_told (Some bytes) (Some rest) None final Says out status s wrote here = tt
 serves_told (Some bytes) (Some rest) (Some kept) None Says out status s wrote here = absurd wrote
 serves_told (Some bytes) (Some rest) (Some kept) (Some final) Says out status s wrote here = (out, (wrote, here bytes rest s))
-
--- there was no memory before anything was written
-pub told_short : (start now kept : Option (List ℕ)) (Says : List ℕ → List ℕ → Type 0) → WhereTold start now Says → ServesTold start now kept kept NoMemory
-told_short start now kept Says s = serves_told start now kept kept Says [] NoMemory s (Appends-nil kept) (λ bytes rest said. inl refl)
 
 begun_refused : (refused : WriteRefusal) (bytes rest out : List ℕ) → IsServedBeginning bytes out → Serves bytes rest out (refused_status refused)
 begun_refused refusal.Failed bytes rest out begun = begun
@@ -134,7 +115,7 @@ served m lists journal told bytes rest w made answers = record {
 }
 
 -- the session was run, and its text was written, or a part of it
-pub told_served : (m : Map) (lists : List (List Post)) (journal : List (List (List Post))) (told : List TurnReplies) (start now kept final : Option (List ℕ))
+told_served : (m : Map) (lists : List (List Post)) (journal : List (List (List Post))) (told : List TurnReplies) (start now kept final : Option (List ℕ))
     (written : Result (Unit {0}) WriteRefusal) → WholeTold m lists start now → IsJournalOf m.callers (list_of lists) journal → IsOneThread m journal told
     → WritesPiece kept final (journal_text m journal told) written → ServesTold start now kept final (status_after written Done)
 told_served m lists journal told start now kept final (Ok done) s made answers wrote =
@@ -146,13 +127,38 @@ told_served m lists journal told start now kept final (Err refused) s made answe
     (begun_by bytes (journal_text m journal told) (stuck_by whole_input) n (ends_of bytes w.items whole_input w.whole)
     (served m lists journal told bytes rest w made answers)))
 
--- the session was run on this map
-pub told_session : (m on : Map) (lists : List (List Post)) (journal : List (List (List Post))) (told : List TurnReplies) (start now kept final : Option (List ℕ))
-    (written : Result (Unit {0}) WriteRefusal) → on ≡ m → WholeTold m lists start now → IsJournalOf m.callers (list_of lists) journal → IsOneThread m journal told
-    → WritesPiece kept final (journal_text on journal told) written → ServesTold start now kept final (status_after written Done)
-told_session m on lists journal told start now kept final written same s made answers wrote =
-    told_served m lists journal told start now kept final written s made answers
-    (subst (λ (n : Map). WritesPiece kept final (journal_text n journal told) written) same wrote)
+-- the same where there may be no memory for the session
+session_so : (m : Map) (lists : List (List Post)) (start now kept final : Option (List ℕ)) (written : Result (Unit {0}) WriteRefusal) → WholeTold m lists start now
+    → WritesSome (IsTextOfSession m lists) kept final written → ServesTold start now kept final (status_after written Done)
+session_so m lists start now kept final written s (inl (text, (is, wrote))) =
+    told_served m lists is.journal is.told start now kept final written s is.of_callers is.one_thread
+    (subst (λ (l : List ℕ). WritesPiece kept final l written) is.is wrote)
+session_so m lists start now kept final written s (inr (refused, wrote)) =
+    subst (λ (r : Result (Unit {0}) WriteRefusal). ServesTold start now kept final (status_after r Done)) (sym refused)
+    (serves_told start now kept final (IsWholeScript m lists) [] NoMemory s wrote (λ bytes rest w. inl refl))
+
+pub told_session : (m : Map) (lists : List (List Post)) (start now kept final : Option (List ℕ)) (status : Status) → WholeTold m lists start now
+    → EndsWith (IsTextOfSession m lists) kept final status → ServesTold start now kept final status
+told_session m lists start now kept final status s (written, (wrote, is)) =
+    subst (λ (x : Status). ServesTold start now kept final x) (sym is) (session_so m lists start now kept final written s wrote)
+
+-- the text of a session that was run on this map
+pub session_written : (m on : Map) (lists : List (List Post)) (journal : List (List (List Post))) (told : List TurnReplies) (kept final : Option (List ℕ))
+    (written : Result (Unit {0}) WriteRefusal) → on ≡ m → IsJournalOf m.callers (list_of lists) journal → IsOneThread m journal told
+    → WritesPiece kept final (journal_text on journal told) written → WritesSome (IsTextOfSession m lists) kept final written
+session_written m on lists journal told kept final written same made answers wrote = inl (
+  journal_text on journal told,
+  (
+    record {
+      journal = journal;
+      of_callers = made;
+      told = told;
+      one_thread = answers;
+      is = ap (λ (n : Map). journal_text n journal told) same;
+    },
+    wrote,
+  ),
+)
 
 -- a bad line was named, or a part of its name was written
 told_bad : (new : Held) (n : ℕ) (start now kept final : Option (List ℕ)) (written : Result (Unit {0}) WriteRefusal) → RefusedTold new (fault.BadLine n) start now
@@ -203,11 +209,38 @@ at_bytes P (Some first) (Some rest) Says bytes s is here =
     let same : first ≡ bytes = cc in
     subst P same (here first rest s)
 
-pub stop_served : (m : Map) (lists : List (List Post)) (start now : Option (List ℕ)) (reads reading_now writes writing_now : ℕ) → WholeTold m lists start now
-    → (bytes : List ℕ) → start ≡ Some bytes → ComesByStop reads reading_now writes writing_now (reading bytes beginning).ends Done
-stop_served m lists start now reads reading_now writes writing_now s bytes is =
-    at_bytes (λ (l : List ℕ). ComesByStop reads reading_now writes writing_now (reading l beginning).ends Done) start now (IsWholeScript m lists) bytes s is
-    (λ left rest w. inl (ap stop_status (sym (ends_of left w.items whole_input w.whole))))
+pub stop_served : (m : Map) (lists : List (List Post)) (start now kept final : Option (List ℕ)) (status : Status) (reads reading_now writes writing_now : ℕ)
+    → WholeTold m lists start now → EndsWith (IsTextOfSession m lists) kept final status → (status ≡ WriteFault → Rose writes writing_now)
+    → (bytes : List ℕ) → start ≡ Some bytes → ComesByStop reads reading_now writes writing_now (reading bytes beginning).ends status
+stop_served m lists start now kept final status reads reading_now writes writing_now s (Ok done, (wrote, is)) rose bytes told =
+    at_bytes (λ (l : List ℕ). ComesByStop reads reading_now writes writing_now (reading l beginning).ends status) start now (IsWholeScript m lists) bytes s told
+    (λ left rest w. inl (is ∙ ap stop_status (sym (ends_of left w.items whole_input w.whole))))
+stop_served m lists start now kept final status reads reading_now writes writing_now s (Err refusal.Failed, (wrote, is)) rose bytes told = inr (inr (inr (is, rose is)))
+stop_served m lists start now kept final status reads reading_now writes writing_now s (Err refusal.NoMemory, (wrote, is)) rose bytes told = inr (inl is)
+
+-- the status after a write tells a fault of the sink where the write met one
+pub fault_written : (written : Result (Unit {0}) WriteRefusal) → status_after written Done ≡ WriteFault → written ≡ Err refusal.Failed
+fault_written (Ok done) is = let other : Done ≡ WriteFault = is in absurd (cc)
+fault_written (Err refused) is = ap (λ (r : WriteRefusal). let w : Result (Unit {0}) WriteRefusal = Err r in w) (refused_by_fault refused is)
+
+-- the status of a run that ends with a text is that of a write
+ends_so : (P : Status → Type 0) (Is : List ℕ → Type 0) (kept final : Option (List ℕ)) (status : Status) → EndsWith Is kept final status
+    → ((written : Result (Unit {0}) WriteRefusal) → P (status_after written Done)) → P status
+ends_so P Is kept final status (written, (wrote, is)) each = subst P (sym is) (each written)
+
+no_usage : (written : Result (Unit {0}) WriteRefusal) → status_after written Done ≢ Usage
+no_usage (Ok done) is = let other : Done ≡ Usage = is in cc
+no_usage (Err refused) is = refused_no_usage refused is
+
+no_read_fault : (written : Result (Unit {0}) WriteRefusal) → status_after written Done ≢ ReadFault
+no_read_fault (Ok done) is = let other : Done ≡ ReadFault = is in cc
+no_read_fault (Err refused) is = refused_no_read refused is
+
+pub ends_no_usage : (Is : List ℕ → Type 0) (kept final : Option (List ℕ)) (status : Status) → EndsWith Is kept final status → status ≢ Usage
+ends_no_usage Is kept final status ends = ends_so (λ s. s ≢ Usage) Is kept final status ends no_usage
+
+pub ends_no_read : (Is : List ℕ → Type 0) (kept final : Option (List ℕ)) (status : Status) → EndsWith Is kept final status → status ≢ ReadFault
+ends_no_read Is kept final status ends = ends_so (λ s. s ≢ ReadFault) Is kept final status ends no_read_fault
 
 pub stop_of_refusal : (new : Held) (met : ScriptFault) (start now kept final : Option (List ℕ)) (status : Status) (reads reading_now writes writing_now : ℕ)
     → RefusedTold new met start now → StopsWith met kept final status → (met ≡ fault.ReadFault → Rose reads reading_now)

@@ -5,7 +5,7 @@ use Rattle.grid_versions.specs.Maps.{Map}
 use Rattle.turn_core.specs.declared.posts.Post.{Post}
 use Rattle.turn_core.specs.declared.replies.Reply.{Reply}
 use Rattle.turn_core.specs.Words.{bare}
-use Rattle.turn_core.specs.Turns.{of_caller, replies_in}
+use Rattle.turn_core.specs.Turns.{of_caller, replies_in, IsOneThread}
 use Rattle.turn_core.specs.States.{State, opening, list_of}
 use Rattle.turn_core.specs.Facts.{Facts, HaveLists, running_turns, staged_turns, all_turns}
 use Rattle.turn_core.specs.Arrival.{arrival}
@@ -114,6 +114,10 @@ journal_is m start d posts ended closed k = record {
   posts = journal_whole m start d posts ended closed k;
   some = subst (All HasPost) (sym k.closes.journal) k.driven.served.now.some;
 }
+
+pub replies_are : (m : Map) (start d : DriverState) (posts : List (List Post)) (ended : List EndedState) (closed : ClosedState) → HasEnded m start d posts ended closed
+    → IsOneThread m closed.journal closed.replies
+replies_are m start d posts ended closed k = subst (λ (n : Map). IsOneThread n closed.journal closed.replies) (on_its_map m start d posts ended closed k) k.closes.replies
 
 -- ---- the lanes of posts
 

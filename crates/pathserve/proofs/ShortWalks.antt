@@ -1,5 +1,5 @@
 -- A walk of least cost meets no cell twice, so it has no more steps than the largest map has cells.
-use Rattle.std.proofs.Common.{◌≡◌, ℕ, zero, suc, ◌+◌, ◌*◌, ◌<◌, ◌≤◌, Bool, true, false, IsTrue, ◌||◌, ◌⊎◌, inl, inr, List, [], ◌∷◌, ◌++◌, length, eqb, refl, sym, subst, ap, ◌∙◌, arith}
+use Rattle.std.proofs.Common.{◌≡◌, ℕ, suc, ◌+◌, ◌*◌, ◌<◌, ◌≤◌, Bool, true, false, IsTrue, ◌||◌, ◌⊎◌, inl, inr, List, [], ◌∷◌, length, eqb, refl, sym, subst, ap, arith}
 use Rattle.std.specs.Prelude.{if◌then◌else◌}
 use Rattle.std.specs.List.{list_any, IsDistinct, AllByRecursion}
 use Rattle.std.proofs.lemmas.Bool.{eqb-true, false≢true}
@@ -10,7 +10,7 @@ use Rattle.std.proofs.lemmas.Map.Steps.{length-le_from_distinct_below}
 use Rattle.nav_types.specs.declared.cells.Cell.{Cell}
 use Rattle.nav_types.specs.declared.directions.Dir.{Dir}
 use Rattle.nav_types.specs.Directions.{step_cost}
-use Rattle.nav_types.specs.Walks.{Step, IsWalk, walk_cost}
+use Rattle.nav_types.specs.Walks.{IsWalk, walk_cost}
 use Rattle.nav_types.proofs.CellOrder.{same_cell}
 use Rattle.walks.specs.Chosen.{IsAnswer}
 use Rattle.walks.specs.Waypoints.{cell_after, is_corner, waypoints}

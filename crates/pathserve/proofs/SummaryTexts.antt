@@ -1,12 +1,11 @@
 -- The summary of a match that a number makes, and what a run that makes one has written.
-use Rattle.std.proofs.Common.{◌≡◌, ℕ, ◌⊎◌, inl, inr, List, [], take, Option, Some, None, Result, Ok, Err, refl, sym, subst, ap, ◌∙◌}
+use Rattle.std.proofs.Common.{◌≡◌, ℕ, inl, inr, List, [], take, Option, Some, None, Result, Ok, Err, refl, sym, subst, ap, ◌∙◌}
 use Rattle.std.specs.Prelude.{IfOk, IsErrOf}
 use Rattle.io_edges.specs.Faults.{Rose}
 use Rattle.io_edges.specs.Passing.{HasTaken}
 use Rattle.io_edges.specs.declared.edges.WriteRefusal.{WriteRefusal}
 use Rattle.io_edges.specs.declared.edges.WriteRefusal.TheVariants as refusal
 use Rattle.nav_types.specs.declared.sequences.NoMemory as memory
-use Rattle.turn_core.specs.declared.replies.TurnReplies.{TurnReplies}
 use Rattle.turn_core.proofs.Threads.{one_answer_list}
 use Rattle.answer_text.specs.Summaries.{summary_text}
 use Rattle.pathserve.specs.declared.status.Status.TheVariants.{Done}

@@ -1,6 +1,6 @@
 -- The match that a number makes: a map and a journal, drawn one thing after another. Lengths and coordinates are raw:
 -- 65536 are one navcell.
-use Rattle.std.specs.Prelude.{ℕ, zero, suc, ◌+◌, ◌-◌, ◌*◌, ◌/◌, ◌%◌, ◌^◌, ◌==◌, ◌&&◌, ◌≤◌, List, [], ◌∷◌, ◌++◌, map, min, ℤ, pos, if◌then◌else◌, codes, decimal, slice_index_or}
+use Rattle.std.specs.Prelude.{ℕ, zero, suc, ◌+◌, ◌-◌, ◌*◌, ◌/◌, ◌%◌, ◌^◌, ◌==◌, ◌&&◌, List, [], ◌∷◌, ◌++◌, map, min, pos, if◌then◌else◌, codes, decimal, slice_index_or}
 use Rattle.std.proofs.Common.{leb-true, refl}
 use Rattle.nav_types.specs.Side.{IsSide}
 use Rattle.nav_types.specs.declared.cells.Rect.{Rect}
@@ -9,7 +9,6 @@ use Rattle.fixed_point.specs.declared.plane.Rectangle.{Rectangle}
 use Rattle.class_config.specs.declared.table.PassabilityClass.{PassabilityClass}
 use Rattle.obstruction_shapes.specs.declared.shapes.Shape.{Shape}
 use Rattle.obstruction_shapes.specs.declared.shapes.Shape.TheVariants as shape
-use Rattle.obstruction_shapes.specs.declared.shapes.Obstruction.{Obstruction}
 use Rattle.goal_shapes.specs.declared.goals.Goal.{Goal}
 use Rattle.goal_shapes.specs.declared.goals.Goal.TheVariants as goal
 use Rattle.goal_shapes.specs.declared.goals.GoalSpec.TheVariants.{Plain}

@@ -11,8 +11,6 @@ mod serving;
 mod sessions;
 mod status;
 mod summing;
-#[cfg(test)]
-mod tests;
 mod told_turns;
 mod works;
 mod writing;

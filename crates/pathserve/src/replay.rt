@@ -1,17 +1,19 @@
 //! The program's work: a script is read and answered turn by turn, and each turn is told as text.
-ghost use Rattle.std.specs.Prelude.{◌≡◌, ◌≢◌, ◌≤◌, ◌⊎◌, ◌↔◌, ℕ, IfSome, IsSome, List, Option, Some, None};
+ghost use Rattle.std.specs.Prelude.{◌≡◌, ◌≢◌, ◌<◌, ◌≤◌, ◌^◌, ◌⊎◌, ◌↔◌, ℕ, IfErr, IfOk, IfSome, IsErrOf, IsFalse, IsSome, List, OnOk, Option, Some, None, Ok, Err, length};
 ghost use Rattle.nav_types.specs.declared.limits.TheConstants.{MAX_WORKERS};
 ghost use Rattle.io_edges.specs.Faults.{Rose};
 ghost use Rattle.io_edges.specs.Passing.{HasGiven, HasTaken};
 ghost use Rattle.pathserve.specs.declared.commands.Command.TheVariants.{Replay, Profile, Serve, Make};
 ghost use Rattle.pathserve.specs.Commands.{command_of};
 ghost use Rattle.script_text.specs.Script.{reading, beginning};
-ghost use Rattle.script_text.specs.Reader.{HoldsRefused};
-ghost use Rattle.pathserve.specs.Output.{ReplaysTold, ComesByStop, MakesTold, ComesByMaking};
+ghost use Rattle.script_text.specs.Reader.{HoldsRefused, MapTold, rules_at, unread};
+ghost use Rattle.turn_core.specs.Turns.{after_turn, jobs};
+ghost use Rattle.turn_core.specs.Words.{bare};
+ghost use Rattle.pathserve.specs.Output.{IsTurnText, ReplaysTold, ComesByStop, MakesTold, ComesByMaking};
 ghost use Rattle.pathserve.specs.Serving.{ServesTold};
 ghost use Rattle.pathserve.specs.Reasons.{IsWhyBad};
 ghost use Rattle.pathserve.specs.inner.Stopping.{IsHeldBad};
-ghost use Rattle.pathserve.specs.inner.Writing.{StopsWith};
+ghost use Rattle.pathserve.specs.inner.Writing.{StopsWith, WritesSome};
 
 use crate::bad_lines::{BadLine, why_bad};
 use crate::commands::{Command, NotWords, read_words};
@@ -19,15 +21,16 @@ use crate::reports::Report;
 use crate::serving::run_serve;
 use crate::status::Status;
 use crate::summing::run_make;
-use crate::told_turns::answered;
+use crate::told_turns::{Told, answered};
 use crate::writing::{status_of, write_all, write_stop};
-use io_edges::{Gate, Sink, Source};
+use grid_versions::Version;
+use io_edges::{Gate, Sink, Source, WriteRefusal};
 use nav_types::{NoMemory, Words};
 use script_text::{ScriptFault, ScriptReader};
 use std::alloc::Global;
 use std::sync::Wait;
 use std::thread::Threads;
-use turn_core::bare_version;
+use turn_core::{TurnPosts, bare_version};
 
 /// All that the program does: reads the words, and does what they ask for. Where the words are not in the grammar the
 /// status is Usage, and nothing is read or written. `make` reads nothing. Under `serve` it may wait.
@@ -219,33 +222,88 @@ fn run_report<R: Threads + Sync, S: Source, K: Sink, G: Gate + Sync>(
         Ok(reader) => reader,
         Err(NoMemory) => return Status::NoMemory,
     };
-    let map = match reader.read_map(alloc, source) {
-        Ok(map) => map,
-        Err(fault) => return stop_at(alloc, sink, &reader, fault, why),
-    };
-    let mut version = match bare_version(alloc, &map) {
+    let mut version = match read_version(alloc, source, &mut reader) {
         Ok(version) => version,
-        Err(NoMemory) => return Status::NoMemory,
+        Err(fault) => return stop_at(alloc, sink, &reader, fault, why),
     };
     let mut turns: u64 = 0;
     'turns: loop {
         match reader.next_turn(alloc, source) {
             Ok(Some(posts)) => {
                 turns += 1;
-                let told = match answered(
-                    rt, alloc, report, &version, turns, posts, workers, gate,
+                match tell_turn(
+                    rt,
+                    alloc,
+                    report,
+                    &mut version,
+                    turns,
+                    posts,
+                    workers,
+                    sink,
+                    gate,
                 ) {
-                    Ok(told) => told,
-                    Err(NoMemory) => return Status::NoMemory,
-                };
-                match write_all(sink, told.text.as_slice()) {
-                    Ok(()) => version = told.after,
+                    Ok(()) => {}
                     Err(refusal) => return status_of(refusal),
                 }
             }
             Ok(None) => return Status::Done,
             Err(fault) => return stop_at(alloc, sink, &reader, fault, why),
         }
+    }
+}
+
+/// Reads the map of a script, and gives the version of it before the first turn.
+fn read_version<S: Source>(
+    alloc: Global,
+    source: &mut S,
+    reader: &mut ScriptReader,
+) -> Result<Version, ScriptFault>
+    requires { reader.old ≡ unread }
+    ensures told { IfOk result (λ version. MapTold unread reader.new (S.left source.old) (S.left source.new)
+        (Ok version.map)) }
+    ensures refused { IfErr result (λ fault. MapTold unread reader.new (S.left source.old) (S.left source.new)
+        (Err fault)) }
+    ensures bare { IfOk result (λ version. version.standing ≡ bare) }
+    ensures rules { OnOk result (IsSome (rules_at reader.new.place.part)) }
+    ensures going { OnOk result (IsFalse reader.new.over) }
+    ensures given { HasGiven (S.left source.old) (S.left source.new) }
+    ensures later { S.faults source.old ≤ S.faults source.new }
+    ensures fault { IsErrOf result ScriptFault.ReadFault → Rose (S.faults source.old) (S.faults source.new) }
+    ensures bad { IfErr result (HoldsRefused reader.new) }
+{
+    let map = reader.read_map(alloc, source)?;
+    Ok(bare_version(alloc, &map)?)
+}
+
+/// Answers a turn, and writes its text. What was the version before it is then the one after it.
+fn tell_turn<R: Threads + Sync, K: Sink, G: Gate + Sync>(
+    rt: &R,
+    alloc: Global,
+    report: Report,
+    version: &mut Version,
+    turn: u64,
+    posts: TurnPosts,
+    workers: u8,
+    sink: &mut K,
+    gate: &G,
+) -> Result<(), WriteRefusal>
+    requires some { 1 ≤ workers }
+    requires most { workers ≤ MAX_WORKERS }
+    requires few { length (jobs posts) < 2 ^ 32 }
+    ensures written { WritesSome (IsTurnText report version.old.map version.old.standing turn posts) (K.kept sink.old)
+        (K.kept sink.new) result }
+    ensures map { OnOk result (version.new.map ≡ version.old.map) }
+    ensures standing { OnOk result (version.new.standing ≡ after_turn version.old.map version.old.standing posts) }
+    ensures later { K.faults sink.old ≤ K.faults sink.new }
+    ensures fault { IsErrOf result WriteRefusal.Failed → Rose (K.faults sink.old) (K.faults sink.new) }
+{
+    match answered(rt, alloc, report, version, turn, posts, workers, gate) {
+        Ok(Told { text, after }) => {
+            write_all(sink, text.as_slice())?;
+            *version = after;
+            Ok(())
+        }
+        Err(NoMemory) => Err(WriteRefusal::NoMemory),
     }
 }
 

@@ -8,20 +8,21 @@ ghost use Rattle.turn_core.specs.States.{list_of};
 ghost use Rattle.turn_core.specs.Effects.{joined_up};
 ghost use Rattle.script_text.specs.Canon.{HaveLines};
 ghost use Rattle.script_text.specs.ReadsBack.{canon_script};
-ghost use Rattle.script_text.specs.Reader.{HaveLinesAt, HoldsRefused, callers_of, post_count, rules_at};
+ghost use Rattle.script_text.specs.Reader.{HaveLinesAt, HoldsRefused, callers_of, post_count, rules_at, unread};
 ghost use Rattle.script_text.specs.Script.{reading, beginning};
 ghost use Rattle.pathserve.specs.Output.{ComesByStop, turn_texts};
 ghost use Rattle.pathserve.specs.Reasons.{IsWhyBad};
 ghost use Rattle.pathserve.specs.Serving.{ServesTold, journal_text};
-ghost use Rattle.pathserve.specs.inner.WholeScripts.{AllTold};
-ghost use Rattle.pathserve.specs.inner.Writing.{WritesPiece};
+ghost use Rattle.pathserve.specs.inner.WholeScripts.{AllTold, IsTextOfSession, RefusedTold, WholeTold};
+ghost use Rattle.pathserve.specs.inner.Writing.{EndsWith, WritesPiece, WritesSome};
 
 use crate::bad_lines::BadLine;
 use crate::replay::stop_at;
 use crate::sessions::serve_session;
 use crate::status::Status;
-use crate::writing::{status_of, write_text};
+use crate::writing::{status_written, write_text};
 use answer_text::turn_text;
+use grid_versions::MapSpec;
 use io_edges::{Gate, Sink, Source, WriteRefusal};
 use nav_types::{NoMemory, Sequence};
 use path_service::Closed;
@@ -30,6 +31,13 @@ use std::alloc::Global;
 use std::sync::Wait;
 use std::thread::Threads;
 use turn_core::{Posts, TurnPosts, empty_lists};
+
+/// A script: its map, and the posts of each caller in all its turns.
+#[derive(Drop)]
+struct Script {
+    map: MapSpec,
+    posts: TurnPosts,
+}
 
 /// Serves a script: it is read whole, without regard to where its turns end, each of its callers posts its posts by
 /// itself ([`serve_session`]), and the journal that came of it is written as a canonical script, followed by the answers
@@ -68,22 +76,32 @@ pub fn run_serve<R: Threads + Wait + Sync, S: Source, K: Sink, G: Gate + Sync>(
         Ok(reader) => reader,
         Err(NoMemory) => return Status::NoMemory,
     };
-    let map = match reader.read_map(alloc, source) {
-        Ok(map) => map,
-        Err(fault) => return stop_at(alloc, sink, &reader, fault, why),
-    };
-    let posts = match read_posts(alloc, source, &mut reader, map.callers()) {
-        Ok(posts) => posts,
-        Err(fault) => return stop_at(alloc, sink, &reader, fault, why),
-    };
-    let closed = match serve_session(rt, alloc, &map, &posts, workers, gate) {
-        Ok(closed) => closed,
-        Err(NoMemory) => return Status::NoMemory,
-    };
-    match write_session(alloc, sink, &closed) {
-        Ok(()) => Status::Done,
-        Err(refusal) => status_of(refusal),
+    match read_script(alloc, source, &mut reader) {
+        Ok(script) => serve_script(rt, alloc, script, workers, sink, gate),
+        Err(fault) => stop_at(alloc, sink, &reader, fault, why),
     }
+}
+
+/// Reads a script to its end.
+fn read_script<S: Source>(
+    alloc: Global,
+    source: &mut S,
+    reader: &mut ScriptReader,
+) -> Result<Script, ScriptFault>
+    requires { reader.old ≡ unread }
+    ensures whole { IfOk result (λ script. WholeTold script.map script.posts (S.left source.old) (S.left source.new)) }
+    ensures refused { IfErr result (λ fault. RefusedTold reader.new fault (S.left source.old) (S.left source.new)) }
+    ensures wide { IfOk result (λ script. length script.posts ≡ script.map.callers) }
+    ensures count { IfOk result (λ script. post_count script.posts < 2 ^ 32) }
+    ensures lines { IfOk result (λ script. HaveLines script.map.version script.posts) }
+    ensures given { HasGiven (S.left source.old) (S.left source.new) }
+    ensures later { S.faults source.old ≤ S.faults source.new }
+    ensures fault { IsErrOf result ScriptFault.ReadFault → Rose (S.faults source.old) (S.faults source.new) }
+    ensures bad { IfErr result (HoldsRefused reader.new) }
+{
+    let map = reader.read_map(alloc, source)?;
+    let posts = read_posts(alloc, source, reader, map.callers())?;
+    Ok(Script { map, posts })
 }
 
 /// Reads the turns to the end of the script, and gives all posts, caller by caller.
@@ -132,6 +150,52 @@ fn append_posts(lists: &mut Vec<Posts>, caller: usize, posts: Posts) -> Result<(
 {
     let mut more = posts;
     lists[caller].append(&mut more)
+}
+
+/// The status of a script that was read to its end: its callers are served, and what comes of it is written.
+fn serve_script<R: Threads + Wait + Sync, K: Sink, G: Gate + Sync>(
+    rt: &R,
+    alloc: Global,
+    script: Script,
+    workers: u8,
+    sink: &mut K,
+    gate: &G,
+) -> Status
+    requires wide { length script.posts ≡ script.map.callers }
+    requires count { post_count script.posts < 2 ^ 32 }
+    requires lines { HaveLines script.map.version script.posts }
+    requires some { 1 ≤ workers }
+    requires few { workers ≤ MAX_WORKERS }
+    ensures ends { EndsWith (IsTextOfSession script.map script.posts) (K.kept sink.old) (K.kept sink.new) result }
+    ensures later { K.faults sink.old ≤ K.faults sink.new }
+    ensures write { result ≡ Status.WriteFault → Rose (K.faults sink.old) (K.faults sink.new) }
+{
+    status_written(serve_posts(rt, alloc, &script, workers, sink, gate))
+}
+
+/// Has the callers of a script served, and writes the journal of the session and the answers to it.
+fn serve_posts<R: Threads + Wait + Sync, K: Sink, G: Gate + Sync>(
+    rt: &R,
+    alloc: Global,
+    script: &Script,
+    workers: u8,
+    sink: &mut K,
+    gate: &G,
+) -> Result<(), WriteRefusal>
+    requires wide { length script.now.posts ≡ script.now.map.callers }
+    requires count { post_count script.now.posts < 2 ^ 32 }
+    requires lines { HaveLines script.now.map.version script.now.posts }
+    requires some { 1 ≤ workers }
+    requires few { workers ≤ MAX_WORKERS }
+    ensures written { WritesSome (IsTextOfSession script.now.map script.now.posts) (K.kept sink.old) (K.kept sink.new)
+        result }
+    ensures later { K.faults sink.old ≤ K.faults sink.new }
+    ensures fault { IsErrOf result WriteRefusal.Failed → Rose (K.faults sink.old) (K.faults sink.new) }
+{
+    match serve_session(rt, alloc, &script.map, &script.posts, workers, gate) {
+        Ok(closed) => write_session(alloc, sink, &closed),
+        Err(NoMemory) => Err(WriteRefusal::NoMemory),
+    }
 }
 
 /// Writes the journal of a session, and behind it the answers to it.

@@ -4,7 +4,8 @@ ghost use Rattle.nav_types.specs.declared.limits.TheConstants.{MAX_WORKERS};
 ghost use Rattle.turn_core.specs.Solving.{AreAnswersTo};
 ghost use Rattle.turn_core.specs.States.{list_of};
 ghost use Rattle.turn_core.specs.Turns.{of_caller, replies_in, IsOneThread};
-ghost use Rattle.path_service.specs.Callers.{caller_id};
+ghost use Rattle.path_service.specs.Callers.{caller_id, ended_id};
+ghost use Rattle.path_service.specs.Closings.{IsClosedBy};
 ghost use Rattle.path_service.specs.Services.{post_count};
 ghost use Rattle.pathserve.specs.Serving.{IsJournalOf, all_taken, post_lane, sent_to};
 ghost use Rattle.pathserve.specs.inner.Sessions.{HasServed, IsAtStart, IsDriven};
@@ -20,7 +21,7 @@ use std::alloc::Global;
 use std::sync::Wait;
 use std::sync::atomic::{AtomicBool, Ordering};
 use std::thread;
-use std::thread::Threads;
+use std::thread::{Scope, Threads};
 use turn_core::{Answers, Jobs, RunBy, TurnPosts};
 
 /// A service all of whose callers have ended.
@@ -60,9 +61,20 @@ pub fn serve_session<R: Threads + Wait + Sync, G: Gate + Sync>(
 {
     let (driver, callers) = start_service(rt, alloc, spec.copy(alloc)?)?;
     let Driven { driver, ended } = run_works(rt, alloc, driver, callers, posts, workers, gate)?;
+    close(rt, driver, ended)
+}
+
+/// Ends a service all of whose callers have ended.
+fn close(rt: &impl Wait, driver: Driver, ended: EndedCallers) -> Result<Closed, NoMemory>
+    requires callers { map ended_id ended ≡ driver.callers }
+    ensures { IfOk result (IsClosedBy driver ended) }
+{
     match driver.close(rt, ended) {
         Ok(closed) => Ok(closed),
-        Err(_) => Err(NoMemory),
+        Err(refused) => {
+            drop(refused);
+            Err(NoMemory)
+        }
     }
 }
 
@@ -97,20 +109,51 @@ fn run_works<R: Threads + Wait + Sync, G: Gate + Sync>(
             ensures { IfOk result (λ driven. IsDriven driver driven.driver posts.entry.now driven.ended) }
         {
             let mut driver = driver;
-            let works = begin_all(scope, rt, alloc, gate, short, callers, posts)?;
-            drive(
+            match run_beside(
+                scope,
                 rt,
                 alloc,
                 &mut driver,
-                count_posts(posts),
+                callers,
+                posts,
                 workers,
                 gate,
                 short,
-            )?;
-            let ended = end_all(rt, alloc, works)?;
-            Ok(Driven { driver, ended })
+            ) {
+                Ok(ended) => Ok(Driven { driver, ended }),
+                Err(NoMemory) => {
+                    drop(driver);
+                    Err(NoMemory)
+                }
+            }
         },
     )
+}
+
+/// Begins the works on threads of a scope, has the driver serve them, and gives the callers when they have ended.
+fn run_beside<'s, E, R: Threads + Wait + Sync, G: Gate + Sync>(
+    scope: &'s Scope<'s, E>,
+    rt: &'s R,
+    alloc: Global,
+    driver: &mut Driver,
+    callers: Callers,
+    posts: &'s TurnPosts,
+    workers: u8,
+    gate: &'s G,
+    short: &'s AtomicBool,
+) -> Result<EndedCallers, NoMemory>
+    requires driver { IsAtStart driver.old }
+    requires callers { map caller_id callers ≡ driver.old.callers }
+    requires first { All HasPostedNone callers }
+    requires wide { length posts.now ≡ length callers }
+    requires count { post_count posts.now < 2 ^ 32 }
+    requires some { 1 ≤ workers }
+    requires few { workers ≤ MAX_WORKERS }
+    ensures { IfOk result (IsDriven driver.old driver.new posts.now) }
+{
+    let works = begin_all(scope, rt, alloc, gate, short, callers, posts)?;
+    drive(rt, alloc, driver, count_posts(posts), workers, gate, short)?;
+    end_all(rt, alloc, works)
 }
 
 /// How many posts there are in all.

@@ -1,7 +1,7 @@
 //! Writes to a sink: a piece whole, a text where there was memory for it, and what a stop of the input leaves.
 ghost use Rattle.std.specs.Prelude.{◌≡◌, ◌≤◌, IsErrOf};
 ghost use Rattle.io_edges.specs.Faults.{Rose};
-ghost use Rattle.pathserve.specs.inner.Writing.{WritesPiece, WritesText, StopsWith, refused_status};
+ghost use Rattle.pathserve.specs.inner.Writing.{WritesPiece, WritesText, StopsWith, refused_status, status_after};
 
 use crate::status::Status;
 use answer_text::bad_line_text;
@@ -52,6 +52,16 @@ pub(crate) fn status_of(refusal: WriteRefusal) -> Status
     match refusal {
         WriteRefusal::Failed => Status::WriteFault,
         WriteRefusal::NoMemory => Status::NoMemory,
+    }
+}
+
+/// The status of a run that ends with a write.
+pub(crate) fn status_written(written: Result<(), WriteRefusal>) -> Status
+    ensures { result ≡ status_after written Status.Done }
+{
+    match written {
+        Ok(()) => Status::Done,
+        Err(refusal) => status_of(refusal),
     }
 }
 

@@ -8,6 +8,3 @@ mod tables;
 
 pub use regions::{Links, RegionId};
 pub use tables::{AreaTable, one_table};
-
-#[cfg(test)]
-mod tests;

@@ -7,6 +7,3 @@ mod neighbours;
 
 pub use laws::one_edge_list;
 pub use neighbours::{Edges, Side, between};
-
-#[cfg(test)]
-mod tests;

@@ -11,6 +11,3 @@ mod whole;
 
 pub use ends::{Ended, LaneIn, LaneOut, Notice, lane};
 pub use whole::Whole;
-
-#[cfg(test)]
-mod tests;

@@ -169,6 +169,14 @@ pub eight_pieces : (t a b c d e f g h z : List ℕ)
     → ((((((((t ++ a) ++ b) ++ c) ++ d) ++ e) ++ f) ++ g) ++ h) ++ z ≡ t ++ (a ++ (b ++ (c ++ (d ++ (e ++ (f ++ (g ++ (h ++ z))))))))
 eight_pieces t a b c d e f g h z = six_pieces ((t ++ a) ++ b) c d e f g h z ∙ two_pieces t a b (c ++ (d ++ (e ++ (f ++ (g ++ (h ++ z))))))
 
+-- a member with a number, the key of the next one, and what follows
+pub opened_pieces : (t a d k b r : List ℕ) → ((t ++ (a ++ (d ++ k))) ++ b) ++ r ≡ t ++ (a ++ (d ++ (k ++ (b ++ r))))
+opened_pieces t a d k b r = two_pieces t (a ++ (d ++ k)) b r ∙ ap (λ x. t ++ x) (append_assoc a (d ++ k) (b ++ r) ∙ ap (λ x. a ++ x) (append_assoc d k (b ++ r)))
+
+-- two values of an array, and what follows it
+pub pair_pieces : (x z r : List ℕ) → x ++ 44 ∷ (z ++ 93 ∷ r) ≡ (x ++ 44 ∷ (z ++ 93 ∷ [])) ++ r
+pair_pieces x z r = sym (append_assoc x (44 ∷ (z ++ 93 ∷ [])) r ∙ ap (λ y. x ++ 44 ∷ y) (append_assoc z (93 ∷ []) r))
+
 -- a member after others, and what follows it
 pub member_piece : (key value rest : List ℕ) → (44 ∷ (key ++ 58 ∷ value)) ++ rest ≡ 44 ∷ (key ++ 58 ∷ (value ++ rest))
 member_piece key value rest = ap (λ t. 44 ∷ t) (append_assoc key (58 ∷ value) rest)

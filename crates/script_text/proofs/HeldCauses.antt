@@ -1,16 +1,13 @@
 -- What a reader holds after a bad line has a cause.
-use Rattle.std.proofs.Common.{◌≡◌, ◌≢◌, ℕ, ◌+◌, ◌≤◌, List, [], ◌∷◌, ◌++◌, length, cond, Bool, true, false, Option, Some, None, refl, ap, sym, subst, ◌∙◌, arith}
+use Rattle.std.proofs.Common.{◌≡◌, ◌≢◌, ℕ, ◌+◌, ◌≤◌, List, [], ◌∷◌, cond, Bool, true, false, refl, ap, sym, subst, ◌∙◌}
 use Rattle.std.specs.Prelude.{IsSome}
-use Rattle.std.proofs.lemmas.List.{append-nil}
 use Rattle.script_text.specs.declared.faults.ScriptFault.{ScriptFault}
 use Rattle.script_text.specs.declared.faults.ScriptFault.TheVariants.{BadLine, TooLong, ReadFault, NoMemory}
-use Rattle.script_text.specs.declared.intake.LineEnd.{LineEnd}
-use Rattle.script_text.specs.declared.intake.LineEnd.TheVariants.{Newline, Input}
 use Rattle.script_text.specs.Lines.{IsPlain}
 use Rattle.script_text.specs.Script.{Place, Walk, bad, bad_line, counted, placed, stuck, too_long, is_long, accept, reading_of}
-use Rattle.script_text.specs.Reader.{Held, HoldsBad, HoldsRefused}
+use Rattle.script_text.specs.Reader.{HoldsBad, HoldsRefused}
 use Rattle.script_text.specs.Causes.{cause, first_line}
-use Rattle.script_text.specs.inner.Taking.{Taken, HeldLine, newline_of, bytes_of, HasEnd, IsWholeLine}
+use Rattle.script_text.specs.inner.Taking.{HeldLine, newline_of, bytes_of, IsWholeLine}
 use Rattle.script_text.specs.inner.Judging.{IsBadAt, IsStuckBy, held_at}
 use Rattle.script_text.proofs.FirstLines.{first_of_whole, some_held}
 use Rattle.script_text.proofs.CauseLemmas.{bad_line-cause}

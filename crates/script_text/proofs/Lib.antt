@@ -9,6 +9,7 @@ pub mod ReadNext
 pub mod ReadCalls
 pub mod ReadStill
 pub mod ReadNeed
+pub mod ReadAnswers
 pub mod ReadWhole
 pub mod FormValues
 pub mod Members

@@ -12,7 +12,7 @@ use Rattle.script_text.specs.Lines.{unlines, IsPlain}
 use Rattle.script_text.specs.declared.parts.Rules.{Rules}
 use Rattle.script_text.specs.declared.parts.Part.{Part}
 use Rattle.script_text.specs.declared.parts.Part.TheVariants.{BeforeMap, InBase, InTurns}
-use Rattle.script_text.specs.Script.{Place, beginning, Item, begins, adds_base, ends_turn, Stop, whole_input, too_long, bad_line, arrived, stuck, chain, map_after, map_after_item, turns_of, counted, accept, walk, finish, reading}
+use Rattle.script_text.specs.Script.{Place, beginning, Item, begins, adds_base, ends_turn, Stop, whole_input, too_long, arrived, stuck, chain, map_after, map_after_item, turns_of, counted, accept, walk, finish, reading}
 use Rattle.script_text.specs.Reader.{Held, UsesLines, GoesOn, StopsAtFault, Refuses, GivesMap, MapAnswers, MapTold, TurnTold, stuck_after, callers_of, post_count, rules_at, WhereTold}
 use Rattle.script_text.specs.inner.Taking.{Taken, HeldLine, newline_of, HasEnd, IsWholeLine, IsUsedUp, TakesNext, NextAnswer, NextTold}
 use Rattle.script_text.specs.inner.Judging.{IsBadAt, IsStuckBy, BeginsMap, UsesBase, KeepsLine, TakesBase, AddsToMap, BaseAnswers, BaseTold, IsInTurns, IsBetweenTurns, IsNoBaseAt, IsNoBaseLine, IsNoBaseNext, after_line, held_at}

@@ -30,6 +30,21 @@ moves_first old new line longer none m = ap (λ l. l ++ 10 ∷ new.bytes) (m.gro
 pub moves_no_line : {A : Type 0} (old new : Taken) (line longer : List ℕ) → MovesAll old new line longer → HasLine old.bytes → A
 moves_no_line old new line longer m has = absurd (has (full_lines-plain old.bytes m.plain))
 
+-- while a whole line is held and nothing of it was moved, nothing is read, and nothing else happens
+pub first_unread : {S : Type 0} (first now : Taken) (line : List ℕ) (start old new : S) → (HasLine first.bytes → (old ≡ start) × (now ≡ first) × (line ≡ [])) → (now.bytes ≢ [] → new ≡ old)
+    → HasLine first.bytes → new ≡ start
+first_unread first now line start old new still none has =
+    let before = still has in
+    let HasOne : Taken → Type 0 = λ t. HasLine t.bytes in
+    none (some_bytes now.bytes (subst HasOne (sym before.1) has)) ∙ before.0
+
+pub first_kept : {S : Type 0} (first now next : Taken) (line : List ℕ) (start old : S) → (HasLine first.bytes → (old ≡ start) × (now ≡ first) × (line ≡ [])) → (now.bytes ≢ [] → next ≡ now)
+    → HasLine first.bytes → next ≡ first
+first_kept first now next line start old still none has =
+    let before = still has in
+    let HasOne : Taken → Type 0 = λ t. HasLine t.bytes in
+    none (some_bytes now.bytes (subst HasOne (sym before.1) has)) ∙ before.1
+
 -- ---- lines that are held
 
 -- lines in front of bytes

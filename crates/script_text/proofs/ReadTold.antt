@@ -1,5 +1,6 @@
 -- The next line of a source that tells its bytes, part by part.
 use Rattle.std.proofs.Common.{◌≡◌, ◌≢◌, ℕ, ◌<◌, ◌≤◌, ◌⊎◌, ◌↔◌, List, [], ◌∷◌, ◌++◌, length, Bool, true, false, Option, Some, None, Ok, Err, IsTrue, refl, ap, sym, subst, inl, inr, ◌∙◌, arith, length-append, append_assoc}
+use Rattle.std.specs.Prelude.{IsErrOf}
 use Rattle.std.proofs.lemmas.List.{append-nil}
 use Rattle.std.proofs.lemmas.List.Elements.{All-append}
 use Rattle.std.proofs.lemmas.Bool.{false≢true}
@@ -33,6 +34,10 @@ told-then (Some x) (Some y) (Some z) P Q R h t u = h x y z t u
 pub rose-later : (first before now : ℕ) → first ≤ before → Rose before now → Rose first now
 rose-later first before now low (inl h) = inl (omega arith)
 rose-later first before now low (inr e) = inr e
+
+-- the same fault is the answer of a call that gives something else
+pub same_err : {A B : Type 0} (fault : ScriptFault) → IsErrOf {T = A} (Err fault) ReadFault → IsErrOf {T = B} (Err fault) ReadFault
+same_err fault is = let same : fault ≡ ReadFault = cc in ap Err same
 
 -- ---- refills
 
@@ -96,12 +101,15 @@ tail_by first s1 line x z nothing ended plain r =
 pub tail_told : (first s1 : Taken) (line : List ℕ) (room : ℕ) (a c : Option (List ℕ)) → s1.bytes ≡ [] → IsTrue s1.ended → IsPlain line → RefilledTold first s1 line a c → LineTold first s1 a c line room (Ok Input)
 tail_told first s1 line room a c nothing ended plain = told-weaker a c _ _ (λ x z r none. tail_by first s1 line x z nothing ended plain (r none))
 
+pub plain_part : (s1 s2 : Taken) (line longer : List ℕ) → IsPlain line → MovesPart s1 s2 line longer → IsPlain longer
+plain_part s1 s2 line longer plain m = let P : List ℕ → Type 0 = IsPlain in subst P (sym m.grown) (All-append (λ byte. byte ≢ 10) line m.part plain m.plain)
+
 line_by : (first s1 s2 : Taken) (line longer x z : List ℕ) → s2.ended ≡ first.ended → IsPlain line → MovesPart s1 s2 line longer → InLine first s1 line x z → TakesLine first s2 x z longer
 line_by first s1 s2 line longer x z same plain m p = record {
   taken = p.taken;
   took = p.took;
   bytes = p.bytes ∙ ap (λ l. line ++ l) m.bytes ∙ sym (append_assoc line m.part (10 ∷ s2.bytes)) ∙ ap (λ l. l ++ 10 ∷ s2.bytes) (sym m.grown);
-  plain = let P : List ℕ → Type 0 = IsPlain in subst P (sym m.grown) (All-append (λ byte. byte ≢ 10) line m.part plain m.plain);
+  plain = plain_part s1 s2 line longer plain m;
   ended = same;
 }
 

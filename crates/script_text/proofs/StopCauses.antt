@@ -1,12 +1,11 @@
 -- Why an input stops, line by line.
 use Rattle.std.proofs.Common.{◌≡◌, ℕ, ◌+◌, ◌<◌, ◌≤◌, List, [], ◌∷◌, ◌++◌, length, Option, Some, None, IsTrue, refl, ap, sym, ◌∙◌, arith, append_assoc, length-append}
 use Rattle.std.proofs.lemmas.List.{append-nil}
-use Rattle.script_text.specs.declared.causes.Cause.{Cause}
 use Rattle.script_text.specs.declared.intake.LineEnd.{LineEnd}
 use Rattle.script_text.specs.declared.intake.LineEnd.TheVariants.{Newline, Input}
 use Rattle.script_text.specs.Lines.{full_lines, tail_of, IsPlain}
 use Rattle.script_text.specs.Script.{Place, Item, Stop, Walk, arrived, stuck, reading_of, accept}
-use Rattle.script_text.specs.Causes.{cause, end_cause, cause_from, line_cause, lines_cause, last_cause, stop_cause}
+use Rattle.script_text.specs.Causes.{cause, cause_from, line_cause, lines_cause, last_cause, stop_cause}
 use Rattle.script_text.specs.inner.Taking.{Taken, HeldLine, newline_of, bytes_of, HasEnd, IsWholeLine}
 use Rattle.script_text.proofs.ReadLines.{full_lines-plain, tail_of-plain, full_lines-line, tail_of-line}
 

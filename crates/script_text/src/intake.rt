@@ -17,7 +17,7 @@ use std::marker::Model;
 pub const READ_SIZE: usize = 65_536;
 
 /// Where a line ended.
-#[derive(Clone, Copy, Debug, PartialEq, Eq)]
+#[derive(Clone, Copy)]
 pub enum LineEnd {
     /// At its newline.
     Newline,
@@ -51,7 +51,7 @@ impl Intake {
     ghost use Rattle.script_text.specs.Reader.{WhereTold};
     ghost use Rattle.script_text.specs.Lines.{IsPlain};
     ghost use Rattle.script_text.specs.inner.Taking.{Taken, RefillAnswer, ReadsByNeedTold, MovesLine, LineTold};
-    ghost use Rattle.script_text.specs.inner.Taking.{HasLine};
+    ghost use Rattle.script_text.specs.inner.Taking.{HasLine, HoldsNewline, IsHeldLine, end_of};
 
     /// Nothing is taken yet. The buffer of one read is taken here, once.
     pub fn new(alloc: Global) -> Result<Intake, NoMemory>
@@ -98,19 +98,13 @@ impl Intake {
         requires empty { line.old.items ≡ [] }
         ensures stays { IsTrue self.old.ended → IsTrue self.new.ended }
         ensures told { LineTold self.old self.new (S.left source.old) (S.left source.new) line.new.items room result }
-        ensures still { HasLine self.old.bytes → source.new ≡ source.old }
+        ensures held { HasLine self.old.bytes
+            → (source.new ≡ source.old) × OnOk result (HoldsNewline self.old self.new line.new.items result) }
         ensures reads { ReadsByNeedTold self.old.bytes self.old.ended (S.left source.old) (S.left source.new) }
-        ensures held { HasLine self.old.bytes → OnOk result (line.new.items ++ 10 ∷ self.new.bytes ≡ self.old.bytes) }
-        ensures held_end { HasLine self.old.bytes → OnOk result (result ≡ Ok Newline) }
         ensures later { S.faults source.old ≤ S.faults source.new }
         ensures fault { IsErrOf result ScriptFault.ReadFault → Rose (S.faults source.old) (S.faults source.new) }
         ensures good { IfErr result (λ fault. (n : ℕ) → fault ≡ ScriptFault.BadLine n → ⊥) }
-        ensures plain { IsPlain line.new.items }
-        ensures at_end { result ≡ Ok Input → (self.new.bytes ≡ []) × IsTrue self.new.ended }
-        ensures behind { length self.new.bytes ≤ READ_SIZE }
-        ensures size { length line.new.items + length self.new.bytes ≤ MAX_LINE_BYTES + READ_SIZE }
-        ensures newline { result ≡ Ok Newline
-            → length line.new.items + 1 + length self.new.bytes ≤ MAX_LINE_BYTES + READ_SIZE }
+        ensures holds { IsHeldLine (record { line = line.new.items; line_end = end_of result; rest = self.new }) }
     {
         'parts: loop {
             self.refill(source)?;

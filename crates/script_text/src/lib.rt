@@ -11,8 +11,6 @@ mod laws;
 mod parts;
 mod progress;
 mod reader;
-#[cfg(test)]
-mod tests;
 mod versions;
 
 pub use canon::{write_journal, write_map};

@@ -2,7 +2,7 @@
 use nav_types::Size;
 
 /// What the lines after the map line keep to: the size of the map, the version of the script and the number of callers.
-#[derive(Clone, Copy, Debug, PartialEq, Eq)]
+#[derive(Clone, Copy)]
 pub struct Rules {
     pub size: Size,
     pub version: u8,
@@ -10,7 +10,7 @@ pub struct Rules {
 }
 
 /// The part of a script that a place lies in.
-#[derive(Clone, Copy, Debug, PartialEq, Eq)]
+#[derive(Clone, Copy)]
 pub enum Part {
     /// Before the map line.
     BeforeMap,

@@ -15,12 +15,8 @@ mod ready_turns;
 mod replies;
 mod reply_lists;
 pub mod request_laws;
-#[cfg(test)]
-mod request_tests;
 mod runners;
 mod solving;
-#[cfg(test)]
-mod tests;
 mod turn_versions;
 
 pub use copying::Copied;

@@ -7,8 +7,6 @@ mod measures;
 mod places;
 mod search;
 mod sweeps;
-#[cfg(test)]
-mod tests;
 
 pub use distances::reversed;
 pub use found_walk::{Found, Walk, Waypoints};

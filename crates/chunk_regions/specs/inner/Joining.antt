@@ -43,10 +43,10 @@ KeepsOne old new =
     (k l : ℕ) → k < length old → l < length old → slice_index old k ≡ slice_index old l
     → slice_index new k ≡ slice_index new l
 
--- there are no more regions than spans, and no span has a higher number than there are regions
+-- there are no more regions than spans, and each span has a number from 1 to the count of regions
 pub record AreBounded (regions : List ℕ) (firsts : List Cell) : Type 0 where
   pub few : length firsts ≤ length regions
-  pub within : (k : ℕ) → k < length regions → slice_index regions k ≤ length firsts
+  pub within : (k : ℕ) → k < length regions → (1 ≤ slice_index regions k) × (slice_index regions k ≤ length firsts)
 
 -- the number is 1 plus the place of a first cell that the cell is joined to, and that does not come after it
 pub record IsPlaced (passes : Cell → Bool) (firsts : List Cell) (cell : Cell) (number : ℕ) : Type 0 where

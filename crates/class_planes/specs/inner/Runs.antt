@@ -112,6 +112,10 @@ pub record RunsFar (passes : Cell → Bool) (dir : Dir) (from : Cell) (far : Far
       → ⊥
   pub ends : IsFalse far.forced → (next : Cell) → Step passes dir (cell_along dir from far.count) next → ⊥
 
+-- the flag says whether the straight run from the cell ends at a cell with a forced successor
+abbrev pub TellsStop : (Cell → Bool) → Dir → Cell → Bool → Type 0
+TellsStop passes dir from stop = (far : Far) × (RunsFar passes dir from far × (stop ≡ far.forced))
+
 -- the first of the cells from 1 step on that is hit
 pub record IsFirstHit (hit : Cell → Bool) (dir : Dir) (from : Cell) (count steps : ℕ) : Type 0 where
   pub some : 0 < steps

@@ -1,12 +1,15 @@
 -- The parts of a version of a map.
-use Rattle.std.specs.Prelude.{ℕ, ◌≤◌, List, Option, length}
+use Rattle.std.specs.Prelude.{ℕ, ◌≤◌, ◌<◌, List, Option, length}
+use Rattle.nav_types.specs.declared.cells.Rect.{Rect}
 use Rattle.nav_types.specs.Numbering.{Numbering}
 use Rattle.class_planes.specs.Planes.{PlaneCells, ArePlanes}
 use Rattle.obstruction_store.specs.Standing.{Standing, AllFit}
 use Rattle.grid_versions.specs.Maps.{Map}
 use Rattle.grid_versions.specs.Passing.{passable_at}
+use Rattle.grid_versions.specs.inner.Changing.{AreChanges}
 use Rattle.grid_versions.specs.inner.Painting.{AreBaseChunks, ArePaintedChunks}
 use Rattle.grid_versions.specs.inner.Reachers.{AreReachers}
+use Rattle.grid_versions.specs.inner.Reaching.{CoverChanges}
 use Rattle.grid_versions.specs.inner.Tables.{Tables}
 use Rattle.grid_versions.specs.inner.Tallying.{AreTablesOf}
 
@@ -22,3 +25,13 @@ pub record AreParts (map : Map) (standing : Standing) (base : List Numbering) (r
   pub planes_are : ArePlanes map.size (passable_at map standing) 65535 (length map.classes) planes
   pub tables_are : AreTablesOf (length map.classes) (passable_at map standing) map.size tables
   pub few : length tables ≤ 16
+
+-- the planes of all classes under some earlier obstructions, with rectangles that cover what has changed since, and with
+-- the bits, one number a chunk, that say where
+pub record ArePlanesBefore (map : Map) (now : Standing) (planes : List (Option PlaneCells)) (rects : List Rect)
+    (bits : List ℕ) : Type 0 where
+  pub earlier : Standing
+  pub planes_are : ArePlanes map.size (passable_at map earlier) 65535 (length map.classes) planes
+  pub covered : CoverChanges map earlier now rects
+  pub changes : (k : ℕ) → k < length map.classes
+      → AreChanges (passable_at map earlier k) (passable_at map now k) map.size k bits

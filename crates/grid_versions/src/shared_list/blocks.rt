@@ -80,6 +80,21 @@ impl<T> Block<T> {
         Ok(Block { items })
     }
 
+    /// These items and one more, as a block that others may hold.
+    pub fn with(
+        &self,
+        alloc: Global,
+        item: Arc<T, Global>,
+    ) -> Result<Arc<Block<T>, Global>, NoMemory>
+    where
+        T: Drop,
+        ensures { IfOk result (λ block. arc_value block ≡ self.now ++ arc_value item ∷ []) }
+    {
+        let mut block = self.share(alloc)?;
+        block.push(item)?;
+        Ok(Arc::new(alloc, block)?)
+    }
+
     /// The item at a place, counted from 0.
     pub fn item(&self, at: usize) -> &Arc<T, Global>
         requires { at < length self.now }

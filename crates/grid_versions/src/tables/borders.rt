@@ -124,7 +124,7 @@ fn reconnect_at(
 /// Finds anew the region edges to the neighbours on that side, from those of before, the new regions and the bits of
 /// what has changed. Two chunks of which neither has changed for the class keep their edges. It says whether all
 /// edges are those of before.
-pub fn reconnect(
+fn reconnect(
     alloc: Global,
     size: Size,
     labels: &SharedList<Labels>,
@@ -147,6 +147,29 @@ pub fn reconnect(
         stay &= stays;
     }
     Ok(stay)
+}
+
+/// The region edges to the neighbours on that side from those of before, as `reconnect` finds them, and whether all are
+/// the same. Lists of chunks that keep their edges are shared.
+pub fn next_edges(
+    alloc: Global,
+    size: Size,
+    labels: &SharedList<Labels>,
+    before: &SharedList<Edges>,
+    changed: &[u16],
+    class: Class,
+    side: Side,
+) -> Result<(SharedList<Edges>, bool), NoMemory>
+    requires labels { IsLaidOut size labels.now }
+    requires each { length before.now ≡ chunk_count size }
+    requires changed { length changed.now ≡ chunk_count size }
+    ensures edges { IfOk result (λ made. (old now : Cell → Bool) → AreChanges old now size class changed.now
+        → AreAllLabels now size labels.now → AreAllEdges side old size before.now → AreAllEdges side now size made.0) }
+    ensures stay { IfOk result (λ made. IsTrue made.1 → made.0 ≡ before.now) }
+{
+    let mut all = before.share(alloc)?;
+    let stay = reconnect(alloc, size, labels, &mut all, changed, class, side)?;
+    Ok((all, stay))
 }
 
 /// Appends the edges of two chunks as links, where the chunks are named by their places.

@@ -91,7 +91,7 @@ fn relabel_at<V: BitView, L: Ledger>(
 
 /// Labels anew each chunk that has changed for the class, as the bits say. Each of these is one step of work; the
 /// others keep their regions. It says whether each chunk has as many regions as before.
-pub fn relabel<V: BitView, L: Ledger>(
+fn relabel<V: BitView, L: Ledger>(
     alloc: Global,
     view: &V,
     class: Class,
@@ -113,4 +113,26 @@ pub fn relabel<V: BitView, L: Ledger>(
         stay &= stays;
     }
     Ok(stay)
+}
+
+/// The labels of all chunks from those of before, as `relabel` finds them, and whether each chunk has as many regions
+/// as before. The chunks that have not changed for the class share theirs.
+pub fn next_labels<V: BitView, L: Ledger>(
+    alloc: Global,
+    view: &V,
+    class: Class,
+    before: &SharedList<Labels>,
+    changed: &[u16],
+    ticks: &mut Ticks<L>,
+) -> Result<(SharedList<Labels>, bool), NoMemory>
+    requires class { class < V.class_count view.now }
+    requires before { (old : Cell → Bool) × (AreAllLabels old (V.extent view.now) before.now
+        × AreChanges old (V.passes view.now class) (V.extent view.now) class changed.now) }
+    ensures labels { IfOk result (λ made. AreAllLabels (V.passes view.now class) (V.extent view.now) made.0) }
+    ensures counts { IfOk result (λ made. IsTrue made.1 → counts_of made.0 ≡ counts_of before.now) }
+    ensures most { ticks.new ≤ ticks.old + count_by (has_class class) changed.now }
+{
+    let mut labels = before.share(alloc)?;
+    let stay = relabel(alloc, view, class, &mut labels, changed, ticks)?;
+    Ok((labels, stay))
 }

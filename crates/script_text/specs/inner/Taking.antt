@@ -122,6 +122,15 @@ LineAnswer old new line room (Err (BadLine n)) before after = ⊥
 abbrev pub LineTold : Taken → Taken → Option (List ℕ) → Option (List ℕ) → List ℕ → ℕ → Result LineEnd ScriptFault → Type 0
 LineTold old new left later line room result = WhereTold left later (λ before after. (IsTrue old.ended → before ≡ []) → LineAnswer old new line room result before after)
 
+-- the line is the first of those that were held, and its newline is gone too
+abbrev pub HoldsNewline : Taken → Taken → List ℕ → Result LineEnd ScriptFault → Type 0
+HoldsNewline old new line result = (result ≡ Ok Newline) × (line ++ 10 ∷ new.bytes ≡ old.bytes)
+
+-- how a line ended, where an answer says it
+abbrev pub end_of : Result LineEnd ScriptFault → Option LineEnd
+end_of (Ok end) = Some end
+end_of (Err fault) = None
+
 -- ---- the line that is held
 
 -- What is held of an input: the next line, or the beginning of it; how it ended, once it is whole; and what was taken

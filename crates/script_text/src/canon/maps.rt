@@ -6,7 +6,7 @@ ghost use Rattle.nav_types.specs.declared.limits.TheConstants.{MAX_CALLERS};
 ghost use Rattle.script_text.specs.declared.forms.TheConstants.{NEWEST_VERSION};
 ghost use Rattle.script_text.specs.Canon as canon;
 
-use crate::canon::pieces::{push_comma, push_fixed, push_numbers};
+use crate::canon::pieces::{Piece, push_comma, push_pieces};
 use crate::canon::posts::push_name;
 use class_config::{ClassName, ClassTable};
 use fixed_point::Fixed;
@@ -23,13 +23,18 @@ pub(crate) fn push_map(text: &mut Bytes, map: &MapSpec) -> Result<(), NoMemory>
         × (map.now.callers ≤ MAX_CALLERS) × IsTrue (is_table map.now.classes)) }
 {
     let size = map.size();
-    text.extend(b"{\"version\":")?;
-    text.push_decimal(u64::from(map.version()))?;
-    text.extend(b",\"size\":")?;
-    push_numbers(text, &[u64::from(size.w), u64::from(size.h)])?;
-    text.extend(b",\"callers\":")?;
-    text.push_decimal(u64::from(map.callers()))?;
-    text.extend(b",\"classes\":")?;
+    let pieces = [
+        Piece::Bytes(b"{\"version\":"),
+        Piece::Whole(u64::from(map.version())),
+        Piece::Bytes(b",\"size\":["),
+        Piece::Whole(u64::from(size.w)),
+        Piece::Bytes(b","),
+        Piece::Whole(u64::from(size.h)),
+        Piece::Bytes(b"],\"callers\":"),
+        Piece::Whole(u64::from(map.callers())),
+        Piece::Bytes(b",\"classes\":"),
+    ];
+    push_pieces(text, &pieces)?;
     push_classes(text, map.classes())?;
     text.push(b'}')?;
     Ok(())
@@ -60,9 +65,12 @@ fn push_class(text: &mut Bytes, name: &ClassName, clearance: Fixed) -> Result<()
 {
     text.extend(b"{\"name\":")?;
     push_name(text, name)?;
-    text.extend(b",\"clearance\":")?;
-    push_fixed(text, clearance)?;
-    text.push(b'}')?;
+    let pieces = [
+        Piece::Bytes(b",\"clearance\":"),
+        Piece::Decimal(clearance),
+        Piece::Bytes(b"}"),
+    ];
+    push_pieces(text, &pieces)?;
     Ok(())
 }
 
@@ -114,6 +122,19 @@ fn push_entries(text: &mut Bytes, rects: &[(Rect, u16)]) -> Result<(), NoMemory>
 fn push_entry(text: &mut Bytes, rect: Rect, mask: u16) -> Result<(), NoMemory>
     ensures { OnOk result (text.new ≡ text.old ++ compact_text (canon.entry_json (rect, mask))) }
 {
-    let numbers = [rect.i0, rect.j0, rect.i1, rect.j1, mask].map(u64::from);
-    push_numbers(text, &numbers)
+    let pieces = [
+        Piece::Bytes(b"["),
+        Piece::Whole(u64::from(rect.i0)),
+        Piece::Bytes(b","),
+        Piece::Whole(u64::from(rect.j0)),
+        Piece::Bytes(b","),
+        Piece::Whole(u64::from(rect.i1)),
+        Piece::Bytes(b","),
+        Piece::Whole(u64::from(rect.j1)),
+        Piece::Bytes(b","),
+        Piece::Whole(u64::from(mask)),
+        Piece::Bytes(b"]"),
+    ];
+    push_pieces(text, &pieces)?;
+    Ok(())
 }

@@ -1,15 +1,50 @@
 //! The values in canonical lines. Each call appends a text; where there is no memory, what stands is a beginning of it.
-ghost use Rattle.std.specs.Prelude.{◌≡◌, ◌++◌, ◌∷◌, [], map, OnOk, IsTrue, FitsSigned};
+ghost use Rattle.std.specs.Prelude.{◌≡◌, ◌++◌, All, OnOk, IsTrue, FitsSigned, flat_map};
 ghost use Rattle.std.specs.Int.{w32};
 ghost use Rattle.std.specs.List.{list_all};
 ghost use Rattle.serde_json.specs.Data.{string};
 ghost use Rattle.serde_json.specs.Written.{comma_if, compact_text};
 ghost use Rattle.script_text.specs.Canon as canon;
+ghost use Rattle.script_text.specs.inner.Pieces.{IsPieceValue, piece_text};
 ghost use Rattle.script_text.specs.inner.Plain.{is_plain};
 ghost use Rattle.script_text.specs.ReadsBack.{AreFixed};
 
 use fixed_point::Fixed;
 use nav_types::{Bytes, NoMemory};
+
+/// A piece of a canonical line.
+#[derive(Clone, Copy)]
+pub(crate) enum Piece<'a> {
+    /// Bytes that stand as they are.
+    Bytes(&'a [u8]),
+    /// A whole number.
+    Whole(u64),
+    /// A fixed-point number's canonical text as a string.
+    Decimal(Fixed),
+}
+
+/// Appends pieces, one behind another.
+pub(crate) fn push_pieces(text: &mut Bytes, pieces: &[Piece]) -> Result<(), NoMemory>
+    ensures text { OnOk result (text.new ≡ text.old ++ flat_map piece_text pieces.now) }
+    ensures values { OnOk result (All IsPieceValue pieces.now) }
+{
+    for piece in pieces {
+        push_piece(text, piece)?;
+    }
+    Ok(())
+}
+
+/// Appends a piece.
+fn push_piece(text: &mut Bytes, piece: &Piece) -> Result<(), NoMemory>
+    ensures text { OnOk result (text.new ≡ text.old ++ piece_text piece.now) }
+    ensures values { OnOk result (IsPieceValue piece.now) }
+{
+    match *piece {
+        Piece::Bytes(bytes) => text.extend(bytes),
+        Piece::Whole(number) => text.push_decimal(number),
+        Piece::Decimal(number) => push_fixed(text, number),
+    }
+}
 
 /// Appends a comma, where something stands before.
 pub(crate) fn push_comma(text: &mut Bytes, later: bool) -> Result<(), NoMemory>
@@ -18,21 +53,6 @@ pub(crate) fn push_comma(text: &mut Bytes, later: bool) -> Result<(), NoMemory>
     if later {
         text.push(b',')?;
     }
-    Ok(())
-}
-
-/// Appends an array of numbers.
-pub(crate) fn push_numbers(text: &mut Bytes, numbers: &[u64]) -> Result<(), NoMemory>
-    ensures { OnOk result (text.new ≡ text.old ++ compact_text (canon.wholes_json numbers.now)) }
-{
-    text.push(b'[')?;
-    let mut later = false;
-    for number in numbers {
-        push_comma(text, later)?;
-        text.push_decimal(*number)?;
-        later = true;
-    }
-    text.push(b']')?;
     Ok(())
 }
 
@@ -48,7 +68,7 @@ pub(crate) fn push_quoted(text: &mut Bytes, bytes: &[u8]) -> Result<(), NoMemory
 }
 
 /// Appends a fixed-point number's canonical text as a string.
-pub(crate) fn push_fixed(text: &mut Bytes, number: Fixed) -> Result<(), NoMemory>
+fn push_fixed(text: &mut Bytes, number: Fixed) -> Result<(), NoMemory>
     ensures text { OnOk result (text.new ≡ text.old ++ compact_text (canon.decimal_json number)) }
     ensures values { OnOk result (FitsSigned w32 number) }
 {

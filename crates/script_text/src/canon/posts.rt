@@ -12,7 +12,7 @@ ghost use Rattle.script_text.specs.Canon as canon;
 ghost use Rattle.script_text.specs.Grammar.{rectangle_decimals, shape_key, shape_decimals};
 ghost use Rattle.script_text.specs.ReadsBack.{AreFixed, IsGoalValue, IsPostValue};
 
-use crate::canon::pieces::{push_decimals, push_fixed, push_quoted};
+use crate::canon::pieces::{Piece, push_decimals, push_pieces, push_quoted};
 use crate::versions::FIRST_WITH_MASKS;
 use class_config::ClassName;
 use fixed_point::{Fixed, Rectangle};
@@ -81,10 +81,13 @@ fn push_add(
         ++ compact_text (canon.post_json version caller (kind.Edit (edit.Add id obstruction)))) }
     ensures values { OnOk result (IsPostValue (kind.Edit (edit.Add id obstruction))) }
 {
-    text.extend(b"{\"caller\":")?;
-    text.push_decimal(caller)?;
-    text.extend(b",\"add\":")?;
-    text.push_decimal(u64::from(id))?;
+    let pieces = [
+        Piece::Bytes(b"{\"caller\":"),
+        Piece::Whole(caller),
+        Piece::Bytes(b",\"add\":"),
+        Piece::Whole(u64::from(id)),
+    ];
+    push_pieces(text, &pieces)?;
     push_shape(text, obstruction.shape)?;
     push_mask(text, version, obstruction.mask)?;
     Ok(())
@@ -137,9 +140,12 @@ fn push_mask(text: &mut Bytes, version: u8, mask: u16) -> Result<(), NoMemory>
         text.push(b'}')?;
         return Ok(());
     }
-    text.extend(b",\"mask\":")?;
-    text.push_decimal(u64::from(mask))?;
-    text.push(b'}')?;
+    let pieces = [
+        Piece::Bytes(b",\"mask\":"),
+        Piece::Whole(u64::from(mask)),
+        Piece::Bytes(b"}"),
+    ];
+    push_pieces(text, &pieces)?;
     Ok(())
 }
 
@@ -149,11 +155,14 @@ fn push_remove(text: &mut Bytes, version: u8, caller: u64, id: u32) -> Result<()
         ++ compact_text (canon.post_json version caller (kind.Edit (edit.Remove id)))) }
     ensures values { OnOk result (IsPostValue (kind.Edit (edit.Remove id))) }
 {
-    text.extend(b"{\"caller\":")?;
-    text.push_decimal(caller)?;
-    text.extend(b",\"remove\":")?;
-    text.push_decimal(u64::from(id))?;
-    text.push(b'}')?;
+    let pieces = [
+        Piece::Bytes(b"{\"caller\":"),
+        Piece::Whole(caller),
+        Piece::Bytes(b",\"remove\":"),
+        Piece::Whole(u64::from(id)),
+        Piece::Bytes(b"}"),
+    ];
+    push_pieces(text, &pieces)?;
     Ok(())
 }
 
@@ -169,13 +178,18 @@ fn push_move(
         ++ compact_text (canon.post_json version caller (kind.Edit (edit.Move id to.0 to.1)))) }
     ensures values { OnOk result (IsPostValue (kind.Edit (edit.Move id to.0 to.1))) }
 {
-    text.extend(b"{\"caller\":")?;
-    text.push_decimal(caller)?;
-    text.extend(b",\"move\":")?;
-    text.push_decimal(u64::from(id))?;
-    text.extend(b",\"to\":")?;
-    push_decimals(text, &[to.0, to.1])?;
-    text.push(b'}')?;
+    let pieces = [
+        Piece::Bytes(b"{\"caller\":"),
+        Piece::Whole(caller),
+        Piece::Bytes(b",\"move\":"),
+        Piece::Whole(u64::from(id)),
+        Piece::Bytes(b",\"to\":["),
+        Piece::Decimal(to.0),
+        Piece::Bytes(b","),
+        Piece::Decimal(to.1),
+        Piece::Bytes(b"]}"),
+    ];
+    push_pieces(text, &pieces)?;
     Ok(())
 }
 
@@ -192,13 +206,21 @@ fn push_path(
         ++ compact_text (canon.post_json version caller (kind.Ask (request.Path class.now from.0 from.1 goal)))) }
     ensures values { OnOk result (IsPostValue (kind.Ask (request.Path class.now from.0 from.1 goal))) }
 {
-    text.extend(b"{\"caller\":")?;
-    text.push_decimal(caller)?;
-    text.extend(b",\"path\":")?;
+    let pieces = [
+        Piece::Bytes(b"{\"caller\":"),
+        Piece::Whole(caller),
+        Piece::Bytes(b",\"path\":"),
+    ];
+    push_pieces(text, &pieces)?;
     push_name(text, class)?;
-    text.extend(b",\"from\":")?;
-    push_decimals(text, &[from.0, from.1])?;
-    text.extend(b",\"goal\":")?;
+    let pieces = [
+        Piece::Bytes(b",\"from\":["),
+        Piece::Decimal(from.0),
+        Piece::Bytes(b","),
+        Piece::Decimal(from.1),
+        Piece::Bytes(b"],\"goal\":"),
+    ];
+    push_pieces(text, &pieces)?;
     push_goal(text, goal)?;
     text.push(b'}')?;
     Ok(())
@@ -216,13 +238,21 @@ fn push_region(
         ++ compact_text (canon.post_json version caller (kind.Ask (request.Region class.now place.0 place.1)))) }
     ensures values { OnOk result (IsPostValue (kind.Ask (request.Region class.now place.0 place.1))) }
 {
-    text.extend(b"{\"caller\":")?;
-    text.push_decimal(caller)?;
-    text.extend(b",\"region\":")?;
+    let pieces = [
+        Piece::Bytes(b"{\"caller\":"),
+        Piece::Whole(caller),
+        Piece::Bytes(b",\"region\":"),
+    ];
+    push_pieces(text, &pieces)?;
     push_name(text, class)?;
-    text.extend(b",\"at\":")?;
-    push_decimals(text, &[place.0, place.1])?;
-    text.push(b'}')?;
+    let pieces = [
+        Piece::Bytes(b",\"at\":["),
+        Piece::Decimal(place.0),
+        Piece::Bytes(b","),
+        Piece::Decimal(place.1),
+        Piece::Bytes(b"]}"),
+    ];
+    push_pieces(text, &pieces)?;
     Ok(())
 }
 
@@ -241,26 +271,23 @@ fn push_goal(text: &mut Bytes, goal: GoalSpec) -> Result<(), NoMemory>
 {
     match goal {
         GoalSpec::Plain(goal) => push_plain_goal(text, goal),
-        GoalSpec::Obstruction { id, grow } => {
-            text.extend(b"{\"obstruction\":")?;
-            push_grown(text, id, grow)?;
-            text.push(b'}')?;
-            Ok(())
-        }
+        GoalSpec::Obstruction { id, grow } => push_obstruction_goal(text, id, grow),
     }
 }
 
-/// Appends the array of an obstruction number and the distance by which the obstruction grows.
-fn push_grown(text: &mut Bytes, id: u32, grow: Fixed) -> Result<(), NoMemory>
-    ensures text { OnOk result (text.new ≡ text.old
-        ++ compact_text (canon.list_json (canon.whole_json id ∷ canon.decimal_json grow ∷ []))) }
+/// Appends a goal that is an obstruction, which grows by a distance.
+fn push_obstruction_goal(text: &mut Bytes, id: u32, grow: Fixed) -> Result<(), NoMemory>
+    ensures text { OnOk result (text.new ≡ text.old ++ compact_text (canon.goal_json (goal_spec.Obstruction id grow))) }
     ensures values { OnOk result (IsGoalValue (goal_spec.Obstruction id grow)) }
 {
-    text.push(b'[')?;
-    text.push_decimal(u64::from(id))?;
-    text.push(b',')?;
-    push_fixed(text, grow)?;
-    text.push(b']')?;
+    let pieces = [
+        Piece::Bytes(b"{\"obstruction\":["),
+        Piece::Whole(u64::from(id)),
+        Piece::Bytes(b","),
+        Piece::Decimal(grow),
+        Piece::Bytes(b"]}"),
+    ];
+    push_pieces(text, &pieces)?;
     Ok(())
 }
 
@@ -311,8 +338,11 @@ fn push_object(text: &mut Bytes, opening: &[u8], numbers: &[Fixed]) -> Result<()
 pub(crate) fn push_end(text: &mut Bytes, turn: u64) -> Result<(), NoMemory>
     ensures { OnOk result (text.new ≡ text.old ++ compact_text (canon.end_json turn)) }
 {
-    text.extend(b"{\"end\":")?;
-    text.push_decimal(turn)?;
-    text.push(b'}')?;
+    let pieces = [
+        Piece::Bytes(b"{\"end\":"),
+        Piece::Whole(turn),
+        Piece::Bytes(b"}"),
+    ];
+    push_pieces(text, &pieces)?;
     Ok(())
 }

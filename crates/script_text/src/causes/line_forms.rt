@@ -9,7 +9,7 @@ use class_config::has_keys;
 use serde_json::Value;
 
 /// The form of a line.
-#[derive(Clone, Copy, Debug, PartialEq, Eq)]
+#[derive(Clone, Copy)]
 pub enum Form {
     Map,
     Base,

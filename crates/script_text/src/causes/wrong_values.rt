@@ -22,7 +22,7 @@ use serde_json::Value;
 use std::alloc::Global;
 
 /// A key of a form, and what must stand under it.
-#[derive(Clone, Copy, Debug, PartialEq, Eq)]
+#[derive(Clone, Copy)]
 pub struct Field {
     pub key: Key,
     pub wanted: Wanted,

@@ -12,11 +12,13 @@ returns-then-a-b-clause-bounded c =
     let firsts = c.args.all.now.firsts.items in
     let a = c.index-a.result.now in
     let b = c.index-b.result.now in
+    let is_a : a ≡ slice_index regions c.args.south = c.index-a.ensures ∙ get_or_default_zero regions c.args.south a c.requires.south in
     let is_b : b ≡ slice_index regions c.args.north = c.index-b.ensures ∙ get_or_default_zero regions c.args.north b c.requires.north in
+    let least = c.requires.bounded.within c.args.south c.requires.south in
     let most = c.requires.bounded.within c.args.north c.requires.north in
     subst (λ (ns : List ℕ). AreBounded ns c.unite.new.all.firsts.items) (sym c.unite.ensures.regions)
     (subst (λ (cells : List Cell). AreBounded (map (number_after a b) regions) cells) (sym c.unite.ensures.firsts)
-    (AreBounded-join regions firsts a b c.if-a-b.true (omega arith) c.requires.bounded))
+    (AreBounded-join regions firsts a b (omega arith) c.if-a-b.true (omega arith) c.requires.bounded))
 
 pub returns-then-b-a-clause-bounded : goal.returns-then-b-a-clause-bounded
 returns-then-b-a-clause-bounded c =
@@ -25,10 +27,12 @@ returns-then-b-a-clause-bounded c =
     let a = c.index-a.result.now in
     let b = c.index-b.result.now in
     let is_a : a ≡ slice_index regions c.args.south = c.index-a.ensures ∙ get_or_default_zero regions c.args.south a c.requires.south in
+    let is_b : b ≡ slice_index regions c.args.north = c.index-b.ensures ∙ get_or_default_zero regions c.args.north b c.requires.north in
+    let least = c.requires.bounded.within c.args.north c.requires.north in
     let most = c.requires.bounded.within c.args.south c.requires.south in
     subst (λ (ns : List ℕ). AreBounded ns c.unite-then-b-a.new.all.firsts.items) (sym c.unite-then-b-a.ensures.regions)
     (subst (λ (cells : List Cell). AreBounded (map (number_after b a) regions) cells) (sym c.unite-then-b-a.ensures.firsts)
-    (AreBounded-join regions firsts b a c.if-b-a.true (omega arith) c.requires.bounded))
+    (AreBounded-join regions firsts b a (omega arith) c.if-b-a.true (omega arith) c.requires.bounded))
 
 pub returns-then-a-b-clause-groups : goal.returns-then-a-b-clause-groups
 returns-then-a-b-clause-groups c = λ chunk runs s n o at_s at_n passes cut groups.

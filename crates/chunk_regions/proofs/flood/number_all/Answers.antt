@@ -2,7 +2,7 @@ use Rattle.std.proofs.Common.{◌≡◌, ◌∙◌, List, length, ap, sym, subst
 use Rattle.std.specs.Prelude.{slice_index}
 use Rattle.nav_types.specs.declared.cells.Cell.{Cell}
 use Rattle.chunk_regions.specs.inner.Spans.{region_of}
-use Rattle.chunk_regions.specs.inner.Joining.{AreUnited, IsNumbered}
+use Rattle.chunk_regions.specs.inner.Joining.{AreUnited, AreBounded, IsNumbered}
 use Rattle.chunk_regions.proofs.GroupLemmas.{AreGroups-end}
 use Rattle.chunk_regions.proofs.flood.number_all.Goals as goal
 
@@ -15,6 +15,11 @@ loop-row-preserved c =
       united = c.in_ok-number_row.ensures.united;
       groups = λ passes cut. c.in_ok-number_row.ensures.groups passes cut (kept.groups passes cut);
     }
+
+pub returns-clause-bounded : goal.returns-clause-bounded
+returns-clause-bounded c =
+    subst (λ (items : List Cell). AreBounded c.loop-row.all.regions.items items) (sym (c.in_ok-firsts.ensures.items ∙ c.deref.ensures.value))
+    c.loop-row.invariant.bounded
 
 pub returns-clause-numbered : goal.returns-clause-numbered
 returns-clause-numbered c = λ passes cut.

@@ -4,10 +4,19 @@ use Rattle.std.proofs.lemmas.Grind.{get_or_default_zero}
 use Rattle.nav_types.specs.declared.cells.Cell.{Cell}
 use Rattle.nav_types.specs.Cells.{cell_at}
 use Rattle.chunk_regions.specs.declared.flood.Place.{Place}
-use Rattle.chunk_regions.specs.inner.Joining.{Overlap, MeetsTo, AreUnited, AreGroups}
-use Rattle.chunk_regions.proofs.GroupLemmas.{AreGroups-begin, AreGroups-follow, AreUnited-longer, AreUnited-kept, AreUnited-last, MeetsTo-follow, overlap_from, overlap_to, overlaps_before}
+use Rattle.chunk_regions.specs.inner.Joining.{Overlap, MeetsTo, AreUnited, AreBounded, AreGroups}
+use Rattle.chunk_regions.proofs.GroupLemmas.{AreGroups-begin, AreGroups-follow, AreBounded-begin, AreBounded-follow, AreUnited-longer, AreUnited-kept, AreUnited-last, MeetsTo-follow, overlap_from, overlap_to, overlaps_before}
 use Rattle.chunk_regions.proofs.flood.number_span.Goals.{then-south-end-via-then-south-end, then-south-end-via-else-south-end+then-span}
 use Rattle.chunk_regions.proofs.flood.number_span.Goals as goal
+
+pub returns-then-south-end-clause-bounded : goal.returns-then-south-end-clause-bounded
+returns-then-south-end-clause-bounded c =
+    let regions = c.args.all.now.regions.items in
+    let firsts = c.args.all.now.firsts.items in
+    let cell = cell_at (96 * c.args.chunk.ci + c.span-span.result.first) (96 * c.args.chunk.cj + c.args.place.row) in
+    subst (λ (ns : List ℕ). AreBounded ns c.begin.new.all.firsts.items) (sym c.in_ok-begin.ensures.regions)
+    (subst (λ (cells : List Cell). AreBounded (regions ++ (length firsts + 1) ∷ []) cells) (sym c.in_ok-begin.ensures.firsts)
+    (AreBounded-begin regions firsts cell c.requires.bounded))
 
 pub returns-then-south-end-clause-united : goal.returns-then-south-end-clause-united
 returns-then-south-end-clause-united c =
@@ -44,6 +53,21 @@ returns-then-south-end-clause-groups c = λ passes cut groups.
     subst (λ (ns : List ℕ). AreGroups passes chunk runs ns c.begin.new.all.firsts.items) (sym c.in_ok-begin.ensures.regions)
     (subst (λ (cells : List Cell). AreGroups passes chunk runs (regions ++ n ∷ []) cells) (sym c.in_ok-begin.ensures.firsts)
     (AreGroups-begin passes chunk runs regions firsts place span cut c.requires.place c.span-span.ensures.value c.requires.next groups))
+
+pub join_rest-requires-clause-bounded : goal.join_rest-requires-clause-bounded
+join_rest-requires-clause-bounded c =
+    let regions = c.args.all.now.regions.items in
+    let firsts = c.args.all.now.firsts.items in
+    let south = c.args.south in
+    let n = c.index-region.result.now in
+    let end = c.requires.end in
+    let to = c.requires.to in
+    let here = c.requires.place.from in
+    let next = c.requires.next in
+    let apart = c.if-south-end.false in
+    let before : south < length regions = omega arith in
+    subst (λ (ns : List ℕ). AreBounded ns firsts) (sym c.in_ok-push.ensures.items)
+    (AreBounded-follow regions firsts south n before (c.index-region.ensures ∙ get_or_default_zero regions south n before) c.requires.bounded)
 
 pub join_rest-requires-clause-met : goal.join_rest-requires-clause-met
 join_rest-requires-clause-met c =

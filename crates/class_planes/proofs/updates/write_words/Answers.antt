@@ -1,18 +1,8 @@
-use Rattle.std.proofs.Common.{◌≡◌, ◌≤◌, ◌+◌, ◌-◌, ◌*◌, ◌/◌, ◌%◌, ◌++◌, ℕ, List, length, take, drop, get_or, sym, ap, ap₂, ◌∙◌, drop-drop, arith}
+use Rattle.std.proofs.Common.{◌≡◌, ◌≤◌, ◌+◌, ◌-◌, ◌*◌, ◌/◌, ◌%◌, ℕ, List, length, get_or, sym, ap, ap₂, ◌∙◌, arith}
 use Rattle.std.specs.Int.{bit_at}
-use Rattle.class_planes.specs.inner.Lines.{patched}
 use Rattle.class_planes.proofs.LineLemmas.{part_long}
-use Rattle.class_planes.proofs.TurnLemmas.{patched_here, patched_elsewhere}
+use Rattle.class_planes.proofs.TurnLemmas.{put_is, patched_here, patched_elsewhere}
 use Rattle.class_planes.proofs.updates.write_words.Goals as goal
-
--- the band with the words in the place of so many
-put_is : (band out : List ℕ) (start count : ℕ) → length out ≡ count
-    → take start band ++ (out ++ drop (start + count - start) (drop start band)) ≡ patched band start out
-put_is band out start count long =
-    let k : ℕ = start + count - start in
-    let there : start + k ≡ start + length out = omega (arith, long) in
-    ap (λ (rest : List ℕ). take start band ++ (out ++ rest))
-    (drop-drop k start band ∙ ap (λ (n : ℕ). drop n band) there)
 
 pub returns-clause-set : goal.returns-clause-set
 returns-clause-set c w k below small =

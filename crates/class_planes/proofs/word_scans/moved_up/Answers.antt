@@ -1,18 +1,14 @@
-use Rattle.std.proofs.Common.{◌-◌, ◌*◌, ap, ◌∙◌, arith}
+use Rattle.std.proofs.Common.{◌∙◌, ap, get_or}
 use Rattle.std.specs.Int.{bit_at}
-use Rattle.class_planes.proofs.WordLemmas.{up_bit, carry_up}
-use Rattle.class_planes.proofs.word_scans.moved_up.Goals.{then-w-eq0, else-w-eq0}
+use Rattle.std.proofs.lemmas.Nat.Bits.{bit_at-zero}
+use Rattle.class_planes.proofs.WordLemmas.{up_bit, moved_low}
 use Rattle.class_planes.proofs.word_scans.moved_up.Goals as goal
 
-pub returns : goal.returns
-returns c = λ k below some. elim c.if-w-eq0.branch [
-  | then-w-eq0 w ↦
-      up_bit c.args.line.now c.args.w c.if-w-eq0.carry k below some (omega (arith, w.carry-is))
-      (λ after. absurd (omega (arith, after, w.if-w-eq0)))
-  | else-w-eq0 w ↦
-      let line = c.args.line.now in
-      let fits = c.type_inv.line (c.args.w - 1) in
-      up_bit line c.args.w c.if-w-eq0.carry k below some (omega (arith, w.carry-is, fits))
-      (λ after. ap (λ n. bit_at n 0) w.carry-is ∙ carry_up line (c.args.w - 1) (64 * c.args.w - 1)
-      (omega (arith, after)))
-]
+pub returns-clause-bits : goal.returns-clause-bits
+returns-clause-bits c k below some =
+    up_bit c.args.line.now c.args.w c.top_before.result k below some c.top_before.ensures.small c.top_before.ensures.bit
+
+pub returns-clause-first : goal.returns-clause-first
+returns-clause-first c first =
+    moved_low (get_or c.args.line.now c.args.w 0) c.top_before.result
+    ∙ ap (λ n. bit_at n 0) (c.top_before.ensures.none first) ∙ bit_at-zero 0

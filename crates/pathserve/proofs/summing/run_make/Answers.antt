@@ -1,5 +1,4 @@
-use Rattle.std.proofs.Common.{Result, Ok, Err}
-use Rattle.io_edges.specs.declared.edges.WriteRefusal.{WriteRefusal}
+use Rattle.std.proofs.Common.{Ok, Err}
 use Rattle.pathserve.proofs.SummaryTexts.{made_told, made_status, text_taken}
 use Rattle.pathserve.proofs.summing.run_make.Goals as goal
 

@@ -1,5 +1,3 @@
-use Rattle.std.proofs.Common.{◌≡◌, subst}
-use Rattle.turn_core.specs.declared.posts.Post.{Post}
 use Rattle.pathserve.proofs.SmallJournals.{journal_jobs_few, replies_summed}
 use Rattle.pathserve.proofs.summing.summary.Goals as goal
 

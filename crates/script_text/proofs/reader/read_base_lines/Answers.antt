@@ -1,4 +1,4 @@
-use Rattle.std.proofs.Common.{◌∙◌, ℕ, Bool, Option, Ok, IsTrue, ap, sym, subst, arith}
+use Rattle.std.proofs.Common.{◌≡◌, ◌∙◌, ℕ, ◌+◌, Bool, Option, Ok, IsTrue, refl, ap, sym, subst, arith}
 use Rattle.std.proofs.lemmas.Result.{err_from_is_err_and}
 use Rattle.io_edges.proofs.Passed.{given_none, given_more}
 use Rattle.script_text.specs.Script.{rules_of}
@@ -6,6 +6,7 @@ use Rattle.script_text.specs.Reader.{post_count}
 use Rattle.script_text.specs.inner.Taking.{Taken, FindsLine, NextTold}
 use Rattle.script_text.specs.inner.Judging.{TakesBase, held_at}
 use Rattle.script_text.proofs.ReadCalls.{adds_nowhere, adds_line, adds_end, adds_kept, adds_refused, adds_fault, used_up_ready, no_base_ready, whole_between}
+use Rattle.script_text.proofs.ReadTold.{rose-later, same_err}
 use Rattle.script_text.proofs.ReadNeed.{given_by_need}
 use Rattle.script_text.proofs.reader.read_base_lines.Goals as goal
 
@@ -42,7 +43,7 @@ lines-preserved g c =
       between = λ none. ap (λ h. h.line) uses.line;
       stays = λ ended. subst Ended (sym c.take_base_line.ensures.rest) (c.in_ok-size.ensures.stays (c.lines.invariant.stays ended));
       given = given_more _ _ _ c.lines.invariant.given (given_by_need _ _ _ _ c.next_line.ensures.reads);
-      later = omega arith;
+      later = omega (arith, c.lines.invariant.later, c.next_line.ensures.later);
     }
 
 -- the line is no base line
@@ -117,3 +118,70 @@ returns-in_err-take_base_line-clause-given g c = given_more _ _ _ c.lines.invari
 
 pub returns-in_err-size-clause-given : goal.returns-in_err-size-clause-given
 returns-in_err-size-clause-given g c = given_more _ _ _ c.lines.invariant.given (given_by_need _ _ _ _ c.next_line.ensures.reads)
+
+-- ---- what is kept
+
+pub returns-in_err-size-clause-later : goal.returns-in_err-size-clause-later
+returns-in_err-size-clause-later g c = omega (arith, c.lines.invariant.later, c.next_line.ensures.later)
+
+pub returns-in_err-size-clause-rules : goal.returns-in_err-size-clause-rules
+returns-in_err-size-clause-rules g c = c.lines.invariant.part
+
+pub returns-in_err-size-clause-limit : goal.returns-in_err-size-clause-limit
+returns-in_err-size-clause-limit g c = c.room-room.ensures.limit
+
+pub returns-in_err-size-clause-stays : goal.returns-in_err-size-clause-stays
+returns-in_err-size-clause-stays g c = λ ended. c.next_line.ensures.stays (c.lines.invariant.stays ended)
+
+pub returns-in_default-clause-later : goal.returns-in_default-clause-later
+returns-in_default-clause-later g c = omega (arith, c.lines.invariant.later, c.next_line.ensures.later)
+
+pub returns-in_default-clause-rules : goal.returns-in_default-clause-rules
+returns-in_default-clause-rules g c = c.lines.invariant.part
+
+pub returns-in_default-clause-limit : goal.returns-in_default-clause-limit
+returns-in_default-clause-limit g c = c.room-room.ensures.limit
+
+pub returns-in_default-clause-stays : goal.returns-in_default-clause-stays
+returns-in_default-clause-stays g c = λ ended. c.next_line.ensures.stays (c.lines.invariant.stays ended)
+
+pub returns-in_err-take_base_line-clause-later : goal.returns-in_err-take_base_line-clause-later
+returns-in_err-take_base_line-clause-later g c = omega (arith, c.lines.invariant.later, c.next_line.ensures.later)
+
+pub returns-in_err-take_base_line-clause-rules : goal.returns-in_err-take_base_line-clause-rules
+returns-in_err-take_base_line-clause-rules g c = c.take_base_line.ensures.rules
+
+pub returns-in_err-take_base_line-clause-limit : goal.returns-in_err-take_base_line-clause-limit
+returns-in_err-take_base_line-clause-limit g c = c.take_base_line.ensures.limit
+
+pub returns-in_err-take_base_line-clause-stays : goal.returns-in_err-take_base_line-clause-stays
+returns-in_err-take_base_line-clause-stays g c =
+    let Ended : Taken → Type 0 = λ rest. IsTrue rest.ended in
+    λ ended. subst Ended (sym c.take_base_line.ensures.rest) (c.next_line.ensures.stays (c.lines.invariant.stays ended))
+
+pub returns-then-not-branch-clause-later : goal.returns-then-not-branch-clause-later
+returns-then-not-branch-clause-later g c = omega (arith, c.lines.invariant.later, c.next_line.ensures.later)
+
+pub returns-then-not-branch-clause-rules : goal.returns-then-not-branch-clause-rules
+returns-then-not-branch-clause-rules g c = c.take_base_line.ensures.rules
+
+pub returns-then-not-branch-clause-limit : goal.returns-then-not-branch-clause-limit
+returns-then-not-branch-clause-limit g c = c.take_base_line.ensures.limit
+
+pub returns-then-not-branch-clause-stays : goal.returns-then-not-branch-clause-stays
+returns-then-not-branch-clause-stays g c =
+    let Ended : Taken → Type 0 = λ rest. IsTrue rest.ended in
+    λ ended. subst Ended (sym c.take_base_line.ensures.rest) (c.next_line.ensures.stays (c.lines.invariant.stays ended))
+
+pub returns-in_err-size-clause-fault : goal.returns-in_err-size-clause-fault
+returns-in_err-size-clause-fault g c = let p = err_from_is_err_and c.from_residual.result c.from_residual.ensures.1 in rw (p.1, p.2) (λ is. rose-later _ _ _ c.lines.invariant.later (c.in_err-size.ensures.fault (same_err c.in_err-size.field-0.0 is)))
+
+pub returns-in_err-size-clause-good : goal.returns-in_err-size-clause-good
+returns-in_err-size-clause-good g c = let p = err_from_is_err_and c.from_residual.result c.from_residual.ensures.1 in rw (p.1, p.2) c.in_err-size.ensures.good
+
+pub lines-smaller : goal.lines-smaller
+lines-smaller g c =
+    let Used : Bool → Type 0 = λ taken. IsTrue taken → c.take_base_line.new.progress.bytes ≡ c.lines.progress.bytes + c.in-Some.size in
+    let Found : Option ℕ → Type 0 = λ found. FindsLine c.next_line.new.self found in
+    let whole = subst Found c.in-Some.is c.in_ok-size.ensures.finds in
+    omega (arith, subst Used c.if-not-branch.false c.in_ok-take_base_line.ensures.used refl, whole.some_byte, c.take_base_line.ensures.limit)

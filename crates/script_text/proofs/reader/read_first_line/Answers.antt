@@ -1,7 +1,10 @@
-use Rattle.std.proofs.Common.{ℕ, Option, Ok, subst}
+use Rattle.std.proofs.Common.{ℕ, Option, Ok, IsTrue, sym, subst}
 use Rattle.std.proofs.lemmas.Result.{err_from_is_err_and}
-use Rattle.script_text.specs.inner.Taking.{FindsLine, NextTold}
+use Rattle.script_text.specs.inner.Taking.{Taken, FindsLine, NextTold}
+use Rattle.script_text.specs.inner.Judging.{held_at}
 use Rattle.script_text.proofs.ReadCalls.{first_told, first_fault}
+use Rattle.script_text.proofs.ReadTold.{same_err}
+use Rattle.script_text.proofs.ReadAnswers.{refused_good}
 use Rattle.script_text.proofs.ReadNeed.{given_by_need}
 use Rattle.script_text.proofs.reader.read_first_line.Goals as goal
 
@@ -35,3 +38,48 @@ returns-in-None-clause-given g c = given_by_need _ _ _ _ c.next_line.ensures.rea
 
 pub returns-in_err-size-clause-given : goal.returns-in_err-size-clause-given
 returns-in_err-size-clause-given g c = given_by_need _ _ _ _ c.next_line.ensures.reads
+
+-- what else is said where it did not come
+
+pub returns-in_err-size-clause-later : goal.returns-in_err-size-clause-later
+returns-in_err-size-clause-later g c = c.next_line.ensures.later
+
+pub returns-in_err-size-clause-fault : goal.returns-in_err-size-clause-fault
+returns-in_err-size-clause-fault g c = let p = err_from_is_err_and c.from_residual.result c.from_residual.ensures.1 in rw (p.1, p.2) (λ is. c.in_err-size.ensures.fault (same_err c.in_err-size.field-0.0 is))
+
+pub returns-in_err-size-clause-bad_line : goal.returns-in_err-size-clause-bad_line
+returns-in_err-size-clause-bad_line g c = let p = err_from_is_err_and c.from_residual.result c.from_residual.ensures.1 in rw (p.1, p.2) (λ n is. absurd (c.in_err-size.ensures.good n is))
+
+pub returns-in_err-size-clause-limit : goal.returns-in_err-size-clause-limit
+returns-in_err-size-clause-limit g c = c.room-room.ensures.limit
+
+pub returns-in_err-size-clause-stays : goal.returns-in_err-size-clause-stays
+returns-in_err-size-clause-stays g c = c.next_line.ensures.stays
+
+pub returns-in_err-size-clause-bad : goal.returns-in_err-size-clause-bad
+returns-in_err-size-clause-bad g c = let p = err_from_is_err_and c.from_residual.result c.from_residual.ensures.1 in rw (p.1, p.2) (refused_good (held_at c.args.progress.now c.next_line.new.self) c.in_err-size.field-0.0 c.in_err-size.ensures.good)
+
+-- what else is said of line 1
+
+pub returns-in-Some-clause-later : goal.returns-in-Some-clause-later
+returns-in-Some-clause-later g c = c.next_line.ensures.later
+
+pub returns-in-Some-clause-bad_line : goal.returns-in-Some-clause-bad_line
+returns-in-Some-clause-bad_line g c = c.take_map_line.ensures.bad_line
+
+pub returns-in-Some-clause-rules : goal.returns-in-Some-clause-rules
+returns-in-Some-clause-rules g c = c.take_map_line.ensures.rules
+
+pub returns-in-Some-clause-posts : goal.returns-in-Some-clause-posts
+returns-in-Some-clause-posts g c = c.take_map_line.ensures.posts
+
+pub returns-in-Some-clause-limit : goal.returns-in-Some-clause-limit
+returns-in-Some-clause-limit g c = c.take_map_line.ensures.limit
+
+pub returns-in-Some-clause-stays : goal.returns-in-Some-clause-stays
+returns-in-Some-clause-stays g c =
+    let Ended : Taken → Type 0 = λ rest. IsTrue rest.ended in
+    λ ended. subst Ended (sym c.take_map_line.ensures.rest) (c.next_line.ensures.stays ended)
+
+pub returns-in-Some-clause-bad : goal.returns-in-Some-clause-bad
+returns-in-Some-clause-bad g c = c.take_map_line.ensures.bad

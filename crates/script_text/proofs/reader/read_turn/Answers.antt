@@ -1,13 +1,16 @@
-use Rattle.std.proofs.Common.{[], ◌≡◌, ◌∙◌, ℕ, ◌+◌, ◌≤◌, List, Option, Some, Ok, IsTrue, refl, ap, sym, subst, arith}
+use Rattle.std.proofs.Common.{[], ◌≡◌, ◌∙◌, ℕ, ◌+◌, ◌≤◌, List, Option, Some, Ok, IfSome, IsSome, IsTrue, length, refl, ap, sym, subst, arith}
 use Rattle.std.proofs.lemmas.Result.{err_from_is_err_and}
 use Rattle.turn_core.specs.declared.posts.Post.{Post}
 use Rattle.script_text.specs.Script.{accept}
-use Rattle.script_text.specs.Reader.{UsesLines, post_count}
+use Rattle.script_text.specs.declared.parts.Rules.{Rules}
+use Rattle.script_text.specs.Reader.{UsesLines, callers_of, post_count}
 use Rattle.script_text.specs.inner.Taking.{Taken, HeldLine, FindsLine, NextTold}
 use Rattle.script_text.specs.inner.Judging.{CountsPosts, GivesTurn, held_at}
 use Rattle.script_text.proofs.PostVersions.{have_all, have_on, none_have_at}
 use Rattle.script_text.proofs.ReadCalls.{goes_begun, goes_post, turn_told, turn_refused, turn_fault, turn_none, turn_missing, in_turns_next}
 use Rattle.script_text.proofs.ReadNeed.{ahead-none, ahead_on}
+use Rattle.script_text.proofs.ReadAnswers.{no_base_found, refused_good, same_callers, stuck_unread}
+use Rattle.script_text.proofs.ReadTold.{rose-later, same_err}
 use Rattle.script_text.proofs.ReadStill.{holds_line, still_unread, uses_held, uses_none}
 use Rattle.script_text.proofs.reader.read_turn.Goals as goal
 
@@ -65,7 +68,7 @@ lines-preserved g c =
           (subst Found c.in-Some.is c.in_ok-size.ensures.finds) c.in_ok-size.ensures.plain
           (subst Given c.in_default-2.is c.in_ok-turn.ensures.gives) in
           (c.in_ok-size.ensures.still has ∙ before.0, subst Uses (sym c.in_ok-turn.ensures.line) used);
-      later = omega arith;
+      later = omega (arith, c.lines.invariant.later, c.next_line.ensures.later);
     }
 
 -- the line was an end line
@@ -188,3 +191,210 @@ returns-in_err-size-clause-ahead g c =
     let left = g.S.Source.left in
     ahead_on (held_at c.args.progress.now c.args.lines.now) c.lines.progress c.lines.lines (left c.args.source.now) (left c.lines.source) (left c.next_line.new.source)
     c.lines.invariant.stays c.lines.invariant.told c.lines.invariant.ahead c.next_line.ensures.reads
+
+-- ---- what is kept, and what an answer without a turn owes
+
+pub returns-in_err-size-clause-later : goal.returns-in_err-size-clause-later
+returns-in_err-size-clause-later g c = omega (arith, c.lines.invariant.later, c.next_line.ensures.later)
+
+pub returns-in_err-size-clause-rules : goal.returns-in_err-size-clause-rules
+returns-in_err-size-clause-rules g c = c.lines.invariant.rules
+
+pub returns-in_err-size-clause-limit : goal.returns-in_err-size-clause-limit
+returns-in_err-size-clause-limit g c = c.room-room.ensures.limit
+
+pub returns-in_err-size-clause-stays : goal.returns-in_err-size-clause-stays
+returns-in_err-size-clause-stays g c = λ ended. c.next_line.ensures.stays (c.lines.invariant.stays ended)
+
+pub returns-in_err-size-clause-few : goal.returns-in_err-size-clause-few
+returns-in_err-size-clause-few g c = rw (err_from_is_err_and c.from_residual.result c.from_residual.ensures.1).1 tt
+
+pub returns-in_err-size-clause-lists : goal.returns-in_err-size-clause-lists
+returns-in_err-size-clause-lists g c = rw (err_from_is_err_and c.from_residual.result c.from_residual.ensures.1).1 tt
+
+pub returns-in_err-size-clause-lines : goal.returns-in_err-size-clause-lines
+returns-in_err-size-clause-lines g c = rw (err_from_is_err_and c.from_residual.result c.from_residual.ensures.1).1 tt
+
+pub returns-in_err-size-clause-used : goal.returns-in_err-size-clause-used
+returns-in_err-size-clause-used g c = rw (err_from_is_err_and c.from_residual.result c.from_residual.ensures.1).1 tt
+
+pub returns-in_err-size-clause-ready : goal.returns-in_err-size-clause-ready
+returns-in_err-size-clause-ready g c = rw (err_from_is_err_and c.from_residual.result c.from_residual.ensures.1).1 tt
+
+pub returns-in_err-size-clause-fault : goal.returns-in_err-size-clause-fault
+returns-in_err-size-clause-fault g c =
+    let p = err_from_is_err_and c.from_residual.result c.from_residual.ensures.1 in
+    rw (p.1, p.2) (λ is. rose-later _ _ _ c.lines.invariant.later (c.in_err-size.ensures.fault (same_err c.in_err-size.field-0.0 is)))
+
+pub returns-in_err-finish-clause-later : goal.returns-in_err-finish-clause-later
+returns-in_err-finish-clause-later g c = omega (arith, c.lines.invariant.later, c.next_line.ensures.later)
+
+pub returns-in_err-finish-clause-rules : goal.returns-in_err-finish-clause-rules
+returns-in_err-finish-clause-rules g c = c.lines.invariant.rules
+
+pub returns-in_err-finish-clause-limit : goal.returns-in_err-finish-clause-limit
+returns-in_err-finish-clause-limit g c = c.room-room.ensures.limit
+
+pub returns-in_err-finish-clause-stays : goal.returns-in_err-finish-clause-stays
+returns-in_err-finish-clause-stays g c = λ ended. c.next_line.ensures.stays (c.lines.invariant.stays ended)
+
+pub returns-in_err-finish-clause-few : goal.returns-in_err-finish-clause-few
+returns-in_err-finish-clause-few g c = rw (err_from_is_err_and c.from_residual-in_err-finish.result c.from_residual-in_err-finish.ensures.1).1 tt
+
+pub returns-in_err-finish-clause-lists : goal.returns-in_err-finish-clause-lists
+returns-in_err-finish-clause-lists g c = rw (err_from_is_err_and c.from_residual-in_err-finish.result c.from_residual-in_err-finish.ensures.1).1 tt
+
+pub returns-in_err-finish-clause-lines : goal.returns-in_err-finish-clause-lines
+returns-in_err-finish-clause-lines g c = rw (err_from_is_err_and c.from_residual-in_err-finish.result c.from_residual-in_err-finish.ensures.1).1 tt
+
+pub returns-in_err-finish-clause-used : goal.returns-in_err-finish-clause-used
+returns-in_err-finish-clause-used g c = rw (err_from_is_err_and c.from_residual-in_err-finish.result c.from_residual-in_err-finish.ensures.1).1 tt
+
+pub returns-in_err-finish-clause-ready : goal.returns-in_err-finish-clause-ready
+returns-in_err-finish-clause-ready g c = rw (err_from_is_err_and c.from_residual-in_err-finish.result c.from_residual-in_err-finish.ensures.1).1 tt
+
+pub returns-in_default-clause-later : goal.returns-in_default-clause-later
+returns-in_default-clause-later g c = omega (arith, c.lines.invariant.later, c.next_line.ensures.later)
+
+pub returns-in_default-clause-rules : goal.returns-in_default-clause-rules
+returns-in_default-clause-rules g c = c.lines.invariant.rules
+
+pub returns-in_default-clause-limit : goal.returns-in_default-clause-limit
+returns-in_default-clause-limit g c = c.room-room.ensures.limit
+
+pub returns-in_default-clause-stays : goal.returns-in_default-clause-stays
+returns-in_default-clause-stays g c = λ ended. c.next_line.ensures.stays (c.lines.invariant.stays ended)
+
+pub returns-in_default-clause-few : goal.returns-in_default-clause-few
+returns-in_default-clause-few g c = tt
+
+pub returns-in_default-clause-lists : goal.returns-in_default-clause-lists
+returns-in_default-clause-lists g c = tt
+
+pub returns-in_default-clause-lines : goal.returns-in_default-clause-lines
+returns-in_default-clause-lines g c = tt
+
+pub returns-in_default-clause-used : goal.returns-in_default-clause-used
+returns-in_default-clause-used g c = tt
+
+pub returns-in_default-clause-ready : goal.returns-in_default-clause-ready
+returns-in_default-clause-ready g c = tt
+
+pub returns-in_default-clause-fault : goal.returns-in_default-clause-fault
+returns-in_default-clause-fault g c = λ is. absurd (cc)
+
+pub returns-in_default-clause-bad : goal.returns-in_default-clause-bad
+returns-in_default-clause-bad g c = tt
+
+pub returns-in_err-turn-clause-later : goal.returns-in_err-turn-clause-later
+returns-in_err-turn-clause-later g c = omega (arith, c.lines.invariant.later, c.next_line.ensures.later)
+
+pub returns-in_err-turn-clause-rules : goal.returns-in_err-turn-clause-rules
+returns-in_err-turn-clause-rules g c = c.take_turn_line.ensures.rules ∙ c.lines.invariant.rules
+
+pub returns-in_err-turn-clause-limit : goal.returns-in_err-turn-clause-limit
+returns-in_err-turn-clause-limit g c = c.take_turn_line.ensures.limit
+
+pub returns-in_err-turn-clause-stays : goal.returns-in_err-turn-clause-stays
+returns-in_err-turn-clause-stays g c =
+    let Ended : Taken → Type 0 = λ rest. IsTrue rest.ended in
+    λ ended. subst Ended (sym c.take_turn_line.ensures.rest) (c.next_line.ensures.stays (c.lines.invariant.stays ended))
+
+pub returns-in_err-turn-clause-few : goal.returns-in_err-turn-clause-few
+returns-in_err-turn-clause-few g c = rw (err_from_is_err_and c.from_residual-in_err-turn.result c.from_residual-in_err-turn.ensures.1).1 tt
+
+pub returns-in_err-turn-clause-lists : goal.returns-in_err-turn-clause-lists
+returns-in_err-turn-clause-lists g c = rw (err_from_is_err_and c.from_residual-in_err-turn.result c.from_residual-in_err-turn.ensures.1).1 tt
+
+pub returns-in_err-turn-clause-lines : goal.returns-in_err-turn-clause-lines
+returns-in_err-turn-clause-lines g c = rw (err_from_is_err_and c.from_residual-in_err-turn.result c.from_residual-in_err-turn.ensures.1).1 tt
+
+pub returns-in_err-turn-clause-used : goal.returns-in_err-turn-clause-used
+returns-in_err-turn-clause-used g c = rw (err_from_is_err_and c.from_residual-in_err-turn.result c.from_residual-in_err-turn.ensures.1).1 tt
+
+pub returns-in_err-turn-clause-ready : goal.returns-in_err-turn-clause-ready
+returns-in_err-turn-clause-ready g c = rw (err_from_is_err_and c.from_residual-in_err-turn.result c.from_residual-in_err-turn.ensures.1).1 tt
+
+pub returns-in-Some-2-clause-later : goal.returns-in-Some-2-clause-later
+returns-in-Some-2-clause-later g c = omega (arith, c.lines.invariant.later, c.next_line.ensures.later)
+
+pub returns-in-Some-2-clause-rules : goal.returns-in-Some-2-clause-rules
+returns-in-Some-2-clause-rules g c = c.take_turn_line.ensures.rules ∙ c.lines.invariant.rules
+
+pub returns-in-Some-2-clause-limit : goal.returns-in-Some-2-clause-limit
+returns-in-Some-2-clause-limit g c = c.take_turn_line.ensures.limit
+
+pub returns-in-Some-2-clause-stays : goal.returns-in-Some-2-clause-stays
+returns-in-Some-2-clause-stays g c =
+    let Ended : Taken → Type 0 = λ rest. IsTrue rest.ended in
+    λ ended. subst Ended (sym c.take_turn_line.ensures.rest) (c.next_line.ensures.stays (c.lines.invariant.stays ended))
+
+pub returns-in-Some-2-clause-fault : goal.returns-in-Some-2-clause-fault
+returns-in-Some-2-clause-fault g c = λ is. absurd (cc)
+
+pub returns-in-Some-2-clause-bad : goal.returns-in-Some-2-clause-bad
+returns-in-Some-2-clause-bad g c = tt
+
+pub returns-in_err-size-clause-bad : goal.returns-in_err-size-clause-bad
+returns-in_err-size-clause-bad g c =
+    let p = err_from_is_err_and c.from_residual.result c.from_residual.ensures.1 in
+    rw (p.1, p.2) (refused_good (held_at c.lines.progress c.next_line.new.self) c.in_err-size.field-0.0 c.in_err-size.ensures.good)
+
+pub returns-in_err-turn-clause-bad : goal.returns-in_err-turn-clause-bad
+returns-in_err-turn-clause-bad g c = let p = err_from_is_err_and c.from_residual-in_err-turn.result c.from_residual-in_err-turn.ensures.1 in rw (p.1, p.2) c.in_err-turn.ensures.bad
+
+pub returns-in_err-turn-clause-fault : goal.returns-in_err-turn-clause-fault
+returns-in_err-turn-clause-fault g c =
+    let p = err_from_is_err_and c.from_residual-in_err-turn.result c.from_residual-in_err-turn.ensures.1 in
+    rw (p.1, p.2) (λ is. stuck_unread _ c.in_err-turn.field-0.0 c.in_err-turn.ensures.gives is)
+
+pub returns-in_err-finish-clause-fault : goal.returns-in_err-finish-clause-fault
+returns-in_err-finish-clause-fault g c =
+    let p = err_from_is_err_and c.from_residual-in_err-finish.result c.from_residual-in_err-finish.ensures.1 in
+    rw (p.1, p.2) (λ is. stuck_unread _ c.in_err-finish.field-0.0 c.in_err-finish.ensures.stops is)
+
+-- ---- the turn
+
+pub returns-in-Some-2-clause-few : goal.returns-in-Some-2-clause-few
+returns-in-Some-2-clause-few g c = c.in_ok-turn.ensures.few
+
+pub returns-in-Some-2-clause-lists : goal.returns-in-Some-2-clause-lists
+returns-in-Some-2-clause-lists g c =
+    let Lists : Option (List (List Post)) → Type 0 = λ next. IfSome next (λ turn. length turn ≡ callers_of c.lines.progress.part) in
+    subst Lists c.in-Some-2.is c.in_ok-turn.ensures.lists ∙ same_callers c.lines.progress.part c.args.progress.now.part c.lines.invariant.rules
+
+pub returns-in-Some-2-clause-used : goal.returns-in-Some-2-clause-used
+returns-in-Some-2-clause-used g c =
+    let Counts : Option (List (List Post)) → Type 0 = λ next. CountsPosts c.lines.progress.posts c.take_turn_line.new.progress.posts next in
+    let counts = subst Counts c.in-Some-2.is c.in_ok-turn.ensures.counts in
+    omega (arith, c.lines.invariant.counted, ap post_count counts.0, c.in_ok-turn.ensures.used, c.in_ok-turn.ensures.two_bytes)
+
+pub returns-in-Some-2-clause-ready : goal.returns-in-Some-2-clause-ready
+returns-in-Some-2-clause-ready g c =
+    let Counts : Option (List (List Post)) → Type 0 = λ next. CountsPosts c.lines.progress.posts c.take_turn_line.new.progress.posts next in
+    let counts = subst Counts c.in-Some-2.is c.in_ok-turn.ensures.counts in
+    record {
+      no_post = counts.1;
+      between = λ none. ap (λ h. h.line) c.in_ok-turn.ensures.line;
+      no_base = in_turns_next c.take_turn_line.new.progress.part c.take_turn_line.new.lines c.in_ok-turn.ensures.part;
+    }
+
+-- ---- the calls
+
+pub next_line-requires : goal.next_line-requires
+next_line-requires g c = record { between = c.lines.invariant.between }
+
+pub finish-requires : goal.finish-requires
+finish-requires g c = let Begun : Option Rules → Type 0 = IsSome in record { begun = subst Begun (sym c.lines.invariant.rules) c.requires.map }
+
+pub take_turn_line-requires-clause-map : goal.take_turn_line-requires-clause-map
+take_turn_line-requires-clause-map g c = let Begun : Option Rules → Type 0 = IsSome in subst Begun (sym c.lines.invariant.rules) c.requires.map
+
+pub take_turn_line-requires-clause-no_base : goal.take_turn_line-requires-clause-no_base
+take_turn_line-requires-clause-no_base g c = no_base_found c.lines.progress.part c.lines.lines c.next_line.new.self c.lines.invariant.no_base c.next_line.ensures.kept
+
+pub take_turn_line-requires-clause-whole : goal.take_turn_line-requires-clause-whole
+take_turn_line-requires-clause-whole g c = let Found : Option ℕ → Type 0 = FindsLine c.next_line.new.self in subst Found c.in-Some.is c.in_ok-size.ensures.finds
+
+pub lines-smaller : goal.lines-smaller
+lines-smaller g c = omega (arith, c.in_ok-turn.ensures.used, c.in_ok-turn.ensures.two_bytes, c.take_turn_line.ensures.limit)

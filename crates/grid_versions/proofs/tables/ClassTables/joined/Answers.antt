@@ -1,101 +1,24 @@
-use Rattle.std.proofs.Common.{ℕ, ◌≡◌, ◌≤◌, List, sum, sym, subst, ap, ◌∙◌, arith}
-use Rattle.std.specs.Prelude.{All}
-use Rattle.std.specs.Arc.{arc_value}
-use Rattle.chunk_regions.specs.Labelling.{Labelling}
-use Rattle.reach_sets.specs.declared.regions.RegionId.{RegionId}
-use Rattle.reach_sets.specs.RegionOrder.{IsRegion}
-use Rattle.reach_sets.specs.AreaNumbers.{AreaNumbers, AreAreas}
-use Rattle.grid_versions.specs.inner.Tables.{counts_of}
-use Rattle.grid_versions.proofs.BuildLemmas.{links_are, links_exist, regions_few, tables_few}
+use Rattle.std.proofs.Common.{arith}
 use Rattle.grid_versions.proofs.tables.ClassTables.joined.Goals as goal
 
-exist_here : (counts : List ℕ) (labels : List Labelling) (links : List (RegionId × RegionId)) → counts ≡ counts_of labels
-    → All (λ link. IsRegion (counts_of labels) link.0 × IsRegion (counts_of labels) link.1) links → All (λ link. IsRegion counts link.0 × IsRegion counts link.1) links
-exist_here counts labels links same exist =
-    subst (λ (xs : List ℕ). All (λ (link : RegionId × RegionId). IsRegion xs link.0 × IsRegion xs link.1) links) (sym same) exist
-
--- no chunk has more regions than cells
-most_here : (counts : List ℕ) (labels : List Labelling) → counts ≡ counts_of labels → All (λ count. count ≤ 9216) counts → All (λ count. count ≤ 9216) (counts_of labels)
-most_here counts labels same most = subst (λ (xs : List ℕ). All (λ count. count ≤ 9216) xs) same most
-
-pub all_links-requires-clause-east : goal.all_links-requires-clause-east
-all_links-requires-clause-east c = omega (arith, c.requires.1.east_are.each)
-
-pub all_links-requires-clause-north : goal.all_links-requires-clause-north
-all_links-requires-clause-north c = omega (arith, c.requires.1.north_are.each)
-
-pub build-requires-clause-exist : goal.build-requires-clause-exist
-build-requires-clause-exist c =
-    let sides = c.requires.1 in
-    let links = c.in_ok-links.links in
-    exist_here c.as_slice.result.now c.args.labels links (c.as_slice.ensures.value ∙ c.in_ok-counts.ensures.value)
-    (links_exist c.requires.0 c.args.size c.args.labels links sides.inside sides.labels_are
-    (links_are c.requires.0 c.args.size c.args.east c.args.north links sides.inside sides.east_are sides.north_are c.in_ok-links.ensures))
-
-pub build-requires-clause-few : goal.build-requires-clause-few
-build-requires-clause-few c =
-    let sides = c.requires.1 in
-    let labels = c.args.labels in
-    let most = most_here c.in_ok-counts.counts.items labels c.in_ok-counts.ensures.value c.in_ok-counts.ensures.most in
-    omega (arith, regions_few c.requires.0 c.args.size labels sides.inside sides.labels_are most, ap (λ (xs : List ℕ). sum xs) (c.as_slice.ensures.value ∙ c.in_ok-counts.ensures.value))
-
 pub region_sum-regions-requires : goal.region_sum-regions-requires
-region_sum-regions-requires c =
-    let sides = c.requires.1 in
-    let labels = c.args.labels in
-    let most = most_here c.in_ok-counts.counts.items labels c.in_ok-counts.ensures.value c.in_ok-counts.ensures.most in
-    let few = tables_few c.requires.0 c.args.size labels sides.inside sides.labels_are most c.args.east c.args.north (arc_value c.in_ok-areas.areas) sides.east_are sides.north_are in
-    let regions = few.regions in
-    omega arith
+region_sum-regions-requires c = omega (arith, c.in_ok-areas.ensures.few.regions)
 
 pub edge_sum-requires : goal.edge_sum-requires
-edge_sum-requires c =
-    let sides = c.requires.1 in
-    let labels = c.args.labels in
-    let most = most_here c.in_ok-counts.counts.items labels c.in_ok-counts.ensures.value c.in_ok-counts.ensures.most in
-    let few = tables_few c.requires.0 c.args.size labels sides.inside sides.labels_are most c.args.east c.args.north (arc_value c.in_ok-areas.areas) sides.east_are sides.north_are in
-    let edges = few.edges in
-    omega arith
+edge_sum-requires c = omega (arith, c.in_ok-areas.ensures.few.edges)
 
 pub edge_sum-requires-2 : goal.edge_sum-requires-2
-edge_sum-requires-2 c =
-    let sides = c.requires.1 in
-    let labels = c.args.labels in
-    let most = most_here c.in_ok-counts.counts.items labels c.in_ok-counts.ensures.value c.in_ok-counts.ensures.most in
-    let few = tables_few c.requires.0 c.args.size labels sides.inside sides.labels_are most c.args.east c.args.north (arc_value c.in_ok-areas.areas) sides.east_are sides.north_are in
-    let edges = few.edges in
-    omega arith
+edge_sum-requires-2 c = omega (arith, c.in_ok-areas.ensures.few.edges)
 
 pub overflow_add-edges : goal.overflow_add-edges
-overflow_add-edges c =
-    let sides = c.requires.1 in
-    let labels = c.args.labels in
-    let most = most_here c.in_ok-counts.counts.items labels c.in_ok-counts.ensures.value c.in_ok-counts.ensures.most in
-    let few = tables_few c.requires.0 c.args.size labels sides.inside sides.labels_are most c.args.east c.args.north (arc_value c.in_ok-areas.areas) sides.east_are sides.north_are in
-    let edges = few.edges in
-    omega (arith, c.edge_sum.ensures, c.edge_sum-2.ensures)
+overflow_add-edges c = omega (arith, c.in_ok-areas.ensures.few.edges, c.edge_sum.ensures, c.edge_sum-2.ensures)
 
 pub invariant_of-result : goal.invariant_of-result
-invariant_of-result c =
-    let sides = c.requires.1 in
-    let labels = c.args.labels in
-    let most = most_here c.in_ok-counts.counts.items labels c.in_ok-counts.ensures.value c.in_ok-counts.ensures.most in
-    let few = tables_few c.requires.0 c.args.size labels sides.inside sides.labels_are most c.args.east c.args.north (arc_value c.in_ok-areas.areas) sides.east_are sides.north_are in
-    record {
-      few = few;
-      regions_are = c.region_sum-regions.ensures;
-      edges_are = omega (arith, c.edge_sum.ensures, c.edge_sum-2.ensures);
-    }
+invariant_of-result c = record {
+  few = c.in_ok-areas.ensures.few;
+  regions_are = c.region_sum-regions.ensures;
+  edges_are = omega (arith, c.edge_sum.ensures, c.edge_sum-2.ensures);
+}
 
 pub returns : goal.returns
-returns c = λ passes sides.
-    let links = c.in_ok-links.links in
-    record {
-      labels_are = sides.labels_are;
-      east_are = sides.east_are;
-      north_are = sides.north_are;
-      links = links;
-      links_are = links_are passes c.args.size c.args.east c.args.north links sides.inside sides.east_are sides.north_are c.in_ok-links.ensures;
-      areas_are = subst (λ (table : AreaNumbers). AreAreas (counts_of c.args.labels) links table) (sym c.in_ok-areas.ensures.ok)
-          (subst (λ (counts : List ℕ). AreAreas counts links c.in_ok-table.table) (c.as_slice.ensures.value ∙ c.in_ok-counts.ensures.value) c.in_ok-table.ensures.areas);
-    }
+returns c = λ passes sides. c.in_ok-areas.ensures.areas passes sides

@@ -1,6 +1,4 @@
-use Rattle.std.proofs.Common.{◌∙◌, ap, sym, subst}
-use Rattle.std.specs.Arc.{arc_value}
-use Rattle.reach_sets.specs.AreaNumbers.{AreaNumbers}
+use Rattle.std.proofs.Common.{subst}
 use Rattle.grid_versions.specs.inner.Tables.{Tables, HasTotals}
 use Rattle.grid_versions.proofs.ChangeLemmas.{totals_stay}
 use Rattle.grid_versions.proofs.tables.ClassTables.relabelled.Goals as goal

@@ -1,4 +1,4 @@
-use Rattle.std.proofs.Common.{ℕ, List, ◌≡◌, ◌∙◌, Bool, refl, ap, sym, subst}
+use Rattle.std.proofs.Common.{ℕ, List, ◌≡◌, Bool, refl, sym, subst}
 use Rattle.std.specs.Arc.{arc_value}
 use Rattle.std.proofs.lemmas.Result.{IfOk-weaker}
 use Rattle.nav_types.specs.declared.cells.Cell.{Cell}
@@ -19,36 +19,35 @@ module _ (old now : Cell → Bool) (size extent : Size) (class : ℕ) (bits : Li
   laid_here labels are = laid_out now size labels (subst (λ (s : Size). AreAllLabels now s labels) (sym same) are)
 
   -- the labels and edges after the change
-  module _ (labels : List Labelling) (east north new_east new_north : List (List (ℕ × ℕ))) (east_is : east ≡ before.east) (north_is : north ≡ before.north)
-      (labelled : AreAllLabels now extent labels)
-      (to_east : (old now : Cell → Bool) → AreChanges old now size class bits → AreAllLabels now size labels → AreAllEdges East old size east → AreAllEdges East now size new_east)
-      (to_north : (old now : Cell → Bool) → AreChanges old now size class bits → AreAllLabels now size labels → AreAllEdges North old size north → AreAllEdges North now size new_north) where
+  module _ (labels : List Labelling) (east north : List (List (ℕ × ℕ))) (labelled : AreAllLabels now extent labels)
+      (to_east : (old now : Cell → Bool) → AreChanges old now size class bits → AreAllLabels now size labels → AreAllEdges East old size before.east → AreAllEdges East now size east)
+      (to_north : (old now : Cell → Bool) → AreChanges old now size class bits → AreAllLabels now size labels → AreAllEdges North old size before.north → AreAllEdges North now size north) where
     changes_here : AreChanges old now size class bits
     changes_here = subst (λ (s : Size). AreChanges old now s class bits) (sym same) changed
 
     tables_here : AreTables old size before
     tables_here = subst (λ (s : Size). AreTables old s before) (sym same) were
 
-    sides_here : AreSides now size labels new_east new_north
+    sides_here : AreSides now size labels east north
     sides_here =
         let here = subst (λ (s : Size). AreAllLabels now s labels) (sym same) labelled in
         record {
           inside = changes_here.now_inside;
           labels_are = here;
-          east_are = to_east old now changes_here here (subst (λ (all : List (List (ℕ × ℕ))). AreAllEdges East old size all) (sym east_is) tables_here.east_are);
-          north_are = to_north old now changes_here here (subst (λ (all : List (List (ℕ × ℕ))). AreAllEdges North old size all) (sym north_is) tables_here.north_are);
+          east_are = to_east old now changes_here here tables_here.east_are;
+          north_are = to_north old now changes_here here tables_here.north_are;
         }
 
     -- where nothing joins otherwise, the areas are those of before
-    kept_here : counts_of labels ≡ region_counts before → new_east ≡ east → new_north ≡ north
-        → AreTables now extent (record { labels = labels; east = new_east; north = new_north; areas = before.areas })
+    kept_here : counts_of labels ≡ region_counts before → east ≡ before.east → north ≡ before.north
+        → AreTables now extent (record { labels = labels; east = east; north = north; areas = before.areas })
     kept_here counts east_stays north_stays =
-        let after : Tables = record { labels = labels; east = new_east; north = new_north; areas = before.areas } in
+        let after : Tables = record { labels = labels; east = east; north = north; areas = before.areas } in
         subst (λ (s : Size). AreTables now s after) same
-        (areas_stay old now size before after changes_here.before_inside tables_here sides_here counts (east_stays ∙ east_is) (north_stays ∙ north_is) refl)
+        (areas_stay old now size before after changes_here.before_inside tables_here sides_here counts east_stays north_stays refl)
 
-pub reconnect-requires-clause-labels : goal.reconnect-requires-clause-labels
-reconnect-requires-clause-labels g c =
+pub next_edges-requires-clause-labels : goal.next_edges-requires-clause-labels
+next_edges-requires-clause-labels g c =
     let passes = g.V.View.passes c.args.view.now c.args.class in
     let extent = g.V.View.extent c.args.view.now in
     let own = c.self.inside in
@@ -56,10 +55,10 @@ reconnect-requires-clause-labels g c =
     let old = c.requires.before.0 in
     let changed = c.requires.before.1.1 in
     let were = subst (λ (t : Tables). AreTables old extent t) (sym c.self.view_is) c.requires.before.1.0 in
-    laid_here old passes c.size-size.result extent c.args.class c.args.changed.now before c.size-size.ensures were changed c.relabel.new.labels c.in_ok-counts.ensures.labels
+    laid_here old passes c.size-size.result extent c.args.class c.args.changed.now before c.size-size.ensures were changed c.in_ok-labels.labels c.in_ok-labels.ensures.labels
 
-pub reconnect-requires-2-clause-labels : goal.reconnect-requires-2-clause-labels
-reconnect-requires-2-clause-labels g c =
+pub next_edges-requires-2-clause-labels : goal.next_edges-requires-2-clause-labels
+next_edges-requires-2-clause-labels g c =
     let passes = g.V.View.passes c.args.view.now c.args.class in
     let extent = g.V.View.extent c.args.view.now in
     let own = c.self.inside in
@@ -67,7 +66,7 @@ reconnect-requires-2-clause-labels g c =
     let old = c.requires.before.0 in
     let changed = c.requires.before.1.1 in
     let were = subst (λ (t : Tables). AreTables old extent t) (sym c.self.view_is) c.requires.before.1.0 in
-    laid_here old passes c.size-size.result extent c.args.class c.args.changed.now before c.size-size.ensures were changed c.relabel.new.labels c.in_ok-counts.ensures.labels
+    laid_here old passes c.size-size.result extent c.args.class c.args.changed.now before c.size-size.ensures were changed c.in_ok-labels.labels c.in_ok-labels.ensures.labels
 
 pub returns-then-to_north-clause-tables : goal.returns-then-to_north-clause-tables
 returns-then-to_north-clause-tables g c =
@@ -78,13 +77,10 @@ returns-then-to_north-clause-tables g c =
     let old = c.requires.before.0 in
     let changed = c.requires.before.1.1 in
     let were = subst (λ (t : Tables). AreTables old extent t) (sym c.self.view_is) c.requires.before.1.0 in
-    let after : Tables = record { labels = c.relabel.new.labels; east = c.reconnect.new.all; north = c.reconnect-2.new.all; areas = c.args.self.now.areas } in
-    let kept = kept_here old passes c.size-size.result extent c.args.class c.args.changed.now before c.size-size.ensures were changed c.relabel.new.labels c.in_ok-east.east c.in_ok-north.north c.reconnect.new.all c.reconnect-2.new.all c.in_ok-east.ensures c.in_ok-north.ensures
-    c.in_ok-counts.ensures.labels c.in_ok-to_east.ensures.edges c.in_ok-to_north.ensures.edges
-    (c.in_ok-counts.ensures.counts c.if-counts.true ∙ ap (λ (all : List Labelling). counts_of all) c.in_ok-labels.ensures)
-    (c.in_ok-to_east.ensures.stay c.if-to_east.true) (c.in_ok-to_north.ensures.stay c.if-to_north.true) in
-    let here : AreTables passes extent after =
-    subst (λ (t : Tables). AreTables passes extent (record { labels = c.relabel.new.labels; east = c.reconnect.new.all; north = c.reconnect-2.new.all; areas = t.areas }))
+    let kept = kept_here old passes c.size-size.result extent c.args.class c.args.changed.now before c.size-size.ensures were changed c.in_ok-labels.labels c.in_ok-east.east c.in_ok-north.north c.in_ok-labels.ensures.labels c.in_ok-east.ensures.edges c.in_ok-north.ensures.edges
+    (c.in_ok-labels.ensures.counts c.if-counts.true) (c.in_ok-east.ensures.stay c.if-to_east.true) (c.in_ok-north.ensures.stay c.if-to_north.true) in
+    let here : AreTables passes extent (record { labels = c.in_ok-labels.labels; east = c.in_ok-east.east; north = c.in_ok-north.north; areas = c.args.self.now.areas }) =
+    subst (λ (t : Tables). AreTables passes extent (record { labels = c.in_ok-labels.labels; east = c.in_ok-east.east; north = c.in_ok-north.north; areas = t.areas }))
     c.self.view_is kept in
     IfOk-weaker c.relabelled.result _ _ (λ tables is. subst (λ (t : Tables). AreTables passes extent t) (sym is) here) c.relabelled.ensures
 
@@ -98,8 +94,7 @@ joined-requires g c =
     let changed = c.requires.before.1.1 in
     let were = subst (λ (t : Tables). AreTables old extent t) (sym c.self.view_is) c.requires.before.1.0 in (
       passes,
-      sides_here old passes c.size-size.result extent c.args.class c.args.changed.now before c.size-size.ensures were changed c.relabel.new.labels c.in_ok-east.east c.in_ok-north.north c.reconnect.new.all c.reconnect-2.new.all c.in_ok-east.ensures c.in_ok-north.ensures
-          c.in_ok-counts.ensures.labels c.in_ok-to_east.ensures.edges c.in_ok-to_north.ensures.edges,
+      sides_here old passes c.size-size.result extent c.args.class c.args.changed.now before c.size-size.ensures were changed c.in_ok-labels.labels c.in_ok-east.east c.in_ok-north.north c.in_ok-labels.ensures.labels c.in_ok-east.ensures.edges c.in_ok-north.ensures.edges,
     )
 
 pub returns-clause-tables : goal.returns-clause-tables
@@ -114,6 +109,5 @@ returns-clause-tables g c =
     IfOk-weaker c.joined.result _ _
     (λ tables made.
     subst (λ (s : Size). AreTables passes s tables) c.size-size.ensures
-    (made passes (sides_here old passes c.size-size.result extent c.args.class c.args.changed.now before c.size-size.ensures were changed c.relabel.new.labels c.in_ok-east.east c.in_ok-north.north c.reconnect.new.all c.reconnect-2.new.all c.in_ok-east.ensures c.in_ok-north.ensures
-    c.in_ok-counts.ensures.labels c.in_ok-to_east.ensures.edges c.in_ok-to_north.ensures.edges)))
+    (made passes (sides_here old passes c.size-size.result extent c.args.class c.args.changed.now before c.size-size.ensures were changed c.in_ok-labels.labels c.in_ok-east.east c.in_ok-north.north c.in_ok-labels.ensures.labels c.in_ok-east.ensures.edges c.in_ok-north.ensures.edges)))
     c.joined.ensures

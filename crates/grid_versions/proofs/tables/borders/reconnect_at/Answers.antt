@@ -1,4 +1,4 @@
-use Rattle.std.proofs.Common.{ℕ, Bool, List, ◌≡◌, ◌∙◌, Some, sym, subst, ap, arith}
+use Rattle.std.proofs.Common.{ℕ, Bool, List, ◌≡◌, ◌∙◌, Some, sym, subst, arith}
 use Rattle.std.specs.Prelude.{slice_get}
 use Rattle.std.proofs.lemmas.Slice.Eq.{slice_eq-Decides}
 use Rattle.nav_types.specs.declared.cells.Cell.{Cell}

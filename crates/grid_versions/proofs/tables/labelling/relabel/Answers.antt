@@ -1,7 +1,6 @@
-use Rattle.std.proofs.Common.{ℕ, Bool, List, ◌+◌, ◌≡◌, ◌<◌, ◌≤◌, ◌∙◌, length, map, refl, ap, subst, arith}
+use Rattle.std.proofs.Common.{ℕ, List, ◌+◌, ◌≡◌, ◌<◌, ◌∙◌, length, map, refl, ap, arith}
 use Rattle.std.proofs.lemmas.Bool.{and_parts}
 use Rattle.std.proofs.lemmas.List.{length-map, length-set}
-use Rattle.nav_types.specs.declared.cells.Cell.{Cell}
 use Rattle.nav_types.specs.declared.cells.Chunk.{Chunk}
 use Rattle.nav_types.specs.declared.cells.Size.{Size}
 use Rattle.lane_rows.specs.Rows.{has_class}

@@ -1,4 +1,4 @@
-use Rattle.std.proofs.Common.{ℕ, length, sym, ◌∙◌, arith}
+use Rattle.std.proofs.Common.{length, sym, ◌∙◌, arith}
 use Rattle.std.proofs.lemmas.Bool.{eqb-true}
 use Rattle.chunk_regions.specs.Labelling.{Labelling, AreLabels}
 use Rattle.grid_versions.specs.inner.ChunkLists.{chunk_numbered}

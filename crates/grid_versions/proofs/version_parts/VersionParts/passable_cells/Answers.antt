@@ -15,7 +15,7 @@ use Rattle.grid_versions.proofs.version_parts.VersionParts.passable_cells.Goals 
 
 pub loop-place-preserved : goal.loop-place-preserved
 loop-place-preserved c =
-    let cells = c.self.inside.cells in
+    let cells = c.self.inside.layers.ground.cells in
     let place = c.loop-place.place in
     let found = c.at.result.now in
     let f : Numbering → ℕ = λ one. free_count c.args.class one.numbers in
@@ -32,7 +32,7 @@ pub returns : goal.returns
 returns c =
     let map = arc_value c.self.inside.map in
     let standing = (arc_value c.self.inside.shapes) in
-    let cells = c.self.inside.cells in
+    let cells = c.self.inside.layers.ground.cells in
     let f : Numbering → ℕ = λ one. free_count c.args.class one.numbers in
     let low = subst (λ (s : MapState). c.args.class < length s.map.classes) (sym c.self.view_is) c.requires in
     let all : c.loop-place.count ≡ sum_by f cells = c.loop-place.invariant.sum ∙ ap (λ xs. sum_by f xs) (take_all c.loop-place.place cells (omega arith)) in

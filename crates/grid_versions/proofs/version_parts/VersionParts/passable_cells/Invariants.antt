@@ -5,6 +5,6 @@ use Rattle.grid_versions.proofs.version_parts.VersionParts.passable_cells.Given 
 
 abbrev pub invariant-loop-place : goal.invariant-loop-place
 invariant-loop-place l = record {
-  sum : l.count ≡ sum_by (λ cells. free_count l.class cells.numbers) (take l.place l.self-inside.cells);
+  sum : l.count ≡ sum_by (λ cells. free_count l.class cells.numbers) (take l.place l.self-inside.layers.ground.cells);
   few : l.count ≤ 65535 * l.place;
 }

@@ -1,4 +1,4 @@
-use Rattle.std.proofs.Common.{ℕ, ◌≤◌, ◌<◌, length, ap, sym, subst, arith}
+use Rattle.std.proofs.Common.{◌<◌, length, sym, subst, arith}
 use Rattle.std.specs.Arc.{arc_value}
 use Rattle.class_planes.specs.Planes.{AreOf}
 use Rattle.class_planes.proofs.PlaneLemmas.{are_of, each_there}
@@ -9,7 +9,7 @@ use Rattle.grid_versions.proofs.version_parts.VersionParts.planes.Goals as goal
 pub returns-clause-of_version : goal.returns-clause-of_version
 returns-clause-of_version c =
     let map = arc_value c.self.inside.map in
-    let planes = c.self.inside.planes in
+    let planes = c.self.inside.layers.planes in
     subst (λ (s : MapState). AreOf s.map.size (passes_of s) planes) c.self.view_is
     (are_of map.size (passable_at map (arc_value c.self.inside.shapes)) 65535 (length map.classes) planes c.self.invariant.planes_are)
 
@@ -18,6 +18,6 @@ returns-clause-each c class below =
     let map = arc_value c.self.inside.map in
     let few = c.self.invariant.few in
     let each = c.self.invariant.tables_are.each in
-    each_there map.size (passable_at map (arc_value c.self.inside.shapes)) (length map.classes) c.self.inside.planes
+    each_there map.size (passable_at map (arc_value c.self.inside.shapes)) (length map.classes) c.self.inside.layers.planes
     c.self.invariant.planes_are (omega arith) class
     (subst (λ (s : MapState). class < length s.map.classes) (sym c.self.view_is) below)

@@ -5,9 +5,9 @@ use Rattle.grid_versions.proofs.version_parts.VersionParts.tallies.Given as goal
 
 abbrev pub invariant-loop-class : goal.invariant-loop-class
 invariant-loop-class l = record {
-  regions : l.tallies.regions ≡ sum_by region_total (take l.class l.self-inside.tables);
-  edges : l.tallies.edges ≡ sum_by edge_total (take l.class l.self-inside.tables);
-  areas : l.tallies.areas ≡ sum_by (λ t. t.areas.count) (take l.class l.self-inside.tables);
+  regions : l.tallies.regions ≡ sum_by region_total (take l.class l.self-inside.layers.tables);
+  edges : l.tallies.edges ≡ sum_by edge_total (take l.class l.self-inside.layers.tables);
+  areas : l.tallies.areas ≡ sum_by (λ t. t.areas.count) (take l.class l.self-inside.layers.tables);
   few_regions : l.tallies.regions ≤ 4460544 * l.class;
   few_edges : l.tallies.edges ≤ 2 ^ 37 * l.class;
   few_areas : l.tallies.areas ≤ 2 ^ 32 * l.class;

@@ -16,7 +16,7 @@ pub area-requires-clause-tables : goal.area-requires-clause-tables
 area-requires-clause-tables c =
     let map = arc_value c.self.inside.map in
     let low = subst (λ (s : MapState). c.args.class < length s.map.classes) (sym c.self.view_is) c.requires.class in
-    let table = class_table map (arc_value c.self.inside.shapes) c.self.inside.base c.self.inside.reachers c.self.inside.cells c.self.inside.planes c.self.inside.tables c.self.invariant c.args.class c.from.result c.at-tables.result.now
+    let table = class_table map (arc_value c.self.inside.shapes) c.self.inside.layers.ground.base c.self.inside.layers.ground.reachers c.self.inside.layers.ground.cells c.self.inside.layers.planes c.self.inside.layers.tables c.self.invariant c.args.class c.from.result c.at-tables.result.now
     (c.from.ensures ∙ c.number.ensures.value) c.at-tables.ensures in (
       passable_at map (arc_value c.self.inside.shapes) c.args.class,
       subst (λ (s : Size). AreTables (passable_at map (arc_value c.self.inside.shapes) c.args.class) s c.at-tables.result.now) (sym (c.size.ensures ∙ ap (λ (m : Map). m.size) c.deref.ensures)) table,
@@ -31,7 +31,7 @@ returns c =
     let found = c.at-tables.result.now in
     let low = subst (λ (s : MapState). c.args.class < length s.map.classes) (sym c.self.view_is) c.requires.class in
     let inside = subst (λ (s : MapState). IsInside s.map.size cell) (sym c.self.view_is) c.requires.inside in
-    let table = class_table map standing c.self.inside.base c.self.inside.reachers c.self.inside.cells c.self.inside.planes c.self.inside.tables c.self.invariant c.args.class c.from.result found
+    let table = class_table map standing c.self.inside.layers.ground.base c.self.inside.layers.ground.reachers c.self.inside.layers.ground.cells c.self.inside.layers.planes c.self.inside.layers.tables c.self.invariant c.args.class c.from.result found
     (c.from.ensures ∙ c.number.ensures.value) c.at-tables.ensures in
     let area_is : c.area.result ≡ area_of found.areas (region_in map.size found cell) =
     c.area.ensures ∙ ap (λ (s : Size). area_of found.areas (region_in s found cell)) (c.size.ensures ∙ ap (λ (m : Map). m.size) c.deref.ensures) in

@@ -1,5 +1,4 @@
 use Rattle.std.proofs.Common.{◌≡◌, ◌∙◌}
-use Rattle.nav_types.specs.declared.cells.Size.{Size}
 use Rattle.grid_versions.specs.Maps.{map_of}
 use Rattle.script_text.proofs.FormValues.{same_size}
 use Rattle.pathserve.specs.Making.{made_map, map_size}

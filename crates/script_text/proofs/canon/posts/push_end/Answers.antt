@@ -1,8 +1,7 @@
-use Rattle.std.proofs.Common.{append_assoc}
 use Rattle.serde_json.proofs.OnLiterals.{serde_json_on_literals}
 use Rattle.script_text.specs.Canon.{end_json}
 use Rattle.script_text.proofs.canon.posts.push_end.Goals as goal
 
 pub returns : goal.returns
 unfolding serde_json_on_literals end_json
-returns c = rw (c.in_ok-push.ensures.ok, c.in_ok-push_decimal.ensures.ok, c.in_ok-extend.ensures.ok) (simp append_assoc)
+returns c = c.in_ok-push_pieces.ensures.text

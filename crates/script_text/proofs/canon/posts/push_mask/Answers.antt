@@ -1,9 +1,7 @@
-use Rattle.std.proofs.Common.{◌≡◌, true, nat_le, le-leb, append_assoc}
+use Rattle.std.proofs.Common.{◌≡◌, true, nat_le, le-leb, refl}
 use Rattle.serde_json.proofs.OnLiterals.{serde_json_on_literals}
 use Rattle.script_text.proofs.canon.posts.push_mask.Goals as goal
 
 pub returns : goal.returns
 unfolding serde_json_on_literals
-returns c =
-    let masked : nat_le 2 c.args.version ≡ true = le-leb 2 c.args.version c.if-version-lt-FIRST_WITH_MASKS.false in
-    rw (masked, c.in_ok-push-2.ensures.ok, c.in_ok-push_decimal.ensures.ok, c.from.ensures, c.in_ok-extend.ensures.ok) (simp append_assoc)
+returns c = let masked : nat_le 2 c.args.version ≡ true = le-leb 2 c.args.version c.if-version-lt-FIRST_WITH_MASKS.false in rw (masked, c.in_ok-push_pieces.ensures.text, c.from.ensures) refl

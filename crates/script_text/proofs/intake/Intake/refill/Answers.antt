@@ -1,4 +1,5 @@
 use Rattle.std.proofs.Common.{◌≡◌, ◌∙◌, sym, ap, arith}
+use Rattle.std.proofs.lemmas.Bool.{false≢true}
 use Rattle.script_text.proofs.ReadBytes.{held-nil, nil-held}
 use Rattle.script_text.proofs.ReadNeed.{reads-none, reads-kept, reads-piece}
 use Rattle.script_text.proofs.ReadTold.{refills-none}
@@ -43,3 +44,32 @@ returns-in-Ok-clause-reads g c =
 pub returns-in-Err-clause-reads : goal.returns-in-Err-clause-reads
 returns-in-Err-clause-reads g c =
     reads-kept c.args.self.now.bytes c.args.self.now.ended (g.S.Source.left c.args.source.now) (g.S.Source.left c.read_into.new.source) c.in-Err.ensures.bytes
+
+-- what holds only where bytes were held, or the end of the input was met
+
+pub returns-in-Ok-clause-still : goal.returns-in-Ok-clause-still
+returns-in-Ok-clause-still g c =
+    let i = c.self.inside in
+    let none = sym (ap (λ t. t.bytes) c.self.view_is) ∙ held-nil i.buffer.items i.from i.to (omega (arith, i.buffer.ok.0)) (omega arith) in
+    λ some. absurd (some none)
+
+pub returns-in-Ok-clause-kept : goal.returns-in-Ok-clause-kept
+returns-in-Ok-clause-kept g c =
+    let i = c.self.inside in
+    let none = sym (ap (λ t. t.bytes) c.self.view_is) ∙ held-nil i.buffer.items i.from i.to (omega (arith, i.buffer.ok.0)) (omega arith) in
+    λ some. absurd (some none)
+
+pub returns-in-Err-clause-still : goal.returns-in-Err-clause-still
+returns-in-Err-clause-still g c =
+    let i = c.self.inside in
+    let none = sym (ap (λ t. t.bytes) c.self.view_is) ∙ held-nil i.buffer.items i.from i.to (omega (arith, i.buffer.ok.0)) (omega arith) in
+    λ some. absurd (some none)
+
+pub returns-in-Err-clause-kept : goal.returns-in-Err-clause-kept
+returns-in-Err-clause-kept g c =
+    let i = c.self.inside in
+    let none = sym (ap (λ t. t.bytes) c.self.view_is) ∙ held-nil i.buffer.items i.from i.to (omega (arith, i.buffer.ok.0)) (omega arith) in
+    λ some. absurd (some none)
+
+pub returns-in-Ok-clause-stays : goal.returns-in-Ok-clause-stays
+returns-in-Ok-clause-stays g c = λ ended. absurd (false≢true (sym c.if-self.false ∙ ap (λ t. t.ended) c.self.view_is ∙ ended))

@@ -1,9 +1,16 @@
-use Rattle.std.proofs.Common.{◌≡◌, subst}
-use Rattle.script_text.specs.Reader.{Held, HoldsTurn, TakesNoneAhead, TurnTold}
+use Rattle.std.proofs.Common.{◌≡◌, ◌∙◌, ◌+◌, ◌*◌, ◌≤◌, length, IfOk, IfSome, IsSome, ap, sym, subst}
+use Rattle.script_text.specs.Reader.{HaveLinesAt, Held, HoldsTurn, TakesNoneAhead, TurnTold, callers_of, post_count, rules_at}
 use Rattle.script_text.specs.inner.Judging.{held_at}
 use Rattle.script_text.proofs.ReadNeed.{given_ahead}
+use Rattle.script_text.proofs.ReadAnswers.{refused_flags, where_going}
 use Rattle.script_text.proofs.ReadStill.{turn_flags, ahead_flags, with_flags}
 use Rattle.script_text.proofs.reader.ScriptReader.next_turn.Goals as goal
+
+pub read_turn-answer-requires-clause-map : goal.read_turn-answer-requires-clause-map
+read_turn-answer-requires-clause-map g c = let Begun : Held → Type 0 = λ h. IsSome (rules_at h.place.part) in subst Begun (sym c.self.view_is) c.requires.map
+
+pub read_turn-answer-requires-clause-ready : goal.read_turn-answer-requires-clause-ready
+read_turn-answer-requires-clause-ready g c = c.self.invariant (ap (λ h. h.over) c.self.view_is ∙ c.requires.going)
 
 pub returns-clause-told : goal.returns-clause-told
 returns-clause-told g c =
@@ -32,3 +39,52 @@ returns-clause-ahead g c =
 -- what the source gave
 pub returns-clause-given : goal.returns-clause-given
 returns-clause-given g c = given_ahead _ _ _ c.read_turn-answer.ensures.ahead
+
+-- what the turn says
+
+pub returns-clause-later : goal.returns-clause-later
+returns-clause-later g c = c.read_turn-answer.ensures.later
+
+pub returns-clause-rules : goal.returns-clause-rules
+returns-clause-rules g c = c.read_turn-answer.ensures.rules ∙ ap (λ h. rules_at h.place.part) c.self.view_is
+
+pub returns-clause-few : goal.returns-clause-few
+returns-clause-few g c = c.read_turn-answer.ensures.few
+
+pub returns-clause-lists : goal.returns-clause-lists
+returns-clause-lists g c =
+    let turn = c.read_turn-answer in
+    let Lists : Held → Type 0 = λ h. IfOk turn.result (λ next. IfSome next (λ posts. length posts ≡ callers_of h.place.part)) in
+    subst Lists c.self.view_is turn.ensures.lists
+
+pub returns-clause-lines : goal.returns-clause-lines
+returns-clause-lines g c =
+    let turn = c.read_turn-answer in
+    let Have : Held → Type 0 = λ h. IfOk turn.result (λ next. IfSome next (HaveLinesAt h.place.part)) in
+    subst Have c.self.view_is turn.ensures.lines
+
+pub returns-clause-used : goal.returns-clause-used
+returns-clause-used g c =
+    let turn = c.read_turn-answer in
+    let Used : Held → Type 0 = λ h. IfOk turn.result (λ next. IfSome next (λ posts. h.place.bytes + 2 * post_count posts + 2 ≤ turn.new.progress.bytes)) in
+    subst Used c.self.view_is turn.ensures.used
+
+pub returns-clause-limit : goal.returns-clause-limit
+returns-clause-limit g c = c.read_turn-answer.ensures.limit
+
+pub returns-clause-stays : goal.returns-clause-stays
+returns-clause-stays g c = λ ended. c.read_turn-answer.ensures.stays (ap (λ h. h.ended) c.self.view_is ∙ ended)
+
+pub returns-clause-over : goal.returns-clause-over
+returns-clause-over g c = c.is_last-self-inside.ensures
+
+pub returns-clause-failed : goal.returns-clause-failed
+returns-clause-failed g c = c.is_err-self-inside.ensures.value
+
+pub returns-clause-bad : goal.returns-clause-bad
+returns-clause-bad g c =
+    let turn = c.read_turn-answer in
+    refused_flags (held_at turn.new.progress turn.new.lines) c.is_last-self-inside.result c.is_err-self-inside.result turn.result turn.ensures.bad
+
+pub invariant_of-self : goal.invariant_of-self
+invariant_of-self g c = λ going. where_going c.read_turn-answer.result c.read_turn-answer.ensures.ready (sym c.is_last-self-inside.ensures ∙ going)

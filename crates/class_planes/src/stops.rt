@@ -1,0 +1,264 @@
+//! Where the straight runs along the lines of a map have a stop for a side that opens, known beforehand.
+ghost use Rattle.std.specs.Prelude.{ℕ, ⊤, ◌≡◌, ◌<◌, ◌≤◌, ◌+◌, ◌*◌, ◌/◌, All, length, map, IsFalse, IfOk, OnOk};
+ghost use Rattle.class_planes.specs.declared.stop_words.Way.TheVariants as Way;
+ghost use Rattle.class_planes.specs.inner.StopLines.{IsBandStop, IsStopBit, AreAlike, AreMapLines, AreSameOutside, AreBandStops, AreStopsWhere, AreStops, AreStopsBefore, IsFarFrom, IsNear, IsRectOf, lanes_of, line_before, turned_rect};
+
+use crate::lines::{Lines, copied, is_inner};
+use crate::stop_table::{StopTable, blank_stops};
+use crate::stop_words::{Way, renew_down, renew_up};
+use crate::tight_rects::tight_rects;
+use crate::word_scans::Lanes;
+use nav_types::{NoMemory, Rect};
+use std::alloc::Global;
+
+/// How many lines a band has.
+const BAND: u16 = 32;
+
+/// The stops of the runs along the first `count` lines.
+pub fn stops_of(alloc: Global, lines: &Lines, count: u16) -> Result<StopTable, NoMemory>
+    requires { AreMapLines count lines.now }
+    ensures up { IfOk result (λ stops. AreStops Way.Up count lines.now stops.up) }
+    ensures down { IfOk result (λ stops. AreStops Way.Down count lines.now stops.down) }
+{
+    let words = lines.words();
+    let blank = blank_stops(alloc, count / BAND + 1, words)?;
+    let map = Rect {
+        i0: 0,
+        j0: 0,
+        i1: 64 * words as u16 - 2,
+        j1: count - 1,
+    };
+    renewed_stops(alloc, lines, count, &blank, &[map])
+}
+
+/// The stops of the runs along the first `count` lines, where `old` are those of `before`, which are the same outside of
+/// the rectangles. Bands near which nothing has changed are shared, and elsewhere the words near the changed lines are
+/// made anew, and those on against the run as far as they change.
+pub fn updated_stops(
+    alloc: Global,
+    before: &Lines,
+    lines: &Lines,
+    count: u16,
+    old: &StopTable,
+    rects: &[Rect],
+) -> Result<StopTable, NoMemory>
+    requires alike { AreAlike count before.now lines.now }
+    requires inside { All (IsRectOf count lines.now.words) rects.now }
+    requires same { AreSameOutside count before.now lines.now rects.now }
+    requires up { AreStops Way.Up count before.now old.now.up }
+    requires down { AreStops Way.Down count before.now old.now.down }
+    ensures up { IfOk result (λ stops. AreStops Way.Up count lines.now stops.up) }
+    ensures down { IfOk result (λ stops. AreStops Way.Down count lines.now stops.down) }
+{
+    let tight = tight_rects(alloc, before, lines, count, rects)?;
+    renewed_stops(alloc, lines, count, old, &tight)
+}
+
+/// The stops of the runs along the first `count` lines, where those of before are right far from the rectangles.
+fn renewed_stops(
+    alloc: Global,
+    lines: &Lines,
+    count: u16,
+    before: &StopTable,
+    rects: &[Rect],
+) -> Result<StopTable, NoMemory>
+    requires lines { AreMapLines count lines.now }
+    requires inside { All (IsRectOf count lines.now.words) rects.now }
+    requires up { AreStopsBefore Way.Up rects.now count lines.now before.now.up }
+    requires down { AreStopsBefore Way.Down rects.now count lines.now before.now.down }
+    ensures up { IfOk result (λ stops. AreStops Way.Up count lines.now stops.up) }
+    ensures down { IfOk result (λ stops. AreStops Way.Down count lines.now stops.down) }
+{
+    let bands = count / BAND + 1;
+    let mut stops = StopTable::with_capacity(alloc, usize::from(bands), lines.words())?;
+    for band in 0..bands {
+        push_band(alloc, lines, count, before, rects, band, &mut stops)?;
+    }
+    Ok(stops)
+}
+
+/// Appends a band to those before it. It is that of `before`, where no rectangle comes near it.
+fn push_band(
+    alloc: Global,
+    lines: &Lines,
+    count: u16,
+    before: &StopTable,
+    rects: &[Rect],
+    band: u16,
+    stops: &mut StopTable,
+) -> Result<(), NoMemory>
+    requires lines { AreMapLines count lines.now }
+    requires inside { All (IsRectOf count lines.now.words) rects.now }
+    requires up_before { AreStopsBefore Way.Up rects.now count lines.now before.now.up }
+    requires down_before { AreStopsBefore Way.Down rects.now count lines.now before.now.down }
+    requires band { band < count / 32 + 1 }
+    requires up { AreStopsWhere (λ n i. ⊤) Way.Up lines.now count band stops.old.up }
+    requires down { AreStopsWhere (λ n i. ⊤) Way.Down lines.now count band stops.old.down }
+    ensures up { OnOk result (AreStopsWhere (λ n i. ⊤) Way.Up lines.now count (band + 1) stops.new.up) }
+    ensures down { OnOk result (AreStopsWhere (λ n i. ⊤) Way.Down lines.now count (band + 1) stops.new.down) }
+{
+    if !is_near(rects, BAND * band) {
+        return stops.share(before, band);
+    }
+    let up = updated_band(
+        alloc,
+        lines,
+        count,
+        Way::Up,
+        before.up_band(band),
+        rects,
+        band,
+    )?;
+    let down = updated_band(
+        alloc,
+        lines,
+        count,
+        Way::Down,
+        before.down_band(band),
+        rects,
+        band,
+    )?;
+    stops.push(alloc, up, down)
+}
+
+/// Whether a rectangle may meet one of the 32 lines from `first` on, or a line beside them.
+fn is_near(rects: &[Rect], first: u16) -> bool
+    requires low { first ≤ 4096 }
+    ensures { IsFalse result → (n i : ℕ) → first ≤ n → n < first + 32 → IsFarFrom rects.now n i }
+{
+    let low = first.saturating_sub(1);
+    let high = first + BAND;
+    rects.iter().any(|rect| rect.j0 <= high && low <= rect.j1)
+}
+
+/// The stops along the 32 lines of a band, where the old ones are right far from the rectangles.
+fn updated_band(
+    alloc: Global,
+    lines: &Lines,
+    count: u16,
+    way: Way,
+    old: &[u64],
+    rects: &[Rect],
+    band: u16,
+) -> Result<Vec<u64>, NoMemory>
+    requires lines { AreMapLines count lines.now }
+    requires inside { All (IsRectOf count lines.now.words) rects.now }
+    requires band { band < count / 32 + 1 }
+    requires before { AreBandStops (IsFarFrom rects.now) way lines.now count (32 * band) old.now }
+    ensures { IfOk result (λ words. AreBandStops (λ n i. ⊤) way lines.now count (32 * band) words.items) }
+{
+    let mut words = copied(alloc, old)?;
+    write_rects(lines, count, way, rects, BAND * band, &mut words);
+    Ok(words)
+}
+
+/// Makes the stops near the rectangles right along the 32 lines from `first` on. The other bits are right already.
+fn write_rects(lines: &Lines, count: u16, way: Way, rects: &[Rect], first: u16, band: &mut [u64])
+    requires lines { AreMapLines count lines.now }
+    requires inside { All (IsRectOf count lines.now.words) rects.now }
+    requires low { first ≤ 4096 }
+    requires before { AreBandStops (IsFarFrom rects.now) way lines.now count first band.old }
+    ensures stays { length band.new ≡ length band.old }
+    ensures stops { AreBandStops (λ n i. ⊤) way lines.now count first band.new }
+{
+    for rect in rects {
+        write_rect(lines, count, way, *rect, first, band);
+    }
+}
+
+/// Makes the stops near a rectangle right along the 32 lines from `first` on, and keeps the others right.
+fn write_rect(lines: &Lines, count: u16, way: Way, rect: Rect, first: u16, band: &mut [u64])
+    requires lines { AreMapLines count lines.now }
+    requires rect { IsRectOf count lines.now.words rect }
+    requires low { first ≤ 4096 }
+    requires band { length band.old ≡ 32 * lines.now.words }
+    ensures stays { length band.new ≡ length band.old }
+    ensures near { (m i : ℕ) → m < 32 → first + m < count → i / 64 < lines.now.words → IsNear rect (first + m) i
+        → IsBandStop way lines.now count first band.new m i }
+    ensures kept { (m i : ℕ) → m < 32 → first + m < count → i / 64 < lines.now.words
+        → IsBandStop way lines.now count first band.old m i → IsBandStop way lines.now count first band.new m i }
+{
+    let from = rect.j0.saturating_sub(1).max(first);
+    let to = (rect.j1 + 2).min(first + BAND).min(count);
+    for n in from..to {
+        write_line(lines, count, way, rect, n, first, band);
+    }
+}
+
+/// Makes the stops near a rectangle right along line `n` of the 32 lines from `first` on, and keeps the others right.
+fn write_line(lines: &Lines, count: u16, way: Way, rect: Rect, n: u16, first: u16, band: &mut [u64])
+    requires lines { AreMapLines count lines.now }
+    requires rect { IsRectOf count lines.now.words rect }
+    requires line { n < count }
+    requires low { first ≤ n }
+    requires high { n < first + 32 }
+    requires band { length band.old ≡ 32 * lines.now.words }
+    ensures stays { length band.new ≡ length band.old }
+    ensures near { (m i : ℕ) → first + m ≡ n → IsNear rect n i → IsBandStop way lines.now count first band.new m i }
+    ensures kept { (m i : ℕ) → m < 32 → first + m < count → i / 64 < lines.now.words
+        → IsBandStop way lines.now count first band.old m i → IsBandStop way lines.now count first band.new m i }
+{
+    let words = lines.words();
+    let start = usize::from(n - first) * words;
+    renew_line(lines, count, way, rect, n, &mut band[start..start + words]);
+}
+
+/// Makes the stops near a rectangle right along line `n`, and keeps the others right.
+fn renew_line(lines: &Lines, count: u16, way: Way, rect: Rect, n: u16, stops: &mut [u64])
+    requires lines { AreMapLines count lines.now }
+    requires rect { IsRectOf count lines.now.words rect }
+    requires line { n < count }
+    requires words { length stops.old ≡ lines.now.words }
+    ensures stays { length stops.new ≡ length stops.old }
+    ensures near { (i : ℕ) → IsNear rect n i → IsStopBit way (lanes_of lines.now count n) stops.new i }
+    ensures kept { (i : ℕ) → i / 64 < lines.now.words → IsStopBit way (lanes_of lines.now count n) stops.old i
+        → IsStopBit way (lanes_of lines.now count n) stops.new i }
+{
+    let lanes = lanes_at(lines, count, n);
+    let first = usize::from(rect.i0.saturating_sub(1) / 64);
+    let last = usize::from((rect.i1 + 1) / 64);
+    match way {
+        Way::Up => renew_up(&lanes, first, last, stops),
+        Way::Down => renew_down(&lanes, first, last, stops),
+    }
+}
+
+/// Line `n` of the first `count` lines, with the lines beside it.
+fn lanes_at(lines: &Lines, count: u16, n: u16) -> Lanes<'_>
+    requires lines { AreMapLines count lines.now }
+    requires line { n < count }
+    ensures { result ≡ lanes_of lines.now count n }
+{
+    if is_inner(n) {
+        return lines.inner_lanes(n);
+    }
+    let mid = lines.line(n);
+    let left = lines.line(n + 1);
+    let right = lines.line(line_before(count, n));
+    Lanes { mid, left, right }
+}
+
+/// The line before line `n`. That of the first line is the one after the last.
+fn line_before(count: u16, n: u16) -> u16
+    requires { n < count }
+    ensures before { result ≡ line_before count n }
+    ensures small { result ≤ count }
+{
+    if n == 0 { count } else { n - 1 }
+}
+
+/// The rectangles with columns and rows exchanged.
+pub fn turned(alloc: Global, rects: &[Rect]) -> Result<Vec<Rect>, NoMemory>
+    ensures { IfOk result (λ others. others.items ≡ map turned_rect rects.now) }
+{
+    let mut others = Vec::with_capacity(alloc, rects.len())?;
+    for rect in rects {
+        others.push(Rect {
+            i0: rect.j0,
+            j0: rect.i0,
+            i1: rect.j1,
+            j1: rect.i1,
+        })?;
+    }
+    Ok(others)
+}

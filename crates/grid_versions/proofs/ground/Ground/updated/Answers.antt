@@ -1,0 +1,22 @@
+use Rattle.std.proofs.Common.{List, sym, subst}
+use Rattle.nav_types.specs.Numbering.{Numbering}
+use Rattle.grid_versions.specs.inner.Painting.{AreBaseChunks}
+use Rattle.grid_versions.proofs.ReacherLemmas.{only_adds}
+use Rattle.grid_versions.proofs.ground.Ground.updated.Goals as goal
+
+pub next_reachers-requires-clause-before : goal.next_reachers-requires-clause-before
+next_reachers-requires-clause-before c =
+    record { earlier = c.args.earlier.now; lists = c.requires.reachers; named = c.requires.names }
+
+pub next_patches-requires-clause-before : goal.next_patches-requires-clause-before
+next_patches-requires-clause-before c = record {
+  earlier = c.args.earlier.now;
+  painted = c.requires.cells;
+  covered = c.requires.covers;
+  adds = λ some. only_adds c.args.map.now c.args.earlier.now c.args.shapes.now c.args.reaches.now c.args.ids.now
+      c.numbers_added-added.result.now c.requires.names (c.numbers_added-added.ensures.all some) c.numbers_added-added.ensures.added;
+}
+
+pub returns-clause-base : goal.returns-clause-base
+returns-clause-base c =
+    subst (λ (all : List Numbering). AreBaseChunks c.args.map.now all) (sym c.in_ok-base.ensures) c.requires.base

@@ -1,0 +1,19 @@
+use Rattle.std.proofs.Common.{List, ◌∙◌, ap, sym, subst}
+use Rattle.chunk_regions.specs.Labelling.{Labelling}
+use Rattle.grid_versions.specs.inner.Tables.{AreAllLabels, counts_of}
+use Rattle.grid_versions.proofs.tables.labelling.next_labels.Goals as goal
+
+pub relabel-requires-clause-before : goal.relabel-requires-clause-before
+relabel-requires-clause-before g c =
+    let old = c.requires.before.0 in (
+      old,
+      (
+        subst (λ (all : List Labelling). AreAllLabels old (g.V.View.extent c.args.view.now) all) (sym c.in_ok-labels.ensures)
+            c.requires.before.1.0,
+        c.requires.before.1.1,
+      ),
+    )
+
+pub returns-clause-counts : goal.returns-clause-counts
+returns-clause-counts g c = λ all_stay.
+    c.in_ok-stay.ensures.counts all_stay ∙ ap (λ (all : List Labelling). counts_of all) c.in_ok-labels.ensures

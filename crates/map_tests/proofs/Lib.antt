@@ -1,0 +1,2 @@
+mod Corner
+mod TwoRooms

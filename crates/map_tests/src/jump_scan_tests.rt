@@ -1,0 +1,123 @@
+//! Stops and successors on small maps that are drawn as text.
+
+use crate::fixtures::aims::parsed_targets;
+use crate::fixtures::plans::{drawn, is_rect_inside};
+use crate::fixtures::texts::parsed_cell;
+use crate::fixtures::views::stop_of;
+use jump_scan::{CellRuns, successors};
+use nav_types::{Class, Dir, DirSet, View};
+use std::alloc::Global;
+use std::test::Fail;
+
+/// In each line the rows of a map from the first up, `#` impassable, the cells that are hit, where a run begins, its
+/// direction, and its stop, or `-` where it has none.
+const RUNS: &str = "\
+...../...../...../.#.../...../.....;3,0 4,4;2,4;E;4,4
+....#../......./......./...#..#/...#...;6,1 2,3;2,0;N;2,3
+..#..../......./..#..../..#...#;1,1;6,1;W;1,1
+...../...../...../.#.../...../.....;3,0 4,4;3,5;S;3,0
+....##/#.#.../.#.##./##...#/##....;3,0;5,1;W;3,1
+......../....#.../#.#.#..#/...#...#/#.#.#.../.###....;1,3;6,0;N;6,4
+..#.../#....#/..##../#....#/.....#/...#../.#....;5,0 1,5;3,1;W;1,1
+..#...../....#..#/##....../..#...../#..#.#../.#....#./....#...;3,1;7,2;N;7,6
+.....#../.....#../...#..../......../..#...../.#....../.#......;5,2;6,2;E;-
+......./....###/#....#./...#.##;4,0 6,0 1,2 3,2;2,2;S;-
+...../...../...../.#.../...../.....;3,0 4,4;1,1;S;-
+....../##...#/....../...#..;0,0 3,0 3,2 5,3;3,1;NE;5,3
+......./....###/#....#./...#.##;4,0 6,0 1,2 3,2;3,0;NW;1,2
+.#...#.#/..#....#/..#.....;3,0;5,2;SW;3,0
+..../..../..../..#./.#..;1,1 3,2 3,4;1,0;NE;3,2
+..#...../....#..#/##....../..#...../#..#.#../.#....#./....#...;3,1;5,1;NE;7,3
+.....#../.....#../...#..../......../..#...../.#....../.#......;5,2;0,3;SE;2,1
+...../...../...../.#.../...../.....;3,0 4,4;2,1;NE;4,3
+....#.../......../.......#/......#./..#...../......../........;4,0 7,6;3,1;NE;5,3
+.##...../###...../.##.#.../.#.#....;3,2;6,1;SW;-
+.###.#../.#....##/......../...#..../.....#..;1,3 2,4;5,2;SW;-
+......../....#.../#.#.#..#/...#...#/#.#.#.../.###....;1,3;5,2;SE;-
+....../..#.../......;1,0 1,1 3,1 2,2;4,1;NE;-
+";
+
+/// In each line the rows of a map, a cell, the direction of the step that came to it, or `-` for a start, and the
+/// successors.
+const SUCCESSORS: &str = "\
+....#/#.#../.#.#./##.../..#.#/..#.#;3,4;W;N
+.#..../..#.../..#..#;5,0;W;N W NW
+.###.#../.#....##/......../...#..../.....#..;6,3;S;S W SW
+....#.../......../.......#/......#./..#...../......../........;7,1;W;S W SW
+......../......../.....#..;3,2;S;E S W SE SW
+...#/..../#.#.;3,2;W;S
+..#..../......./..#..../..#...#;5,3;NW;W
+....#/#.#../.#.#./##.../..#.#/..#.#;3,0;SE;
+....../##...#/....../...#..;5,2;SW;W
+....#.../......../.......#/......#./..#...../......../........;6,2;-;S W SW
+....../##...#/....../.....#/#.#.#./.#.#.#/..#...;2,3;-;E S W SE SW
+....../..#.../......;1,2;E;E
+...##./....#./....../......;3,1;W;W
+";
+
+fn parsed_dir(text: &str) -> Option<Dir> {
+    match text {
+        "N" => Some(Dir::N),
+        "E" => Some(Dir::E),
+        "S" => Some(Dir::S),
+        "W" => Some(Dir::W),
+        "NE" => Some(Dir::NE),
+        "SE" => Some(Dir::SE),
+        "SW" => Some(Dir::SW),
+        "NW" => Some(Dir::NW),
+        _ => None,
+    }
+}
+
+/// Whether a line of `RUNS` says what the scan does.
+fn stops_as_the_line_says(alloc: Global, line: &str) -> Result<bool, Fail> {
+    let mut fields = line.split(';');
+    let plan = drawn(alloc, fields.next().ok_or("a map")?)?;
+    let targets = parsed_targets(alloc, fields.next().ok_or("cells that are hit")?)?;
+    let from = parsed_cell(fields.next().ok_or("a start")?).ok_or("a start")?;
+    let dir = parsed_dir(fields.next().ok_or("a direction")?).ok_or("a direction")?;
+    let stop = parsed_cell(fields.next().ok_or("a stop")?);
+    let class = Class::new(0);
+    if !plan.size.has(from) || !plan.passable(class, from) {
+        return Err(Fail::from("the start must be passable"));
+    }
+    if !is_rect_inside(plan.size, targets.rect) {
+        return Err(Fail::from("the cells that are hit must be inside"));
+    }
+    let runs = CellRuns::new(&plan);
+    Ok(stop_of(&runs, class, from, dir, &targets) == stop)
+}
+
+/// Whether a line of `SUCCESSORS` says what the successors are.
+fn goes_on_as_the_line_says(alloc: Global, line: &str) -> Result<bool, Fail> {
+    let mut fields = line.split(';');
+    let plan = drawn(alloc, fields.next().ok_or("a map")?)?;
+    let cell = parsed_cell(fields.next().ok_or("a cell")?).ok_or("a cell")?;
+    let arrived = parsed_dir(fields.next().ok_or("a direction")?);
+    let wanted = fields.next().ok_or("directions")?;
+    if !plan.size.has(cell) {
+        return Err(Fail::from("the cell must be inside"));
+    }
+    let found = successors(&plan, Class::new(0), cell, arrived);
+    let mut set = DirSet::new();
+    for word in wanted.split_whitespace() {
+        set = set.with(parsed_dir(word).ok_or("a direction")?);
+    }
+    Ok(found == set)
+}
+
+#[test]
+fn runs_stop_as_the_table_says(rt: HostRuntime) -> Result<(), Fail> {
+    for line in RUNS.lines() {
+        assert!(rt; stops_as_the_line_says(rt.alloc(), line)?, "{line}");
+    }
+    Ok(())
+}
+
+#[test]
+fn cells_have_the_successors_of_the_table(rt: HostRuntime) -> Result<(), Fail> {
+    for line in SUCCESSORS.lines() {
+        assert!(rt; goes_on_as_the_line_says(rt.alloc(), line)?, "{line}");
+    }
+    Ok(())
+}

@@ -1,0 +1,233 @@
+//! The jump search over small maps that are drawn as text, and over a wide open one.
+
+ghost use Rattle.std.specs.Prelude.{◌≡◌, ◌<◌};
+
+use crate::fixtures::aims::targets_of;
+use crate::fixtures::counted::Counted;
+use crate::fixtures::plans::{Plan, is_rect_inside};
+use crate::fixtures::searches::{Search, is_fit, is_found, parsed_search};
+use crate::fixtures::texts::parsed_number;
+use jump_search::{Traced, jump_find, jump_find_with, jump_search, jump_search_with};
+use nav_types::{Cell, Class, Size, Ticks, View};
+use std::alloc::Global;
+use std::marker::Brand;
+use std::sync::ledger::{Blank, Ledger};
+use std::test::Fail;
+use walks::Found;
+
+/// In each line the rows of a map from the first up, `#` impassable, the start and the targets, and then the end, the
+/// cost and the waypoints of the answer, and how many jump states are opened.
+const TABLE: &str = "\
+..../..../..../..../..../..../..../..../....;0,5;1,7;1,7;158218;1,6 1,7;3
+......../....#.../#.#.#..#/...#...#/#.#.#.../.###....;6,3;1,3;1,3;644116;5,2 5,0 3,0 2,1 1,1 1,3;11
+#...../..#.../......;3,1;2,2;2,2;131072;3,2 2,2;3
+......./....###/#....#./...#.##;2,0;4,0 6,0 1,2 3,2;4,0;131072;4,0;4
+..#.###..../.........../###.#......;4,1;10,1;10,1;393216;10,1;4
+.../.../.../...;1,2;2,0;2,0;158218;2,1 2,0;3
+........./.........;0,1;5,1;5,1;327680;5,1;2
+....../##...#/....../...#..;3,0;0,0 3,0 3,2 5,3;3,0;0;;1
+../../../../../../../../../../..;1,6;0,3 0,6;0,6;65536;0,6;2
+.#....###.#/...#..#..##/..####..##./...###.#.../.#....##.#./..###.....#;9,5;10,2;10,2;393216;8,5 8,3 10,3 10,2;5
+.../.../.../.../.../.../.../.../...;1,4;2,0 0,6;0,6;158218;0,5 0,6;4
+../../##/../../.#/../../../../../.#;1,3;1,0 1,9;1,9;447508;0,4 0,6 1,7 1,9;5
+#.##.#...../#....#....#/.......#..#/.......#.../..#......../.#..#.....#/#.#..#...../\
+    ..#...#.#..;9,0;4,3 10,5;4,3;447508;8,1 6,1 6,2 5,3 4,3;10
+......../......../......../......../........;5,0;2,0 4,3;2,0;196608;2,0;3
+........../........../....#.....;7,0;8,1;8,1;92682;8,1;2
+#...####./#.#####.#/#..#...#./.##....#./#...##.##/###....#./..#.##.#./.#####.#./.####..##/\
+    ..#.#.##.;4,5;5,3 1,7 0,8 0,9;5,3;327680;3,5 3,3 5,3;9
+.##../#..../#.#../#...#/...../.#..#/#....;2,1;4,3 3,6;3,6;393216;3,1 3,6;12
+#..../#..../...../..#../.....;3,1;3,0 3,1 4,1 4,2;3,1;0;;1
+.../.../.../#..;0,2;2,1;2,1;158218;1,1 2,1;4
+..../.#../.#.#/..../..../..../#.../..../..#./..../...#;0,9;3,5;3,5;343582;1,8 1,7 3,5;5
+..../..../....;3,0;0,0;0,0;196608;0,0;2
+#..#...../..###..#./.#...##.#/##..#.#.#/#....####/..#..#.../..#..#.##/\
+    .#.#..#.#;3,3;1,3 7,3 7,6 0,7;0,7;381972;2,4 1,4 1,5 0,6 0,7;10
+../../../../../../../..;0,0;0,2;0,2;131072;0,2;2
+...../...../...../....#/.#.../....#/...../.#.../...../.....;2,4;2,0 4,2;4,2;223754;3,3 3,2 4,2;5
+..#./..#./##.#/.#../..../..#./.#../.#..;0,0;0,1 2,2 2,3 2,6;0,1;65536;0,1;2
+../../.#/../../../../../..;1,5;1,5;1,5;0;;1
+.....#./...###./#..#.../.##..../.#...../...#.../....#../......#;1,7;2,2 4,3;4,3;381972;2,6 2,4 3,4 4,3;5
+....../....../....../....../....../....../....../....../....../......;4,1;3,5 5,5;3,5;289290;3,2 3,5;5
+...#.../#..#..#/....##./......#/......./......./..#.##./#..#.../..##...;4,5;4,0 0,6 1,7 4,7;0,6;289290;1,5 0,6;6
+....#/#.#../.#.#./##.../..#.#/..#.#;3,4;3,4;3,4;0;;1
+.../.../.../#../..#/.../#../.../.../...;1,5;1,0 0,1 0,4 2,9;0,4;92682;0,4;3
+....../....../#.....;2,0;0,1;0,1;158218;1,1 0,1;3
+.../.#.;0,0;2,1;2,1;196608;2,0 2,1;3
+...../...../...../...#./.#.../....#/...../...../...#./.##..;3,1;1,5;1,5;354826;2,2 2,5 1,5;6
+..#..#./.......;0,0;0,0 4,0 4,1 6,1;0,0;0;;1
+...../.#.../...../...../#...#/...#./...../...../##.../#..#.;4,1;3,8;3,8;540190;2,3 2,6 3,7 3,8;6
+..#...../....#..#/##....../..#...../#..#.#../.#....#./....#...;0,6;3,1;3,1;578580;2,6 3,5 4,5 4,3 3,2 3,1;10
+..#....../#......../.#....#../.#..#..../.....#.#./.#......./........./......###/.##....../.#.#...../\
+    .#.......;1,6;5,2 6,2 2,3 2,10;2,3;262144;2,6 2,3;9
+##.....#.#./.........../...#...#.../.#...#.#.##/.........../.#......###/....#..#..#/\
+    .##.#......;2,1;6,2 8,6 3,7;6,2;289290;4,1 5,2 6,2;10
+......#../..#....../.#......./....#...#/...#...../##......./.#...#.#./\
+    .........;4,6;2,1 1,2 2,2 8,6;2,2;354826;3,5 2,5 2,2;16
+..#....##./...##..##./........../..#....#../..#....#../.#..#..#../...#...#../#........./...#.#...#/.....#.##./\
+    ........##/..#....#..;6,7;3,11;3,11;420362;4,7 4,9 3,10 3,11;10
+#.........../##.##....#.#/...#...##.#./.....##..#..;11,0;6,1;6,1;354826;8,0 7,1 6,1;5
+.#.../...../...../...../...#./...#./..#../...../...../...../...../.....;2,9;3,1 0,4;0,4;381972;0,7 0,4;6
+.......#/.#...#.#/......../....#.#./.#....../......../......../........;2,1;1,7;1,7;420362;2,5 1,6 1,7;6
+.##..../......./..#.###/......./#.#...#/.####../#....../\
+    ......#;3,0;1,0 5,2 0,3 1,7;0,3;354826;3,1 1,1 0,2 0,3;11
+#.#.##...##./.##.###.##.#/...#..#....#/.#...#.##.../##.....#..../#...##...#.#/..#........./.###...#..../\
+    ....#..#..#./..##...#####/...##.#....#;8,0;3,2 11,7 5,9 5,10;11,7;709652;7,0 7,2 9,2 10,3 10,6 11,7;13
+..#.##.#.#/.......#.#/..##.#.#../.....###../...##...#./##......../.#.....#../......####/\
+    #..##.....;0,1;3,2 8,5 5,6 5,7;5,6;540190;1,2 1,3 2,4 2,5 3,6 5,6;15
+.#.#..#..##./.###....##../......#.#.../.#.##...#.##/\
+    ###.....#.#.;2,2;8,0 9,0 11,2 9,4;8,0;485898;4,2 5,1 7,1 7,0 8,0;9
+.......##../.........../..#...#..../.........../.....#.#.../........#..;3,1;10,3;10,3;513044;5,3 10,3;9
+.....#/....../.....#/....../....#./#....#/.....#/.....#/...#..;4,2;3,1 1,2 4,6 1,7;3,1;92682;3,1;5
+........../.##.....#./.......#../......#.#./..###.#.../.##......./...#.#.###/........#./..###...../\
+    .#.....#..;1,2;6,9;6,9;748042;2,3 5,3 5,5 6,5 6,9;10
+..#./#.../..#./.#../#.../####/#.#./#..#/...#/.#..;1,2;3,2;3,2;262144;1,1 3,1 3,2;5
+#.#...../....##../.#....../......../.......#/.#.....#/#..##..#;0,5;2,1 6,2;2,1;354826;0,4 1,3 2,3 2,1;7
+..#.../#....#/..##../#....#/.....#/...#../.#....;1,3;5,0 1,5;1,5;131072;1,5;6
+.#.#/..../.#../#..#/.#../#.../..../..../##.#;2,7;1,0 1,5 3,5 0,6;1,5;158218;1,6 1,5;6
+#..#/..#./..../.##./..../#...;1,1;3,0 3,1;3,1;262144;1,2 3,2 3,1;5
+#..#./#.##./..#../#..../...#./...../#..#./#..../#..#./...##/##.##/\
+    .#..#;2,0;4,8;4,8;748042;1,0 1,3 2,4 2,5 4,5 4,8;13
+#..#/..../..../..../..../..#./..../..../..../..../....;1,6;1,1 0,2 0,3 0,9;0,3;223754;0,5 0,3;6
+";
+
+/// A search, and how many jump states it opens.
+#[derive(Drop)]
+struct Line {
+    search: Search,
+    opened: u64,
+}
+
+fn parsed_line(alloc: Global, line: &str) -> Result<Line, Fail> {
+    let (search, opened) = line.rsplit_once(';').ok_or("a number")?;
+    Ok(Line {
+        search: parsed_search(alloc, search)?,
+        opened: parsed_number(opened)?,
+    })
+}
+
+/// The answers of both searches, where they are counted in a ledger.
+fn answers_counted<L: Ledger>(
+    alloc: Global,
+    search: &Search,
+    blank: Blank,
+) -> Result<(Traced, Found), Fail>
+    requires name { blank.name ≡ L.name }
+    requires parts { blank.parts ≡ L.parts }
+    requires some { 0 < L.parts }
+{
+    let class = Class::new(0);
+    let (map, start, aim) = (&search.plan, search.start, &search.targets);
+    if !is_rect_inside(search.plan.size, search.targets.rect)
+        || !is_fit(map, class, start, search.points.as_slice(), aim)
+    {
+        return Err(Fail::from("a line must be fit"));
+    }
+    let mut ticks = Ticks::<L>::new(blank);
+    let traced = jump_search(alloc, map, class, start, aim, &mut ticks)?;
+    let found = jump_find(alloc, map, class, start, aim, &mut ticks)?;
+    Ok((traced, found))
+}
+
+fn answers(alloc: Global, search: &Search) -> Result<(Traced, Found), Fail> {
+    answers_counted::<Brand>(alloc, search, Blank::new(1))
+}
+
+#[test]
+fn answers_as_the_table_says(rt: HostRuntime) -> Result<(), Fail> {
+    for text in TABLE.lines() {
+        let line = parsed_line(rt.alloc(), text)?;
+        let (traced, found) = answers(rt.alloc(), &line.search)?;
+        assert!(rt; is_found(&line.search, &traced.found), "{text}");
+        assert!(rt; is_found(&line.search, &found), "{text}");
+        assert!(rt; traced.opened == line.opened, "{text}");
+    }
+    Ok(())
+}
+
+/// An open map of 1024 by 1024 cells, from the first cell to the last.
+fn wide_search(alloc: Global) -> Result<Search, Fail> {
+    let size = Size::new(1024, 1024).ok_or("the size of a map")?;
+    let end = Cell::new(1023, 1023);
+    let mut cells = Vec::new(alloc);
+    cells.push(end)?;
+    let mut points = Vec::new(alloc);
+    points.push(end)?;
+    Ok(Search {
+        plan: Plan {
+            size,
+            free: vec![in alloc; true; 1024 * 1024]?,
+        },
+        start: Cell::new(0, 0),
+        targets: targets_of(cells).ok_or("targets")?,
+        end,
+        cost: 94_813_686,
+        points,
+    })
+}
+
+/// The answer of the search over the runs, which count what it alone asks.
+fn traced_over<L: Ledger>(
+    alloc: Global,
+    runs: &Counted<Plan>,
+    search: &Search,
+    blank: Blank,
+) -> Result<Traced, Fail>
+    requires name { blank.name ≡ L.name }
+    requires parts { blank.parts ≡ L.parts }
+    requires some { 0 < L.parts }
+{
+    let class = Class::new(0);
+    let (start, aim) = (search.start, &search.targets);
+    if !is_rect_inside(runs.size(), search.targets.rect)
+        || !is_fit(runs, class, start, search.points.as_slice(), aim)
+    {
+        return Err(Fail::from("a line must be fit"));
+    }
+    runs.reset();
+    let mut ticks = Ticks::<L>::new(blank);
+    Ok(jump_search_with(alloc, runs, class, start, aim, &mut ticks)?)
+}
+
+/// The same by the search for the walk alone.
+fn found_over<L: Ledger>(
+    alloc: Global,
+    runs: &Counted<Plan>,
+    search: &Search,
+    blank: Blank,
+) -> Result<Found, Fail>
+    requires name { blank.name ≡ L.name }
+    requires parts { blank.parts ≡ L.parts }
+    requires some { 0 < L.parts }
+{
+    let class = Class::new(0);
+    let (start, aim) = (search.start, &search.targets);
+    if !is_rect_inside(runs.size(), search.targets.rect)
+        || !is_fit(runs, class, start, search.points.as_slice(), aim)
+    {
+        return Err(Fail::from("a line must be fit"));
+    }
+    runs.reset();
+    let mut ticks = Ticks::<L>::new(blank);
+    Ok(jump_find_with(alloc, runs, class, start, aim, &mut ticks)?)
+}
+
+#[test]
+fn a_search_of_a_wide_map_asks_few_cells(rt: HostRuntime) -> Result<(), Fail> {
+    let search = wide_search(rt.alloc())?;
+    let runs = Counted::new(&search.plan);
+    let traced = traced_over::<Brand>(rt.alloc(), &runs, &search, Blank::new(1))?;
+    assert!(rt; is_found(&search, &traced.found) && traced.opened == 2);
+    assert!(rt; runs.cells() < 1000 && runs.runs() < 100);
+    Ok(())
+}
+
+#[test]
+fn the_walk_alone_over_a_wide_map_asks_few_cells(rt: HostRuntime) -> Result<(), Fail> {
+    let search = wide_search(rt.alloc())?;
+    let runs = Counted::new(&search.plan);
+    let found = found_over::<Brand>(rt.alloc(), &runs, &search, Blank::new(1))?;
+    assert!(rt; is_found(&search, &found));
+    assert!(rt; runs.cells() < 1000 && runs.runs() < 100);
+    Ok(())
+}

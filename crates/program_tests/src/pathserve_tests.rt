@@ -1,0 +1,431 @@
+//! The top call over memory: scripts with their answers, faults and limits.
+use io_edges::{MemorySink, MemorySource, OpenGate};
+use itoa::Buffer;
+use nav_types::{Bytes, NoMemory, Words};
+use pathserve::{BadLine, Status, run};
+use script_text::{Cause, Key, Wanted};
+use std::alloc::Global;
+use std::sync::Wait;
+use std::test::Fail;
+use std::thread::Threads;
+
+mod made_matches;
+mod scripts;
+mod serving;
+mod side_by_side;
+mod turn_by_turn;
+
+use scripts::{COVER, COVER_ANSWERS, SCRIPTS};
+
+/// A map of 3 by 3 cells, without its newline.
+const MAP_LINE: &str =
+    "{\"version\":1,\"size\":[3,3],\"callers\":1,\"classes\":[{\"name\":\"default\",\"clearance\":\"0\"}]}";
+
+/// A map of 256 by 256 cells.
+const LARGE_MAP: &str =
+    "{\"version\":1,\"size\":[256,256],\"callers\":1,\"classes\":[{\"name\":\"default\",\"clearance\":\"0\"}]}\n";
+
+/// How a run ended, why a line was bad, and what it wrote.
+#[derive(Drop)]
+struct Ran {
+    status: Status,
+    why: Option<BadLine>,
+    sink: MemorySink,
+}
+
+/// One list of words.
+fn words_of(alloc: Global, words: &[&str]) -> Result<Words, NoMemory> {
+    let mut list = Words::new(alloc);
+    for word in words {
+        let mut bytes = Bytes::new(alloc);
+        bytes.extend(word.as_bytes())?;
+        list.push(bytes)?;
+    }
+    Ok(list)
+}
+
+/// Runs the words over these bytes.
+fn run_over<R: Threads + Wait + Sync>(
+    rt: &R,
+    alloc: Global,
+    words: &[&str],
+    bytes: &[u8],
+    read_fails: &[u64],
+    write_fails: &[u64],
+) -> Result<Ran, NoMemory> {
+    let words = words_of(alloc, words)?;
+    let mut source = MemorySource::new(alloc, bytes, 4096, read_fails)?;
+    let mut sink = MemorySink::new(alloc, 4096, write_fails)?;
+    let mut why = None;
+    let status = run(
+        rt,
+        alloc,
+        &words,
+        &mut source,
+        &mut sink,
+        &OpenGate,
+        &mut why,
+    );
+    Ok(Ran { status, why, sink })
+}
+
+/// The parts of a script, one after another.
+fn script(alloc: Global, parts: &[&str]) -> Result<Bytes, NoMemory> {
+    let mut bytes = Bytes::new(alloc);
+    for part in parts {
+        bytes.extend(part.as_bytes())?;
+    }
+    Ok(bytes)
+}
+
+/// Whether a run of the words over these bytes ends with the status, and has written the text and nothing more.
+fn runs_to<R: Threads + Wait + Sync>(
+    rt: &R,
+    alloc: Global,
+    words: &[&str],
+    bytes: &[u8],
+    read_fails: &[u64],
+    write_fails: &[u64],
+    status: Status,
+    text: &str,
+) -> bool {
+    match run_over(rt, alloc, words, bytes, read_fails, write_fails) {
+        Ok(ran) => ran.status == status && ran.sink.kept() == text.as_bytes(),
+        Err(NoMemory) => false,
+    }
+}
+
+/// The same for a replay in which no read and no write fails.
+fn replays_to<R: Threads + Wait + Sync>(
+    rt: &R,
+    alloc: Global,
+    bytes: &[u8],
+    status: Status,
+    text: &str,
+) -> bool {
+    runs_to(rt, alloc, &["replay"], bytes, &[], &[], status, text)
+}
+
+#[test]
+fn scripts_are_answered(rt: HostRuntime) {
+    for (script, status, answers) in SCRIPTS {
+        assert!(rt;
+            replays_to(&rt, rt.alloc(), script.as_bytes(), status, answers),
+            "{script}"
+        );
+    }
+}
+
+/// Whether a replay of a map line and these lines ends at this bad line, for this cause.
+fn is_bad_for<R: Threads + Wait + Sync>(rt: &R, alloc: Global, lines: &str, bad: BadLine) -> bool {
+    let Ok(text) = script(alloc, &[MAP_LINE, lines]) else {
+        return false;
+    };
+    match run_over(rt, alloc, &["replay"], text.as_slice(), &[], &[]) {
+        Ok(ran) => ran.why == Some(bad),
+        Err(NoMemory) => false,
+    }
+}
+
+#[test]
+fn a_bad_line_has_its_cause(rt: HostRuntime) {
+    let second_end = BadLine {
+        number: 2,
+        cause: Cause::WrongValue {
+            key: Key::End,
+            wanted: Wanted::Turn { number: 1 },
+        },
+    };
+    let no_end = BadLine {
+        number: 3,
+        cause: Cause::EndsInsideTurn,
+    };
+    assert!(rt; is_bad_for(&rt, rt.alloc(), "\n{\"end\":2}\n", second_end));
+    assert!(rt; is_bad_for(&rt, rt.alloc(), "\n{\"caller\":0,\"remove\":1}", no_end));
+}
+
+/// Whether a replay over a source and a sink of small pieces is that over large ones.
+fn replays_in_pieces<R: Threads + Wait + Sync>(
+    rt: &R,
+    alloc: Global,
+    script: &str,
+    answers: &str,
+) -> Result<bool, NoMemory> {
+    let words = words_of(alloc, &["replay"])?;
+    let mut source = MemorySource::new(alloc, script.as_bytes(), 7, &[])?;
+    let mut sink = MemorySink::new(alloc, 5, &[])?;
+    let mut why = None;
+    let status = run(
+        rt,
+        alloc,
+        &words,
+        &mut source,
+        &mut sink,
+        &OpenGate,
+        &mut why,
+    );
+    Ok(status == Status::Done && sink.kept() == answers.as_bytes())
+}
+
+#[test]
+fn pieces_change_nothing(rt: HostRuntime) {
+    assert!(rt; replays_in_pieces(&rt, rt.alloc(), COVER, COVER_ANSWERS) == Ok(true));
+}
+
+/// Whether a run of the words, none of whose reads and writes may fail, reads and writes nothing.
+fn is_usage<R: Threads + Wait + Sync>(rt: &R, alloc: Global, words: &[&str]) -> bool {
+    runs_to(
+        rt,
+        alloc,
+        words,
+        COVER.as_bytes(),
+        &[1],
+        &[1],
+        Status::Usage,
+        "",
+    )
+}
+
+/// Words that are not in the grammar.
+const OTHER_WORDS: [&[&str]; 14] = [
+    &[],
+    &["make", "07"],
+    &["replay", "--workers=4"],
+    &["replay", "--workers"],
+    &["replay", "--workers", ""],
+    &["replay", "--workers", "0"],
+    &["replay", "--workers", "01"],
+    &["replay", "--workers", "+1"],
+    &["replay", "--workers", "65"],
+    &["replay", "--workers", "100"],
+    &["replay", "--workers", "4", "--workers", "4"],
+    &["--workers", "4", "replay"],
+    &["profile", "--workers", "65"],
+    &["profile", "replay"],
+];
+
+#[test]
+fn other_words_read_nothing(rt: HostRuntime) {
+    for words in OTHER_WORDS {
+        assert!(rt; is_usage(&rt, rt.alloc(), words));
+    }
+}
+
+/// Four times the same path, and the answers to it.
+const FOUR_ALIKE: (&str, &str) = (
+    "{\"version\":1,\"size\":[3,3],\"callers\":1,\"classes\":[{\"name\":\"default\",\"clearance\":\"0\"}]}\n\
+{\"caller\":0,\"path\":\"default\",\"from\":[\"0.5\",\"0.5\"],\"goal\":{\"point\":[\"2.5\",\"2.5\"]}}\n\
+{\"caller\":0,\"path\":\"default\",\"from\":[\"0.5\",\"0.5\"],\"goal\":{\"point\":[\"2.5\",\"2.5\"]}}\n\
+{\"caller\":0,\"path\":\"default\",\"from\":[\"0.5\",\"0.5\"],\"goal\":{\"point\":[\"2.5\",\"2.5\"]}}\n\
+{\"caller\":0,\"path\":\"default\",\"from\":[\"0.5\",\"0.5\"],\"goal\":{\"point\":[\"2.5\",\"2.5\"]}}\n\
+{\"end\":1}\n",
+    "turn 1 regions 1 edges 0 areas 1 relabelled 0\n\
+0 0 path 0 0 2 2 goal 185364 1 2.5,2.5\n\
+0 1 path 0 0 2 2 goal 185364 1 2.5,2.5\n\
+0 2 path 0 0 2 2 goal 185364 1 2.5,2.5\n\
+0 3 path 0 0 2 2 goal 185364 1 2.5,2.5\n",
+);
+
+/// Whether so many workers give the answers to the four paths.
+fn answers_four<R: Threads + Wait + Sync>(rt: &R, alloc: Global, workers: &str) -> bool {
+    let (script, answers) = FOUR_ALIKE;
+    runs_to(
+        rt,
+        alloc,
+        &["replay", "--workers", workers],
+        script.as_bytes(),
+        &[],
+        &[],
+        Status::Done,
+        answers,
+    )
+}
+
+#[test]
+fn any_number_of_workers_answers_alike(rt: HostRuntime) {
+    for workers in ["1", "2", "64"] {
+        assert!(rt; answers_four(&rt, rt.alloc(), workers), "{workers} workers");
+    }
+}
+
+/// Scripts with what a profile of them writes.
+const PROFILES: [(&str, &str); 2] = [
+    // straight to the goal
+    (
+        "{\"version\":1,\"size\":[3,3],\"callers\":1,\"classes\":[{\"name\":\"default\",\"clearance\":\"0\"}]}\n\
+{\"caller\":0,\"path\":\"default\",\"from\":[\"0.5\",\"0.5\"],\"goal\":{\"point\":[\"2.5\",\"2.5\"]}}\n\
+{\"end\":1}\n",
+        "turn 1 regions 1 edges 0 areas 1 relabelled 0\n\
+0 0 path 0 0 2 2 goal 185364 1 2.5,2.5\n\
+0 0 opened 2\n",
+    ),
+    // round a blocked cell, where no diagonal step is legal
+    (
+        "{\"version\":1,\"size\":[3,3],\"callers\":1,\"classes\":[{\"name\":\"default\",\"clearance\":\"0\"}]}\n\
+{\"base\":[[1,1,1,1,1]]}\n\
+{\"caller\":0,\"path\":\"default\",\"from\":[\"0.5\",\"0.5\"],\"goal\":{\"point\":[\"2.5\",\"2.5\"]}}\n\
+{\"end\":1}\n",
+        "turn 1 regions 1 edges 0 areas 1 relabelled 0\n\
+0 0 path 0 0 2 2 goal 262144 2 2.5,0.5 2.5,2.5\n\
+0 0 opened 5\n",
+    ),
+];
+
+/// Whether a run of the words over this script ends well, and writes this text.
+fn profiles_to<R: Threads + Wait + Sync>(
+    rt: &R,
+    alloc: Global,
+    words: &[&str],
+    script: &str,
+    text: &str,
+) -> bool {
+    runs_to(
+        rt,
+        alloc,
+        words,
+        script.as_bytes(),
+        &[],
+        &[],
+        Status::Done,
+        text,
+    )
+}
+
+#[test]
+fn a_profile_tells_the_opened_numbers(rt: HostRuntime) {
+    for (script, text) in PROFILES {
+        assert!(rt;
+            profiles_to(&rt, rt.alloc(), &["profile"], script, text),
+            "{script}"
+        );
+        assert!(rt;
+            profiles_to(
+                &rt,
+                rt.alloc(),
+                &["profile", "--workers", "3"],
+                script,
+                text
+            ),
+            "{script}"
+        );
+    }
+}
+
+/// Whether a replay whose read of this number fails ends with a read fault, and has written the text and nothing more.
+fn read_fails_after<R: Threads + Wait + Sync>(
+    rt: &R,
+    alloc: Global,
+    read: u64,
+    text: &str,
+) -> bool {
+    runs_to(
+        rt,
+        alloc,
+        &["replay"],
+        COVER.as_bytes(),
+        &[read],
+        &[],
+        Status::ReadFault,
+        text,
+    )
+}
+
+#[test]
+fn a_read_fault_ends_the_run(rt: HostRuntime) {
+    assert!(rt; read_fails_after(&rt, rt.alloc(), 1, ""));
+    assert!(rt; read_fails_after(&rt, rt.alloc(), 2, COVER_ANSWERS));
+}
+
+/// Whether a replay of three turns whose third write fails ends with a write fault, and has written the first two.
+fn third_write_fails<R: Threads + Wait + Sync>(rt: &R, alloc: Global) -> bool {
+    let Ok(three) = script(alloc, &[COVER, "{\"end\":3}\n"]) else {
+        return false;
+    };
+    runs_to(
+        rt,
+        alloc,
+        &["replay"],
+        three.as_slice(),
+        &[],
+        &[3],
+        Status::WriteFault,
+        COVER_ANSWERS,
+    )
+}
+
+#[test]
+fn a_write_fault_ends_the_run(rt: HostRuntime) {
+    assert!(rt; third_write_fails(&rt, rt.alloc()));
+}
+
+/// The map line with spaces up to a length, and its newline.
+fn padded(alloc: Global, length: usize) -> Result<Bytes, NoMemory> {
+    let mut text = script(alloc, &[MAP_LINE])?;
+    for _ in text.len()..length {
+        text.push(b' ')?;
+    }
+    text.push(b'\n')?;
+    Ok(text)
+}
+
+/// Whether a replay of a map line of this length ends with the status, and writes nothing.
+fn line_ends_with<R: Threads + Wait + Sync>(
+    rt: &R,
+    alloc: Global,
+    length: usize,
+    status: Status,
+) -> bool {
+    match padded(alloc, length) {
+        Ok(text) => replays_to(rt, alloc, text.as_slice(), status, ""),
+        Err(NoMemory) => false,
+    }
+}
+
+#[test]
+fn a_line_has_a_limit(rt: HostRuntime) {
+    assert!(rt; line_ends_with(&rt, rt.alloc(), 8_388_608, Status::Done));
+    assert!(rt; line_ends_with(&rt, rt.alloc(), 8_388_609, Status::TooLong));
+}
+
+/// Appends a line that adds a unit without a side, in the middle of a cell, under a number.
+fn push_unit(text: &mut Bytes, id: u32, i: u32, j: u32) -> Result<(), NoMemory> {
+    let mut buffer = Buffer::new();
+    text.extend(b"{\"caller\":0,\"add\":")?;
+    text.extend(buffer.format(id).as_bytes())?;
+    text.extend(b",\"unit\":[\"")?;
+    text.extend(buffer.format(i).as_bytes())?;
+    text.extend(b".5\",\"")?;
+    text.extend(buffer.format(j).as_bytes())?;
+    text.extend(b".5\",\"0\"]}\n")
+}
+
+/// A script that fills the store, adds one obstruction too many, removes one and adds one.
+fn full_store(alloc: Global) -> Result<Bytes, NoMemory> {
+    let mut text = script(alloc, &[LARGE_MAP])?;
+    for id in 0..65_536u32 {
+        push_unit(&mut text, id, id % 256, id / 256)?;
+    }
+    push_unit(&mut text, 65_536, 0, 0)?;
+    text.extend(b"{\"caller\":0,\"remove\":0}\n")?;
+    push_unit(&mut text, 65_536, 0, 0)?;
+    text.extend(b"{\"end\":1}\n")?;
+    Ok(text)
+}
+
+/// Whether the script is answered to its end, and its answers begin and end so.
+fn full_store_refuses<R: Threads + Wait + Sync>(rt: &R, alloc: Global, text: &[u8]) -> bool {
+    let Ok(got) = run_over(rt, alloc, &["replay"], text, &[], &[]) else {
+        return false;
+    };
+    let kept = got.sink.kept();
+    got.status == Status::Done
+        && kept.starts_with(b"turn 1 regions 0 edges 0 areas 0 relabelled 9\n0 0 added 0\n")
+        && kept.ends_with(b"\n0 65536 refused store-full\n0 65537 removed 0\n0 65538 added 65536\n")
+}
+
+#[test]
+fn a_full_store_takes_one_more_after_a_remove(rt: HostRuntime) -> Result<(), Fail> {
+    let text = full_store(rt.alloc())?;
+    assert!(rt; full_store_refuses(&rt, rt.alloc(), text.as_slice()));
+    Ok(())
+}

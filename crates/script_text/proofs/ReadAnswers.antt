@@ -1,0 +1,73 @@
+-- What an answer cannot be, and what it leaves.
+use Rattle.std.proofs.Common.{◌≡◌, ℕ, List, Bool, false, Option, Some, None, Result, Ok, Err, IfOk, IfErr, IfSome, refl, ap, sym, subst, ◌∙◌}
+use Rattle.std.specs.Prelude.{IsErrOf, IsSome}
+use Rattle.turn_core.specs.declared.posts.Post.{Post}
+use Rattle.script_text.specs.declared.faults.ScriptFault.{ScriptFault}
+use Rattle.script_text.specs.declared.faults.ScriptFault.TheVariants.{BadLine, TooLong, ReadFault, NoMemory}
+use Rattle.script_text.specs.declared.parts.Part.{Part}
+use Rattle.script_text.specs.declared.parts.Part.TheVariants.{BeforeMap, InBase, InTurns}
+use Rattle.script_text.specs.declared.parts.Rules.{Rules}
+use Rattle.script_text.specs.Script.{Walk}
+use Rattle.script_text.specs.Reader.{Held, HoldsRefused, callers_of, is_last, rules_at}
+use Rattle.script_text.specs.declared.intake.LineEnd.{LineEnd}
+use Rattle.script_text.specs.inner.Taking.{Taken, HeldLine, HasEnd}
+use Rattle.script_text.specs.inner.Judging.{IsNoBaseAt, IsNoBaseNext, IsStuckBy}
+use Rattle.script_text.proofs.ReadStill.{with_flags}
+
+-- a line that is held is refused by no read
+pub stuck_unread : {A P : Type 0} (w : Walk) (fault : ScriptFault) → IsStuckBy w fault → IsErrOf {T = A} (Err fault) ReadFault → P
+stuck_unread w (BadLine n) stuck is = absurd (cc)
+stuck_unread w TooLong stuck is = absurd (cc)
+stuck_unread w ReadFault stuck is = absurd stuck
+stuck_unread w NoMemory stuck is = absurd (cc)
+
+-- what names no bad line leaves no line to be judged
+pub refused_good : (h : Held) (fault : ScriptFault) → ((n : ℕ) → fault ≡ BadLine n → ⊥) → HoldsRefused h fault
+refused_good h (BadLine n) good = absurd (good n refl)
+refused_good h TooLong good = tt
+refused_good h ReadFault good = tt
+refused_good h NoMemory good = tt
+
+-- whether calls may follow plays no part in what a refusal leaves
+refused_by : (h : Held) (over failed : Bool) (fault : ScriptFault) → HoldsRefused h fault → HoldsRefused (with_flags h over failed) fault
+refused_by h over failed (BadLine n) bad = record { number = bad.number; cause = bad.cause }
+refused_by h over failed TooLong bad = tt
+refused_by h over failed ReadFault bad = tt
+refused_by h over failed NoMemory bad = tt
+
+pub refused_flags : {A : Type 0} (h : Held) (over failed : Bool) (result : Result A ScriptFault) → IfErr result (HoldsRefused h) → IfErr result (HoldsRefused (with_flags h over failed))
+refused_flags h over failed (Ok x) bad = tt
+refused_flags h over failed (Err fault) bad = refused_by h over failed fault bad
+
+-- where calls may follow, there was a turn
+pub where_going : {P : Type 0} (result : Result (Option (List (List Post))) ScriptFault) → IfOk result (λ next. IfSome next (λ turn. P)) → is_last result ≡ false → P
+where_going (Ok (Some turn)) holds going = holds
+where_going (Ok None) holds going = absurd (cc)
+where_going (Err fault) holds going = absurd (cc)
+
+-- the number of callers by what the lines keep to
+abbrev callers_by : Option Rules → ℕ
+callers_by None = 0
+callers_by (Some rules) = rules.callers
+
+callers_are : (part : Part) → callers_of part ≡ callers_by (rules_at part)
+callers_are BeforeMap = refl
+callers_are (InBase rules) = refl
+callers_are (InTurns rules) = refl
+
+pub same_callers : (p q : Part) → rules_at p ≡ rules_at q → callers_of p ≡ callers_of q
+same_callers p q same = callers_are p ∙ ap callers_by same ∙ sym (callers_are q)
+
+-- ---- the line that is held at the beginning of a turn
+
+has_end : (line_end : Option LineEnd) (rest : Taken) → HasEnd line_end rest → IsSome line_end
+has_end None rest ends = absurd ends
+has_end (Some end) rest ends = refl
+
+-- where base lines may stand, the line is found again, and is none
+pub no_base_found : (part : Part) (h now : HeldLine) → IsNoBaseNext part h → (IsSome h.line_end → now ≡ h) → IsNoBaseAt part now.line
+no_base_found BeforeMap h now held kept = tt
+no_base_found (InBase rules) h now held kept =
+    let NoBase : HeldLine → Type 0 = λ l. IsNoBaseAt (InBase rules) l.line in
+    subst NoBase (sym (kept (has_end h.line_end h.rest held.ends))) held.no_base
+no_base_found (InTurns rules) h now held kept = tt

@@ -1,4 +1,0 @@
-//! Tests: lines and their forms, scripts that are read, and the causes of bad lines.
-mod causes;
-mod lines;
-mod reading;

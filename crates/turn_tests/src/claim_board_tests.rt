@@ -1,0 +1,120 @@
+ghost use Rattle.std.specs.Prelude.{◌≡◌, ◌-◌, ◌≤◌, false, true, IsOk, OnOk};
+ghost use denote.Param.Send.{IsSync};
+
+use crate::fixtures::shared;
+use claim_board::{Claims, Drawn, Seat};
+use std::alloc::{AllocError, Global};
+use std::test::Fail;
+use std::thread::{Threads, join};
+
+const JOBS: u64 = 100_000;
+
+fn may_be_sent<T: Send>(value: T) -> T
+    ensures { result ≡ value }
+{
+    value
+}
+
+// Draws jobs until the seat has ended.
+fn draw_all(alloc: Global, claims: &Claims, mut seat: Seat) -> (Seat, Result<Vec<u64>, AllocError>)
+    requires own { seat.board ≡ claims.now }
+    requires live { seat.ended ≡ false }
+    ensures own { result.0.board ≡ claims.entry.now }
+    ensures credit { result.0.credit ≡ seat.credit }
+    ensures ended { OnOk result.1 (result.0.ended ≡ true) }
+{
+    let mut taken = Vec::new(alloc);
+    'drawing: loop {
+        match claims.claim(seat) {
+            Drawn::Job(job, next) => {
+                seat = next;
+                if taken.push(job).is_err() {
+                    return (seat, Err(AllocError));
+                }
+            }
+            Drawn::Ended(next) => return (next, Ok(taken)),
+        }
+    }
+}
+
+fn both(
+    first: Result<Vec<u64>, AllocError>,
+    second: Result<Vec<u64>, AllocError>,
+) -> Result<Vec<u64>, AllocError>
+    ensures { OnOk result (IsOk first) }
+{
+    let mut all = first?;
+    all.extend_from_slice(second?.as_slice())?;
+    Ok(all)
+}
+
+// Halves the seat until each thread has one.
+fn draw_by<R: Threads + Sync>(
+    rt: &R,
+    alloc: Global,
+    claims: &Claims,
+    seat: Seat,
+    threads: u64,
+) -> (Seat, Result<Vec<u64>, AllocError>)
+    requires own { seat.board ≡ claims.now }
+    requires live { seat.ended ≡ false }
+    requires some { 1 ≤ threads }
+    requires credit { threads ≤ seat.credit }
+    ensures own { result.0.board ≡ claims.entry.now }
+    ensures credit { result.0.credit ≡ seat.credit }
+    ensures ended { OnOk result.1 (result.0.ended ≡ true) }
+{
+    if threads == 1 {
+        return draw_all(alloc, claims, seat);
+    }
+    let half = threads / 2;
+    let (a, b) = claims.split(seat);
+    let ((a, first), (b, second)) = join(
+        rt,
+        || -> (Seat, Result<Vec<u64>, AllocError>)
+            requires { IsSync R.row × (a.board ≡ claims.now) × (a.ended ≡ false) × (1 ≤ threads - half)
+                × (threads - half ≤ a.credit) }
+            ensures { (result.0.board ≡ claims.entry.now) × (result.0.credit ≡ a.credit)
+                × OnOk result.1 (result.0.ended ≡ true) }
+        { draw_by(rt, alloc, claims, a, threads - half) },
+        || -> (Seat, Result<Vec<u64>, AllocError>)
+            requires { IsSync R.row × (b.board ≡ claims.now) × (b.ended ≡ false) × (1 ≤ half) × (half ≤ b.credit) }
+            ensures { (result.0.board ≡ claims.entry.now) × (result.0.credit ≡ b.credit)
+                × OnOk result.1 (result.0.ended ≡ true) }
+        { draw_by(rt, alloc, claims, b, half) },
+    );
+    (claims.join(a, b), both(first, second))
+}
+
+#[test]
+fn eight_threads_draw_each_job_once(rt: HostRuntime) -> Result<(), Fail> {
+    let (claims, seat) = Claims::start(rt.alloc(), JOBS)?;
+    let (seat, taken) = draw_by(&rt, rt.alloc(), &claims, seat, 8);
+    let mut taken = taken?;
+    let _drawings = claims.close(seat);
+    taken.sort()?;
+    assert_eq!(rt; taken.len() as u64, JOBS);
+    for (place, job) in taken.iter().enumerate() {
+        assert_eq!(rt; *job, place as u64);
+    }
+    Ok(())
+}
+
+#[test]
+fn two_seats_draw_two_jobs(rt: HostRuntime) -> Result<(), Fail> {
+    let (claims, seat) = Claims::start(rt.alloc(), 2)?;
+    assert_eq!(rt; shared(&claims).jobs(), 2);
+    let (a, b) = claims.split(may_be_sent(seat));
+    let Drawn::Job(0, b) = claims.claim(b) else {
+        panic!(rt; "the first job is 0")
+    };
+    let Drawn::Job(1, a) = claims.claim(a) else {
+        panic!(rt; "the second job is 1")
+    };
+    let Drawn::Ended(a) = claims.claim(a) else {
+        panic!(rt; "there are two jobs")
+    };
+    let seat = claims.join(a, b);
+    let _drawings = claims.close(seat);
+    Ok(())
+}

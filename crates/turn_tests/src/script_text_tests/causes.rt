@@ -1,0 +1,200 @@
+//! The causes of bad lines, as values and as text.
+ghost use Rattle.std.specs.Prelude.{IsFalse, IsSome};
+ghost use Rattle.script_text.specs.Reader.{rules_at};
+
+use io_edges::MemorySource;
+use nav_types::{NoMemory, Size};
+use script_text::{Cause, Key, ScriptFault, ScriptReader, Wanted};
+use std::alloc::Global;
+use std::process::Abort;
+
+/// The cause of the bad line that the first or the second turn of a script meets.
+fn cause_in_turns(
+    alloc: Global,
+    reader: &mut ScriptReader,
+    source: &mut MemorySource,
+) -> Result<Option<Cause>, NoMemory>
+    requires map { IsSome (rules_at reader.old.place.part) }
+    requires going { IsFalse reader.old.over }
+{
+    match reader.next_turn(alloc, source) {
+        Ok(Some(_)) => cause_in_turn(alloc, reader, source),
+        Err(ScriptFault::BadLine(_)) => Ok(Some(reader.cause(alloc)?)),
+        _ => Ok(None),
+    }
+}
+
+/// The cause of the bad line that the next turn meets.
+fn cause_in_turn(
+    alloc: Global,
+    reader: &mut ScriptReader,
+    source: &mut MemorySource,
+) -> Result<Option<Cause>, NoMemory>
+    requires map { IsSome (rules_at reader.old.place.part) }
+    requires going { IsFalse reader.old.over }
+{
+    match reader.next_turn(alloc, source) {
+        Err(ScriptFault::BadLine(_)) => Ok(Some(reader.cause(alloc)?)),
+        _ => Ok(None),
+    }
+}
+
+/// The cause of the bad line of a script.
+fn cause_in(alloc: Global, script: &str) -> Result<Option<Cause>, NoMemory> {
+    let mut source = MemorySource::new(alloc, script.as_bytes(), 7, &[])?;
+    let mut reader = ScriptReader::new(alloc)?;
+    match reader.read_map(alloc, &mut source) {
+        Ok(_) => cause_in_turns(alloc, &mut reader, &mut source),
+        Err(ScriptFault::BadLine(_)) => Ok(Some(reader.cause(alloc)?)),
+        Err(_) => Ok(None),
+    }
+}
+
+/// Whether the script has a bad line of this cause, which says this text.
+fn has_cause(alloc: Global, script: &str, cause: Cause, text: &str) -> bool {
+    let Ok(Some(found)) = cause_in(alloc, script) else {
+        return false;
+    };
+    match format!(in alloc; "{found}") {
+        Ok(said) => found == cause && said.as_str() == text,
+        Err(_) => false,
+    }
+}
+
+/// Checks the causes of scripts that go on so behind a map line of this version, with 2 callers and a map of 5 by 4.
+fn have_causes(rt: &impl Abort, alloc: Global, version: u8, rows: &[(&str, Cause, &str)]) {
+    for (lines, cause, text) in rows {
+        let map = "\"size\":[5,4],\"callers\":2,\"classes\":[{\"name\":\"a\",\"clearance\":\"0\"}]";
+        let Ok(script) = format!(in alloc; "{{\"version\":{version},{map}}}\n{lines}") else {
+            assert!(rt; false, "memory");
+            return;
+        };
+        assert!(rt; has_cause(alloc, script.as_str(), *cause, text), "{lines}");
+    }
+}
+
+fn wrong(key: Key, wanted: Wanted) -> Cause {
+    Cause::WrongValue { key, wanted }
+}
+
+#[test]
+fn a_script_without_its_map_line_has_a_cause(rt: HostRuntime) {
+    let alloc = rt.alloc();
+    let none = "the script must begin with a map line, and has no line";
+    assert!(rt; has_cause(alloc, "", Cause::NoLine, none));
+    let here =
+        "the map line must be line 1 alone, and base lines must stand between it and the turns";
+    assert!(rt; has_cause(alloc, "{\"end\":1}\n", Cause::NotHere, here));
+    have_causes(
+        &rt,
+        alloc,
+        4,
+        &[(
+            "",
+            wrong(Key::Version, Wanted::Whole { least: 1, most: 3 }),
+            "the key \"version\" must have a whole number from 1 to 3",
+        )],
+    );
+}
+
+#[test]
+fn lines_of_version_3_have_causes(rt: HostRuntime) {
+    let Some(size) = Size::new(5, 4) else {
+        return;
+    };
+    have_causes(
+        &rt,
+        rt.alloc(),
+        3,
+        &[
+            (
+                "{\"caller\":0,\n",
+                Cause::NotJson,
+                "the line must be one JSON value in UTF-8",
+            ),
+            (
+                "{\"caller\":0,\"fly\":1}\n",
+                Cause::NoSuchForm,
+                "the line must be an object with exactly the keys of one form",
+            ),
+            (
+                "{\"caller\":2,\"remove\":\"1\"}\n",
+                wrong(Key::Caller, Wanted::Caller { callers: 2 }),
+                "the key \"caller\" must have the number of a caller, which is a whole number below 2",
+            ),
+            (
+                "{\"region\":\"a\",\"at\":[1.5,\"0\"],\"caller\":0}\n",
+                wrong(Key::At, Wanted::TwoDecimals),
+                "the key \"at\" must have an array of two decimals in quotes with at most 16 places, from -32768 to below 32768",
+            ),
+            (
+                "{\"caller\":0,\"path\":\"a\",\"from\":[\"0\",\"0\"],\"goal\":{\"circle\":[\"1\",\"1\"]}}\n",
+                wrong(Key::Circle, Wanted::ThreeDecimals),
+                "the key \"circle\" must have an array of three decimals in quotes with at most 16 places, from -32768 to below 32768",
+            ),
+            (
+                "{\"caller\":0,\"path\":\"a\",\"from\":[\"0\",\"0\"],\"goal\":{\"centre\":[\"1\",\"1\"]}}\n",
+                wrong(Key::Goal, Wanted::Goal { version: 3 }),
+                "the key \"goal\" must have an object with exactly one key: point, circle, not-circle, square, not-square or, from version 3 on, obstruction",
+            ),
+            (
+                "{\"end\":1}\n{\"end\":1}\n",
+                wrong(Key::End, Wanted::Turn { number: 2 }),
+                "the key \"end\" must have the number of this turn, 2",
+            ),
+            (
+                "{\"base\":[[0,0,5,0,1]]}\n",
+                wrong(Key::Base, Wanted::Rectangles { size }),
+                "the key \"base\" must have an array of arrays [i0,j0,i1,j1,mask] with i0 <= i1, j0 <= j1 and mask <= 65535, on a map of 5 by 4",
+            ),
+            (
+                "{\"caller\":0,\"remove\":1}\n{\"base\":[]}\n",
+                Cause::NotHere,
+                "the map line must be line 1 alone, and base lines must stand between it and the turns",
+            ),
+            (
+                "{\"caller\":0,\"remove\":1}\n",
+                Cause::EndsInsideTurn,
+                "the script must not end inside a turn: its end line is missing",
+            ),
+        ],
+    );
+}
+
+#[test]
+fn forms_of_other_versions_have_causes(rt: HostRuntime) {
+    let alloc = rt.alloc();
+    let third = "the map line must name version 3 or later for this";
+    have_causes(
+        &rt,
+        alloc,
+        2,
+        &[
+            (
+                "{\"caller\":0,\"move\":1,\"to\":[\"0\",\"0\"]}\n",
+                Cause::LaterVersion { version: 3 },
+                third,
+            ),
+            (
+                "{\"caller\":0,\"path\":\"a\",\"from\":[\"0\",\"0\"],\"goal\":{\"obstruction\":[1,\"0\"]}}\n",
+                Cause::LaterVersion { version: 3 },
+                third,
+            ),
+            (
+                "{\"caller\":0,\"add\":1,\"unit\":[\"0\",\"0\",\"1\"]}\n",
+                Cause::MissingMask,
+                "an add line must have the key \"mask\" from version 2 on",
+            ),
+        ],
+    );
+    have_causes(
+        &rt,
+        alloc,
+        1,
+        &[(
+            "{\"caller\":0,\"add\":1,\"unit\":[\"0\",\"0\",\"1\"],\"mask\":1}\n",
+            Cause::LaterVersion { version: 2 },
+            "the map line must name version 2 or later for this",
+        )],
+    );
+}
