@@ -28,12 +28,12 @@ made_told seed (Some kept) None (Ok text) (Err refused) is wrote = absurd wrote.
 made_told seed (Some kept) None (Err none) result is wrote = absurd wrote.1
 made_told seed (Some kept) (Some now) (Ok text) (Ok done) is wrote = (text, (wrote, is))
 made_told seed (Some kept) (Some now) (Ok text) (Err refusal.Failed) is wrote =
-    (take wrote.0 text, (wrote.1, λ other also. (wrote.0, ap (take wrote.0) (one_summary seed text other is also))))
+    (take wrote.0 text, (wrote.1, inr (text, (is, (wrote.0, refl)))))
 made_told seed (Some kept) (Some now) (Ok text) (Err refusal.NoMemory) is wrote =
-    (take wrote.0 text, (wrote.1, λ other also. (wrote.0, ap (take wrote.0) (one_summary seed text other is also))))
+    (take wrote.0 text, (wrote.1, inr (text, (is, (wrote.0, refl)))))
 made_told seed (Some kept) (Some now) (Err none) result is wrote =
     subst (λ (r : Result (Unit {0}) WriteRefusal). MakesTold seed (Some kept) (Some now) (status_after r Done)) (sym wrote.0)
-    ([], (wrote.1, λ other also. (0, refl)))
+    ([], (wrote.1, inl refl))
 
 pub made_status : (result : Result (Unit {0}) WriteRefusal) (before now : ℕ) → (IsErrOf result refusal.Failed → Rose before now)
     → ComesByMaking before now (status_after result Done)

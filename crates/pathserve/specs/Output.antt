@@ -155,9 +155,9 @@ ComesByStop reads_before reads_now writes_before writes_now ends status =
 abbrev pub IsSummary : ℕ → List ℕ → Type 0
 IsSummary seed text = (told : List TurnReplies) × (IsOneThread (made_map seed) (made_journal seed) told × (text ≡ summary_text told))
 
--- the first bytes of the summary
+-- nothing, or the first bytes of the summary
 abbrev pub IsSummaryBeginning : ℕ → List ℕ → Type 0
-IsSummaryBeginning seed out = (text : List ℕ) → IsSummary seed text → (n : ℕ) × (out ≡ take n text)
+IsSummaryBeginning seed out = (out ≡ []) ⊎ ((text : List ℕ) × (IsSummary seed text × ((n : ℕ) × (out ≡ take n text))))
 
 -- what a status says of a run that makes a match, where these bytes were written
 abbrev pub Makes : ℕ → List ℕ → Status → Type 0
