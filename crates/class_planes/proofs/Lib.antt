@@ -14,5 +14,6 @@ mod StopLineLemmas
 mod StopWordLemmas
 mod StopBandLemmas
 mod StopChangeLemmas
+mod StepLemmas
 mod StopTableLemmas
 mod TightLemmas

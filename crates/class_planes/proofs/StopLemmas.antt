@@ -1,5 +1,5 @@
 -- Where straight runs over a plane stop.
-use Rattle.std.proofs.Common.{◌≡◌, ℕ, zero, suc, ◌-◌, ◌<◌, ◌≤◌, Bool, true, false, ◌⊎◌, IsTrue, IsFalse, inl, inr, refl, sym, ◌∙◌, subst, arith}
+use Rattle.std.proofs.Common.{◌≡◌, ℕ, zero, suc, ◌-◌, ◌<◌, ◌≤◌, Bool, true, false, ◌⊎◌, ◌↔◌, IsTrue, IsFalse, inl, inr, refl, sym, ◌∙◌, subst, arith}
 use Rattle.std.proofs.lemmas.Bool.{cases_lt, false≢true, false_from_ne_true}
 use Rattle.nav_types.specs.declared.cells.Cell.{Cell}
 use Rattle.nav_types.specs.declared.cells.Rect.{Rect}
@@ -14,7 +14,7 @@ use Rattle.jump_scan.specs.Stops.{HaltsStraight, IsStraightStop, HasStraightStop
 use Rattle.jump_scan.proofs.Running.{HasPassed, HasPassed-none, HasPassed-more, IsStop-next, no_stop}
 use Rattle.class_planes.specs.Planes.{PlaneCells, is_passable}
 use Rattle.class_planes.proofs.PlaneLemmas.{only_inside}
-use Rattle.class_planes.specs.inner.Runs.{Far, RunsFar, IsFirstHit, cell_along, HasRoom}
+use Rattle.class_planes.specs.inner.Runs.{Far, RunsFar, TellsStop, IsFirstHit, cell_along, HasRoom}
 
 -- a run has halted nowhere on its first steps
 passed : (passes hit : Cell → Bool) (dir : Dir) (from : Cell) (far : Far) → RunsFar passes dir from far → (m : ℕ)
@@ -139,6 +139,22 @@ run_misses plane hit framed rect dir from far frame within apart runs n some few
     let inside = only_inside plane (cell_along dir from n) (runs.free n few) in
     misses_outside hit framed plane.size rect (cell_along dir from n) frame inside (within (cell_along dir from n) inside)
     (apart n)
+
+-- where the line of a run does not meet the aim's rectangle, the stops known beforehand tell whether it has one
+pub known_stop : (plane : PlaneCells) (hit framed : Cell → Bool) (rect : Rect) (dir : Dir) (from : Cell) (stop : Bool)
+    → IsFrame framed plane.size rect
+    → ((cell : Cell) → IsInside plane.size cell → IsTrue (hit cell) → IsTrue (framed cell))
+    → ((n : ℕ) → IsInRect rect (cell_along dir from n) → ⊥) → TellsStop (is_passable plane) dir from stop
+    → IsTrue stop ↔ HasStraightStop (is_passable plane) hit dir from
+known_stop plane hit framed rect dir from stop frame within apart known = (
+  λ is. stop_somewhere (is_passable plane) hit dir from known.0 known.1.0 (sym known.1.1 ∙ is),
+  λ has. elim (either_way stop) [
+    | inl is ↦ is
+    | inr misses ↦ absurd (stop_none (is_passable plane) hit dir from known.0 known.1.0
+        (run_misses plane hit framed rect dir from known.0 frame within apart known.1.0)
+        (sym known.1.1 ∙ misses) has.0 has.1)
+  ],
+)
 
 -- a run in a map has few steps
 pub few_steps : (size : Size) (dir : Dir) (from : Cell) (count : ℕ) → is_straight dir ≡ true → HasRoom dir from count

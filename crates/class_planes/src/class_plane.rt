@@ -10,7 +10,7 @@ ghost use Rattle.class_planes.specs.inner.Reading.{AreRead, IsUnread};
 ghost use Rattle.class_planes.specs.inner.Runs.{AreLanesOf, TellsStop};
 
 use crate::lines::Lines;
-use crate::read_cells::{ReadRect, read_rects};
+use crate::read_cells::ReadRect;
 use crate::rows::lines_of;
 use crate::stop_table::StopTable;
 use crate::stops::{stops_of, turned, updated_stops};
@@ -84,28 +84,6 @@ impl ClassPlane {
             column_stops,
             size,
         })
-    }
-
-    /// The plane of the class in a view of the same size, where this plane is right outside of the rectangles. The
-    /// words that they meet are read for the rows, the columns are made from the rows, and bands that no rectangle meets are
-    /// shared.
-    pub fn updated<V: Rows>(
-        &self,
-        alloc: Global,
-        view: &V,
-        class: Class,
-        rects: &[Rect],
-    ) -> Result<ClassPlane, NoMemory>
-        requires class { class < V.class_count view.now }
-        requires extent { self.now.size ≡ V.extent view.now }
-        requires inside { All (IsRectInside (V.extent view.now)) rects.now }
-        requires same { (cell : Cell) → IsOutside rects.now cell
-            → is_passable self.now cell ≡ V.passes view.now class cell }
-        ensures size { IfOk result (λ plane. plane.size ≡ V.extent view.now) }
-        ensures passes { IfOk result (λ plane. is_passable plane ≡ V.passes view.now class) }
-    {
-        let reads = read_rects(alloc, view, rects)?;
-        self.renewed(alloc, view, class, &reads, rects)
     }
 
     /// The plane of the class in a view of the same size, where this plane is right outside of the rectangles, and outside

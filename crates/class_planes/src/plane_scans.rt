@@ -1,19 +1,19 @@
 //! Runs over the plane of one class.
-ghost use Rattle.std.specs.Prelude.{◌≡◌, ◌<◌, ◌≤◌, ◌+◌, ◌-◌, ◌/◌, ◌%◌, ◌↔◌, ◌⊎◌, ℕ, IsTrue, IsFalse, IfSome, IfNone, length};
+ghost use Rattle.std.specs.Prelude.{◌≡◌, ◌<◌, ◌≤◌, ◌+◌, ◌-◌, ◌/◌, ◌%◌, ◌==◌, ◌&&◌, ◌↔◌, ◌⊎◌, ℕ, IsTrue, IsFalse, IfSome, IfNone, length};
 ghost use Rattle.nav_types.specs.declared.cells.Cell.{Cell};
 ghost use Rattle.nav_types.specs.declared.directions.Dir.TheVariants as Dir;
 ghost use Rattle.nav_types.specs.Cells.{IsInside, IsInRect, cell_at};
-ghost use Rattle.nav_types.specs.Directions.{is_straight, row_part, column_part};
+ghost use Rattle.nav_types.specs.Directions.{Leads, is_straight, row_part, column_part};
 ghost use Rattle.nav_types.specs.Frames.{IsFrame};
 ghost use Rattle.nav_types.specs.Walks.{Step};
 ghost use Rattle.jump_scan.specs.Stops.{HaltsDiagonal, IsStraightStop, HasStraightStop, IsDiagonalStop};
-ghost use Rattle.class_planes.specs.Planes.{is_passable};
-ghost use Rattle.class_planes.specs.inner.Runs.{AreLanesOf, Far, cell_along, RunsFar, IsFirstHit, HasRoom, HoldsSteps};
+ghost use Rattle.class_planes.specs.Planes.{AreFreeBits, is_passable};
+ghost use Rattle.class_planes.specs.inner.Runs.{AreLanesOf, Far, bit_in, cell_along, RunsFar, IsFirstHit, HasRoom, HoldsSteps};
 
 use crate::class_plane::ClassPlane;
 use crate::lines::is_inner;
-use crate::word_scans::{Lanes, Reach};
-use nav_types::{Aim, Cell, Dir, Rect, Size, neighbour};
+use crate::word_scans::{Lanes, Reach, is_set};
+use nav_types::{Aim, Cell, Dir, Rect, Size};
 use std::marker::Model;
 
 /// The row `j` with the rows beside it.
@@ -172,6 +172,15 @@ fn steps_into(rect: Rect, from: Cell, dir: Dir, count: u16) -> Steps
     }
 }
 
+/// Whether the place may lie from `low` to `high`, told by one comparison. Where `low` is above `high` the answer is of no
+/// use.
+#[inline(always)]
+fn is_between(place: u16, low: u16, high: u16) -> bool
+    ensures { IsFalse result → low ≤ place → place ≤ high → ⊥ }
+{
+    place.wrapping_sub(low) <= high.wrapping_sub(low)
+}
+
 /// Whether the line of the run meets the rectangle.
 #[inline(always)]
 fn meets(rect: Rect, from: Cell, dir: Dir) -> bool
@@ -179,9 +188,9 @@ fn meets(rect: Rect, from: Cell, dir: Dir) -> bool
     ensures { IsFalse result → (n : ℕ) → IsInRect rect (cell_along dir from n) → ⊥ }
 {
     match dir {
-        Dir::E | Dir::W => rect.j0 <= from.j && from.j <= rect.j1,
+        Dir::E | Dir::W => is_between(from.j, rect.j0, rect.j1),
         Dir::N | Dir::S | Dir::NE | Dir::SE | Dir::SW | Dir::NW => {
-            rect.i0 <= from.i && from.i <= rect.i1
+            is_between(from.i, rect.i0, rect.i1)
         }
     }
 }
@@ -352,11 +361,12 @@ fn has_stop_aside<A: Aim>(plane: &ClassPlane, cell: Cell, dir: Dir, rect: Rect, 
         || has_straight_stop(plane, cell, column_part(dir), rect, aim)
 }
 
-/// Whether the cell lies in the rectangle.
-fn is_in(rect: Rect, cell: Cell) -> bool
-    ensures { IsTrue result ↔ IsInRect rect cell }
+/// Whether the cell may lie in the rectangle.
+#[inline(always)]
+fn is_near(rect: Rect, cell: Cell) -> bool
+    ensures { IsFalse result → IsInRect rect cell → ⊥ }
 {
-    rect.i0 <= cell.i && cell.i <= rect.i1 && rect.j0 <= cell.j && cell.j <= rect.j1
+    is_between(cell.i, rect.i0, rect.i1) && is_between(cell.j, rect.j0, rect.j1)
 }
 
 /// Whether the aim hits the cell. Only a cell in the rectangle is asked for.
@@ -366,27 +376,89 @@ fn is_hit<A: Aim>(size: Size, cell: Cell, rect: Rect, aim: &A) -> bool
     requires frame { IsFrame (A.framed aim.now size) size rect }
     ensures { result ≡ A.hit aim.now size cell }
 {
-    is_in(rect, cell) && aim.hits(size, cell)
+    is_near(rect, cell) && aim.hits(size, cell)
 }
 
-/// The cell that one legal diagonal step from a passable cell leads to. None exactly where that step is not legal.
+/// The place that a step leads to along a line. None exactly where it would lie before the first.
 #[inline(always)]
-fn next_cell(plane: &ClassPlane, cell: Cell, dir: Dir) -> Option<Cell>
+fn shifted(place: u16, gained: u16, lost: u16) -> Option<u16>
+    requires place { place < 2048 }
+    requires gains { gained ≤ 1 }
+    ensures some { IfSome result (λ next. (next + lost ≡ place + gained) × (next ≤ place + 1)) }
+    ensures none { IfNone result ((next : ℕ) → next + lost ≡ place + gained → ⊥) }
+{
+    let ahead = place + gained;
+    if ahead < lost {
+        return None;
+    }
+    Some(ahead - lost)
+}
+
+/// The cell that one step leads to. None exactly where it would lie before the first column or the first row.
+#[inline(always)]
+fn cell_beside(cell: Cell, dir: Dir) -> Option<Cell>
+    requires column { cell.i < 2048 }
+    requires row { cell.j < 2048 }
+    ensures leads { IfSome result (Leads dir cell) }
+    ensures near { IfSome result (λ next. (next.i ≤ cell.i + 1) × (next.j ≤ cell.j + 1)) }
+    ensures none { IfNone result ((next : Cell) → ¬ Leads dir cell next) }
+{
+    let Some(i) = shifted(cell.i, dir.east(), dir.west()) else {
+        return None;
+    };
+    let Some(j) = shifted(cell.j, dir.north(), dir.south()) else {
+        return None;
+    };
+    Some(Cell::new(i, j))
+}
+
+/// Whether the cell that a diagonal step leads to and the two beside the step are free, by the words of the rows of both
+/// cells.
+#[inline(always)]
+fn is_open(row: &[u64], next_row: &[u64], from: Cell, to: Cell) -> bool
+    requires from { from.i / 64 < length next_row.now }
+    requires to { to.i / 64 < length next_row.now }
+    requires side { to.i / 64 < length row.now }
+    ensures { result ≡ ((bit_in next_row.now to.i == 1)
+        && ((bit_in row.now to.i == 1) && (bit_in next_row.now from.i == 1))) }
+{
+    is_set(next_row, to.i) && is_set(row, to.i) && is_set(next_row, from.i)
+}
+
+/// The cell that one legal diagonal step from a passable cell leads to, where these are the words of the cell's row. None
+/// exactly where that step is not legal. Past the map no bit is set, so that only the first row and column are minded.
+#[inline(always)]
+fn next_cell(plane: &ClassPlane, row: &[u64], cell: Cell, dir: Dir) -> Option<Cell>
     requires passable { IsTrue (is_passable plane.now cell) }
     requires inside { IsInside plane.now.size cell }
+    requires words { length row.now ≡ plane.now.size.w / 64 + 1 }
+    requires bits { AreFreeBits (λ i. is_passable plane.now (cell_at i cell.j)) row.now }
     ensures some { IfSome result (Step (is_passable plane.now) dir cell) }
     ensures none { IfNone result ((next : Cell) → ¬ Step (is_passable plane.now) dir cell next) }
 {
-    let Some(next) = neighbour(plane.size(), cell, dir) else {
+    let Some(next) = cell_beside(cell, dir) else {
         return None;
     };
-    let legal = plane.passable(next)
-        && plane.passable(Cell::new(next.i, cell.j))
-        && plane.passable(Cell::new(cell.i, next.j));
-    if legal { Some(next) } else { None }
+    if !is_open(row, plane.row_words(next.j), cell, next) {
+        return None;
+    }
+    Some(next)
 }
 
-/// Whether a diagonal run in the direction stops at the cell.
+/// Whether a diagonal run in the direction stops at the cell, whatever way the cell lies from the aim.
+#[inline(never)]
+fn halts_by_aim<A: Aim>(plane: &ClassPlane, cell: Cell, dir: Dir, rect: Rect, aim: &A) -> bool
+    requires passable { IsTrue (is_passable plane.now cell) }
+    requires inside { IsInside plane.now.size cell }
+    requires aim { A.sound aim.now plane.now.size }
+    requires frame { IsFrame (A.framed aim.now plane.now.size) plane.now.size rect }
+    ensures { IsTrue result ↔ HaltsDiagonal (is_passable plane.now) (A.hit aim.now plane.now.size) dir cell }
+{
+    is_hit(plane.size(), cell, rect, aim) || has_stop_aside(plane, cell, dir, rect, aim)
+}
+
+/// Whether a diagonal run in the direction stops at the cell. Where neither the cell's row nor its column meets the aim, the
+/// stops known beforehand tell.
 #[inline(always)]
 fn halts_diagonal<A: Aim>(plane: &ClassPlane, cell: Cell, dir: Dir, rect: Rect, aim: &A) -> bool
     requires passable { IsTrue (is_passable plane.now cell) }
@@ -395,7 +467,12 @@ fn halts_diagonal<A: Aim>(plane: &ClassPlane, cell: Cell, dir: Dir, rect: Rect, 
     requires frame { IsFrame (A.framed aim.now plane.now.size) plane.now.size rect }
     ensures { IsTrue result ↔ HaltsDiagonal (is_passable plane.now) (A.hit aim.now plane.now.size) dir cell }
 {
-    is_hit(plane.size(), cell, rect, aim) || has_stop_aside(plane, cell, dir, rect, aim)
+    let along_row = row_part(dir);
+    let along_column = column_part(dir);
+    if meets(rect, cell, along_row) || meets(rect, cell, along_column) {
+        return halts_by_aim(plane, cell, dir, rect, aim);
+    }
+    plane.has_stop(cell, along_row) || plane.has_stop(cell, along_column)
 }
 
 /// The stop of the diagonal run from the cell, where the aim has the rectangle. Each direction has a copy of its own of
@@ -443,11 +520,14 @@ fn diagonal_to<A: Aim>(
         ((stop : Cell) → ¬ IsDiagonalStop (is_passable plane.now) (A.hit aim.now plane.now.size) dir from stop) }
 {
     let mut cell = from;
-    'run: while let Some(next) = next_cell(plane, cell, dir) {
+    let mut row = plane.row_words(from.j);
+    'run: while let Some(next) = next_cell(plane, row, cell, dir) {
+        let next_row = plane.row_words(next.j);
         if halts_diagonal(plane, next, dir, rect, aim) {
             return Some(next);
         }
         cell = next;
+        row = next_row;
     }
     None
 }

@@ -80,17 +80,6 @@ impl Planes {
         Ok(Planes { planes })
     }
 
-    /// The same planes, which both hold from then on.
-    pub fn share(&self, alloc: Global) -> Result<Planes, NoMemory>
-        ensures { IfOk result (λ planes. planes ≡ self.now) }
-    {
-        let mut planes = Vec::with_capacity(alloc, self.planes.len())?;
-        for plane in &self.planes {
-            planes.push(shared(plane)?)?;
-        }
-        Ok(Planes { planes })
-    }
-
     /// The plane of a class. None exactly where the planes have none of it.
     pub fn plane(&self, class: Class) -> Option<&ClassPlane>
         ensures some { IfSome result (λ plane. slice_index_or self.now class None ≡ Some plane.now) }
@@ -120,18 +109,6 @@ fn plane_in<V: Rows>(
         Ok(Some(Arc::new(alloc, plane)?))
     } else {
         Ok(None)
-    }
-}
-
-/// The same plane, where there is one.
-fn shared(
-    plane: &Option<Arc<ClassPlane, Global>>,
-) -> Result<Option<Arc<ClassPlane, Global>>, NoMemory>
-    ensures { IfOk result (λ same. option_map arc_value same ≡ option_map arc_value plane.now) }
-{
-    match plane {
-        Some(plane) => Ok(Some(Arc::try_clone(plane)?)),
-        None => Ok(None),
     }
 }
 

@@ -92,6 +92,15 @@ pub fn word_at(line: &[u64], w: usize) -> u64
     }
 }
 
+/// Whether the bit of place `i` of the line is set.
+#[inline(always)]
+pub fn is_set(line: &[u64], i: u16) -> bool
+    requires { i / 64 < length line.now }
+    ensures { result ≡ (bit_in line.now i == 1) }
+{
+    (line[usize::from(i) / 64] >> (i % 64)) & 1 == 1
+}
+
 /// Word `w` of the line, with each bit a place down.
 pub fn moved_down(line: &[u64], w: usize) -> u64
     requires { w < length line.now }

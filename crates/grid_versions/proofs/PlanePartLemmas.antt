@@ -1,32 +1,36 @@
 -- What changes in the planes of a version.
-use Rattle.std.proofs.Common.{◌≡◌, ℕ, ◌<◌, ◌≤◌, ◌||◌, ◌==◌, Bool, true, false, not, List, [], ◌∷◌, ◌++◌, length, map as each_of, get_or, inl, inr, refl, sym, ap, ◌∙◌, subst, ⊎_elim, arith, Some, option_map, length-append}
+use Rattle.std.proofs.Common.{◌≡◌, ◌≢◌, ℕ, ◌<◌, ◌≤◌, ◌⊎◌, ◌||◌, ◌==◌, Bool, true, false, not, List, [], ◌∷◌, ◌++◌, length, map as each_of, get_or, inl, inr, refl, sym, ap, ◌∙◌, subst, ⊎_elim, arith, Some, option_map, length-append}
 use Rattle.std.specs.Prelude.{All, IsTrue, IsFalse, slice_get}
 use Rattle.std.proofs.lemmas.Bool.{cases_Bool, cases_lt, false_from_ne_true}
 use Rattle.std.proofs.lemmas.List.{get_or_append_left, get_or_at, length-map}
 use Rattle.std.proofs.lemmas.Nat.Bits.{bit_at-zero}
-use Rattle.std.proofs.lemmas.Option.{slice_get-map, slice_get-get_or}
+use Rattle.std.proofs.lemmas.Option.{same_Some, slice_get-map, slice_get-get_or}
 use Rattle.nav_types.specs.declared.cells.Cell.{Cell}
 use Rattle.nav_types.specs.declared.cells.Rect.{Rect}
 use Rattle.nav_types.specs.declared.cells.Chunk.{Chunk}
 use Rattle.nav_types.specs.declared.cells.Size.{Size}
-use Rattle.nav_types.specs.Cells.{IsInside, IsInRect, chunk_of}
+use Rattle.nav_types.specs.Cells.{IsInside, IsInRect, IsRectInside, chunk_of}
+use Rattle.nav_types.specs.Numbering.{Numbering, number_of}
+use Rattle.navcell_grid.specs.Patches.{IsPartOf}
 use Rattle.lane_rows.specs.Rows.{has_class}
 use Rattle.class_planes.specs.declared.changed_parts.ChangedPart.{ChangedPart}
 use Rattle.class_planes.specs.Planes.{IsKept}
 use Rattle.chunk_regions.specs.Labelling.{chunk_rect}
 use Rattle.chunk_regions.proofs.LabelLemmas.{in_rect}
 use Rattle.obstruction_store.specs.Standing.{Standing}
-use Rattle.grid_versions.specs.Chunks.{chunk_place}
+use Rattle.grid_versions.specs.Chunks.{chunk_count, chunk_place}
 use Rattle.grid_versions.specs.Maps.{Map}
 use Rattle.grid_versions.specs.Passing.{has_base, passable_at}
-use Rattle.grid_versions.specs.inner.ChunkLists.{chunk_numbered}
+use Rattle.grid_versions.specs.inner.ChunkLists.{chunk_numbered, IsChunkInside}
+use Rattle.grid_versions.specs.inner.Painting.{IsPaintedChunk, ArePaintedChunks}
+use Rattle.grid_versions.specs.inner.SameNumbers.{AreChunksOf, IsSameAt}
 use Rattle.grid_versions.specs.inner.Changing.{AreChanges}
 use Rattle.grid_versions.specs.inner.Reaching.{is_in_some, CoverChanges}
 use Rattle.grid_versions.proofs.ChangeLemmas.{same_unless, unmarked_agrees}
-use Rattle.grid_versions.proofs.ChunkLemmas.{chunk_inside, place_below, numbered-place}
+use Rattle.grid_versions.proofs.ChunkLemmas.{chunk_inside, place_below, numbered-place, item_at, AreOfChunks-at, AreOfChunks-weaker}
 use Rattle.grid_versions.proofs.PassingLemmas.{passable_in_words}
 use Rattle.grid_versions.proofs.TallyLemmas.{differing_inside}
-use Rattle.grid_versions.proofs.VersionLemmas.{passable-inside}
+use Rattle.grid_versions.proofs.VersionLemmas.{passable-inside, own_rect, chunk-passes}
 
 -- ---- one part more
 
@@ -57,6 +61,62 @@ in_numbered size cell inside =
     subst (λ (c : Chunk). IsInRect (chunk_rect size c) cell)
     (sym (numbered-place size (chunk_of cell) (chunk_inside size cell inside)))
     (in_rect size (chunk_of cell) cell inside refl refl)
+
+-- numbers that are not apart are one
+pub one_number : (a b : ℕ) → (a ≢ b → ⊥) → a ≡ b
+one_number a b same = elim (cases_lt a b) [
+  | inl below ↦ absurd (same (λ is. omega (arith, below, is)))
+  | inr from ↦ elim (cases_lt b a) [
+    | inl above ↦ absurd (same (λ is. omega (arith, above, is)))
+    | inr to ↦ omega (arith, from, to)
+  ]
+]
+
+-- the rectangle of one cell
+abbrev pub lone : Cell → Rect
+lone cell = record { i0 = cell.i; j0 = cell.j; i1 = cell.i; j1 = cell.j }
+
+pub in_lone : (cell : Cell) → IsInRect (lone cell) cell
+in_lone cell = record { west = omega arith; east = omega arith; south = omega arith; north = omega arith }
+
+pub lone_part : (rect : Rect) (cell : Cell) → IsInRect rect cell → IsPartOf rect (lone cell)
+lone_part rect cell inside =
+    let west = inside.west in let east = inside.east in let south = inside.south in let north = inside.north in
+    record {
+      first = record { west = west; east = east; south = south; north = north };
+      last = record { west = west; east = east; south = south; north = north };
+      columns = omega arith;
+      rows = omega arith;
+    }
+
+-- a chunk's cells lie in the map
+pub chunk_in_map : (size : Size) (chunk : Chunk) → IsChunkInside size chunk → IsRectInside size (chunk_rect size chunk)
+chunk_in_map size chunk lies =
+    let column = lies.column in let row = lies.row in
+    let wide = size.wide.some in let high = size.high.some in
+    record { columns = omega arith; rows = omega arith; last_column = omega arith; last_row = omega arith }
+
+-- a part of a rectangle of the map lies in the map
+pub part_in_map : (size : Size) (rect part : Rect) → IsPartOf rect part → IsRectInside size rect → IsRectInside size part
+part_in_map size rect part within whole =
+    let east = within.last.east in let north = within.last.north in
+    let last_column = whole.last_column in let last_row = whole.last_row in
+    record { columns = within.columns; rows = within.rows; last_column = omega arith; last_row = omega arith }
+
+-- the numbers of painted chunks are those of the chunks' cells
+pub extents_of : (map : Map) (standing : Standing) (all : List Numbering) → ArePaintedChunks map standing all
+    → AreChunksOf map.size all
+extents_of map standing all painted =
+    AreOfChunks-weaker map.size (chunk_count map.size) (IsPaintedChunk map standing)
+    (λ (chunk : Chunk) (cells : Numbering). cells.rect ≡ chunk_rect map.size chunk) all
+    (λ chunk cells is. is.extent) painted
+
+-- a cell that has one number in the chunks at a place
+pub same_at : (before now : List Numbering) (place : ℕ) (cell : Cell) (a b : Numbering) → slice_get before place ≡ Some a
+    → slice_get now place ≡ Some b → number_of a cell ≡ number_of b cell → IsSameAt before now place cell
+same_at before now place cell a b at_a at_b same = λ x y at_x at_y.
+    ap (λ (n : Numbering). number_of n cell) (same_Some x a (sym at_x ∙ at_a)) ∙ same
+    ∙ ap (λ (n : Numbering). number_of n cell) (same_Some b y (sym at_b ∙ at_y))
 
 -- ---- cells that no changed part holds
 
@@ -94,23 +154,47 @@ agrees_unmarked before now map k bits cell changes inside unmarked =
     unmarked_agrees before now size k bits place (has_class k set) changes at unmarked cell
     (sym (numbered-place size (chunk_of cell) chunk_in))
 
-pub kept_same : (map : Map) (old new : Standing) (rects : List Rect) (bits : List ℕ) (parts : List ChangedPart)
+-- a cell with one number before and now is passable before exactly where it is now
+same_passable : (map : Map) (old new : Standing) (earlier later : List Numbering) → ArePaintedChunks map old earlier
+    → ArePaintedChunks map new later → (k : ℕ) (cell : Cell) → k < length map.classes → IsInside map.size cell
+    → IsSameAt earlier later (chunk_place map.size (chunk_of cell)) cell
+    → passable_at map old k cell ≡ passable_at map new k cell
+same_passable map old new earlier later were are k cell known inside same =
+    let size = map.size in
+    let chunk = chunk_of cell in
+    let chunk_in = chunk_inside size cell inside in
+    let low = place_below size chunk chunk_in in
+    let a = item_at size (chunk_count size) (IsPaintedChunk map old) earlier were (chunk_place size chunk) low in
+    let b = item_at size (chunk_count size) (IsPaintedChunk map new) later are (chunk_place size chunk) low in
+    let lies = own_rect map old cell inside in
+    sym (chunk-passes map old chunk a.0 k cell
+    (AreOfChunks-at size (chunk_count size) (IsPaintedChunk map old) earlier chunk a.0 were chunk_in a.1) known lies)
+    ∙ ap (λ n. not (has_class k n)) (same a.0 b.0 a.1 b.1)
+    ∙ chunk-passes map new chunk b.0 k cell
+    (AreOfChunks-at size (chunk_count size) (IsPaintedChunk map new) later chunk b.0 are chunk_in b.1) known lies
+
+pub kept_same : (map : Map) (old new : Standing) (earlier later : List Numbering) (rects : List Rect) (bits : List ℕ)
+    (parts : List ChangedPart) → ArePaintedChunks map old earlier → ArePaintedChunks map new later
     → CoverChanges map old new rects
     → ((k : ℕ) → k < length map.classes → AreChanges (passable_at map old k) (passable_at map new k) map.size k bits)
     → ((k : ℕ) (cell : Cell) → IsKept parts k cell → IsInside map.size cell → IsTrue (is_in_some rects cell)
-    → IsFalse (has_class k (get_or bits (chunk_place map.size (chunk_of cell)) 0)))
+    → IsFalse (has_class k (get_or bits (chunk_place map.size (chunk_of cell)) 0))
+    ⊎ IsSameAt earlier later (chunk_place map.size (chunk_of cell)) cell)
     → (k : ℕ) (cell : Cell) → IsKept parts k cell → passable_at map old k cell ≡ passable_at map new k cell
-kept_same map old new rects bits parts covers changes held k cell kept = elim (cases_lt k (length map.classes)) [
-  | inl known ↦
-      let before = passable_at map old k in
-      let now = passable_at map new k in
-      let change = changes k known in
-      same_unless (before cell) (now cell) (λ apart.
-      let inside = differing_inside before now map.size change.before_inside change.now_inside cell apart in
-      apart (⊎_elim
-      (λ (reached : is_in_some rects cell ≡ true).
-      agrees_unmarked before now map k bits cell change inside (held k cell kept inside reached))
-      (λ (out : is_in_some rects cell ≡ false). passable_same map old new rects k cell covers known inside out)
-      (cases_Bool (is_in_some rects cell))))
-  | inr unknown ↦ passable_unknown map old k cell unknown ∙ sym (passable_unknown map new k cell unknown)
-]
+kept_same map old new earlier later rects bits parts were are covers changes held k cell kept =
+    elim (cases_lt k (length map.classes)) [
+      | inl known ↦
+          let before = passable_at map old k in
+          let now = passable_at map new k in
+          let change = changes k known in
+          same_unless (before cell) (now cell) (λ apart.
+          let inside = differing_inside before now map.size change.before_inside change.now_inside cell apart in
+          apart (⊎_elim
+          (λ (reached : is_in_some rects cell ≡ true). elim (held k cell kept inside reached) [
+            | inl clear ↦ agrees_unmarked before now map k bits cell change inside clear
+            | inr same ↦ same_passable map old new earlier later were are k cell known inside same
+          ])
+          (λ (out : is_in_some rects cell ≡ false). passable_same map old new rects k cell covers known inside out)
+          (cases_Bool (is_in_some rects cell))))
+      | inr unknown ↦ passable_unknown map old k cell unknown ∙ sym (passable_unknown map new k cell unknown)
+    ]

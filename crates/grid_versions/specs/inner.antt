@@ -9,3 +9,4 @@ pub mod Reaching
 pub mod Reachers
 pub mod Parts
 pub mod Changing
+pub mod SameNumbers

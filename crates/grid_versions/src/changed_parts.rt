@@ -1,65 +1,145 @@
 //! The parts of a map's chunks that edits have changed.
-ghost use Rattle.std.specs.Prelude.{ℕ, ◌≡◌, ◌<◌, All, length, slice_index, IsTrue, IsFalse, IfOk, OnOk};
+ghost use Rattle.std.specs.Prelude.{ℕ, ◌≡◌, ◌≢◌, ◌≤◌, ◌<◌, ◌⊎◌, All, length, slice_index, IsTrue, IsFalse, IfOk, OnOk, IfSome, IsSomeAnd};
 ghost use Rattle.nav_types.specs.declared.cells.Cell.{Cell};
+ghost use Rattle.nav_types.specs.declared.cells.Size.{Size};
 ghost use Rattle.nav_types.specs.Cells.{IsInside, IsInRect, IsRectInside, chunk_of};
-ghost use Rattle.chunk_regions.specs.Labelling.{chunk_rect};
+ghost use Rattle.nav_types.specs.Numbering.{IsPatch, number_of};
+ghost use Rattle.navcell_grid.specs.Patches.{IsPartOf};
 ghost use Rattle.lane_rows.specs.Rows.{has_class};
 ghost use Rattle.class_planes.specs.Planes.{IsKept};
 ghost use Rattle.grid_versions.specs.Chunks.{chunk_count, chunk_place};
-ghost use Rattle.grid_versions.specs.inner.ChunkLists.{chunk_numbered};
+ghost use Rattle.grid_versions.specs.inner.SameNumbers.{AreChunksOf, IsSameAt};
 ghost use Rattle.grid_versions.specs.inner.Reaching.{is_in_some};
 
-use crate::chunks;
-use crate::parts::dirty_part;
+use crate::chunk_cells::ChunkCells;
+use crate::parts::{dirty_part, hull};
+use crate::shared_list::SharedList;
 use class_planes::ChangedPart;
-use nav_types::{NoMemory, Rect, Size};
+use nav_types::{Cell, NoMemory, Rect, Size};
+use navcell_grid::Patch;
 use std::alloc::Global;
 
-/// The parts of the chunks that lie in the reaches, with the bits of what has changed in each chunk. A chunk without
-/// bits has none.
+/// The parts of the chunks in which cells of the reaches have other numbers than before, with the bits of what has
+/// changed in each chunk. A chunk without bits has none.
 pub fn changed_parts(
     alloc: Global,
     size: Size,
     reaches: &[Rect],
     changed: &[u16],
+    before: &SharedList<ChunkCells>,
+    after: &SharedList<ChunkCells>,
 ) -> Result<Vec<ChangedPart>, NoMemory>
-    requires { length changed.now ≡ chunk_count size }
+    requires each { length changed.now ≡ chunk_count size }
+    requires before { AreChunksOf size before.now }
+    requires after { AreChunksOf size after.now }
     ensures inside { IfOk result (λ parts. All (λ part. IsRectInside size part.rect) parts.items) }
     ensures held { IfOk result (λ parts. (class : ℕ) (cell : Cell) → IsKept parts.items class cell
         → IsInside size cell → IsTrue (is_in_some reaches.now cell)
-        → IsFalse (has_class class (slice_index changed.now (chunk_place size (chunk_of cell))))) }
+        → IsFalse (has_class class (slice_index changed.now (chunk_place size (chunk_of cell))))
+        ⊎ IsSameAt before.now after.now (chunk_place size (chunk_of cell)) cell) }
 {
     let mut parts = Vec::new(alloc);
     for place in 0..changed.len() {
-        push_part(size, reaches, place as u32, changed[place], &mut parts)?;
+        let earlier = before.at(place);
+        let old = earlier.patch();
+        let later = after.at(place);
+        let new = later.patch();
+        push_part(reaches, old, new, changed[place], &mut parts)?;
     }
     Ok(parts)
 }
 
-/// Appends the part of the chunk at the place that lies in the reaches, with these bits.
+/// Appends the part of a chunk in which cells of the reaches have other numbers than before, with these bits.
 fn push_part(
-    size: Size,
     reaches: &[Rect],
-    place: u32,
+    before: &Patch,
+    after: &Patch,
     classes: u16,
     parts: &mut Vec<ChangedPart>,
 ) -> Result<(), NoMemory>
-    requires place { place < chunk_count size }
-    ensures inside { OnOk result (All (λ part. IsRectInside size part.rect) parts.old.items
+    requires { after.now.rect ≡ before.now.rect }
+    ensures inside { OnOk result ((size : Size) → IsRectInside size before.now.rect
+        → All (λ part. IsRectInside size part.rect) parts.old.items
         → All (λ part. IsRectInside size part.rect) parts.new.items) }
     ensures before { OnOk result ((class : ℕ) (cell : Cell) → IsKept parts.new.items class cell
         → IsKept parts.old.items class cell) }
     ensures held { OnOk result ((class : ℕ) (cell : Cell) → IsKept parts.new.items class cell
-        → IsInRect (chunk_rect size (chunk_numbered size place)) cell → IsTrue (is_in_some reaches.now cell)
-        → IsFalse (has_class class classes)) }
+        → IsInRect before.now.rect cell → IsTrue (is_in_some reaches.now cell)
+        → IsFalse (has_class class classes) ⊎ (number_of before.now cell ≡ number_of after.now cell)) }
 {
     if classes == 0 {
         return Ok(());
     }
-    let cells = chunks::cells_of(size, chunks::numbered(size, place));
-    let Some(rect) = dirty_part(reaches, cells) else {
+    let Some(rect) = differing_part(reaches, before, after) else {
         return Ok(());
     };
     parts.push(ChangedPart { rect, classes })?;
     Ok(())
+}
+
+/// The least rectangle that holds all cells of the reaches whose numbers differ. None only where there is no such cell.
+fn differing_part(reaches: &[Rect], before: &Patch, after: &Patch) -> Option<Rect>
+    requires { after.now.rect ≡ before.now.rect }
+    ensures part { IfSome result (IsPartOf before.now.rect) }
+    ensures held { (cell : Cell) → IsInRect before.now.rect cell → IsTrue (is_in_some reaches.now cell)
+        → number_of before.now cell ≢ number_of after.now cell → IsSomeAnd result (λ rect. IsInRect rect cell) }
+{
+    let Some(part) = dirty_part(reaches, before.rect()) else {
+        return None;
+    };
+    let mut found = None;
+    for j in part.j0..part.j1 + 1 {
+        found = with_row(found, before, after, part, j);
+    }
+    found
+}
+
+/// The least rectangle that holds the first one, if there is one, and the cells of row `j` of the part whose numbers
+/// differ.
+fn with_row(held: Option<Rect>, before: &Patch, after: &Patch, part: Rect, j: u16) -> Option<Rect>
+    requires same { after.now.rect ≡ before.now.rect }
+    requires held { IfSome held (IsPartOf before.now.rect) }
+    requires patch { IsPatch before.now.rect }
+    requires part { IsPartOf before.now.rect part }
+    requires south { part.j0 ≤ j }
+    requires north { j ≤ part.j1 }
+    ensures part { IfSome result (IsPartOf before.now.rect) }
+    ensures first { (cell : Cell) → IsSomeAnd held (λ rect. IsInRect rect cell)
+        → IsSomeAnd result (λ rect. IsInRect rect cell) }
+    ensures row { (cell : Cell) → IsInRect part cell → cell.j ≡ j
+        → number_of before.now cell ≢ number_of after.now cell → IsSomeAnd result (λ rect. IsInRect rect cell) }
+{
+    let mut found = held;
+    for i in part.i0..part.i1 + 1 {
+        found = with_cell(found, before, after, Cell::new(i, j));
+    }
+    found
+}
+
+/// The least rectangle that holds the first one, if there is one, and the cell, if its numbers differ.
+fn with_cell(held: Option<Rect>, before: &Patch, after: &Patch, cell: Cell) -> Option<Rect>
+    requires same { after.now.rect ≡ before.now.rect }
+    requires held { IfSome held (IsPartOf before.now.rect) }
+    requires cell { IsInRect before.now.rect cell }
+    ensures part { IfSome result (IsPartOf before.now.rect) }
+    ensures first { (other : Cell) → IsSomeAnd held (λ rect. IsInRect rect other)
+        → IsSomeAnd result (λ rect. IsInRect rect other) }
+    ensures apart { number_of before.now cell ≢ number_of after.now cell
+        → IsSomeAnd result (λ rect. IsInRect rect cell) }
+{
+    let earlier = before.at(cell);
+    let later = after.at(cell);
+    if earlier == later {
+        return held;
+    }
+    let only = Rect {
+        i0: cell.i,
+        j0: cell.j,
+        i1: cell.i,
+        j1: cell.j,
+    };
+    match held {
+        Some(rect) => Some(hull(rect, only)),
+        None => Some(only),
+    }
 }

@@ -98,6 +98,7 @@ impl Layers {
             map,
             shapes,
             &self.planes,
+            &self.ground.cells,
             &ground.cells,
             reaches,
             bits,
@@ -128,23 +129,24 @@ fn planes_of(
     Planes::build(alloc, &painted, u16::MAX)
 }
 
-/// The planes of all classes of a map whose cells have these numbers, from those of before. The rectangles cover what
-/// has changed, and the bits say in which chunks; what lies elsewhere is shared.
+/// The planes of all classes of a map whose cells have these numbers, from those of before and the numbers of before. The
+/// rectangles cover what has changed, and the bits say in which chunks; what lies elsewhere is shared.
 fn next_planes(
     alloc: Global,
     map: &MapSpec,
     shapes: &Store,
     before: &Planes,
+    earlier: &SharedList<ChunkCells>,
     cells: &SharedList<ChunkCells>,
     reaches: &[Rect],
     changed: &[u16],
 ) -> Result<Planes, NoMemory>
     requires cells { ArePaintedChunks map.now shapes.now cells.now }
     requires each { length changed.now ≡ chunk_count map.now.size }
-    requires before { ArePlanesBefore map.now shapes.now before.now reaches.now changed.now }
+    requires before { ArePlanesBefore map.now shapes.now before.now earlier.now reaches.now changed.now }
     ensures { IfOk result (ArePlanes map.now.size (passable_at map.now shapes.now) 65535 (length map.now.classes)) }
 {
     let painted = PaintedMap::new(map, shapes, cells);
-    let parts = changed_parts(alloc, map.size(), reaches, changed)?;
+    let parts = changed_parts(alloc, map.size(), reaches, changed, earlier, cells)?;
     before.updated(alloc, &painted, &parts)
 }

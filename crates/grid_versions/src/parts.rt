@@ -28,7 +28,7 @@ pub fn common(a: Rect, b: Rect) -> Option<Rect>
 }
 
 /// The least rectangle that holds both.
-fn hull(a: Rect, b: Rect) -> Rect
+pub fn hull(a: Rect, b: Rect) -> Rect
     ensures part { (whole : Rect) → IsPartOf whole a → IsPartOf whole b → IsPartOf whole result }
     ensures first { (cell : Cell) → IsInRect a cell → IsInRect result cell }
     ensures second { (cell : Cell) → IsInRect b cell → IsInRect result cell }

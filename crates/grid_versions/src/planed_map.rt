@@ -1,13 +1,13 @@
 //! A map whose planes are made, before its tables are.
-ghost use Rattle.std.specs.Prelude.{◌≡◌, ◌≤◌, length};
-ghost use Rattle.class_planes.specs.Planes.{ArePlanes};
+ghost use Rattle.std.specs.Prelude.{◌≡◌, ◌<◌, ◌≤◌, length};
+ghost use Rattle.class_planes.specs.Planes.{ArePlanes, is_passable};
 ghost use Rattle.grid_versions.specs.Passing.{passable_at};
-ghost use Rattle.grid_versions.specs.Versions.{map_state};
+ghost use Rattle.grid_versions.specs.Versions.{map_state, passes_of};
 
 use crate::chunk_bits::{BitView, passable_cells};
 use crate::maps::MapSpec;
 use chunk_regions::ChunkBits;
-use class_planes::Planes;
+use class_planes::{ClassPlane, Planes};
 use nav_types::{Cell, Chunk, Class, Size, View};
 use obstruction_store::Store;
 use std::marker::Model;
@@ -54,6 +54,18 @@ impl<'a> PlanedMap<'a> {
             planes,
         }
     }
+
+    /// The plane of a class of the map.
+    pub fn plane(&self, class: Class) -> &'a ClassPlane
+        requires { class < length self.now.map.classes }
+        ensures extent { result.now.size ≡ self.now.map.size }
+        ensures cells { is_passable result.now ≡ passes_of self.now class }
+    {
+        match self.planes.plane(class) {
+            Some(plane) => plane,
+            None => unreachable!(),
+        }
+    }
 }
 
 impl<'a> View for PlanedMap<'a> {
@@ -78,18 +90,12 @@ impl<'a> View for PlanedMap<'a> {
     }
 
     fn passable(&self, class: Class, cell: Cell) -> bool {
-        match self.planes.plane(class) {
-            Some(plane) => plane.passable(cell),
-            None => false,
-        }
+        self.plane(class).passable(cell)
     }
 }
 
 impl<'a> BitView for PlanedMap<'a> {
     fn bits(&self, class: Class, chunk: Chunk) -> ChunkBits {
-        match self.planes.plane(class) {
-            Some(plane) => passable_cells(plane, chunk),
-            None => ChunkBits::new(),
-        }
+        passable_cells(self.plane(class), chunk)
     }
 }

@@ -18,6 +18,19 @@ use std::alloc::Global;
 /// Rectangles in which obstructions can block cells.
 pub type Reaches = Sequence<Rect>;
 
+/// What edits make of the standing obstructions.
+#[derive(Drop)]
+pub struct Edited {
+    /// The obstructions after the edits.
+    pub shapes: Store,
+    /// The reply to each edit.
+    pub replies: EditReplies,
+    /// Rectangles that cover what has changed.
+    pub reaches: Reaches,
+    /// The numbers under which it stands.
+    pub ids: Ids,
+}
+
 /// Whether the shape fits a map of this size.
 fn fits(shape: Shape, size: Size) -> bool
     ensures { result ≡ fits size shape }
@@ -120,7 +133,7 @@ fn apply_listed(
 
 /// Applies the edits one after another, replies to each, and lists rectangles that cover what changes, and the numbers
 /// under which it stands.
-pub fn apply_all(
+fn apply_all(
     alloc: Global,
     map: &MapSpec,
     shapes: &mut Store,
@@ -131,6 +144,7 @@ pub fn apply_all(
     requires { AllFit map.now.size shapes.old }
     ensures replies { IfOk result (λ replies. replies ≡ edit_replies map.now shapes.old edits.now) }
     ensures standing { OnOk result (shapes.new ≡ after_edits map.now shapes.old edits.now) }
+    ensures fit { OnOk result (AllFit map.now.size shapes.new) }
     ensures covers { OnOk result ((first : Standing) → CoverChanges map.now first shapes.old reaches.old
         → CoverChanges map.now first shapes.new reaches.new) }
     ensures names { OnOk result ((first : Standing) → NameChanges map.now first shapes.old reaches.old ids.old
@@ -141,4 +155,30 @@ pub fn apply_all(
         replies.push(apply_listed(map, shapes, *edit, reaches, ids)?)?;
     }
     Ok(replies)
+}
+
+/// Applies the edits to a copy of the standing obstructions.
+pub fn edited_copy(
+    alloc: Global,
+    map: &MapSpec,
+    before: &Store,
+    edits: &[Edit],
+) -> Result<Edited, NoMemory>
+    requires { AllFit map.now.size before.now }
+    ensures standing { IfOk result (λ next. next.shapes ≡ after_edits map.now before.now edits.now) }
+    ensures replies { IfOk result (λ next. next.replies ≡ edit_replies map.now before.now edits.now) }
+    ensures fit { IfOk result (λ next. AllFit map.now.size next.shapes) }
+    ensures covers { IfOk result (λ next. CoverChanges map.now before.now next.shapes next.reaches) }
+    ensures names { IfOk result (λ next. NameChanges map.now before.now next.shapes next.reaches next.ids) }
+{
+    let mut shapes = before.copy(alloc)?;
+    let mut reaches = Reaches::new(alloc);
+    let mut ids = Ids::new(alloc);
+    let replies = apply_all(alloc, map, &mut shapes, edits, &mut reaches, &mut ids)?;
+    Ok(Edited {
+        shapes,
+        replies,
+        reaches,
+        ids,
+    })
 }

@@ -4,16 +4,19 @@ ghost use Rattle.std.specs.Arc.{arc_value};
 ghost use Rattle.nav_types.specs.declared.cells.Cell.{Cell};
 ghost use Rattle.nav_types.specs.Cells.{IsInside, chunk_of};
 ghost use Rattle.nav_types.specs.Counting.{Counts};
-ghost use Rattle.nav_types.specs.Regions.{HasRegion, HasTallies, HasRelabelled};
+ghost use Rattle.nav_types.specs.Regions.{HasArea, HasRegion, HasTallies, HasRelabelled};
 ghost use Rattle.class_planes.specs.Planes.{AreOf};
 ghost use Rattle.obstruction_store.specs.Standing.{AllFit};
 ghost use Rattle.grid_versions.specs.Chunks.{chunk_count, chunk_place};
+ghost use Rattle.grid_versions.specs.inner.Tables.{AreTables};
 
 use crate::layers::Layers;
 use crate::maps::MapSpec;
+use crate::planed_map::PlanedMap;
+use crate::tables::ClassTables;
 use crate::versions::Tallies;
 use class_planes::Planes;
-use nav_types::{Areas, Cell, Class, NoMemory, Rect, Size, Ticks, View};
+use nav_types::{Cell, Class, NoMemory, Rect, Ticks, View};
 use obstruction_store::Store;
 use reach_sets::RegionId;
 use std::alloc::Global;
@@ -90,11 +93,11 @@ impl VersionParts {
         reaches: &[Rect],
         ids: &[u32],
         ticks: &mut Ticks<L>,
-    ) -> Result<(VersionParts, u32), NoMemory>
+    ) -> Result<(Arc<VersionParts, Global>, u32), NoMemory>
         requires fit { AllFit self.now.map.size shapes }
         requires covers { CoverChanges self.now.map self.now.standing shapes reaches.now }
         requires names { NameChanges self.now.map self.now.standing shapes reaches.now ids.now }
-        ensures version { IfOk result (λ next. next.0 ≡ map_state self.now.map shapes) }
+        ensures version { IfOk result (λ next. arc_value next.0 ≡ map_state self.now.map shapes) }
         ensures relabelled { IfOk result (λ next. HasRelabelled (length self.now.map.classes) (passes_of self.now)
             (passes_of (map_state self.now.map shapes)) next.1) }
         ensures most { (count : ℕ) → HasRelabelled (length self.now.map.classes) (passes_of self.now)
@@ -113,7 +116,7 @@ impl VersionParts {
             shapes: standing,
             layers,
         };
-        Ok((parts, relabelled))
+        Ok((Arc::new(alloc, parts)?, relabelled))
     }
 
     /// The region of a cell for a class, as `Version::region` says.
@@ -123,8 +126,34 @@ impl VersionParts {
         ensures chunk { result.chunk ≡ chunk_place self.now.map.size (chunk_of cell) }
         ensures region { HasRegion (passes_of self.now class) (chunk_of cell) cell result.region }
     {
-        let tables = self.layers.tables.at(usize::from(class.number()));
-        tables.region(self.map.size(), cell)
+        self.tables(class).region(self.map().size(), cell)
+    }
+
+    /// The number of the cell's area for the class, as `Version::area` says.
+    pub fn area(&self, class: Class, cell: Cell) -> u32
+        requires class { class < length self.now.map.classes }
+        requires inside { IsInside self.now.map.size cell }
+        ensures { HasArea (passes_of self.now class) cell result }
+    {
+        self.tables(class).area(self.map().size(), cell)
+    }
+
+    /// The tables of a class of the map.
+    fn tables(&self, class: Class) -> &ClassTables
+        requires { class < length self.now.map.classes }
+        ensures { AreTables (passes_of self.now class) self.now.map.size result.now }
+    {
+        self.layers.tables.at(usize::from(class.number()))
+    }
+
+    /// Whether the cell is passable for the class, as `Version::passable` says.
+    pub fn passable(&self, class: Class, cell: Cell) -> bool
+        requires class { class < length self.now.map.classes }
+        requires inside { IsInside self.now.map.size cell }
+        ensures { result ≡ passes_of self.now class cell }
+    {
+        let planed = PlanedMap::new(&self.map, &self.shapes, &self.layers.planes);
+        planed.passable(class, cell)
     }
 
     /// The tallies, as `Version::tallies` says.
@@ -195,55 +224,4 @@ fn shared_store(alloc: Global, shapes: &Store) -> Result<Arc<Store, Global>, NoM
     ensures { IfOk result (λ shared. arc_value shared ≡ shapes.now) }
 {
     Ok(Arc::new(alloc, shapes.copy(alloc)?)?)
-}
-
-impl View for VersionParts {
-    ghost use Rattle.grid_versions.specs.Versions.{MapState, passes_of};
-    ghost use Rattle.grid_versions.specs.PassingLaws.{passes_within};
-    ghost use Rattle.std.specs.Prelude.{length};
-
-    ghost extent = { λ v. v.map.size };
-
-    ghost class_count = { λ v. length v.map.classes };
-
-    ghost passes = { passes_of };
-
-    ghost within = { passes_within };
-
-    /// The size of the map, in navcells.
-    fn size(&self) -> Size {
-        self.map.size()
-    }
-
-    /// The number of passability classes of the map.
-    fn classes(&self) -> u8 {
-        self.map.classes().count()
-    }
-
-    /// Whether the cell is passable for the class (`passable_at`): no base rectangle and no standing obstruction covers
-    /// it for the class.
-    fn passable(&self, class: Class, cell: Cell) -> bool {
-        match self.layers.planes.plane(class) {
-            Some(plane) => plane.passable(cell),
-            None => false,
-        }
-    }
-}
-
-impl Areas for VersionParts {
-    ghost use Rattle.nav_types.specs.Regions.{HasArea};
-    ghost use Rattle.grid_versions.specs.Versions.{passes_of};
-    ghost use Rattle.grid_versions.specs.PassingLaws.{area_zero, area_joined};
-
-    ghost has_area = { λ v class cell area. HasArea (passes_of v class) cell area };
-
-    ghost blocked = { λ v class cell area has. area_zero (passes_of v class) cell area has };
-
-    ghost joined = { λ v class a b m n pa pb ha hb. area_joined (passes_of v class) a b m n pa pb ha hb };
-
-    /// The number of the cell's area for the class; 0 exactly for an impassable cell (`HasArea`).
-    fn area(&self, class: Class, cell: Cell) -> u32 {
-        let tables = self.layers.tables.at(usize::from(class.number()));
-        tables.area(self.map.size(), cell)
-    }
 }

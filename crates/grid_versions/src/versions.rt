@@ -10,11 +10,11 @@ ghost use Rattle.grid_versions.specs.Chunks.{chunk_count, chunk_place};
 
 use crate::edits::{EditReplies, Edits};
 use crate::maps::MapSpec;
-use crate::standing_edits::{Reaches, apply_all};
+use crate::standing_edits::{Edited, edited_copy};
 use crate::version_parts::VersionParts;
 use class_planes::Planes;
 use nav_types::{Areas, Cell, Class, NoMemory, Size, Ticks, View};
-use obstruction_store::{Ids, Store};
+use obstruction_store::Store;
 use reach_sets::RegionId;
 use std::alloc::Global;
 use std::marker::Model;
@@ -117,17 +117,12 @@ impl Version {
             return self.unchanged(alloc);
         }
         let parts: &VersionParts = &self.parts;
-        let mut shapes = parts.shapes().copy(alloc)?;
-        let mut reaches = Reaches::new(alloc);
-        let mut ids = Ids::new(alloc);
-        let replies = apply_all(
-            alloc,
-            parts.map(),
-            &mut shapes,
-            edits.as_slice(),
-            &mut reaches,
-            &mut ids,
-        )?;
+        let Edited {
+            shapes,
+            replies,
+            reaches,
+            ids,
+        } = edited_copy(alloc, parts.map(), parts.shapes(), edits.as_slice())?;
         let (next, relabelled) = parts.updated(
             alloc,
             shapes,
@@ -136,9 +131,7 @@ impl Version {
             ticks,
         )?;
         Ok(Next {
-            version: Version {
-                parts: Arc::new(alloc, next)?,
-            },
+            version: Version { parts: next },
             replies,
             relabelled,
         })
@@ -227,12 +220,12 @@ impl View for Version {
 
     /// The size of the map, in navcells.
     fn size(&self) -> Size {
-        self.parts.size()
+        self.map().size()
     }
 
     /// The number of passability classes of the map.
     fn classes(&self) -> u8 {
-        self.parts.classes()
+        self.map().classes().count()
     }
 
     /// Whether the cell is passable for the class (`passable_at`): no base rectangle and no standing obstruction covers

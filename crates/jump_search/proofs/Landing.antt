@@ -20,7 +20,7 @@ use Rattle.jump_search.specs.JumpStates.{IsStopOf, IsJump, octile_between, octil
 use Rattle.jump_search.specs.inner.Numbered.{HasCheaper}
 use Rattle.jump_search.specs.inner.Searched.{IsLastRun, HasParent, IsNoted}
 use Rattle.jump_search.specs.inner.Underway.{steps_over, estimate_of, IsOpenNode, IsFollowedAlong}
-use Rattle.jump_search.specs.inner.Underway.{IsFollowable, Relaxes, Follows}
+use Rattle.jump_search.specs.inner.Underway.{IsFollowable, Relaxes, Notes, Follows}
 use Rattle.jump_search.specs.inner.Traced.{Moves}
 use Rattle.jump_search.proofs.Measuring.{run_moves, octile_to_through}
 use Rattle.jump_search.proofs.Lasting.{gains_none, gains_through, along_later, open_later}
@@ -49,6 +49,13 @@ run_to_stop passes hit dir from stop is = elim is [
   | inr diagonal ↦ let end = diagonal.1 in
       subst (λ (n : ℕ). IsRun passes dir n from stop) (steps_run passes dir end.count from stop end.run) end.run
 ]
+
+-- a run leads to a stop
+pub moves_to_stop : (passes hit : Cell → Bool) (dir : Dir) (from stop : Cell) → IsStopOf passes hit dir from stop
+    → (count : ℕ) × Moves dir count from stop
+moves_to_stop passes hit dir from stop is =
+    let steps = steps_over from stop in
+    (steps, run_moves passes dir steps from stop (run_to_stop passes hit dir from stop is))
 
 run_free : (passes : Cell → Bool) (dir : Dir) (count : ℕ) (from to : Cell) → IsTrue (passes from)
     → IsRun passes dir count from to → IsTrue (passes to)
@@ -173,7 +180,7 @@ low_cell size cell inside =
     (omega (arith, few, column), omega (arith, low, row))
 
 -- following the one jump in a direction
-pub follows_landed : (all : Bool) (passes hit : Cell → Bool) (rect : Rect) (from : JumpState) (cost : ℕ) (dir : Dir) (stop : Cell)
+follows_landed : (all : Bool) (passes hit : Cell → Bool) (rect : Rect) (from : JumpState) (cost : ℕ) (dir : Dir) (stop : Cell)
     (node : Node)
     (old new : List Node) (before after : Queue)
     → IsSuccessor passes from.cell from.arrived dir → IsStopOf passes hit dir from.cell stop
@@ -192,7 +199,7 @@ follows_landed all passes hit rect from cost dir stop node old new before after 
 }
 
 -- the one jump in a direction is left
-pub follows_left : (all : Bool) (passes hit : Cell → Bool) (rect : Rect) (from : JumpState) (cost : ℕ) (dir : Dir)
+follows_left : (all : Bool) (passes hit : Cell → Bool) (rect : Rect) (from : JumpState) (cost : ℕ) (dir : Dir)
     (stop : Cell) (node : Node) (nodes : List Node) (queue : Queue)
     → IsStopOf passes hit dir from.cell stop → HasLanded from cost dir stop node → IsFalse all
     → HasCheaper nodes node.state.cell node.cost
@@ -203,6 +210,24 @@ follows_left all passes hit rect from cost dir stop node nodes queue is landed s
       (along_landed all passes hit nodes from cost dir stop node is landed (inr (some, cheaper)));
   going = λ any start floor top going has early room. going;
 }
+
+-- the one jump in a direction is noted, or left
+pub follows_noted : (all : Bool) (passes hit : Cell → Bool) (rect : Rect) (from : JumpState) (cost : ℕ) (dir : Dir) (stop : Cell)
+    (node : Node)
+    (old new : List Node) (before after : Queue)
+    → IsSuccessor passes from.cell from.arrived dir → IsStopOf passes hit dir from.cell stop
+    → HasLanded from cost dir stop node
+    → octile_between from.cell stop ≤ 189812736 → Notes all rect node old new before after
+    → Follows all passes hit rect from cost (λ other. other ≡ dir) old new before after
+follows_noted all passes hit rect from cost dir stop node old new before after successor is landed most notes = elim notes [
+  | inl relaxes ↦
+      follows_landed all passes hit rect from cost dir stop node old new before after successor is landed most relaxes
+  | inr left ↦
+      subst (λ (ns : List Node). Follows all passes hit rect from cost (λ other. other ≡ dir) old ns before after)
+      (sym left.1.0)
+      (subst (λ (q : Queue). Follows all passes hit rect from cost (λ other. other ≡ dir) old old before q) (sym left.1.1)
+      (follows_left all passes hit rect from cost dir stop node old before is landed left.0.0 left.0.1))
+]
 
 -- there is no jump in the direction
 pub follows_none : (all : Bool) (passes hit : Cell → Bool) (rect : Rect) (from : JumpState) (cost : ℕ) (dir : Dir)

@@ -1,5 +1,5 @@
 -- Noting a jump: its state's node is added, gets a cost that is less, or keeps the better of two last runs.
-use Rattle.std.proofs.Common.{ℕ, ◌≡◌, ◌+◌, ◌<◌, ◌≤◌, ◌⊎◌, Bool, cond, IsTrue, IsFalse, List, [], ◌∷◌, ◌++◌, length, set}
+use Rattle.std.proofs.Common.{ℕ, ◌≡◌, ◌+◌, ◌<◌, ◌≤◌, ◌⊎◌, Bool, true, false, cond, IsTrue, IsFalse, List, [], ◌∷◌, ◌++◌, length, set}
 use Rattle.std.proofs.Common.{Option, Some, None, inl, inr, refl, ap, sym, subst, ◌∙◌, arith}
 use Rattle.std.specs.List.{slice_get}
 use Rattle.std.specs.FinMap as map
@@ -15,7 +15,7 @@ use Rattle.open_heap.specs.Queue.{Queue}
 use Rattle.jump_search.specs.declared.nodes.Node.{Node}
 use Rattle.jump_search.specs.declared.states.JumpState.{JumpState}
 use Rattle.jump_search.specs.JumpStates.{octile_to}
-use Rattle.jump_search.specs.inner.Numbered.{LacksState}
+use Rattle.jump_search.specs.inner.Numbered.{LacksState, HasCheaper}
 use Rattle.jump_search.specs.inner.Searched.{IsKeptRun, HasParent, IsDearer}
 use Rattle.jump_search.specs.inner.Underway.{estimate_of, priority_of, opened_count, IsQueued, IsLaterNode, AreLater}
 use Rattle.jump_search.specs.inner.Underway.{Relaxes}
@@ -476,3 +476,12 @@ relaxes_none rect node nodes queue number a found same less = record {
   };
   going = λ all passes hit start floor most going early cheap parent. going;
 }
+
+-- a jump is left
+
+pub left_below : (all : Bool) (nodes : List Node) (cell : Cell) (cost bound : ℕ) → (IsTrue all → bound ≡ 0)
+    → (IsFalse all → bound ≡ cost) → HasCheaper nodes cell bound → IsFalse all × HasCheaper nodes cell cost
+left_below true nodes cell cost bound zero same cheaper =
+    let none = zero refl in let less = cheaper.1.1.1.1 in absurd (omega (arith, none, less))
+left_below false nodes cell cost bound zero same cheaper =
+    (refl, subst (λ (n : ℕ). HasCheaper nodes cell n) (same refl) cheaper)

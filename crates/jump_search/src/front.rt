@@ -9,12 +9,13 @@ ghost use Rattle.open_heap.specs.Queue.{IsNotMore};
 ghost use Rattle.jump_scan.specs.Successors.{IsSuccessor};
 ghost use Rattle.jump_search.specs.JumpStates.{IsStopOf, octile_between};
 ghost use Rattle.jump_search.specs.inner.Numbered.{HasState, LacksState};
+ghost use Rattle.jump_search.specs.inner.Traced.{Moves};
 ghost use Rattle.jump_search.specs.inner.Searched.{IsKeptRun, IsDearer};
-ghost use Rattle.jump_search.specs.inner.Underway.{steps_over, estimate_of, priority_of, IsQueued, Relaxes};
+ghost use Rattle.jump_search.specs.inner.Underway.{steps_over, estimate_of, priority_of, IsQueued, Relaxes, Notes};
 ghost use Rattle.jump_search.specs.inner.Underway.{IsFollowable, Follows};
 
-use crate::nodes::{Node, Nodes};
-use crate::octile::{octile_between, octile_to, steps_between};
+use crate::nodes::{Node, Nodes, Standing};
+use crate::octile::octile_to;
 use crate::states::JumpState;
 use jump_scan::{Runs, successors};
 use nav_types::{Aim, Cell, Class, Dir, DirSet, NoMemory, Rect};
@@ -28,23 +29,39 @@ pub(crate) struct Front {
     pub waiting: OpenHeap,
 }
 
+/// How many steps a run in the direction from one cell to the other has.
+#[inline(always)]
+fn steps_along(dir: Dir, from: Cell, to: Cell) -> u16
+    requires { (count : ℕ) × Moves dir count from to }
+    ensures { result ≡ steps_over from to }
+{
+    match dir {
+        Dir::N | Dir::NE | Dir::NW => to.j - from.j,
+        Dir::S | Dir::SE | Dir::SW => from.j - to.j,
+        Dir::E => to.i - from.i,
+        Dir::W => from.i - to.i,
+    }
+}
+
 /// The node to which a run leads.
+#[inline(always)]
 fn landed(node: &Node, dir: Dir, stop: Cell) -> Node
-    requires { node.now.cost < 4611686018427387904 }
+    requires low { node.now.cost < 4611686018427387904 }
+    requires moves { (count : ℕ) × Moves dir count node.now.state.cell stop }
     ensures cell { result.state.cell ≡ stop }
     ensures arrived { result.state.arrived ≡ Some dir }
     ensures cost { result.cost ≡ node.now.cost + octile_between node.now.state.cell stop }
     ensures run { result.run ≡ steps_over node.now.state.cell stop }
     ensures opened { IsFalse result.opened }
 {
-    let from = node.state.cell;
+    let run = steps_along(dir, node.state.cell, stop);
     Node {
         state: JumpState {
             cell: stop,
             arrived: Some(dir),
         },
-        cost: node.cost + octile_between(from, stop),
-        run: steps_between(from, stop),
+        cost: node.cost + run as u64 * dir.cost(),
+        run,
         opened: false,
     }
 }
@@ -60,6 +77,14 @@ fn kept_run(dir: Dir, one: u16, other: u16) -> u16
     } else {
         one.min(other)
     }
+}
+
+/// The cost below which a node of a cell lets a jump to the cell be left. None is below it where the search is for all.
+fn bound_of(all: bool, cost: u64) -> u64
+    ensures all { IsTrue all → result ≡ 0 }
+    ensures cost { IsFalse all → result ≡ cost }
+{
+    if all { 0 } else { cost }
 }
 
 /// The stop of the run from the cell in the direction. None exactly where it has none.
@@ -128,34 +153,55 @@ impl Front {
         self.waiting.lower(number, priority_of(rect, &node));
     }
 
-    /// Notes that a jump leads to the node's state at its cost and with its last run.
-    fn relax(&mut self, rect: &Rect, dir: Dir, node: Node) -> Result<(), NoMemory>
+    /// Notes that a jump leads to the node's state, which the node of the number has, at its cost and with its last run.
+    fn relax(&mut self, rect: &Rect, dir: Dir, number: u32, node: Node)
+        requires has { HasState self.old.nodes node.state number }
         requires arrived { node.state.arrived ≡ Some dir }
         requires waiting { IsFalse node.opened }
         requires low { node.cost < 9223372036854775808 }
         requires queued { (all : Bool) × ((floor : ℕ)
             × (IsQueued all rect.now floor self.old.nodes self.old.waiting × (floor ≤ estimate_of rect.now node))) }
-        ensures { OnOk result (Relaxes rect.now node self.old.nodes self.new.nodes self.old.waiting self.new.waiting) }
+        ensures { Relaxes rect.now node self.old.nodes self.new.nodes self.old.waiting self.new.waiting }
     {
-        let Some(number) = self.nodes.find(node.state) else {
-            self.meet(rect, node)?;
-            return Ok(());
-        };
         let known = *self.nodes.at(number);
-        if node.cost < known.cost {
-            self.lower(rect, number, node);
-            return Ok(());
+        if node.cost > known.cost {
+            return;
         }
         if node.cost == known.cost {
             let run = kept_run(dir, known.run, node.run);
             self.nodes.put(number, Node { run, ..known });
-            return Ok(());
+            return;
         }
-        Ok(())
+        self.lower(rect, number, node);
     }
 
-    /// Follows the jump from the node in the direction, where that is one of the set and its run stops. A jump to a state
-    /// that is dearer than a node of its cell is left, where the search is not for all.
+    /// Notes that a jump leads to the node's state at its cost and with its last run. Where the search is not for all,
+    /// the jump is left if a node of its cell that costs less is found before that of the state.
+    #[inline(always)]
+    fn note(&mut self, rect: &Rect, dir: Dir, all: bool, node: Node) -> Result<(), NoMemory>
+        requires arrived { node.state.arrived ≡ Some dir }
+        requires waiting { IsFalse node.opened }
+        requires low { node.cost < 9223372036854775808 }
+        requires queued { (all : Bool) × ((floor : ℕ)
+            × (IsQueued all rect.now floor self.old.nodes self.old.waiting × (floor ≤ estimate_of rect.now node))) }
+        ensures { OnOk result (Notes all rect.now node self.old.nodes self.new.nodes self.old.waiting
+            self.new.waiting) }
+    {
+        match self.nodes.standing(node.state, bound_of(all, node.cost)) {
+            Standing::Dearer => Ok(()),
+            Standing::Known(number) => {
+                self.relax(rect, dir, number, node);
+                Ok(())
+            }
+            Standing::New => {
+                self.meet(rect, node)?;
+                Ok(())
+            }
+        }
+    }
+
+    /// Follows the jump from the node in the direction, where that is one of the set and its run stops. Where the search
+    /// is not for all, a jump to a state that is dearer than a node of its cell may be left.
     #[inline(always)]
     fn follow_along<R: Runs, A: Aim>(
         &mut self,
@@ -188,10 +234,7 @@ impl Front {
             return Ok(());
         };
         let next = landed(node, dir, stop);
-        if !all && self.is_dearer(&next) {
-            return Ok(());
-        }
-        self.relax(rect, dir, next)?;
+        self.note(rect, dir, all, next)?;
         Ok(())
     }
 

@@ -1,7 +1,7 @@
 ghost use Rattle.std.specs.Prelude.{◌≡◌, ◌<◌, ◌≤◌, ◌++◌, ◌∷◌, [], length, slice_get, slice_set, Some, IfSome, IfNone};
 ghost use Rattle.std.specs.Prelude.{IsTrue, IfOk, OnOk, OnErr};
 ghost use Rattle.jump_search.specs.inner.Numbered.{arrival_number, key_of, same_key, HasState, LacksState, HasCheaper};
-ghost use Rattle.jump_search.specs.inner.Numbered.{IsSearchable, AreDown};
+ghost use Rattle.jump_search.specs.inner.Numbered.{IsSearchable, AreDown, IsStanding};
 
 use crate::pages::Pages;
 use crate::states::JumpState;
@@ -10,7 +10,7 @@ use std::alloc::Global;
 use std::marker::Model;
 
 /// For how many nodes there is room at first.
-const ROOM: usize = 4096;
+const ROOM: usize = 16384;
 
 /// A jump state that a search has met.
 #[derive(Clone, Copy, Debug, PartialEq, Eq)]
@@ -22,6 +22,17 @@ pub struct Node {
     pub run: u16,
     /// Whether its jumps have been followed.
     pub opened: bool,
+}
+
+/// How a state stands to the nodes.
+#[derive(Clone, Copy)]
+pub enum Standing {
+    /// A node of the state's cell costs less than the bound.
+    Dearer,
+    /// The node of the number has the state.
+    Known(u32),
+    /// No node has the state.
+    New,
 }
 
 /// The nodes of a search by number, each state once. Contracts see the list.
@@ -74,23 +85,38 @@ fn is_same(one: JumpState, other: JumpState) -> bool
         && arrival_number(one.arrived) == arrival_number(other.arrived)
 }
 
-/// The number of the node of the state, among the one before the number `end` and those linked from there. None exactly
-/// where no node has it.
-fn find_before(list: &Vec<Node>, links: &Vec<u32>, end: u32, state: JumpState) -> Option<u32>
+/// Whether the node is of the cell and costs less.
+fn is_cheaper(node: Node, cell: Cell, cost: u64) -> bool
+    ensures { IsTrue result → (node.state.cell ≡ cell) × (node.cost < cost) }
+{
+    node.cost < cost && node.state.cell.j == cell.j && node.state.cell.i == cell.i
+}
+
+/// How the state stands to the node before the number `end` and those linked from there, up to the first of them that is
+/// of the state, or is of its cell and costs less than the bound.
+fn standing_before(
+    list: &Vec<Node>,
+    links: &Vec<u32>,
+    end: u32,
+    state: JumpState,
+    bound: u64,
+) -> Standing
     requires { IsSearchable list.now.items links.now.items state end }
-    ensures some { IfSome result (HasState list.now.items state) }
-    ensures none { IfNone result (LacksState list.now.items state) }
+    ensures { IsStanding list.now.items state bound result }
 {
     let mut after = end;
     'walk: while after > 0 {
         let number = after - 1;
         let node = list[number as usize];
+        if is_cheaper(node, state.cell, bound) {
+            return Standing::Dearer;
+        }
         if is_same(node.state, state) {
-            return Some(number);
+            return Standing::Known(number);
         }
         after = links[number as usize];
     }
-    None
+    Standing::New
 }
 
 /// Whether the node before the number `end`, or one that is linked from there, is of the cell and costs less.
@@ -103,7 +129,7 @@ fn is_cheaper_before(list: &Vec<Node>, links: &Vec<u32>, end: u32, cell: Cell, c
     'walk: while after > 0 {
         let number = after - 1;
         let node = list[number as usize];
-        if node.cost < cost && node.state.cell.j == cell.j && node.state.cell.i == cell.i {
+        if is_cheaper(node, cell, cost) {
             return true;
         }
         after = links[number as usize];
@@ -123,12 +149,30 @@ impl Nodes {
         })
     }
 
+    /// How the state stands to the nodes. A node of its cell that costs less than the bound is told of where it is found
+    /// before that of the state.
+    pub(crate) fn standing(&self, state: JumpState, bound: u64) -> Standing
+        ensures { IsStanding self.now state bound result }
+    {
+        standing_before(
+            &self.list,
+            &self.links,
+            self.pages.get(state.cell),
+            state,
+            bound,
+        )
+    }
+
     /// The number of the node of the state. None exactly where no node has it.
     pub(crate) fn find(&self, state: JumpState) -> Option<u32>
         ensures some { IfSome result (HasState self.now state) }
         ensures none { IfNone result (LacksState self.now state) }
     {
-        find_before(&self.list, &self.links, self.pages.get(state.cell), state)
+        match self.standing(state, 0) {
+            Standing::Known(number) => Some(number),
+            Standing::Dearer => None,
+            Standing::New => None,
+        }
     }
 
     /// Whether some node of the cell costs less.

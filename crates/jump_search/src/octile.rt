@@ -1,7 +1,6 @@
 //! Octile distances.
 ghost use Rattle.std.specs.Prelude.{◌≡◌, ◌+◌, ◌-◌, ◌*◌, ◌<◌, ◌≤◌};
-ghost use Rattle.jump_search.specs.JumpStates.{octile, octile_between, octile_to};
-ghost use Rattle.jump_search.specs.inner.Underway.{steps_over};
+ghost use Rattle.jump_search.specs.JumpStates.{octile, octile_to};
 
 use nav_types::{Cell, Rect};
 
@@ -15,28 +14,6 @@ fn octile(columns: u64, rows: u64) -> u64
 {
     let both = columns.min(rows);
     92_682 * both + 65_536 * (columns.max(rows) - both)
-}
-
-/// How far apart two places along one side of a map are.
-fn apart(a: u16, b: u16) -> u16
-    ensures { result ≡ (a - b) + (b - a) }
-{
-    if a < b { b - a } else { a - b }
-}
-
-/// The octile distance of two cells.
-pub(crate) fn octile_between(a: Cell, b: Cell) -> u64
-    ensures value { result ≡ octile_between a b }
-    ensures most { result < 1099511627776 }
-{
-    octile(apart(a.i, b.i) as u64, apart(a.j, b.j) as u64)
-}
-
-/// How many steps a run from one cell to the other has.
-pub(crate) fn steps_between(a: Cell, b: Cell) -> u16
-    ensures { result ≡ steps_over a b }
-{
-    apart(a.i, b.i).max(apart(a.j, b.j))
 }
 
 /// How far a place lies outside of a part of one side of a map.

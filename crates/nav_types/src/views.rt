@@ -142,6 +142,7 @@ pub fn neighbour(size: Size, cell: Cell, dir: Dir) -> Option<Cell>
 }
 
 /// Whether the cell that one step in the direction leads to is passable. Off the map no cell is.
+#[inline(always)]
 pub fn is_free_beside<V: View>(view: &V, class: Class, cell: Cell, dir: Dir) -> bool
     requires class { class < V.class_count view.now }
     requires inside { IsInside (V.extent view.now) cell }

@@ -1,5 +1,5 @@
 -- Replies that answer a request, with their opened numbers.
-use Rattle.std.proofs.Common.{◌≡◌, ℕ, ℤ, Bool, true, false, List, Option, Some, None, Result, Ok, Err, IfOk, is_some, refl, sym, subst}
+use Rattle.std.proofs.Common.{◌≡◌, ℕ, ℤ, Bool, true, false, List, Option, Some, None, Result, Ok, Err, IfOk, is_some, refl, sym, ap, ◌∙◌, subst}
 use Rattle.std.specs.Prelude.{◌↔◌, IsSome}
 use Rattle.std.proofs.lemmas.Bool.{false_from_ne_true}
 use Rattle.nav_types.specs.declared.cells.Cell.{Cell}
@@ -32,10 +32,15 @@ use Rattle.turn_core.specs.inner.Opened.{IsCountedBy}
 use Rattle.turn_core.proofs.FoundGoals.{on_map_decides}
 
 -- a point lies on the map exactly where some cell of it holds the point
-pub on_map_held : (size : Size) (x z : ℤ) (holder : Option Cell) → (IsSome holder ↔ (IsOnAxis size.w x × IsOnAxis size.h z)) → is_on_map size x z ≡ is_some holder
+on_map_held : (size : Size) (x z : ℤ) (holder : Option Cell) → (IsSome holder ↔ (IsOnAxis size.w x × IsOnAxis size.h z)) → is_on_map size x z ≡ is_some holder
 on_map_held size x z (Some cell) holds = (on_map_decides size x z).1 (holds.0 refl)
 on_map_held size x z None holds =
     false_from_ne_true (is_on_map size x z) (λ on. let both : false ≡ true = holds.1 ((on_map_decides size x z).0 on) in cc)
+
+-- the same, by the size of the map as it is read
+pub on_map_seen : (size seen : Size) (x z : ℤ) (holder : Option Cell) (held : Bool) → seen ≡ size → (IsSome holder ↔ (IsOnAxis seen.w x × IsOnAxis seen.h z))
+    → is_some holder ≡ held → is_on_map size x z ≡ held
+on_map_seen size seen x z holder held same holds is = ap (λ (s : Size). is_on_map s x z) (sym same) ∙ on_map_held seen x z holder holds ∙ is
 
 -- the answer at a class that the map has and a point that lies on it
 pub answered_at : (named : Option ℕ) (on_map : Bool) (Answers : ℕ → Answer → Type 0) (answer : Answer) (class : ℕ)

@@ -37,9 +37,6 @@ unless_none false why e = cc
 pub is_less : (m n : ℕ) → nat_lt m n ≡ true → m < n
 is_less m n e = grind (arith, nat_tests)
 
-pub is_most : (m n : ℕ) → nat_le m n ≡ true → m ≤ n
-is_most m n e = grind (arith, nat_tests)
-
 pub lists-append : (n : ℕ) (xs ys : List (List (List Post))) → HaveLists n xs → HaveLists n ys → HaveLists n (xs ++ ys)
 lists-append n [] ys x y = y
 lists-append n (t ∷ xs) ys x y = (x.0, lists-append n xs ys x.1 y)

@@ -1,10 +1,10 @@
 -- How far callers have collected the replies to them, turn by turn.
 use Rattle.std.proofs.Common.{◌≡◌, inl, inr, ℕ, zero, suc, ◌+◌, ◌-◌, ◌<◌, ◌≤◌, List, [], ◌∷◌, ◌++◌, None, Some}
-use Rattle.std.proofs.Common.{length, take, drop, set, replicate, get_or, slice_index, slice_index_or, refl, sym, ap}
+use Rattle.std.proofs.Common.{length, take, drop, set, get_or, slice_index, slice_index_or, refl, sym, ap}
 use Rattle.std.proofs.Common.{◌∙◌, subst, arith, append-nil, length-append}
 use Rattle.std.specs.Prelude.{slice_get}
 use Rattle.std.proofs.lemmas.List.{take_more, take_all, take-append-le, take-append-drop, drop_more, get_or-set_same}
-use Rattle.std.proofs.lemmas.List.{get_or-set_other, length-set, length-replicate}
+use Rattle.std.proofs.lemmas.List.{get_or-set_other, length-set}
 use Rattle.std.proofs.lemmas.Bool.{cases_eq}
 use Rattle.std.proofs.lemmas.Grind.{flat_map-append}
 use Rattle.std.proofs.lemmas.Option.{slice_get_past, slice_get_read}
@@ -13,7 +13,6 @@ use Rattle.turn_core.specs.declared.machines.delivered.ReplyPlace.{ReplyPlace}
 use Rattle.turn_core.specs.declared.replies.Reply.{Reply}
 use Rattle.turn_core.specs.States.{list_of}
 use Rattle.turn_core.specs.inner.Runs.{replies_to, beginning, HasCome, HaveCome}
-use Rattle.turn_core.proofs.CallerLists.{zeros_at}
 
 get_front : {A : Type 0} (xs ys : List A) (k : ℕ) → k < length xs → slice_get (xs ++ ys) k ≡ slice_get xs k
 get_front [] ys k h = absurd (omega (arith, h))
@@ -56,17 +55,6 @@ next_is c ds n at d rs x lt is own within read come =
     ∙ sym (get_back first (list_of d.replies c ++ rest) n (let count : n ≡ length first + k = come.replies in omega (arith, count)))
     ∙ ap (λ (l : List Reply). slice_get l n) (sym (replies_split c ds at.turn d lt is))
 
--- behind the next reply
-pub come_behind : (c : ℕ) (ds : List DeliveredTurn) (n : ℕ) (at behind : ReplyPlace) → behind.turn ≡ at.turn → behind.place ≡ at.place + 1
-    → HasCome ds c n at → HasCome ds c (n + 1) behind
-come_behind c ds n at behind turn place come =
-    let count : n ≡ length (replies_to c (take at.turn ds)) + at.place = come.replies in
-    record {
-      turn = omega (arith, turn, come.turn);
-      replies = (let e : n + 1 ≡ length (replies_to c (take at.turn ds)) + behind.place = omega (arith, count, place) in e)
-          ∙ ap (λ (i : ℕ). length (replies_to c (take i ds)) + behind.place) (sym turn);
-    }
-
 -- past a turn in which no reply is left
 pub come_past : (c : ℕ) (ds : List DeliveredTurn) (n : ℕ) (at past : ReplyPlace) (d : DeliveredTurn) (rs : List Reply)
     → at.turn < length ds → d ≡ get_or ds at.turn d → rs ≡ list_of d.replies c → length rs ≤ at.place
@@ -88,20 +76,6 @@ none_next c ds n at all come =
     let count : n ≡ length (replies_to c (take at.turn ds)) + at.place = come.replies in
     let whole : length (replies_to c (take at.turn ds)) ≡ length (replies_to c ds) = ap (λ (l : List DeliveredTurn). length (replies_to c l)) (take_all at.turn ds all) in
     slice_get_past (replies_to c ds) n (omega (arith, count, whole))
-
-at_beginning : (n c : ℕ) → slice_index_or (replicate n beginning) c beginning ≡ beginning
-at_beginning zero c = refl
-at_beginning (suc n) zero = refl
-at_beginning (suc n) (suc c) = at_beginning n c
-
--- at the opening
-pub come_nowhere : (n : ℕ) (ds : List DeliveredTurn) (ns : List ℕ) (places : List ReplyPlace) → ds ≡ [] → ns ≡ replicate n 0 → places ≡ replicate n beginning → HaveCome ds ns places
-come_nowhere n ds ns places none zeros same = record {
-  wide = ap length same ∙ length-replicate n beginning ∙ sym (length-replicate n 0) ∙ ap length (sym zeros);
-  each = λ c. subst (λ (l : List ReplyPlace). HasCome ds c (slice_index ns c) (slice_index_or l c beginning)) (sym same)
-      (subst (λ (at : ReplyPlace). HasCome ds c (slice_index ns c) at) (sym (at_beginning n c))
-      (record { turn = omega arith; replies = ap (λ (l : List ℕ). slice_index l c) zeros ∙ zeros_at n c }));
-}
 
 -- one turn more
 pub come_still : (ds more : List DeliveredTurn) (d : DeliveredTurn) (ns : List ℕ) (places : List ReplyPlace) → more ≡ ds ++ d ∷ [] → HaveCome ds ns places → HaveCome more ns places

@@ -1,5 +1,6 @@
 //! Events of the turn machine, and why one is not enabled.
-ghost use Rattle.std.specs.Prelude.{◌≡◌, Some};
+ghost use Rattle.std.specs.Prelude.{◌≡◌, ◌++◌, Some, decimal};
+ghost use Rattle.std.specs.Fmt.{DisplaysOnOk};
 ghost use Rattle.turn_core.specs.Refusals.{why_text, refusal_text};
 
 use crate::posts::Post;
@@ -83,20 +84,32 @@ impl fmt::Display for Why {
 
     fn fmt<W: fmt::Write>(&self, f: &mut fmt::Formatter<W>) -> fmt::Result {
         match *self {
-            Why::Callers(count) => write!(f, "there are {count} callers"),
-            Why::Staged(turn) => write!(f, "turn {turn} is staged"),
+            Why::Callers(count) => write_number(f, "there are ", u64::from(count), " callers"),
+            Why::Staged(turn) => write_number(f, "turn ", turn, " is staged"),
             Why::Posted(caller, count) => write!(f, "caller {caller} has {count} posts left"),
             Why::NoneStaged(last) => write!(f, "no turn is staged after turn {last}"),
-            Why::Running(turn) => write!(f, "turn {turn} runs"),
+            Why::Running(turn) => write_number(f, "turn ", turn, " runs"),
             Why::NoneRunning(last) => write!(f, "no turn runs after turn {last}"),
-            Why::AllClaimed(count) => write!(f, "all {count} jobs are claimed"),
+            Why::AllClaimed(count) => write_number(f, "all ", count, " jobs are claimed"),
             Why::Claimed(count) => write!(f, "{count} jobs are claimed"),
-            Why::Answered(job) => write!(f, "job {job} is answered"),
-            Why::Unclaimed(count) => write!(f, "only {count} jobs are claimed"),
-            Why::Unanswered(job) => write!(f, "job {job} is not answered"),
-            Why::Collected(count) => write!(f, "all {count} replies are collected"),
+            Why::Answered(job) => write_number(f, "job ", job, " is answered"),
+            Why::Unclaimed(count) => write_number(f, "only ", count, " jobs are claimed"),
+            Why::Unanswered(job) => write_number(f, "job ", job, " is not answered"),
+            Why::Collected(count) => write_number(f, "all ", count, " replies are collected"),
         }
     }
+}
+
+/// Writes a number between two texts.
+fn write_number<W: fmt::Write>(
+    f: &mut fmt::Formatter<W>,
+    before: &str,
+    number: u64,
+    after: &str,
+) -> fmt::Result
+    ensures { DisplaysOnOk W.write_str_gives f.old result (Some (before.now ++ decimal number ++ after.now)) f.new }
+{
+    write!(f, "{before}{number}{after}")
 }
 
 impl fmt::Display for StepRefusal {

@@ -57,18 +57,22 @@ impl Machine {
     pub(crate) fn new(alloc: Global, map: &MapSpec) -> Result<Machine, NoMemory>
         ensures { IfOk result (λ made. made ≡ opening map.now) }
     {
-        let version = bare_version(alloc, map)?;
         let callers = usize::from(map.callers());
+        let taken = vec![in alloc; 0; callers]?;
+        let collected = vec![in alloc; 0; callers]?;
+        let places = vec![in alloc; ReplyPlace::beginning(); callers]?;
+        let posted = empty_lists(alloc, callers)?;
+        let version = bare_version(alloc, map)?;
         Ok(Machine {
             alloc,
             version,
-            posted: empty_lists(alloc, callers)?,
-            taken: vec![in alloc; 0; callers]?,
+            posted,
+            taken,
             staged: None,
             running: None,
             delivered: Vec::new(alloc),
-            collected: vec![in alloc; 0; callers]?,
-            places: vec![in alloc; ReplyPlace::beginning(); callers]?,
+            collected,
+            places,
         })
     }
 
@@ -247,12 +251,9 @@ impl Machine {
         ensures err { OnErr result (self.new ≡ self.old) }
     {
         self.delivered.reserve(1)?;
+        let room = running::answer_room(self.alloc, &self.running)?;
         let Some(run) = self.running.take() else {
             return Ok(None);
-        };
-        let Ok(room) = Vec::with_capacity(self.alloc, run.answers.len()) else {
-            self.running = Some(run);
-            return Err(NoMemory);
         };
         let RunningTurn { ready, answers, .. } = run;
         let (posts, answered) = ready.answered(running::all_given(answers, room));

@@ -1,5 +1,5 @@
 //! Posts, the requests among them, and lists of them.
-ghost use Rattle.std.specs.Prelude.{◌≡◌, ◌<◌, [], ◌∷◌, ◌++◌, IfOk, OnOk, OnErr, is_some, length, replicate, slice_set};
+ghost use Rattle.std.specs.Prelude.{◌≡◌, ◌<◌, [], ◌∷◌, ◌++◌, IfOk, OnOk, OnErr, length, replicate, slice_set};
 ghost use Rattle.turn_core.specs.Words.{request_of, edit_of};
 ghost use Rattle.turn_core.specs.States.{list_of};
 
@@ -59,13 +59,6 @@ impl Post {
             Post::Edit(_) => Ok(None),
             Post::Ask(request) => Ok(Some(request.copy(alloc)?)),
         }
-    }
-
-    /// Whether the post is a request.
-    pub fn is_request(&self) -> bool
-        ensures { result ≡ is_some (request_of self.now) }
-    {
-        matches!(self, Post::Ask(_))
     }
 
     /// The edit that the post is, where it is one (`edit_of`).

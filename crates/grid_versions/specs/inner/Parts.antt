@@ -26,12 +26,13 @@ pub record AreParts (map : Map) (standing : Standing) (base : List Numbering) (r
   pub tables_are : AreTablesOf (length map.classes) (passable_at map standing) map.size tables
   pub few : length tables ≤ 16
 
--- the planes of all classes under some earlier obstructions, with rectangles that cover what has changed since, and with
--- the bits, one number a chunk, that say where
-pub record ArePlanesBefore (map : Map) (now : Standing) (planes : List (Option PlaneCells)) (rects : List Rect)
-    (bits : List ℕ) : Type 0 where
+-- the planes of all classes and the numbers of all chunks under some earlier obstructions, with rectangles that cover
+-- what has changed since, and with the bits, one number a chunk, that say where
+pub record ArePlanesBefore (map : Map) (now : Standing) (planes : List (Option PlaneCells)) (cells : List Numbering)
+    (rects : List Rect) (bits : List ℕ) : Type 0 where
   pub earlier : Standing
   pub planes_are : ArePlanes map.size (passable_at map earlier) 65535 (length map.classes) planes
+  pub painted : ArePaintedChunks map earlier cells
   pub covered : CoverChanges map earlier now rects
   pub changes : (k : ℕ) → k < length map.classes
       → AreChanges (passable_at map earlier k) (passable_at map now k) map.size k bits

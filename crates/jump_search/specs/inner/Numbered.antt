@@ -4,6 +4,8 @@ use Rattle.nav_types.specs.declared.cells.Cell.{Cell}
 use Rattle.nav_types.specs.declared.directions.Dir.{Dir}
 use Rattle.nav_types.specs.declared.directions.Dir.TheVariants.{N, E, S, W, NE, SE, SW, NW}
 use Rattle.jump_search.specs.declared.nodes.Node.{Node}
+use Rattle.jump_search.specs.declared.nodes.Standing.{Standing}
+use Rattle.jump_search.specs.declared.nodes.Standing.TheVariants.{Dearer, Known, New}
 use Rattle.jump_search.specs.declared.states.JumpState.{JumpState}
 
 -- the number of an arrival: 0 for none, else that of its direction from 1
@@ -73,3 +75,9 @@ pub record AreDown (nodes : List Node) (links : List ℕ) : Type 0 where
 abbrev pub HasCheaper : List Node → Cell → ℕ → Type 0
 HasCheaper nodes cell cost = (place : ℕ) × ((other : Node) × ((slice_get nodes place ≡ Some other)
     × ((other.state.cell ≡ cell) × (other.cost < cost))))
+
+-- how a state stands to the nodes: one of its cell costs less than the bound; or the node of a number has it; or none has
+abbrev pub IsStanding : List Node → JumpState → ℕ → Standing → Type 0
+IsStanding nodes state bound Dearer = HasCheaper nodes state.cell bound
+IsStanding nodes state bound (Known number) = HasState nodes state number
+IsStanding nodes state bound New = LacksState nodes state

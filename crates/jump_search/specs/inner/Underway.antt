@@ -13,6 +13,7 @@ use Rattle.jump_search.specs.declared.nodes.Node.{Node}
 use Rattle.jump_search.specs.declared.searching.Best.{Best}
 use Rattle.jump_search.specs.declared.states.JumpState.{JumpState}
 use Rattle.jump_search.specs.JumpStates.{IsJump, octile_between, octile_to}
+use Rattle.jump_search.specs.inner.Numbered.{HasCheaper}
 use Rattle.jump_search.specs.inner.Searched.{IsLastRun, IsKeptRun, HasParent, IsRelaxed, IsNoted, IsDearer, AreMet}
 use Rattle.jump_search.specs.inner.Searched.{IsFollowedFrom, IsSearched}
 
@@ -95,6 +96,11 @@ pub record Relaxes (rect : Rect) (node : Node) (old new : List Node) (before aft
       → IsGoing all passes hit start rect floor most old before
       → floor ≤ estimate_of rect node → node.cost ≤ most → HasParent passes hit old node
       → IsGoing all passes hit start rect floor most new after
+
+-- Noting a jump that leads to a node, or leaving it, where a node of its cell costs less and the search is not for all.
+abbrev pub Notes : Bool → Rect → Node → List Node → List Node → Queue → Queue → Type 0
+Notes all rect node old new before after = Relaxes rect node old new before after
+    ⊎ ((IsFalse all × HasCheaper old node.state.cell node.cost) × ((new ≡ old) × (after ≡ before)))
 
 -- a search can follow jumps from the state, which costs so much
 pub record IsFollowable (passes hit : Cell → Bool) (rect : Rect) (state : JumpState) (cost : ℕ) (nodes : List Node)

@@ -41,6 +41,11 @@ abbrev pub posts_held : Option RunningTurn → ℕ → List Post
 posts_held None caller = []
 posts_held (Some held) caller = list_of held.ready.turn caller
 
+-- the answers in the turn that is held, where there is one
+abbrev pub answers_held : Option RunningTurn → List (Option Answer)
+answers_held None = []
+answers_held (Some held) = held.answers.items
+
 -- the running turn that is held, where there is one, with one job more claimed
 abbrev pub with_claim : Option RunningTurn → Option RunningTurn
 with_claim None = None

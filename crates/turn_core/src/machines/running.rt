@@ -4,8 +4,8 @@ ghost use Rattle.std.specs.Prelude.{vec_capacity};
 ghost use Rattle.turn_core.specs.Turns.{jobs};
 ghost use Rattle.turn_core.specs.Table.{why_unanswered};
 ghost use Rattle.turn_core.specs.Effects.{begun, known};
-ghost use Rattle.turn_core.specs.inner.Runs.{run_of, base_of, posts_held, with_claim, IsHeldOn, HasUnclaimed, HasJob};
-ghost use Rattle.turn_core.specs.inner.Runs.{HasPlace, AnswersHeld, PutsAnswer};
+ghost use Rattle.turn_core.specs.inner.Runs.{run_of, base_of, posts_held, answers_held, with_claim, IsHeldOn, HasUnclaimed};
+ghost use Rattle.turn_core.specs.inner.Runs.{HasJob, HasPlace, AnswersHeld, PutsAnswer};
 
 use crate::posts::TurnPosts;
 use crate::ready_turns::ReadyTurn;
@@ -129,6 +129,20 @@ fn put_at(answers: &mut Vec<Option<Answer>>, job: u64, answer: Answer)
     ensures { answers.new.items ≡ slice_set answers.old.items job (Some answer) }
 {
     answers[job as usize] = Some(answer);
+}
+
+/// Room for the answers to all jobs of the running turn.
+pub(crate) fn answer_room(
+    alloc: Global,
+    running: &Option<RunningTurn>,
+) -> Result<Vec<Answer>, NoMemory>
+    ensures empty { IfOk result (λ room. room.items ≡ []) }
+    ensures room { IfOk result (λ room. length (answers_held running.now) ≤ vec_capacity room) }
+{
+    match running {
+        None => Ok(Vec::new(alloc)),
+        Some(run) => Ok(Vec::with_capacity(alloc, run.answers.len())?),
+    }
 }
 
 /// The answers to all jobs, moved into the room that was taken for them.

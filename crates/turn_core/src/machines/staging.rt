@@ -1,5 +1,5 @@
 //! The next turn, out of what the callers posted.
-ghost use Rattle.std.specs.Prelude.{◌≡◌, ◌+◌, ◌<◌, ◌^◌, IfOk, drop, length, map, take, slice_index};
+ghost use Rattle.std.specs.Prelude.{◌≡◌, ◌+◌, ◌++◌, ◌∷◌, ◌<◌, ◌^◌, [], IfOk, OnOk, drop, length, map, take, slice_index};
 ghost use Rattle.turn_core.specs.Effects.{next_posts, added_up};
 
 use crate::copying;
@@ -14,6 +14,19 @@ pub(crate) struct NextTurn {
     pub taken: Vec<u64>,
 }
 
+impl NextTurn {
+    /// Appends the posts that are taken of the next caller, after so many that were taken before.
+    fn push(&mut self, alloc: Global, before: u64, posts: &[Post]) -> Result<(), NoMemory>
+        requires { before + length posts.now < 2 ^ 64 }
+        ensures turn { OnOk result (self.new.turn ≡ self.old.turn ++ posts.now ∷ []) }
+        ensures taken { OnOk result (self.new.taken.items ≡ self.old.taken.items ++ (before + length posts.now) ∷ []) }
+    {
+        self.taken.push(before + posts.len() as u64)?;
+        self.turn.push(copying::copied_items(alloc, posts)?)?;
+        Ok(())
+    }
+}
+
 /// The next turn: of each caller's posts, after those that are taken, as many as `takes` says.
 pub(crate) fn next_turn(
     alloc: Global,
@@ -26,18 +39,16 @@ pub(crate) fn next_turn(
     ensures taken { IfOk result (λ next. next.taken.items
         ≡ added_up taken.now (map length (next_posts posted.now taken.now takes.now))) }
 {
-    let mut turn = Sequence::new(alloc);
-    let mut raised = Vec::new(alloc);
+    let mut next = NextTurn {
+        turn: Sequence::new(alloc),
+        taken: Vec::new(alloc),
+    };
     for (caller, posts) in posted.iter().enumerate() {
         let from = number_at(taken, caller);
         let part = part_of(posts.as_slice(), from, number_at(takes, caller));
-        raised.push(from + part.len() as u64)?;
-        turn.push(copying::copied_items(alloc, part)?)?;
+        next.push(alloc, from, part)?;
     }
-    Ok(NextTurn {
-        turn,
-        taken: raised,
-    })
+    Ok(next)
 }
 
 /// The number at a place, or 0 past the end.

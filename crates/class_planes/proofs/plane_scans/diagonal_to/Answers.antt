@@ -18,6 +18,8 @@ run-preserved g c =
     let Halts = HaltsDiagonal passes (g.A.Aim.hit c.args.aim.now c.args.plane.now.size) c.args.dir in
     record {
       free = c.in-Some.ensures.some.next;
+      words = c.row_words-next_row.ensures.words;
+      bits = c.row_words-next_row.ensures.bits;
       passed = HasPassed-more passes Halts c.args.dir c.args.from c.run.cell c.in-Some.next c.run.invariant.passed
           c.in-Some.ensures.some
           (λ halts. both_ways c.halts_diagonal.result c.if-halts_diagonal.false (c.halts_diagonal.ensures.1 halts));

@@ -1,7 +1,8 @@
-use Rattle.std.proofs.Common.{IsTrue}
+use Rattle.std.proofs.Common.{◌≡◌, ◌+◌, ◌/◌, length, IsTrue}
+use Rattle.nav_types.specs.Cells.{cell_at}
 use Rattle.jump_scan.specs.Stops.{HaltsDiagonal}
 use Rattle.jump_scan.proofs.Running.{HasPassed, left_over}
-use Rattle.class_planes.specs.Planes.{is_passable}
+use Rattle.class_planes.specs.Planes.{AreFreeBits, is_passable}
 use Rattle.class_planes.proofs.plane_scans.diagonal_to.Given as goal
 
 abbrev pub invariant-run : goal.invariant-run
@@ -9,6 +10,8 @@ invariant-run g l =
     let passes = is_passable l.plane in
     record {
       free : IsTrue (passes l.cell);
+      words : length l.row ≡ l.plane.size.w / 64 + 1;
+      bits : AreFreeBits (λ i. passes (cell_at i l.cell.j)) l.row;
       passed : HasPassed passes (HaltsDiagonal passes (g.A.Aim.hit l.aim l.plane.size) l.dir) l.dir l.fn.from l.cell;
     }
 

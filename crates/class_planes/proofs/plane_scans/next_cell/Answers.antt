@@ -1,10 +1,18 @@
-use Rattle.std.proofs.Common.{rules, subst, sym}
-use Rattle.nav_types.specs.declared.cells.Size.{Size}
-use Rattle.nav_types.specs.Cells.{IsInside}
+use Rattle.std.proofs.Common.{sym, ◌∙◌}
+use Rattle.class_planes.specs.Planes.{is_passable}
+use Rattle.class_planes.proofs.StepLemmas.{open_step, no_step}
 use Rattle.class_planes.proofs.plane_scans.next_cell.Goals as goal
 
 pub returns-in_default-clause-none : goal.returns-in_default-clause-none
-returns-in_default-clause-none c = λ next taken.
-    let passing = taken.next in
-    let within : IsInside c.args.plane.now.size next = Prim.search rules in
-    c.in_default.ensures.none next taken.leads (subst (λ (size : Size). IsInside size next) (sym c.size.ensures) within)
+returns-in_default-clause-none c = λ next taken. c.in_default.ensures.none next taken.leads
+
+pub returns-then-not-is_open-clause-none : goal.returns-then-not-is_open-clause-none
+returns-then-not-is_open-clause-none c =
+    no_step (is_passable c.args.plane.now) c.args.dir c.args.cell c.in-Some.next c.args.row.now c.row_words.result.now
+    c.requires.bits c.row_words.ensures.bits c.in-Some.ensures.leads (sym c.is_open.ensures ∙ c.if-not-is_open.true)
+
+pub returns-clause-some : goal.returns-clause-some
+returns-clause-some c =
+    open_step (is_passable c.args.plane.now) c.args.dir c.args.cell c.in-Some.next c.args.row.now c.row_words.result.now
+    c.requires.bits c.row_words.ensures.bits c.in-Some.ensures.leads c.requires.passable
+    (sym c.is_open.ensures ∙ c.if-not-is_open.false)

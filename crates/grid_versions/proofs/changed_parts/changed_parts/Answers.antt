@@ -1,28 +1,55 @@
-use Rattle.std.proofs.Common.{ℕ, ◌≡◌, get_or, inl, inr, sym, subst, arith}
-use Rattle.std.specs.Prelude.{IsFalse}
+use Rattle.std.proofs.Common.{ℕ, ◌≡◌, ◌∙◌, ◌⊎◌, Some, get_or, inl, inr, ap, sym, subst, arith}
+use Rattle.std.specs.Prelude.{IsFalse, slice_get}
 use Rattle.std.proofs.lemmas.Bool.{cases_lt}
-use Rattle.nav_types.specs.Cells.{IsInRect, chunk_of}
+use Rattle.nav_types.specs.declared.cells.Rect.{Rect}
+use Rattle.nav_types.specs.Cells.{IsInRect, IsRectInside, chunk_of}
+use Rattle.nav_types.specs.Numbering.{Numbering}
 use Rattle.lane_rows.specs.Rows.{has_class}
 use Rattle.chunk_regions.specs.Labelling.{chunk_rect}
 use Rattle.grid_versions.specs.Chunks.{chunk_place}
 use Rattle.grid_versions.specs.inner.ChunkLists.{chunk_numbered}
-use Rattle.grid_versions.proofs.PlanePartLemmas.{in_numbered}
+use Rattle.grid_versions.specs.inner.SameNumbers.{IsSameAt}
+use Rattle.grid_versions.proofs.ChunkLemmas.{numbered_inside}
+use Rattle.grid_versions.proofs.PlanePartLemmas.{in_numbered, chunk_in_map, same_at}
 use Rattle.grid_versions.proofs.changed_parts.changed_parts.Goals as goal
+
+pub push_part-requires : goal.push_part-requires
+push_part-requires c =
+    let place : ℕ = c.loop-place.place in
+    c.requires.after.are place c.patch-new.result.now (c.at-later.ensures ∙ ap (λ (n : Numbering). Some n) (sym c.patch-new.ensures))
+    ∙ sym (c.requires.before.are place c.patch-old.result.now
+    (c.at-earlier.ensures ∙ ap (λ (n : Numbering). Some n) (sym c.patch-old.ensures)))
 
 pub loop-place-preserved : goal.loop-place-preserved
 loop-place-preserved c =
     let size = c.args.size in
     let place : ℕ = c.loop-place.place in
+    let chunk = chunk_numbered size place in
+    let a = c.patch-old.result.now in
+    let b = c.patch-new.result.now in
+    let each = c.requires.each in
+    let at_a : slice_get c.args.before.now place ≡ Some a =
+    c.at-earlier.ensures ∙ ap (λ (n : Numbering). Some n) (sym c.patch-old.ensures) in
+    let at_b : slice_get c.args.after.now place ≡ Some b =
+    c.at-later.ensures ∙ ap (λ (n : Numbering). Some n) (sym c.patch-new.ensures) in
+    let rect_is : a.rect ≡ chunk_rect size chunk = c.requires.before.are place a at_a in
     record {
-      inside = c.in_ok-push_part.ensures.inside c.loop-place.invariant.inside;
+      inside = c.in_ok-push_part.ensures.inside size
+          (subst (λ (r : Rect). IsRectInside size r) (sym rect_is)
+          (chunk_in_map size chunk (numbered_inside size place (omega arith)))) c.loop-place.invariant.inside;
       held = λ class cell kept inside reached below. elim (cases_lt (chunk_place size (chunk_of cell)) place) [
         | inl early ↦
             c.loop-place.invariant.held class cell (c.in_ok-push_part.ensures.before class cell kept) inside reached early
         | inr late ↦
             let same : place ≡ chunk_place size (chunk_of cell) = omega arith in
-            subst (λ (p : ℕ). IsFalse (has_class class (get_or c.args.changed.now p 0))) same
-            (c.in_ok-push_part.ensures.held class cell kept
+            let here : IsInRect a.rect cell = subst (λ (r : Rect). IsInRect r cell) (sym rect_is)
             (subst (λ (p : ℕ). IsInRect (chunk_rect size (chunk_numbered size p)) cell) (sym same)
-            (in_numbered size cell inside)) reached)
+            (in_numbered size cell inside)) in
+            subst (λ (p : ℕ). IsFalse (has_class class (get_or c.args.changed.now p 0))
+            ⊎ IsSameAt c.args.before.now c.args.after.now p cell) same
+            (elim (c.in_ok-push_part.ensures.held class cell kept here reached) [
+              | inl clear ↦ inl clear
+              | inr alike ↦ inr (same_at c.args.before.now c.args.after.now place cell a b at_a at_b alike)
+            ])
       ];
     }

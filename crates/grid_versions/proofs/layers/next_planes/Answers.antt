@@ -1,10 +1,11 @@
-use Rattle.std.proofs.Common.{ℕ, List, ◌≡◌, ◌∙◌, Option, length, get_or, ap, sym, subst, arith}
+use Rattle.std.proofs.Common.{ℕ, List, ◌≡◌, ◌∙◌, ◌⊎◌, Option, length, get_or, ap, sym, subst, arith}
 use Rattle.std.specs.Prelude.{IsTrue, IsFalse}
 use Rattle.std.proofs.lemmas.Result.{IfOk-weaker}
 use Rattle.nav_types.specs.declared.cells.Cell.{Cell}
 use Rattle.nav_types.specs.declared.cells.Rect.{Rect}
 use Rattle.nav_types.specs.declared.cells.Size.{Size}
 use Rattle.nav_types.specs.Cells.{IsInside, chunk_of}
+use Rattle.nav_types.specs.Numbering.{Numbering}
 use Rattle.lane_rows.specs.Rows.{has_class}
 use Rattle.class_planes.specs.declared.changed_parts.ChangedPart.{ChangedPart}
 use Rattle.class_planes.specs.Planes.{PlaneCells, AreOfBefore, AreOfSame, IsKept}
@@ -14,39 +15,53 @@ use Rattle.grid_versions.specs.Maps.{Map}
 use Rattle.grid_versions.specs.Passing.{passable_at}
 use Rattle.grid_versions.specs.Versions.{MapState, map_state, passes_of}
 use Rattle.grid_versions.specs.Chunks.{chunk_count, chunk_place}
+use Rattle.grid_versions.specs.inner.Painting.{ArePaintedChunks}
+use Rattle.grid_versions.specs.inner.SameNumbers.{AreChunksOf, IsSameAt}
 use Rattle.grid_versions.specs.inner.Parts.{ArePlanesBefore}
 use Rattle.grid_versions.specs.inner.Reaching.{is_in_some}
-use Rattle.grid_versions.proofs.PlanePartLemmas.{kept_same}
+use Rattle.grid_versions.proofs.PlanePartLemmas.{kept_same, extents_of}
 use Rattle.grid_versions.proofs.layers.next_planes.Goals as goal
 
 -- the planes of before are those of a map that has changed in these parts alone
-planes_before : (map : Map) (new : Standing) (planes : List (Option PlaneCells)) (rects : List Rect) (bits : List ℕ)
-    (parts : List ChangedPart) (size : Size) (painted : MapState) → ArePlanesBefore map new planes rects bits → size ≡ map.size
-    → painted ≡ map_state map new
+planes_before : (map : Map) (new : Standing) (planes : List (Option PlaneCells)) (earlier later : List Numbering) (rects : List Rect)
+    (bits : List ℕ) (parts : List ChangedPart) (size : Size) (painted : MapState) → ArePlanesBefore map new planes earlier rects bits
+    → ArePaintedChunks map new later → size ≡ map.size → painted ≡ map_state map new
     → ((k : ℕ) (cell : Cell) → IsKept parts k cell → IsInside size cell → IsTrue (is_in_some rects cell)
-    → IsFalse (has_class k (get_or bits (chunk_place size (chunk_of cell)) 0)))
+    → IsFalse (has_class k (get_or bits (chunk_place size (chunk_of cell)) 0))
+    ⊎ IsSameAt earlier later (chunk_place size (chunk_of cell)) cell)
     → AreOfBefore painted.map.size (length painted.map.classes) (passes_of painted) parts planes
-planes_before map new planes rects bits parts size painted before size_is painted_is held =
+planes_before map new planes earlier later rects bits parts size painted before are size_is painted_is held =
     let were = passable_at map before.earlier in
     let many = before.planes_are.many in
     subst (λ (s : MapState). AreOfBefore s.map.size (length s.map.classes) (passes_of s) parts planes) (sym painted_is) (record {
       earlier = were;
       few = omega (arith, many);
       are = are_of map.size were 65535 (length map.classes) planes before.planes_are;
-      same = kept_same map before.earlier new rects bits parts before.covered before.changes
+      same = kept_same map before.earlier new earlier later rects bits parts before.painted are before.covered before.changes
           (subst (λ (s : Size). (k : ℕ) (cell : Cell) → IsKept parts k cell → IsInside s cell → IsTrue (is_in_some rects cell)
-          → IsFalse (has_class k (get_or bits (chunk_place s (chunk_of cell)) 0))) size_is held);
+          → IsFalse (has_class k (get_or bits (chunk_place s (chunk_of cell)) 0))
+          ⊎ IsSameAt earlier later (chunk_place s (chunk_of cell)) cell) size_is held);
     })
 
-pub changed_parts-requires : goal.changed_parts-requires
-changed_parts-requires c = c.requires.each ∙ sym (ap (λ (s : Size). chunk_count s) c.size.ensures)
+pub changed_parts-requires-clause-each : goal.changed_parts-requires-clause-each
+changed_parts-requires-clause-each c = c.requires.each ∙ sym (ap (λ (s : Size). chunk_count s) c.size.ensures)
+
+pub changed_parts-requires-clause-before : goal.changed_parts-requires-clause-before
+changed_parts-requires-clause-before c =
+    subst (λ (s : Size). AreChunksOf s c.args.earlier.now) (sym c.size.ensures)
+    (extents_of c.args.map.now c.requires.before.earlier c.args.earlier.now c.requires.before.painted)
+
+pub changed_parts-requires-clause-after : goal.changed_parts-requires-clause-after
+changed_parts-requires-clause-after c =
+    subst (λ (s : Size). AreChunksOf s c.args.cells.now) (sym c.size.ensures)
+    (extents_of c.args.map.now c.args.shapes.now c.args.cells.now c.requires.cells)
 
 pub updated-requires-clause-before : goal.updated-requires-clause-before
 updated-requires-clause-before c =
     subst (λ (parts : List ChangedPart). AreOfBefore c.new-painted.result.map.size (length c.new-painted.result.map.classes)
     (passes_of c.new-painted.result) parts c.args.before.now) (sym c.deref.ensures.value)
-    (planes_before c.args.map.now c.args.shapes.now c.args.before.now c.args.reaches.now c.args.changed.now c.in_ok-parts.parts.items
-    c.size.result c.new-painted.result c.requires.before c.size.ensures c.new-painted.ensures c.in_ok-parts.ensures.held)
+    (planes_before c.args.map.now c.args.shapes.now c.args.before.now c.args.earlier.now c.args.cells.now c.args.reaches.now
+    c.args.changed.now c.in_ok-parts.parts.items c.size.result c.new-painted.result c.requires.before c.requires.cells c.size.ensures c.new-painted.ensures c.in_ok-parts.ensures.held)
 
 pub returns : goal.returns
 returns c =

@@ -1,7 +1,9 @@
-use Rattle.std.proofs.Common.{List, [], ◌∷◌, ◌++◌, take, sym, ap, ◌∙◌, subst}
+use Rattle.std.proofs.Common.{◌≤◌, List, [], ◌∷◌, ◌++◌, length, take, sym, ap, ◌∙◌, subst, arith}
+use Rattle.std.proofs.lemmas.List.{take_all}
 use Rattle.std.specs.Vec.Iter.{into_iter_items}
+use Rattle.turn_core.specs.declared.posts.Post.{Post}
 use Rattle.turn_core.specs.declared.replies.Reply.{Reply}
-use Rattle.turn_core.specs.inner.ReplyLists.{ahead, edits_past, HasEdit, list_ahead}
+use Rattle.turn_core.specs.inner.ReplyLists.{ahead, edits_past, edits_past_list, HasEdit, list_ahead}
 use Rattle.turn_core.proofs.Sweeping.{swept_more, left_more, has_at}
 use Rattle.turn_core.proofs.reply_lists.list_ahead.Goals as goal
 
@@ -26,3 +28,17 @@ loop-post-preserved c =
       left = c.ahead.ensures.left ∙ ap (edits_past post) before.left
           ∙ sym (left_more edits_past posts i post edits c.loop-post-test.true c.post-item.is);
     }
+
+pub returns-clause-list : goal.returns-clause-list
+returns-clause-list c =
+    let posts = c.args.posts.now in
+    let past : length posts ≤ c.loop-post.post-index = omega arith in
+    c.from.ensures ∙ c.loop-post.invariant.made
+    ∙ ap (λ (l : List Post). list_ahead l (into_iter_items c.args.edits.now)) (take_all c.loop-post.post-index posts past)
+
+pub returns-clause-left : goal.returns-clause-left
+returns-clause-left c =
+    let posts = c.args.posts.now in
+    let past : length posts ≤ c.loop-post.post-index = omega arith in
+    c.loop-post.invariant.left
+    ∙ ap (λ (l : List Post). edits_past_list l (into_iter_items c.args.edits.now)) (take_all c.loop-post.post-index posts past)

@@ -1,12 +1,11 @@
-use Rattle.std.proofs.Common.{◌≡◌, ◌∙◌, refl, sym, ap, ℕ, Some, false, true}
-use Rattle.nav_types.specs.declared.cells.Size.{Size}
+use Rattle.std.proofs.Common.{◌≡◌, ◌∙◌, refl, ap, ℕ, Some, false, true}
 use Rattle.grid_versions.specs.Maps.{Map}
 use Rattle.grid_versions.specs.Passing.{passable_at}
 use Rattle.turn_core.specs.declared.replies.Answer.{Answer}
 use Rattle.turn_core.specs.declared.replies.Answer.TheVariants.{Refused}
 use Rattle.turn_core.specs.NamedGoals.{class_named, is_on_map, goal_found}
 use Rattle.turn_core.specs.Solving.{IsPathFound}
-use Rattle.turn_core.proofs.Answered.{on_map_held, answered_at, answered_ok, outside_at, found_ok, found_err, opened_ok}
+use Rattle.turn_core.proofs.Answered.{on_map_seen, answered_at, answered_ok, outside_at, found_ok, found_err, opened_ok}
 use Rattle.turn_core.proofs.solving.path_asked.Goals as goal
 
 pub returns-then-is_none : goal.returns-then-is_none
@@ -15,11 +14,8 @@ returns-then-is_none c =
     let Answers : ℕ → Answer → Type 0 =
     λ class. IsPathFound (passable_at map c.args.version.now.standing class) c.args.x c.args.z (goal_found map c.args.version.now.standing c.args.goal.now) in
     let has : class_named map c.args.name.now ≡ Some c.in-Some.class = cc in
-    let size : map.size ≡ c.size.result = sym (c.size.ensures ∙ ap (λ (m : Map). m.size) c.map-2.ensures) in
-    let off : is_on_map map.size c.args.x c.args.z ≡ false =
-    ap (λ (s : Size). is_on_map s c.args.x c.args.z) size
-    ∙ on_map_held c.size.result c.args.x c.args.z c.cell_of_point.result c.cell_of_point.ensures.on_map
-    ∙ c.if-is_none.ensures in
+    let off = on_map_seen map.size c.size.result c.args.x c.args.z c.cell_of_point.result false
+    (c.size.ensures ∙ ap (λ (m : Map). m.size) c.map-2.ensures) c.cell_of_point.ensures.on_map c.if-is_none.ensures in
     record {
       answer = outside_at (class_named map c.args.name.now) (is_on_map map.size c.args.x c.args.z) Answers c.in-Some.class has off;
       opened = λ wanted. refl;
@@ -31,11 +27,8 @@ returns-in-Ok c =
     let Answers : ℕ → Answer → Type 0 =
     λ class. IsPathFound (passable_at map c.args.version.now.standing class) c.args.x c.args.z (goal_found map c.args.version.now.standing c.args.goal.now) in
     let has : class_named map c.args.name.now ≡ Some c.in-Some.class = cc in
-    let size : map.size ≡ c.size.result = sym (c.size.ensures ∙ ap (λ (m : Map). m.size) c.map-2.ensures) in
-    let on : is_on_map map.size c.args.x c.args.z ≡ true =
-    ap (λ (s : Size). is_on_map s c.args.x c.args.z) size
-    ∙ on_map_held c.size.result c.args.x c.args.z c.cell_of_point.result c.cell_of_point.ensures.on_map
-    ∙ c.if-is_none.ensures in
+    let on = on_map_seen map.size c.size.result c.args.x c.args.z c.cell_of_point.result true
+    (c.size.ensures ∙ ap (λ (m : Map). m.size) c.map-2.ensures) c.cell_of_point.ensures.on_map c.if-is_none.ensures in
     let passes = passable_at map c.args.version.now.standing c.in-Some.class in
     let found = goal_found map c.args.version.now.standing c.args.goal.now in
     record {
@@ -51,11 +44,8 @@ returns-in-Err c =
     let Answers : ℕ → Answer → Type 0 =
     λ class. IsPathFound (passable_at map c.args.version.now.standing class) c.args.x c.args.z (goal_found map c.args.version.now.standing c.args.goal.now) in
     let has : class_named map c.args.name.now ≡ Some c.in-Some.class = cc in
-    let size : map.size ≡ c.size.result = sym (c.size.ensures ∙ ap (λ (m : Map). m.size) c.map-2.ensures) in
-    let on : is_on_map map.size c.args.x c.args.z ≡ true =
-    ap (λ (s : Size). is_on_map s c.args.x c.args.z) size
-    ∙ on_map_held c.size.result c.args.x c.args.z c.cell_of_point.result c.cell_of_point.ensures.on_map
-    ∙ c.if-is_none.ensures in
+    let on = on_map_seen map.size c.size.result c.args.x c.args.z c.cell_of_point.result true
+    (c.size.ensures ∙ ap (λ (m : Map). m.size) c.map-2.ensures) c.cell_of_point.ensures.on_map c.if-is_none.ensures in
     record {
       answer = answered_at (class_named map c.args.name.now) (is_on_map map.size c.args.x c.args.z) Answers (Refused c.in-Err.refusal) c.in-Some.class has on
           (found_err (passable_at map c.args.version.now.standing c.in-Some.class) c.args.x c.args.z c.in-Err.refusal

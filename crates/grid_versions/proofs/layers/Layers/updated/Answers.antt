@@ -66,6 +66,7 @@ pub next_planes-requires-clause-before : goal.next_planes-requires-clause-before
 next_planes-requires-clause-before g c = record {
   earlier = c.args.earlier.now;
   planes_are = c.requires.parts.planes_are;
+  painted = c.requires.parts.cells_are;
   covered = c.requires.covers;
   changes = changes_here c.args.map.now c.args.earlier.now c.args.shapes.now c.args.self.now.ground.cells c.in_ok-ground.ground.cells
       c.in_ok-ground.changed.items c.as_slice-bits.result.now c.requires.parts.cells_are c.in_ok-ground.ensures.cells

@@ -1,8 +1,8 @@
 use Rattle.std.proofs.Common.{sym, ◌∙◌, IsTrue}
 use Rattle.std.proofs.lemmas.Bool.{both_ways}
 use Rattle.nav_types.specs.DirSets.{holds}
-use Rattle.jump_search.proofs.Landing.{HasLanded, estimate_landed, follows_landed, follows_left, follows_none, follows_pruned}
-use Rattle.jump_search.proofs.Landing.{followable_later, jump_most}
+use Rattle.jump_search.proofs.Landing.{HasLanded, estimate_landed, follows_noted, follows_none, follows_pruned}
+use Rattle.jump_search.proofs.Landing.{followable_later, jump_most, moves_to_stop}
 use Rattle.jump_search.proofs.front.Front.follow_along.Goals as goal
 
 pub returns-then-not-has-clause-follows : goal.returns-then-not-has-clause-follows
@@ -22,20 +22,13 @@ returns-in_default-clause-follows g c =
     follows_none c.args.all passes hit c.args.rect.now node.state node.cost c.args.dir c.args.self.now.nodes
     c.args.self.now.waiting c.in_default.ensures.none
 
-pub returns-then-is_dearer-clause-follows : goal.returns-then-is_dearer-clause-follows
-returns-then-is_dearer-clause-follows g c =
-    let passes = g.R.View.passes c.args.runs.now c.args.class in
-    let hit = g.A.Aim.hit c.args.aim.now (g.R.View.extent c.args.runs.now) in
-    let node = c.args.node.now in
-    let made = c.landed-next.ensures in
-    let landed : HasLanded node.state node.cost c.args.dir c.in-Some.stop c.landed-next.result =
-    record { cell = made.cell; arrived = made.arrived; costs = made.cost; run = made.run } in
-    follows_left c.args.all passes hit c.args.rect.now node.state node.cost c.args.dir c.in-Some.stop
-    c.landed-next.result c.args.self.now.nodes c.args.self.now.waiting c.in-Some.ensures.some landed
-    c.if-not-all.true (c.is_dearer.ensures c.if-is_dearer.true)
+pub landed-next-requires-clause-moves : goal.landed-next-requires-clause-moves
+landed-next-requires-clause-moves g c =
+    moves_to_stop (g.R.View.passes c.args.runs.now c.args.class) (g.A.Aim.hit c.args.aim.now (g.R.View.extent c.args.runs.now))
+    c.args.dir c.args.node.now.state.cell c.in-Some.stop c.in-Some.ensures.some
 
-pub relax-requires-clause-queued : goal.relax-requires-clause-queued
-relax-requires-clause-queued g c =
+pub note-requires-clause-queued : goal.note-requires-clause-queued
+note-requires-clause-queued g c =
     let f = c.requires.followable in
     let node = c.args.node.now in
     let made = c.landed-next.ensures in
@@ -66,10 +59,10 @@ returns-clause-follows g c =
     (g.met.R.View.within c.args.runs.now c.args.class) c.requires.cell is in
     let kept : IsTrue (holds c.args.dirs c.args.dir) = sym c.has.ensures ∙ c.if-not-has.false in
     let successor = c.requires.successors.0 kept in
-    follows_landed c.args.all passes hit c.args.rect.now node.state node.cost c.args.dir c.in-Some.stop
+    follows_noted c.args.all passes hit c.args.rect.now node.state node.cost c.args.dir c.in-Some.stop
     c.landed-next.result
-    c.args.self.now.nodes c.relax.new.self.nodes c.args.self.now.waiting c.relax.new.self.waiting successor is landed
-    most c.in_ok-relax.ensures
+    c.args.self.now.nodes c.note.new.self.nodes c.args.self.now.waiting c.note.new.self.waiting successor is landed
+    most c.in_ok-note.ensures
 
 pub returns-clause-followable : goal.returns-clause-followable
 returns-clause-followable g c =

@@ -1,4 +1,5 @@
-use Rattle.std.proofs.Common.{◌≡◌, List, [], ◌∷◌, ◌++◌, Option, None, Some, refl, sym, ap, ◌∙◌, subst}
+use Rattle.std.proofs.Common.{◌≡◌, ◌≤◌, List, [], ◌∷◌, ◌++◌, Option, None, Some, length, refl, sym, ap, ◌∙◌, subst}
+use Rattle.std.specs.Prelude.{vec_capacity}
 use Rattle.turn_core.specs.declared.events.Event.TheVariants.{Deliver}
 use Rattle.turn_core.specs.declared.replies.TurnReplies.{TurnReplies}
 use Rattle.turn_core.specs.declared.machines.running.RunningTurn.{RunningTurn}
@@ -12,7 +13,7 @@ use Rattle.turn_core.specs.States.{State}
 use Rattle.turn_core.specs.Table.{why_not}
 use Rattle.turn_core.specs.Effects.{delivered}
 use Rattle.turn_core.specs.Facts.{Facts}
-use Rattle.turn_core.specs.inner.Runs.{base_of}
+use Rattle.turn_core.specs.inner.Runs.{base_of, answers_held}
 use Rattle.turn_core.specs.inner.Machines.{HoldsRun, HoldsStaged}
 use Rattle.turn_core.proofs.MachineSteps.{answers_given, delivered_holds, delivered_is, version_is}
 use Rattle.turn_core.proofs.ReplyPlaces.{come_still}
@@ -26,6 +27,11 @@ answered-posts-requires c =
     subst (AreAnswersTo run.ready.map (after_edits_of run.ready) (jobs run.ready.turn)) (sym c.all_given.ensures)
     (answers_given a run c.self.invariant (subst Facts (sym c.self.view_is) c.requires.facts) is (subst (HoldsRun a.version) is c.self.invariant.running)
     (subst (λ (s : State). why_not s Deliver ≡ None) (sym c.self.view_is) c.requires.enabled))
+
+pub all_given-requires-clause-room : goal.all_given-requires-clause-room
+all_given-requires-clause-room c =
+    let is : c.self.inside.running ≡ Some c.in-Some.run' = sym c.in-Some.ensures.value in
+    subst (λ (o : Option RunningTurn). length (answers_held o) ≤ vec_capacity c.in_ok-room.room) is c.in_ok-room.ensures.room
 
 pub invariant_of-self-2 : goal.invariant_of-self-2
 invariant_of-self-2 c =

@@ -1,4 +1,4 @@
-use Rattle.std.proofs.Common.{◌≡◌, ℕ, ◌-◌, List, length, slice_index, sym, ap, ◌∙◌, subst, arith}
+use Rattle.std.proofs.Common.{◌≡◌, ◌-◌, length, sym, ap, ◌∙◌, subst, arith}
 use Rattle.turn_core.specs.States.{State, list_of}
 use Rattle.turn_core.specs.Facts.{Facts}
 use Rattle.turn_core.specs.inner.Machines.{state_of}
@@ -7,26 +7,20 @@ use Rattle.turn_core.proofs.machines.Machine.reply_count.Goals as goal
 
 pub overflow_sub-result : goal.overflow_sub-result
 overflow_sub-result c =
-    let a = c.self.inside in
-    let counted = held_count a c.args.caller (subst Facts (sym c.self.view_is) c.requires) in
-    let taken : c.number_at-taken.result ≡ slice_index a.taken.items c.args.caller =
-    c.number_at-taken.ensures.value ∙ ap (λ (ns : List ℕ). slice_index ns c.args.caller) c.as_slice.ensures.value in
-    omega (arith, counted, taken, c.post_count.ensures)
+    let counted = held_count c.self.inside c.args.caller c.number_at-taken.result c.as_slice.result.now c.as_slice.ensures.value
+    c.number_at-taken.ensures.value (subst Facts (sym c.self.view_is) c.requires) in
+    omega (arith, counted, c.post_count.ensures)
 
 pub overflow_sub-result-2 : goal.overflow_sub-result-2
 overflow_sub-result-2 c =
-    let a = c.self.inside in
-    let counted = held_count a c.args.caller (subst Facts (sym c.self.view_is) c.requires) in
-    let taken : c.number_at-taken.result ≡ slice_index a.taken.items c.args.caller =
-    c.number_at-taken.ensures.value ∙ ap (λ (ns : List ℕ). slice_index ns c.args.caller) c.as_slice.ensures.value in
-    omega (arith, counted, taken, c.post_count.ensures, c.post_count-2.ensures)
+    let counted = held_count c.self.inside c.args.caller c.number_at-taken.result c.as_slice.result.now c.as_slice.ensures.value
+    c.number_at-taken.ensures.value (subst Facts (sym c.self.view_is) c.requires) in
+    omega (arith, counted, c.post_count.ensures, c.post_count-2.ensures)
 
 pub returns : goal.returns
 returns c =
-    let a = c.self.inside in
-    let counted = held_count a c.args.caller (subst Facts (sym c.self.view_is) c.requires) in
-    let taken : c.number_at-taken.result ≡ slice_index a.taken.items c.args.caller =
-    c.number_at-taken.ensures.value ∙ ap (λ (ns : List ℕ). slice_index ns c.args.caller) c.as_slice.ensures.value in
-    let left : c.number_at-taken.result - c.post_count.result - c.post_count-2.result ≡ length (list_of (state_of a).replies c.args.caller) =
-    omega (arith, counted, taken, c.post_count.ensures, c.post_count-2.ensures) in
+    let counted = held_count c.self.inside c.args.caller c.number_at-taken.result c.as_slice.result.now c.as_slice.ensures.value
+    c.number_at-taken.ensures.value (subst Facts (sym c.self.view_is) c.requires) in
+    let left : c.number_at-taken.result - c.post_count.result - c.post_count-2.result ≡ length (list_of (state_of c.self.inside).replies c.args.caller) =
+    omega (arith, counted, c.post_count.ensures, c.post_count-2.ensures) in
     left ∙ ap (λ (s : State). length (list_of s.replies c.args.caller)) c.self.view_is

@@ -6,10 +6,10 @@ use Rattle.std.proofs.lemmas.Option.{slice_get_read}
 use Rattle.jump_search.specs.declared.states.JumpState.{JumpState}
 use Rattle.jump_search.specs.inner.Numbered.{key_of, same_key, IsSearchable}
 use Rattle.jump_search.proofs.Numbering.{one_state, same_key_true, same_key_refl, sought_next}
-use Rattle.jump_search.proofs.nodes.find_before.Goals as goal
+use Rattle.jump_search.proofs.nodes.standing_before.Goals as goal
 
-pub returns-then-is_same-clause-some : goal.returns-then-is_same-clause-some
-returns-then-is_same-clause-some c =
+pub returns-then-is_same : goal.returns-then-is_same
+returns-then-is_same c =
     let node = c.index-node.result.now in
     let list = c.args.list.now.items in
     let within = c.walk.invariant.1.1.within in

@@ -1,5 +1,5 @@
 use Rattle.jump_search.specs.inner.Numbered.{IsSearchable}
-use Rattle.jump_search.proofs.nodes.find_before.Given as goal
+use Rattle.jump_search.proofs.nodes.standing_before.Given as goal
 
 abbrev pub invariant-walk : goal.invariant-walk
 invariant-walk l = IsSearchable l.list.items l.links.items l.state l.after

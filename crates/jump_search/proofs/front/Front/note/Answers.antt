@@ -1,0 +1,30 @@
+use Rattle.std.proofs.Common.{◌≤◌, [], ◌∷◌, ◌++◌, List, length, inl, inr, refl, sym, subst}
+use Rattle.open_heap.specs.Queue.{Queue}
+use Rattle.jump_search.specs.declared.nodes.Node.{Node}
+use Rattle.jump_search.specs.inner.Underway.{Relaxes}
+use Rattle.jump_search.proofs.Relaxing.{none_waits, relaxes_added, left_below}
+use Rattle.jump_search.proofs.front.Front.note.Goals as goal
+
+pub returns-in-Dearer : goal.returns-in-Dearer
+returns-in-Dearer c =
+    let node = c.args.node in
+    inr (
+      left_below c.args.all c.args.self.now.nodes node.state.cell node.cost c.bound_of.result c.bound_of.ensures.all
+          c.bound_of.ensures.cost c.in-Dearer.ensures,
+      (refl, refl),
+    )
+
+pub returns-in-Known : goal.returns-in-Known
+returns-in-Known c = inl c.relax.ensures
+
+pub returns-in_ok-meet-in-New : goal.returns-in_ok-meet-in-New
+returns-in_ok-meet-in-New c =
+    let rect = c.args.rect.now in let node = c.args.node in
+    let nodes = c.args.self.now.nodes in let queue = c.args.self.now.waiting in
+    let q = c.requires.queued in
+    let met = c.in_ok-meet-in-New.ensures in
+    let few = subst (λ (ns : List Node). length ns ≤ 4294967296) met.nodes met.few in
+    inl (subst (λ (ns : List Node). Relaxes rect node nodes ns queue c.meet.new.self.waiting) (sym met.nodes)
+    (subst (λ (m : Queue). Relaxes rect node nodes (nodes ++ node ∷ []) queue m) (sym met.waiting)
+    (relaxes_added rect node nodes queue c.requires.waiting c.in-New.ensures
+    (none_waits q.0 rect q.1.0 nodes queue q.1.1.0) few)))

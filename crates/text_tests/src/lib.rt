@@ -1,0 +1,7 @@
+//! Tests of the crates that read and write texts, by their public calls alone, with a file for each crate.
+#![tactic(auto)]
+
+#[cfg(test)]
+mod answer_text_tests;
+#[cfg(test)]
+mod script_text_tests;
