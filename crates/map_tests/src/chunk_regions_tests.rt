@@ -1,31 +1,13 @@
-ghost use Rattle.std.specs.Prelude.{◌≡◌, ◌<◌};
-
 use crate::fixtures::counted::Counted;
 use crate::fixtures::labelling::labelled;
-use crate::fixtures::plans::{Plan, drawn};
-use crate::fixtures::views::shared;
-use chunk_regions::{ChunkBits, Labels, label_bits};
-use nav_types::{Cell, Chunk, NoMemory, Rect, Size, Ticks};
-use std::alloc::{AllocError, Global};
-use std::marker::Brand;
-use std::sync::ledger::{Blank, Ledger};
-use std::test::Fail;
+use crate::fixtures::maps::{block, drawn};
+use chunk_regions::Labels;
+use nav_types::{Cell, Chunk, Size};
+use navcell_grid::Grid;
+use std::alloc::Global;
 
-/// The numbers of the labels' cells in the order of cells, with spaces between.
-fn numbers_text(alloc: Global, labels: &Labels) -> Result<String, AllocError> {
-    let rect = labels.rect();
-    let mut text = String::new(alloc);
-    for j in rect.j0..=rect.j1 {
-        for i in rect.i0..=rect.i1 {
-            let cell = Cell::new(i, j);
-            if !text.is_empty() {
-                text.push(' ')?;
-            }
-            write!(text, "{}", labels.at(cell))?;
-        }
-    }
-    Ok(text)
-}
+/// The first chunk of a map.
+const FIRST: Chunk = Chunk { cj: 0, ci: 0 };
 
 // The rows of one chunk from the first row up, joined by `/`, with `#` for an impassable cell; then the
 // region numbers in the order of cells.
@@ -58,15 +40,36 @@ const CHUNKS: [(&str, &str); 8] = [
     ("###./####", "0 0 0 1 0 0 0 0"),
 ];
 
-#[test]
-fn chunks_have_their_regions(rt: HostRuntime) -> Result<(), Fail> {
-    for (rows, numbers) in CHUNKS {
-        let plan = drawn(rt.alloc(), rows)?;
-        let labels = labelled(rt.alloc(), &plan, Chunk { cj: 0, ci: 0 }).ok_or("labels")?;
-        let text = numbers_text(rt.alloc(), &labels)?;
-        assert_eq!(rt; text.as_str(), numbers, "in {rows}");
+/// Whether the numbers of the labels' cells are those of the text, in the order of cells.
+fn are_numbers(labels: &Labels, text: &str) -> bool {
+    let rect = labels.rect();
+    let mut words = text.split_whitespace();
+    for j in rect.j0..=rect.j1 {
+        for i in rect.i0..=rect.i1 {
+            let wanted = words.next().unwrap_or("").parse();
+            if wanted != Ok(labels.at(Cell::new(i, j))) {
+                return false;
+            }
+        }
     }
-    Ok(())
+    words.next().is_none()
+}
+
+/// Whether the regions of a map's first chunk have these numbers. None where it is no map, or there is no memory.
+fn has_regions(alloc: Global, rows: &str, numbers: &str) -> Option<bool> {
+    let map = drawn(alloc, rows)?;
+    let labels = labelled(alloc, &map, FIRST)?;
+    Some(are_numbers(&labels, numbers))
+}
+
+#[test]
+fn chunks_have_their_regions(rt: HostRuntime) {
+    for (rows, numbers) in CHUNKS {
+        assert!(rt;
+            has_regions(rt.alloc(), rows, numbers) == Some(true),
+            "in {rows}"
+        );
+    }
 }
 
 /// How a test's chunk of 96 by 96 navcells looks.
@@ -81,11 +84,11 @@ enum Look {
 
 /// A map of one whole chunk: open, a comb whose teeth stand on its first row, five cells of eight passable at random,
 /// a chequered one, or two halves that a wall parts on even rows west of column 64 and on odd rows east of it.
-fn whole_chunk(alloc: Global, size: Size, look: Look) -> Result<Plan, AllocError> {
-    let mut free = Vec::new(alloc);
+fn whole_chunk(alloc: Global, look: Look) -> Option<Grid> {
+    let mut map = Grid::new(alloc, Size::new(96, 96)?).ok()?;
     let mut noise = 12345u32;
-    for j in 0..96u32 {
-        for i in 0..96u32 {
+    for j in 0..96u16 {
+        for i in 0..96u16 {
             noise = noise.wrapping_mul(1_103_515_245).wrapping_add(12345) & 0x7fff_ffff;
             let passable = match look {
                 Look::Open => true,
@@ -94,10 +97,12 @@ fn whole_chunk(alloc: Global, size: Size, look: Look) -> Result<Plan, AllocError
                 Look::Chequered => (i + j) % 2 == 0,
                 Look::Halves => i != 63 + j % 2,
             };
-            free.push(passable)?;
+            if !passable {
+                block(&mut map, Cell::new(i, j));
+            }
         }
     }
-    Ok(Plan { size, free })
+    Some(map)
 }
 
 // How a whole chunk looks, with its number of regions, the first cell of the last one, the number of the last cell
@@ -110,130 +115,54 @@ const WHOLE: [(Look, u16, (u16, u16), u16, u64); 5] = [
     (Look::Halves, 2, (64, 0), 2, 12_144),
 ];
 
-#[test]
-fn whole_chunks_have_their_regions(rt: HostRuntime) -> Result<(), Fail> {
-    let size = Size::new(96, 96).ok_or("a size")?;
-    for (look, count, last, corner, sum) in WHOLE {
-        let plan = whole_chunk(rt.alloc(), size, look)?;
-        let counted = Counted::new(&plan);
-        let labels = labelled(rt.alloc(), &counted, Chunk { cj: 0, ci: 0 }).ok_or("labels")?;
-        assert!(rt;
-            counted.cells() <= 9216,
-            "each cell is asked for once at most"
-        );
-        let rect = labels.rect();
-        let mut total = 0u64;
-        for j in rect.j0..=rect.j1 {
-            for i in rect.i0..=rect.i1 {
-                total = total.saturating_add(u64::from(labels.at(Cell::new(i, j))));
-            }
-        }
-        assert_eq!(rt; total, sum);
-        assert_eq!(rt; labels.count(), count);
-        assert!(rt; count >= 1);
-        assert_eq!(rt; labels.first(count), Cell::new(last.0, last.1));
-        assert_eq!(rt;
-            rect,
-            Rect {
-                i0: 0,
-                j0: 0,
-                i1: 95,
-                j1: 95
-            }
-        );
-        assert_eq!(rt; labels.at(Cell::new(rect.i1, rect.j1)), corner);
-    }
-    Ok(())
-}
-
-/// The number of a cell in labels. None outside their rectangle.
-fn number(labels: &Labels, i: u16, j: u16) -> Option<u16> {
+/// The sum of the numbers of all the labels' cells.
+fn sum_of(labels: &Labels) -> u64 {
     let rect = labels.rect();
-    if i < rect.i0 || i > rect.i1 || j < rect.j0 || j > rect.j1 {
-        return None;
+    let mut sum = 0u64;
+    for j in rect.j0..=rect.j1 {
+        for i in rect.i0..=rect.i1 {
+            sum = sum.saturating_add(u64::from(labels.at(Cell::new(i, j))));
+        }
     }
-    Some(labels.at(Cell::new(i, j)))
+    sum
 }
 
-/// The labels of the first chunk by its bits, where the work is counted in a ledger of its own.
-fn counted_bits<L: Ledger>(
+/// The number of a cell, and the first cell of the region of so many; none where the labels have no such cell or region.
+fn corners_of(labels: &Labels, cell: Cell, region: u16) -> Option<(u16, Cell)> {
+    let rect = labels.rect();
+    if rect.i0 <= cell.i
+        && cell.i <= rect.i1
+        && rect.j0 <= cell.j
+        && cell.j <= rect.j1
+        && 1 <= region
+        && region <= labels.count()
+    {
+        Some((labels.at(cell), labels.first(region)))
+    } else {
+        None
+    }
+}
+
+/// Whether a line of `WHOLE` says what the regions are, and each cell is asked for once at most.
+fn is_whole(
     alloc: Global,
-    size: Size,
-    bits: &ChunkBits,
-    blank: Blank,
-) -> Result<Labels, NoMemory>
-    requires name { blank.name ≡ L.name }
-    requires parts { blank.parts ≡ L.parts }
-    requires some { 0 < L.parts }
-    requires columns { 0 < size.w }
-    requires rows { 0 < size.h }
-{
-    label_bits(
-        alloc,
-        size,
-        Chunk { cj: 0, ci: 0 },
-        bits,
-        &mut Ticks::<L>::new(blank),
+    (look, count, last, corner, sum): (Look, u16, (u16, u16), u16, u64),
+) -> Option<bool> {
+    let map = whole_chunk(alloc, look)?;
+    let counted = Counted::new(&map);
+    let labels = labelled(alloc, &counted, FIRST)?;
+    let corners = corners_of(&labels, Cell::new(95, 95), count);
+    Some(
+        counted.cells() <= 9216
+            && labels.count() == count
+            && corners == Some((corner, Cell::new(last.0, last.1)))
+            && sum_of(&labels) == sum,
     )
 }
 
-/// The labels of the first chunk by its bits. None where there is no memory.
-fn labelled_bits(alloc: Global, size: Size, bits: &ChunkBits) -> Option<Labels> {
-    if size.w == 0 || size.h == 0 {
-        return None;
-    }
-    counted_bits::<Brand>(alloc, size, bits, Blank::new(1)).ok()
-}
-
 #[test]
-fn bits_have_their_regions(rt: HostRuntime) -> Result<(), Fail> {
-    let size = Size::new(96, 4).ok_or("a size")?;
-    // columns 60 to 67, column 64 above them, then column 63 beside its corner, and the last column
-    let mut bits = ChunkBits::new();
-    bits.set_row(0, 0xff << 60);
-    bits.set_row(1, 1 << 64);
-    bits.set_row(2, 1 << 63);
-    bits.set_row(3, 1 << 95);
-    assert_eq!(rt; bits.row(2), 1 << 63);
-    let labels = labelled_bits(rt.alloc(), size, &bits).ok_or("labels")?;
-    assert_eq!(rt; labels.count(), 3);
-    for (i, j, region) in [
-        (59, 0, 0),
-        (60, 0, 1),
-        (63, 0, 1),
-        (64, 0, 1),
-        (67, 0, 1),
-        (68, 0, 0),
-        (63, 1, 0),
-        (64, 1, 1),
-        (63, 2, 2),
-        (64, 2, 0),
-        (95, 3, 3),
-    ] {
-        assert_eq!(rt; number(&labels, i, j), Some(region), "at {i} {j}");
+fn whole_chunks_have_their_regions(rt: HostRuntime) {
+    for line in WHOLE {
+        assert!(rt; is_whole(rt.alloc(), line) == Some(true));
     }
-    Ok(())
-}
-
-#[test]
-fn a_border_chunk_is_smaller(rt: HostRuntime) -> Result<(), Fail> {
-    let size = Size::new(98, 97).ok_or("a size")?;
-    let plan = Plan {
-        size,
-        free: vec![in rt.alloc(); true; 9506]?,
-    };
-    let labels = labelled(rt.alloc(), &plan, Chunk { cj: 1, ci: 1 }).ok_or("labels")?;
-    assert_eq!(rt; shared(&labels).chunk(), Chunk { cj: 1, ci: 1 });
-    assert_eq!(rt;
-        labels.rect(),
-        Rect {
-            i0: 96,
-            j0: 96,
-            i1: 97,
-            j1: 96
-        }
-    );
-    assert_eq!(rt; labels.count(), 1);
-    assert_eq!(rt; labels.first(1), Cell::new(96, 96));
-    Ok(())
 }

@@ -1,19 +1,22 @@
-//! All bits of a plane, also of one that follows a change, and the runs over it against the cells of a map that is wider
-//! and higher than a word, and which classes have planes.
-ghost use Rattle.std.specs.Prelude.{ℕ, Bool, ◌≡◌, ◌==◌, ◌<◌, ◌&&◌, not, nat_le, IsTrue, IfOk, IfSome};
-ghost use Rattle.std.specs.Int.{bit_at};
-ghost use Rattle.std.proofs.lemmas.Bool.{and_parts};
-ghost use Rattle.nav_types.specs.Cells.{IsRectInside};
-ghost use Rattle.nav_types.specs.Rows.{bit_of};
-ghost use Rattle.class_planes.specs.Planes.{ArePlanes};
+//! All bits of the planes of a map that is wider and higher than a word, also after a change, and the runs over them
+//! against those cell by cell.
+ghost use Rattle.std.specs.Prelude.{◌<◌, length, IsTrue};
+ghost use Rattle.goal_shapes.specs.Limits.{IsSoundGoal};
+ghost use Rattle.grid_versions.specs.Versions.{passes_of};
 
-use crate::fixtures::plans::{Plan, holds, is_rect_inside};
+use crate::fixtures::figures::goal_of;
+use crate::fixtures::maps::holds;
+use crate::fixtures::versions::{after, version_of};
 use crate::fixtures::views::stop_of;
-use class_planes::{ChangedPart, ClassPlane, PlaneRuns, Planes};
-use jump_scan::{CellRuns, Runs};
-use nav_types::{Aim, Cell, Class, Dir, NoMemory, Rect, Rows, Size, View};
+use class_planes::{ClassPlane, PlaneRuns};
+use goal_shapes::{Goal, check};
+use grid_versions::Version;
+use jump_scan::CellRuns;
+use nav_types::{Cell, Class, Dir, Rect, Size, View};
 use std::alloc::Global;
-use std::test::Fail;
+
+/// The size of the map.
+const SIDES: [u16; 2] = [130, 70];
 
 /// Whether the cell is none of those at the ends of words that are blocked.
 fn is_open(i: u16, j: u16) -> bool {
@@ -21,15 +24,23 @@ fn is_open(i: u16, j: u16) -> bool {
     !blocked || (u32::from(i) + 2 * u32::from(j)) % 5 == 0
 }
 
-/// The map of this size with the blocked cells.
-fn drawn(alloc: Global, size: Size) -> Result<Plan, Fail> {
-    let mut free = Vec::new(alloc);
-    for j in 0..size.h {
-        for i in 0..size.w {
-            free.push(is_open(i, j))?;
+/// The version of the map with the blocked cells.
+fn blocked(alloc: Global) -> Option<Version> {
+    let mut cells = Vec::new(alloc);
+    for j in 0..SIDES[1] {
+        for i in 0..SIDES[0] {
+            if !is_open(i, j) {
+                let cell = Rect {
+                    i0: i,
+                    j0: j,
+                    i1: i,
+                    j1: j,
+                };
+                cells.push((cell, 1)).ok()?;
+            }
         }
     }
-    Ok(Plan { size, free })
+    version_of(alloc, SIDES, (1, "0"), &cells)
 }
 
 /// Whether the bit of the place is set. Past the last word none is.
@@ -40,139 +51,106 @@ fn is_set(words: &[u64], place: u16) -> bool {
     }
 }
 
-/// Whether the bits of row `j` are those of the map's cells.
-fn is_row(words: &[u64], size: Size, j: u16) -> bool {
-    for i in 0..200 {
-        let free = size.has(Cell::new(i, j)) && is_open(i, j);
-        if is_set(words, i) != free {
-            return false;
-        }
-    }
-    true
+/// Whether the cell lies in the map, is open, and the wall does not hold it.
+fn is_free(size: Size, wall: Rect, cell: Cell) -> bool {
+    size.has(cell) && is_open(cell.i, cell.j) && !holds(wall, cell)
 }
 
-/// Whether the bits of column `i` are those of the map's cells.
-fn is_column(words: &[u64], size: Size, i: u16) -> bool {
-    for j in 0..200 {
-        let free = size.has(Cell::new(i, j)) && is_open(i, j);
-        if is_set(words, j) != free {
-            return false;
-        }
-    }
-    true
-}
-
-/// The first row whose bits are wrong.
-fn wrong_row(plane: &ClassPlane) -> Option<u16> {
+/// The first cell, of the map or past its border, whose bit in its row or its column is wrong, where no cell of the wall
+/// is passable.
+fn wrong_cell(plane: &ClassPlane, wall: Rect) -> Option<Cell> {
     let size = plane.size();
     for j in 0..size.h + 1 {
-        if !is_row(plane.row_words(j), size, j) {
-            return Some(j);
+        let row = plane.row_words(j);
+        for i in 0..200 {
+            if is_set(row, i) != is_free(size, wall, Cell::new(i, j)) {
+                return Some(Cell::new(i, j));
+            }
         }
     }
-    None
-}
-
-/// The first column whose bits are wrong.
-fn wrong_column(plane: &ClassPlane) -> Option<u16> {
-    let size = plane.size();
     for i in 0..size.w + 1 {
-        if !is_column(plane.column_words(i), size, i) {
-            return Some(i);
+        let column = plane.column_words(i);
+        for j in 0..200 {
+            if is_set(column, j) != is_free(size, wall, Cell::new(i, j)) {
+                return Some(Cell::new(i, j));
+            }
         }
     }
     None
 }
 
-#[test]
-fn all_bits_are_those_of_the_cells(rt: HostRuntime) -> Result<(), Fail> {
-    let size = Size::new(130, 70).ok_or("no such size")?;
-    let plan = drawn(rt.alloc(), size)?;
-    let plane = ClassPlane::build(rt.alloc(), &plan, Class::new(0))?;
-    assert!(rt; plane.size() == size);
-    assert_eq!(rt; wrong_row(&plane), None);
-    assert_eq!(rt; wrong_column(&plane), None);
-    Ok(())
-}
-
-/// The wanted planes of any view that hands out rows.
-fn planes_of<V: Rows>(alloc: Global, view: &V, classes: u16) -> Result<Planes, NoMemory>
-    ensures { IfOk result (ArePlanes (V.extent view.now) (V.passes view.now) classes (V.class_count view.now)) }
-{
-    Planes::build(alloc, view, classes)
-}
-
-#[test]
-fn only_wanted_classes_have_planes(rt: HostRuntime) -> Result<(), Fail> {
-    let size = Size::new(65, 3).ok_or("no such size")?;
-    let plan = drawn(rt.alloc(), size)?;
-    let all = planes_of(rt.alloc(), &plan, u16::MAX)?;
-    let others = planes_of(rt.alloc(), &plan, u16::MAX - 1)?;
-    let plane = all.plane(Class::new(0)).ok_or("no plane")?;
-    assert!(rt; plane.size() == size);
-    assert_eq!(rt; wrong_row(plane), None);
-    assert!(rt; all.plane(Class::new(1)).is_none());
-    assert!(rt; others.plane(Class::new(0)).is_none());
-    Ok(())
-}
-
-/// All cells of a rectangle, which is asked for as the aim's own.
-#[derive(Drop)]
-struct Target {
-    rect: Rect,
-}
-
-impl Aim for Target {
-    ghost sound = { λ target size. IsRectInside size target.rect };
-
-    ghost hit = { λ target size cell. (nat_le target.rect.i0 cell.i && nat_le cell.i target.rect.i1)
-        && (nat_le target.rect.j0 cell.j && nat_le cell.j target.rect.j1) };
-
-    ghost framed = { λ target size cell. (nat_le target.rect.i0 cell.i && nat_le cell.i target.rect.i1)
-        && (nat_le target.rect.j0 cell.j && nat_le cell.j target.rect.j1) };
-
-    fn hits(&self, _size: Size, cell: Cell) -> bool {
-        holds(self.rect, cell)
+/// Whether the version has a plane of the map with all bits right.
+fn is_plane_right(version: &Version, wall: Rect) -> bool {
+    match version.planes().plane(Class::new(0)) {
+        Some(plane) => {
+            let size = plane.size();
+            [size.w, size.h] == SIDES && wrong_cell(plane, wall).is_none()
+        }
+        None => false,
     }
-
-    fn bounds(&self, _size: Size) -> Rect {
-        self.rect
-    }
-
-    ghost hits_framed = { λ target size cell sound inside hit. hit };
 }
 
-/// The first direction in which the two scans from the cell have unlike stops.
-fn unlike_from<R: Runs, S: Runs, A: Aim>(runs: &R, other: &S, from: Cell, aim: &A) -> Option<Dir>
-    requires class { 0 < R.class_count runs.now }
-    requires class_of_other { 0 < S.class_count other.now }
-    requires start { IsTrue (R.passes runs.now 0 from) }
-    requires start_of_other { IsTrue (S.passes other.now 0 from) }
-    requires aim { A.sound aim.now (R.extent runs.now) }
-    requires aim_of_other { A.sound aim.now (S.extent other.now) }
+/// No cell.
+const NOWHERE: Rect = Rect {
+    i0: 1,
+    j0: 1,
+    i1: 0,
+    j1: 0,
+};
+
+/// The cells that a square over words and bands covers.
+const WALL: Rect = Rect {
+    i0: 30,
+    j0: 31,
+    i1: 128,
+    j1: 64,
+};
+
+/// Whether all bits are right before and after the square comes. None where there is no memory.
+fn are_planes_right(alloc: Global) -> Option<bool> {
+    let version = blocked(alloc)?;
+    let edit = "add 1 1 square 5210112 3145728 65536 0 3227648 1097728";
+    let next = after(&version, alloc, edit)?;
+    Some(is_plane_right(&version, NOWHERE) && is_plane_right(&next.version, WALL))
+}
+
+#[test]
+fn all_bits_are_those_of_the_cells(rt: HostRuntime) {
+    assert!(rt; are_planes_right(rt.alloc()) == Some(true));
+}
+
+/// The first direction in which the runs by words and by cells from the cell have unlike stops.
+fn unlike_from(version: &Version, from: Cell, goal: &Goal) -> Option<Dir>
+    requires class { 0 < length version.now.map.classes }
+    requires start { IsTrue (passes_of version.now 0 from) }
+    requires goal { IsSoundGoal version.now.map.size goal.now }
 {
+    let class = Class::new(0);
+    let by_words = PlaneRuns::new(version, version.planes());
+    let by_cells = CellRuns::new(version);
     for dir in Dir::ALL {
-        let class = Class::new(0);
-        if stop_of(runs, class, from, dir, aim) != stop_of(other, class, from, dir, aim) {
+        if stop_of(&by_words, class, from, dir, goal)
+            != stop_of(&by_cells, class, from, dir, goal)
+        {
             return Some(dir);
         }
     }
     None
 }
 
-/// The first passable cell from which the two scans have unlike stops in some direction.
-fn unlike<R: Runs, S: Runs, A: Aim>(runs: &R, other: &S, aim: &A) -> Option<(Cell, Dir)>
-    requires class { 0 < R.class_count runs.now }
-    requires class_of_other { 0 < S.class_count other.now }
-    requires aim { A.sound aim.now (R.extent runs.now) }
-    requires aim_of_other { A.sound aim.now (S.extent other.now) }
+/// The first passable cell from which the runs have unlike stops in some direction.
+fn unlike(version: &Version, goal: &Goal) -> Option<(Cell, Dir)>
+    requires { IsSoundGoal version.now.map.size goal.now }
 {
-    let size = runs.size();
+    let size = version.size();
+    if version.classes() < 1 {
+        return None;
+    }
     for j in 0..size.h {
         for i in 0..size.w {
             let cell = Cell::new(i, j);
-            if is_start(runs, cell) && is_start(other, cell) {
-                if let Some(dir) = unlike_from(runs, other, cell, aim) {
+            if version.passable(Class::new(0), cell) {
+                if let Some(dir) = unlike_from(version, cell, goal) {
                     return Some((cell, dir));
                 }
             }
@@ -181,151 +159,24 @@ fn unlike<R: Runs, S: Runs, A: Aim>(runs: &R, other: &S, aim: &A) -> Option<(Cel
     None
 }
 
-/// Whether the cell lies in the map and is passable.
-fn is_start<R: Runs>(runs: &R, cell: Cell) -> bool
-    requires { 0 < R.class_count runs.now }
-    ensures { IsTrue result → IsTrue (R.passes runs.now 0 cell) }
-{
-    runs.size().has(cell) && runs.passable(Class::new(0), cell)
-}
-
-/// The cells of a rectangle that lies in the map.
-fn cells_of(size: Size, rect: Rect) -> Option<Target>
-    ensures { IfSome result (λ target. IsRectInside size target.rect) }
-{
-    if is_rect_inside(size, rect) {
-        Some(Target { rect })
-    } else {
-        None
-    }
+/// Whether the runs stop at the same cells, where they look for the goal of a text. None where that is no sound goal.
+fn stop_alike(version: &Version, goal: &str) -> Option<bool> {
+    let Ok(goal) = check(goal_of(goal)?, version.size()) else {
+        return None;
+    };
+    Some(unlike(version, &goal).is_none())
 }
 
 #[test]
-fn runs_stop_at_the_same_cells_by_words_and_by_cells(rt: HostRuntime) -> Result<(), Fail> {
-    let size = Size::new(130, 70).ok_or("no such size")?;
-    let plan = drawn(rt.alloc(), size)?;
-    let planes = Planes::build(rt.alloc(), &plan, 1)?;
-    let by_words = PlaneRuns::new(&plan, &planes);
-    let by_cells = CellRuns::new(&plan);
-    let one_cell = Rect {
-        i0: 129,
-        i1: 129,
-        j0: 40,
-        j1: 40,
+fn runs_stop_at_the_same_cells_by_words_and_by_cells(rt: HostRuntime) {
+    let Some(version) = blocked(rt.alloc()) else {
+        panic!(rt; "no map");
     };
-    let many_cells = Rect {
-        i0: 60,
-        i1: 90,
-        j0: 30,
-        j1: 50,
-    };
-    let cell = cells_of(plan.size, one_cell).ok_or("no such cell")?;
-    let rect = cells_of(plan.size, many_cells).ok_or("no such cells")?;
-    assert_eq!(rt; unlike(&by_words, &by_cells, &cell), None);
-    assert_eq!(rt; unlike(&by_words, &by_cells, &rect), None);
-    Ok(())
-}
-
-/// A map with one rectangle blocked for class 0.
-#[derive(Drop)]
-struct Walled<'a, V: Rows> {
-    view: &'a V,
-    wall: Rect,
-}
-
-impl<'a, V: Rows> View for Walled<'a, V> {
-    ghost extent = { λ map. V.extent map.view.now };
-
-    ghost class_count = { λ map. V.class_count map.view.now };
-
-    ghost passes = { λ map class cell. V.passes map.view.now class cell && not (class == 0
-        && ((nat_le map.wall.i0 cell.i && nat_le cell.i map.wall.i1)
-        && (nat_le map.wall.j0 cell.j && nat_le cell.j map.wall.j1))) };
-
-    fn size(&self) -> Size {
-        self.view.size()
+    // one cell, and the cells from (60, 30) to (90, 50)
+    for goal in [
+        "point 8486912 2654208",
+        "square 4947968 2654208 65536 0 1015807 688127",
+    ] {
+        assert!(rt; stop_alike(&version, goal) == Some(true), "{goal}");
     }
-
-    fn classes(&self) -> u8 {
-        self.view.classes()
-    }
-
-    fn passable(&self, class: Class, cell: Cell) -> bool {
-        self.view.passable(class, cell) && !(class.number() == 0 && holds(self.wall, cell))
-    }
-
-    ghost within = { λ map class cell passing. V.within map.view.now class cell (and_parts
-        (V.passes map.view.now class cell) (not (class == 0
-        && ((nat_le map.wall.i0 cell.i && nat_le cell.i map.wall.i1)
-        && (nat_le map.wall.j0 cell.j && nat_le cell.j map.wall.j1)))) passing).0 };
-}
-
-impl<'a, V: Rows> Rows for Walled<'a, V> {
-    fn row_bits(&self, j: u16, out: &mut [u16]) {
-        self.view.row_bits(j, out);
-        for i in 0..self.view.size().w {
-            let place = usize::from(i);
-            out[place] = with_wall(out[place], holds(self.wall, Cell::new(i, j)));
-        }
-    }
-}
-
-/// The number of a cell that is blocked for class 0 too, where a wall stands on it.
-fn with_wall(number: u16, blocked: bool) -> u16
-    ensures { (class : ℕ) (free : Bool) → bit_at number class ≡ bit_of free
-        → bit_at result class ≡ bit_of (free && not (class == 0 && blocked)) }
-{
-    if blocked { number | 1 } else { number }
-}
-
-/// The planes of class 0 of the map with the wall, made from those of the map without it.
-fn walled_planes<V: Rows>(alloc: Global, walled: &Walled<'_, V>) -> Result<Planes, NoMemory>
-    requires { IsRectInside (V.extent walled.now.view.now) walled.now.wall }
-{
-    let planes = Planes::build(alloc, walled.view, 1)?;
-    let parts = [ChangedPart {
-        rect: walled.wall,
-        classes: 1,
-    }];
-    planes.updated(alloc, walled, &parts)
-}
-
-/// The first cell of the map whose bit in its row or its column is wrong.
-fn wrong_cell<V: View>(plane: &ClassPlane, view: &V) -> Option<Cell>
-    requires { 0 < V.class_count view.now }
-{
-    let size = view.size();
-    if plane.size() != size {
-        return Some(Cell::new(0, 0));
-    }
-    for j in 0..size.h {
-        for i in 0..size.w {
-            let free = view.passable(Class::new(0), Cell::new(i, j));
-            if is_set(plane.row_words(j), i) != free || is_set(plane.column_words(i), j) != free {
-                return Some(Cell::new(i, j));
-            }
-        }
-    }
-    None
-}
-
-#[test]
-fn planes_follow_a_wall_across_words_and_bands(rt: HostRuntime) -> Result<(), Fail> {
-    let size = Size::new(130, 70).ok_or("no such size")?;
-    let plan = drawn(rt.alloc(), size)?;
-    let across = Rect {
-        i0: 30,
-        i1: 128,
-        j0: 31,
-        j1: 64,
-    };
-    let cells = cells_of(plan.size, across).ok_or("no such cells")?;
-    let walled = Walled {
-        view: &plan,
-        wall: cells.rect,
-    };
-    let planes = walled_planes(rt.alloc(), &walled)?;
-    let plane = planes.plane(Class::new(0)).ok_or("no plane")?;
-    assert_eq!(rt; wrong_cell(plane, &walled), None);
-    Ok(())
 }

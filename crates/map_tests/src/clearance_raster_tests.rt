@@ -1,51 +1,57 @@
 //! Small obstructions on a small grid.
-ghost use Rattle.std.specs.Prelude.{IfOk};
-ghost use Rattle.obstruction_shapes.specs.Shapes.{FitsMap};
-
 use crate::fixtures::classes::table_of;
+use crate::fixtures::figures::shape_of;
+use class_config::ClassTable;
 use clearance_raster::raster;
-use fixed_point::{Fixed, Rectangle};
-use nav_types::Size;
+use nav_types::{Cell, Size};
 use navcell_grid::Grid;
-use obstruction_shapes::{BadShape, Obstruction, Shape, check};
-use std::test::Fail;
+use obstruction_shapes::{Obstruction, check};
+use std::alloc::Global;
 
-/// A rectangle of 1 by 2 with its middle at (2.5, 2.5).
-fn brick(size: Size, mask: u16) -> Result<Obstruction, BadShape>
-    ensures { IfOk result (λ brick. FitsMap size brick.shape) }
-{
-    let square = Shape::Square(Rectangle {
-        x: Fixed::from_raw(163_840),
-        z: Fixed::from_raw(163_840),
-        ux: Fixed::from_raw(0),
-        uz: Fixed::from_raw(65_536),
-        hw: Fixed::from_raw(65_536),
-        hh: Fixed::from_raw(32_768),
-    });
-    match check(square, size) {
-        Ok(shape) => Ok(Obstruction { shape, mask }),
-        Err(refusal) => Err(refusal),
+/// A rectangle of 1 by 2 with its middle at (2.5, 2.5). With clearance 1 its rim meets the middle of (2, 0) exactly.
+const BRICK: &str = "square 163840 163840 0 65536 65536 32768";
+
+/// Class 0 has clearance 1, class 1 has 0, and bit 2 is of no class.
+const CLASSES: &str =
+    "[{\"name\":\"wide\",\"clearance\":\"1\"},{\"name\":\"thin\",\"clearance\":\"0\"}]";
+
+/// Writes the brick with this mask into the grid, where it fits.
+fn raster_brick(grid: &mut Grid, mask: u16, classes: &ClassTable) {
+    if let Some(brick) = shape_of(BRICK) {
+        if let Ok(shape) = check(brick, grid.size()) {
+            raster(grid, &Obstruction { shape, mask }, classes);
+        }
     }
 }
 
-/// On 5 by 5 cells, a rectangle of 1 by 2 with its middle at (2.5, 2.5). With clearance 1 its rim meets
-/// the middle of (2, 0) exactly. Class 0 has clearance 1, class 1 has 0, and bit 2 is of no class.
+/// A grid of 5 by 5 cells with a bit in two of them.
+fn begun(alloc: Global) -> Option<Grid> {
+    let mut grid = Grid::new(alloc, Size::new(5, 5)?).ok()?;
+    if grid.size().has(Cell::new(1, 0)) {
+        grid.or_span(0, 0, 1, 8);
+    }
+    Some(grid)
+}
+
+/// Whether the grid has the row, with these numbers.
+fn row_is(grid: &Grid, j: u16, numbers: [u16; 5]) -> bool {
+    j < grid.size().h && grid.row(j) == numbers.as_slice()
+}
+
 #[test]
-fn classes_of_the_mask_get_their_cells(rt: HostRuntime) -> Result<(), Fail> {
-    let text = "[{\"name\":\"wide\",\"clearance\":\"1\"},{\"name\":\"thin\",\"clearance\":\"0\"}]";
-    let classes = table_of(rt.alloc(), text).ok_or("no classes")?;
-    let size = Size::new(5, 5).ok_or("no such size")?;
-    let mut grid = Grid::new(rt.alloc(), size)?;
-    grid.or_span(0, 0, 1, 8);
-    let thin = brick(size, 6).map_err(|_| "the shape does not fit")?;
-    raster(&mut grid, &thin, &classes);
-    assert_eq!(rt; grid.row(0), [8, 8, 0, 0, 0].as_slice());
-    assert_eq!(rt; grid.row(1), [0, 0, 2, 0, 0].as_slice());
-    let wide = brick(size, 5).map_err(|_| "the shape does not fit")?;
-    raster(&mut grid, &wide, &classes);
-    assert_eq!(rt; grid.row(0), [8, 8, 1, 0, 0].as_slice());
-    assert_eq!(rt; grid.row(1), [0, 1, 3, 1, 0].as_slice());
-    assert_eq!(rt; grid.row(2), [0, 1, 3, 1, 0].as_slice());
-    assert_eq!(rt; grid.row(4), [0, 0, 1, 0, 0].as_slice());
-    Ok(())
+fn classes_of_the_mask_get_their_cells(rt: HostRuntime) {
+    let Some(classes) = table_of(rt.alloc(), CLASSES) else {
+        panic!(rt; "no classes");
+    };
+    let Some(mut grid) = begun(rt.alloc()) else {
+        panic!(rt; "no grid");
+    };
+    raster_brick(&mut grid, 6, &classes);
+    assert!(rt; row_is(&grid, 0, [8, 8, 0, 0, 0]));
+    assert!(rt; row_is(&grid, 1, [0, 0, 2, 0, 0]));
+    raster_brick(&mut grid, 5, &classes);
+    assert!(rt; row_is(&grid, 0, [8, 8, 1, 0, 0]));
+    assert!(rt; row_is(&grid, 1, [0, 1, 3, 1, 0]));
+    assert!(rt; row_is(&grid, 2, [0, 1, 3, 1, 0]));
+    assert!(rt; row_is(&grid, 4, [0, 0, 1, 0, 0]));
 }

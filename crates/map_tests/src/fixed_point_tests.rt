@@ -1,6 +1,5 @@
-use crate::fixtures::texts::fixed;
+use crate::fixtures::texts::fields_of;
 use fixed_point::{Fixed, NotFixed};
-use std::test::Fail;
 
 /// In each line a text, its raw number and its canonical text.
 const VALUES: &str = "\
@@ -103,44 +102,21 @@ const WITHOUT_VALUE: [&str; 25] = [
 ];
 
 #[test]
-fn known_texts_have_their_values(rt: HostRuntime) -> Result<(), Fail> {
+fn known_texts_have_their_values(rt: HostRuntime) {
     for line in VALUES.lines() {
-        let mut fields = line.split(';');
-        let text = fields.next().ok_or("a text")?;
-        let value = fixed(fields.next()).ok_or("a raw number")?;
-        let canonical = fields.next().ok_or("a canonical text")?;
-        assert_eq!(rt; Fixed::parse(text.as_bytes()), Ok(value), "{line}");
-        assert_eq!(rt; value.text().as_bytes(), canonical.as_bytes(), "{line}");
+        let [text, raw, canonical, ..] = fields_of(line);
+        let Ok(raw) = raw.parse() else {
+            panic!(rt; "{line}");
+        };
+        let value = Fixed::from_raw(raw);
+        assert!(rt; Fixed::parse(text.as_bytes()) == Ok(value), "{line}");
+        assert!(rt; value.text().as_bytes() == canonical.as_bytes(), "{line}");
     }
-    Ok(())
 }
 
 #[test]
 fn other_texts_have_no_value(rt: HostRuntime) {
     for text in WITHOUT_VALUE {
-        assert_eq!(rt; Fixed::parse(text.as_bytes()), Err(NotFixed), "{text}");
+        assert!(rt; Fixed::parse(text.as_bytes()) == Err(NotFixed), "{text}");
     }
-}
-
-#[test]
-fn arithmetic_is_exact_or_refused(rt: HostRuntime) {
-    let [one, half, least_step] = [65536, 32768, 1].map(Fixed::from_raw);
-    let [least, greatest] = [i32::MIN, i32::MAX].map(Fixed::from_raw);
-    assert_eq!(rt; one.add(half), Some(Fixed::from_raw(98304)));
-    assert_eq!(rt;
-        Fixed::from_raw(i32::MAX - 1).add(least_step),
-        Some(greatest)
-    );
-    assert_eq!(rt; greatest.add(least_step), None);
-    assert_eq!(rt; least.sub(least_step), None);
-    assert_eq!(rt; half.sub(one), Some(Fixed::from_raw(-32768)));
-    assert_eq!(rt; half.mul(half), Some(Fixed::from_raw(16384)));
-    assert_eq!(rt;
-        Fixed::from_raw(-1).mul(least_step),
-        Some(Fixed::from_raw(-1))
-    );
-    assert_eq!(rt; least.mul(least), None);
-    assert_eq!(rt; Fixed::from_raw(-1).floor(), -1);
-    assert_eq!(rt; Fixed::from_raw(98304).floor(), 1);
-    assert_eq!(rt; Fixed::centre(2047).raw(), 134_184_960);
 }

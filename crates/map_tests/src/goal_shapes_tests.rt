@@ -1,12 +1,9 @@
 ghost use Rattle.goal_shapes.specs.Limits.{IsWellFormed};
 
-use crate::fixtures::texts::{fixed, rect_of, size_of};
-use fixed_point::{Fixed, Rectangle};
-use goal_shapes::{
-    BadShape, Goal, GoalRefusal, cell_box, cell_of_point, check, contains, grown, remoteness,
-};
-use nav_types::{Aim, Cell, Size};
-use std::test::Fail;
+use crate::fixtures::figures::goal_of;
+use crate::fixtures::texts::{fields_of, places_of, rect_of, size_of};
+use goal_shapes::{Goal, GoalRefusal, cell_box, check, contains, remoteness};
+use nav_types::{Cell, Size};
 
 /// In each line a goal with its numbers raw, the columns and rows of a map, the goal's box, and cells
 /// with 1 where they are goal cells and with their remoteness.
@@ -125,200 +122,92 @@ square 327679 491519 0 -65536 32768 402294;8 9;0 6 7 7;7 6 1 4611404547745644544
 circle 262145 131071 0;20 22;4 1 4 1;3 7 0 130997288962,9 9 0 371514933250,15 12 0 1041529438210,13 6 0 474593230850
 point 131071 360448;11 12;1 5 1 5;8 7 0 227633266688,9 3 0 292057776128,2 11 0 158913789952,5 6 0 73014444032
 not-circle 425984 131072 1;19 6;0 0 18 5;1 3 1 72057477000069120,18 5 1 72056922949287936,4 0 1 72057567194382336,2 0 1 72057515654774784
-not-circle 32768 98303 65536;5 22;0 0 4 21;1 13 1 72056971266097151,1 12 1 72057070050476031,2 19 1 72056185286295551,3 13 1 72056936906358783";
+not-circle 32768 98303 65536;5 22;0 0 4 21;1 13 1 72056971266097151,1 12 1 72057070050476031,2 19 1 72056185286295551,3 13 1 72056936906358783
+circle 131072 131072 0;4 4;1 1 2 2;0 0 0 19327352832,1 1 1 2147483648,2 2 1 2147483648,3 1 0 10737418240
+not-square 163840 163840 65536 0 65536 65536;5 5;0 0 4 4;2 2 0 4294967296,1 2 1 0,2 3 1 0,0 0 1 0";
 
-/// Goals on a map of 40 columns and 30 rows, each with the answer of `check`.
-const LIMITS: &str = "\
-point 0 0;sound
-point 2621439 1966079;sound
-point 2621440 0;outside
-point 0 1966080;outside
-point -1 0;outside
-point 0 -1;outside
-circle 0 0 268435456;sound
-circle 0 0 268435457;bad
-circle 0 0 -1;bad
-circle -1 0 -1;bad
-not-circle 0 0 268435456;sound
-not-circle 0 0 268435457;bad
-not-circle 0 1966080 0;outside
-square 1 1 65536 0 268435456 268435456;sound
-square 1 1 65536 0 268435457 0;bad
-square 1 1 65536 0 0 268435457;bad
-square 1 1 65536 0 0 -1;bad
-square 1 1 -65791 0 5 5;sound
-square 1 1 65279 0 5 5;bad
-square 2621440 1 65279 0 5 5;bad
-square 2621440 1 46341 -46341 5 5;outside
-not-square 1 1 0 65536 268435456 0;sound
-not-square 1 1 0 65792 5 5;bad
-not-square 1 1966080 0 65536 5 5;outside";
-
-/// The goal of a text.
-fn goal_of(text: &str) -> Option<Goal> {
-    let mut words = text.split_whitespace();
-    let kind = words.next()?;
-    let x = fixed(words.next())?;
-    let z = fixed(words.next())?;
-    if kind == "point" {
-        return Some(Goal::Point { x, z });
-    }
-    let first = fixed(words.next())?;
-    if kind == "circle" {
-        return Some(Goal::Circle { x, z, r: first });
-    }
-    if kind == "not-circle" {
-        return Some(Goal::NotCircle { x, z, r: first });
-    }
-    let uz = fixed(words.next())?;
-    let hw = fixed(words.next())?;
-    let hh = fixed(words.next())?;
-    let rectangle = Rectangle {
-        x,
-        z,
-        ux: first,
-        uz,
-        hw,
-        hh,
-    };
-    if kind == "square" {
-        Some(Goal::Square(rectangle))
-    } else {
-        Some(Goal::NotSquare(rectangle))
-    }
-}
+/// Goals on a map of 40 columns and 30 rows, each with why it is refused.
+const LIMITS: [(&str, Option<GoalRefusal>); 24] = [
+    ("point 0 0", None),
+    ("point 2621439 1966079", None),
+    ("point 2621440 0", Some(GoalRefusal::GoalOutside)),
+    ("point 0 1966080", Some(GoalRefusal::GoalOutside)),
+    ("point -1 0", Some(GoalRefusal::GoalOutside)),
+    ("point 0 -1", Some(GoalRefusal::GoalOutside)),
+    ("circle 0 0 268435456", None),
+    ("circle 0 0 268435457", Some(GoalRefusal::BadShape)),
+    ("circle 0 0 -1", Some(GoalRefusal::BadShape)),
+    ("circle -1 0 -1", Some(GoalRefusal::BadShape)),
+    ("not-circle 0 0 268435456", None),
+    ("not-circle 0 0 268435457", Some(GoalRefusal::BadShape)),
+    ("not-circle 0 1966080 0", Some(GoalRefusal::GoalOutside)),
+    ("square 1 1 65536 0 268435456 268435456", None),
+    (
+        "square 1 1 65536 0 268435457 0",
+        Some(GoalRefusal::BadShape),
+    ),
+    (
+        "square 1 1 65536 0 0 268435457",
+        Some(GoalRefusal::BadShape),
+    ),
+    ("square 1 1 65536 0 0 -1", Some(GoalRefusal::BadShape)),
+    ("square 1 1 -65791 0 5 5", None),
+    ("square 1 1 65279 0 5 5", Some(GoalRefusal::BadShape)),
+    ("square 2621440 1 65279 0 5 5", Some(GoalRefusal::BadShape)),
+    (
+        "square 2621440 1 46341 -46341 5 5",
+        Some(GoalRefusal::GoalOutside),
+    ),
+    ("not-square 1 1 0 65536 268435456 0", None),
+    ("not-square 1 1 0 65792 5 5", Some(GoalRefusal::BadShape)),
+    (
+        "not-square 1 1966080 0 65536 5 5",
+        Some(GoalRefusal::GoalOutside),
+    ),
+];
 
 /// Whether a cell is a goal cell and as remote as its text says. None where the text is not of that form.
 fn cell_is(goal: &Goal, text: &str) -> Option<bool>
     requires { IsWellFormed goal.now }
 {
-    let mut words = text.split_whitespace();
-    let cell = Cell::new(words.next()?.parse().ok()?, words.next()?.parse().ok()?);
-    let wanted = words.next()? == "1";
-    let distance: u128 = words.next()?.parse().ok()?;
-    Some(contains(goal, cell) == wanted && remoteness(goal, cell) == distance)
+    let (numbers, distance) = text.rsplit_once(' ')?;
+    let [i, j, hit, _] = places_of(numbers)?;
+    let cell = Cell::new(i, j);
+    let distance: u128 = distance.parse().ok()?;
+    Some(contains(goal, cell) == (hit == 1) && remoteness(goal, cell) == distance)
 }
 
-/// What `check` answers, in a word.
-fn answer_of(goal: Goal, size: Size) -> &'static str {
-    match check(goal, size) {
-        Ok(_) => "sound",
-        Err(GoalRefusal::BadShape) => "bad",
-        Err(GoalRefusal::GoalOutside) => "outside",
+/// Whether a line of `GOALS` says what the goal's box and its cells are. None where it is not in the form of the table.
+fn is_as_the_line_says(line: &str) -> Option<bool> {
+    let [goal, size, rect, cells, ..] = fields_of(line);
+    let size = size_of(size)?;
+    let Ok(goal) = check(goal_of(goal)?, size) else {
+        return None;
+    };
+    if cell_box(&goal, size) != rect_of(rect)? {
+        return Some(false);
     }
-}
-
-/// The number of cells of a map that an aim hits, and the first of them.
-fn hit_cells<A: Aim>(aim: &A, size: Size) -> (u32, Option<Cell>)
-    requires { A.sound aim.now size }
-{
-    let mut count: u32 = 0;
-    let mut first = None;
-    for j in 0..size.h {
-        for i in 0..size.w {
-            if aim.hits(size, Cell::new(i, j)) {
-                count = count.saturating_add(1);
-                first = first.or(Some(Cell::new(i, j)));
-            }
+    for cell in cells.split(',') {
+        if !cell_is(&goal, cell)? {
+            return Some(false);
         }
     }
-    (count, first)
+    Some(true)
 }
 
 #[test]
-fn cells_boxes_and_remoteness(rt: HostRuntime) -> Result<(), Fail> {
+fn cells_boxes_and_remoteness(rt: HostRuntime) {
     for line in GOALS.lines() {
-        let mut fields = line.split(';');
-        let goal = goal_of(fields.next().ok_or("a goal")?).ok_or("a goal")?;
-        let size = size_of(fields.next().ok_or("a size")?).ok_or("a size")?;
-        let wanted = rect_of(fields.next().ok_or("a box")?).ok_or("a box")?;
-        let cells = fields.next().ok_or("cells")?;
-        let Ok(sound) = check(goal, size) else {
-            assert!(rt; false, "{line}");
-            continue;
+        assert!(rt; is_as_the_line_says(line) == Some(true), "{line}");
+    }
+}
+
+#[test]
+fn a_goal_is_checked_to_its_limits(rt: HostRuntime) {
+    for (text, refusal) in LIMITS {
+        let (Some(goal), Some(size)) = (goal_of(text), Size::new(40, 30)) else {
+            panic!(rt; "{text}");
         };
-        assert_eq!(rt; cell_box(&sound, size), wanted, "{line}");
-        for cell in cells.split(',') {
-            assert_eq!(rt; cell_is(&sound, cell), Some(true), "{line}");
-        }
+        assert!(rt; check(goal, size).err() == refusal, "{text}");
     }
-    Ok(())
-}
-
-#[test]
-fn a_goal_is_checked_to_its_limits(rt: HostRuntime) -> Result<(), Fail> {
-    let size = Size::new(40, 30).ok_or("a size")?;
-    for line in LIMITS.lines() {
-        let (text, answer) = line.split_once(';').ok_or("two fields")?;
-        let goal = goal_of(text).ok_or("a goal")?;
-        assert_eq!(rt; answer_of(goal, size), answer, "{line}");
-    }
-    Ok(())
-}
-
-#[test]
-fn a_circle_without_a_radius_has_the_cells_about_its_point(rt: HostRuntime) -> Result<(), Fail> {
-    let size = Size::new(4, 4).ok_or("a size")?;
-    let goal = goal_of("circle 131072 131072 0").ok_or("a goal")?;
-    let Ok(goal) = check(goal, size) else {
-        return Err("a sound goal".into());
-    };
-    assert_eq!(rt; hit_cells(&goal, size), (4, Some(Cell::new(1, 1))));
-    Ok(())
-}
-
-#[test]
-fn a_goal_turned_inside_out_has_the_whole_map_as_its_box(rt: HostRuntime) -> Result<(), Fail> {
-    let size = Size::new(5, 5).ok_or("a size")?;
-    let goal = goal_of("not-square 163840 163840 65536 0 65536 65536").ok_or("a goal")?;
-    let Ok(goal) = check(goal, size) else {
-        return Err("a sound goal".into());
-    };
-    assert_eq!(rt; Some(Aim::bounds(&goal, size)), rect_of("0 0 4 4"));
-    assert_eq!(rt; hit_cells(&goal, size), (24, Some(Cell::new(0, 0))));
-    Ok(())
-}
-
-#[test]
-fn a_point_lies_in_one_cell_of_its_map(rt: HostRuntime) -> Result<(), Fail> {
-    let size = Size::new(3, 2).ok_or("a size")?;
-    for (x, z, wanted) in [
-        (0, 0, Some(Cell::new(0, 0))),
-        (65535, 65536, Some(Cell::new(0, 1))),
-        (196607, 131071, Some(Cell::new(2, 1))),
-        (196608, 0, None),
-        (0, 131072, None),
-        (-1, 0, None),
-    ] {
-        assert_eq!(rt;
-            cell_of_point(Fixed::from_raw(x), Fixed::from_raw(z), size),
-            wanted
-        );
-    }
-    Ok(())
-}
-
-#[test]
-fn an_obstruction_grows_on_all_sides(rt: HostRuntime) {
-    let [x, z, ux, uz, hw, hh] = [7, 9, 0, -65536, 65536, 32768].map(Fixed::from_raw);
-    let rectangle = Rectangle {
-        x,
-        z,
-        ux,
-        uz,
-        hw,
-        hh,
-    };
-    let about = |grow| grown(rectangle, Fixed::from_raw(grow));
-    let square = |hw, hh| {
-        Goal::Square(Rectangle {
-            hw: Fixed::from_raw(hw),
-            hh: Fixed::from_raw(hh),
-            ..rectangle
-        })
-    };
-    assert_eq!(rt; about(0), Ok(square(65536, 32768)));
-    assert_eq!(rt; about(251658240), Ok(square(251723776, 251691008)));
-    assert_eq!(rt; about(251658241), Err(BadShape));
-    assert_eq!(rt; about(-1), Err(BadShape));
 }

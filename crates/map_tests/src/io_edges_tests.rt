@@ -1,11 +1,6 @@
-use io_edges::{
-    Failed, Gate, MemorySink, MemorySource, NeverFails, OpenGate, Sink, Source, StdSink, StdSource,
-    WriteRefusal,
-};
+use io_edges::{Failed, Sink, Source, StdSink, StdSource, WriteRefusal};
 use nav_types::Bytes;
 use std::io::{self, ErrorKind, Read, Write};
-use std::process::Abort;
-use std::test::Fail;
 
 /// Gives its bytes in pieces of three and fails at its second call.
 #[derive(Drop)]
@@ -59,96 +54,23 @@ impl Write for BrokenWriter {
     }
 }
 
-/// Reads into four bytes each time, and compares each answer and its bytes.
-fn reads_as<S: Source>(
-    rt: &impl Abort,
-    source: &mut S,
-    table: &[(Result<usize, Failed>, &'static [u8])],
-) {
-    for (answer, bytes) in table {
-        let mut buf = [0u8; 4];
-        let got = source.read(&mut buf);
-        assert_eq!(rt; got, *answer);
-        assert!(rt; buf.as_slice().starts_with(bytes));
-    }
-}
-
-/// Writes the same four bytes each time, and compares each answer.
-fn writes_as<S: Sink>(rt: &impl Abort, sink: &mut S, table: &[Result<usize, WriteRefusal>]) {
-    for answer in table {
-        let got = sink.write(b"grid");
-        assert_eq!(rt; got, *answer);
-    }
-}
-
-/// Goes through a gate that threads may share.
-fn passes<G: Gate + Sync>(gate: &G) {
-    gate.pass(1);
-    gate.staged(0);
-    gate.begun(63);
-}
-
-#[test]
-fn a_source_in_memory_fails_where_it_is_listed(rt: HostRuntime) -> Result<(), Fail> {
-    let mut source = MemorySource::new(rt.alloc(), b"navcells", 3, &[1, 4])?;
-    reads_as(
-        &rt,
-        &mut source,
-        &[
-            (Err(Failed), b""),
-            (Ok(3), b"nav"),
-            (Ok(3), b"cel"),
-            (Err(Failed), b""),
-            (Ok(2), b"ls"),
-            (Ok(0), b""),
-        ],
-    );
-    Ok(())
-}
-
-#[test]
-fn a_sink_in_memory_fails_where_it_is_listed(rt: HostRuntime) -> Result<(), Fail> {
-    let mut sink = MemorySink::new(rt.alloc(), 3, &[2])?;
-    writes_as(&rt, &mut sink, &[Ok(3), Err(WriteRefusal::Failed), Ok(3)]);
-    assert_eq!(rt; sink.kept(), b"grigri".as_slice());
-    let mut stalled = MemorySink::new(rt.alloc(), 0, &[])?;
-    writes_as(&rt, &mut stalled, &[Ok(0), Ok(0)]);
-    assert_eq!(rt; stalled.kept(), b"".as_slice());
-    Ok(())
-}
-
-#[test]
-fn an_object_that_never_fails_goes_on_to_the_end(rt: HostRuntime) -> Result<(), Fail> {
-    let mut source = NeverFails::new(MemorySource::new(rt.alloc(), b"area", 3, &[])?);
-    reads_as(
-        &rt,
-        &mut source,
-        &[(Ok(3), b"are"), (Ok(1), b"a"), (Ok(0), b"")],
-    );
-    let mut sink = NeverFails::new(MemorySink::new(rt.alloc(), 3, &[])?);
-    writes_as(&rt, &mut sink, &[Ok(3), Ok(3)]);
-    assert_eq!(rt; sink.inner().kept(), b"grigri".as_slice());
-    Ok(())
-}
-
 #[test]
 fn an_error_of_a_reader_is_a_fault(rt: HostRuntime) {
-    let reader = BrokenReader {
+    let mut source = StdSource::new(BrokenReader {
         bytes: b"navcell",
         calls: 0,
-    };
-    let mut source = StdSource::new(reader);
-    reads_as(
-        &rt,
-        &mut source,
-        &[
-            (Ok(3), b"nav"),
-            (Err(Failed), b""),
-            (Ok(3), b"cel"),
-            (Ok(1), b"l"),
-            (Ok(0), b""),
-        ],
-    );
+    });
+    for (answer, bytes) in [
+        (Ok(3), b"nav".as_slice()),
+        (Err(Failed), b"".as_slice()),
+        (Ok(3), b"cel".as_slice()),
+        (Ok(1), b"l".as_slice()),
+        (Ok(0), b"".as_slice()),
+    ] {
+        let mut buf = [0u8; 4];
+        assert!(rt; source.read(&mut buf) == answer);
+        assert!(rt; buf.as_slice().starts_with(bytes));
+    }
 }
 
 #[test]
@@ -160,16 +82,9 @@ fn an_error_of_a_writer_is_a_fault(rt: HostRuntime) {
     };
     let mut sink = StdSink::new(&mut writer);
     let failed = Err(WriteRefusal::Failed);
-    writes_as(
-        &rt,
-        &mut sink,
-        &[Ok(2), Ok(0), failed, Ok(2), failed, failed],
-    );
-    assert_eq!(rt; writer.bytes.as_slice(), b"grgrgr".as_slice());
-    assert_eq!(rt; writer.writes, 5);
-}
-
-#[test]
-fn an_open_gate_lets_all_pass() {
-    passes(&OpenGate);
+    for answer in [Ok(2), Ok(0), failed, Ok(2), failed, failed] {
+        assert!(rt; sink.write(b"grid") == answer);
+    }
+    assert!(rt; writer.bytes.as_slice() == b"grgrgr".as_slice());
+    assert!(rt; writer.writes == 5);
 }

@@ -1,13 +1,12 @@
 //! Stops and successors on small maps that are drawn as text.
 
 use crate::fixtures::aims::parsed_targets;
-use crate::fixtures::plans::{drawn, is_rect_inside};
-use crate::fixtures::texts::parsed_cell;
+use crate::fixtures::maps::{drawn, is_rect_inside};
+use crate::fixtures::texts::{fields_of, parsed_cell};
 use crate::fixtures::views::stop_of;
 use jump_scan::{CellRuns, successors};
 use nav_types::{Class, Dir, DirSet, View};
 use std::alloc::Global;
-use std::test::Fail;
 
 /// In each line the rows of a map from the first up, `#` impassable, the cells that are hit, where a run begins, its
 /// direction, and its stop, or `-` where it has none.
@@ -69,55 +68,55 @@ fn parsed_dir(text: &str) -> Option<Dir> {
     }
 }
 
-/// Whether a line of `RUNS` says what the scan does.
-fn stops_as_the_line_says(alloc: Global, line: &str) -> Result<bool, Fail> {
-    let mut fields = line.split(';');
-    let plan = drawn(alloc, fields.next().ok_or("a map")?)?;
-    let targets = parsed_targets(alloc, fields.next().ok_or("cells that are hit")?)?;
-    let from = parsed_cell(fields.next().ok_or("a start")?).ok_or("a start")?;
-    let dir = parsed_dir(fields.next().ok_or("a direction")?).ok_or("a direction")?;
-    let stop = parsed_cell(fields.next().ok_or("a stop")?);
+/// Whether a line of `RUNS` says what the scan does. None where it is not in the form of the table.
+fn stops_as_the_line_says(alloc: Global, line: &str) -> Option<bool> {
+    let [map, cells, from, dir, stop, ..] = fields_of(line);
     let class = Class::new(0);
-    if !plan.size.has(from) || !plan.passable(class, from) {
-        return Err(Fail::from("the start must be passable"));
+    let from = parsed_cell(from)?;
+    let dir = parsed_dir(dir)?;
+    let targets = parsed_targets(alloc, cells)?;
+    let map = drawn(alloc, map)?;
+    if !map.size().has(from)
+        || !map.passable(class, from)
+        || !is_rect_inside(map.size(), targets.rect)
+    {
+        return None;
     }
-    if !is_rect_inside(plan.size, targets.rect) {
-        return Err(Fail::from("the cells that are hit must be inside"));
-    }
-    let runs = CellRuns::new(&plan);
-    Ok(stop_of(&runs, class, from, dir, &targets) == stop)
+    let runs = CellRuns::new(&map);
+    Some(stop_of(&runs, class, from, dir, &targets) == parsed_cell(stop))
 }
 
-/// Whether a line of `SUCCESSORS` says what the successors are.
-fn goes_on_as_the_line_says(alloc: Global, line: &str) -> Result<bool, Fail> {
-    let mut fields = line.split(';');
-    let plan = drawn(alloc, fields.next().ok_or("a map")?)?;
-    let cell = parsed_cell(fields.next().ok_or("a cell")?).ok_or("a cell")?;
-    let arrived = parsed_dir(fields.next().ok_or("a direction")?);
-    let wanted = fields.next().ok_or("directions")?;
-    if !plan.size.has(cell) {
-        return Err(Fail::from("the cell must be inside"));
-    }
-    let found = successors(&plan, Class::new(0), cell, arrived);
-    let mut set = DirSet::new();
+/// Whether a line of `SUCCESSORS` says what the successors are. None where it is not in the form of the table.
+fn goes_on_as_the_line_says(alloc: Global, line: &str) -> Option<bool> {
+    let [map, cell, arrived, wanted, ..] = fields_of(line);
+    let cell = parsed_cell(cell)?;
+    let mut dirs = DirSet::new();
     for word in wanted.split_whitespace() {
-        set = set.with(parsed_dir(word).ok_or("a direction")?);
+        dirs = dirs.with(parsed_dir(word)?);
     }
-    Ok(found == set)
+    let map = drawn(alloc, map)?;
+    if !map.size().has(cell) {
+        return None;
+    }
+    Some(successors(&map, Class::new(0), cell, parsed_dir(arrived)) == dirs)
 }
 
 #[test]
-fn runs_stop_as_the_table_says(rt: HostRuntime) -> Result<(), Fail> {
+fn runs_stop_as_the_table_says(rt: HostRuntime) {
     for line in RUNS.lines() {
-        assert!(rt; stops_as_the_line_says(rt.alloc(), line)?, "{line}");
+        assert!(rt;
+            stops_as_the_line_says(rt.alloc(), line) == Some(true),
+            "{line}"
+        );
     }
-    Ok(())
 }
 
 #[test]
-fn cells_have_the_successors_of_the_table(rt: HostRuntime) -> Result<(), Fail> {
+fn cells_have_the_successors_of_the_table(rt: HostRuntime) {
     for line in SUCCESSORS.lines() {
-        assert!(rt; goes_on_as_the_line_says(rt.alloc(), line)?, "{line}");
+        assert!(rt;
+            goes_on_as_the_line_says(rt.alloc(), line) == Some(true),
+            "{line}"
+        );
     }
-    Ok(())
 }

@@ -2,18 +2,16 @@
 
 ghost use Rattle.std.specs.Prelude.{◌≡◌, ◌<◌};
 
-use crate::fixtures::aims::targets_of;
 use crate::fixtures::counted::Counted;
-use crate::fixtures::plans::{Plan, is_rect_inside};
-use crate::fixtures::searches::{Search, is_fit, is_found, parsed_search};
-use crate::fixtures::texts::parsed_number;
-use jump_search::{Traced, jump_find, jump_find_with, jump_search, jump_search_with};
-use nav_types::{Cell, Class, Size, Ticks, View};
+use crate::fixtures::maps::{drawn, is_rect_inside};
+use crate::fixtures::searches::{Search, is_fit, is_found, search_of};
+use crate::fixtures::texts::fields_of;
+use jump_search::{jump_find, jump_find_with, jump_search, jump_search_with};
+use nav_types::{Class, NoMemory, Size, Ticks, View};
+use navcell_grid::Grid;
 use std::alloc::Global;
 use std::marker::Brand;
 use std::sync::ledger::{Blank, Ledger};
-use std::test::Fail;
-use walks::Found;
 
 /// In each line the rows of a map from the first up, `#` impassable, the start and the targets, and then the end, the
 /// cost and the waypoints of the answer, and how many jump states are opened.
@@ -91,143 +89,90 @@ const TABLE: &str = "\
 #..#/..../..../..../..../..#./..../..../..../..../....;1,6;1,1 0,2 0,3 0,9;0,3;223754;0,5 0,3;6
 ";
 
-/// A search, and how many jump states it opens.
-#[derive(Drop)]
-struct Line {
-    search: Search,
-    opened: u64,
-}
-
-fn parsed_line(alloc: Global, line: &str) -> Result<Line, Fail> {
-    let (search, opened) = line.rsplit_once(';').ok_or("a number")?;
-    Ok(Line {
-        search: parsed_search(alloc, search)?,
-        opened: parsed_number(opened)?,
-    })
-}
-
-/// The answers of both searches, where they are counted in a ledger.
+/// Whether both searches answer as they should, and so many jump states are opened, where they are counted in a ledger.
 fn answers_counted<L: Ledger>(
     alloc: Global,
-    search: &Search,
+    map: &Grid,
+    search: &Search<'_>,
+    opened: u64,
     blank: Blank,
-) -> Result<(Traced, Found), Fail>
+) -> Result<bool, NoMemory>
     requires name { blank.name ≡ L.name }
     requires parts { blank.parts ≡ L.parts }
     requires some { 0 < L.parts }
 {
     let class = Class::new(0);
-    let (map, start, aim) = (&search.plan, search.start, &search.targets);
-    if !is_rect_inside(search.plan.size, search.targets.rect)
-        || !is_fit(map, class, start, search.points.as_slice(), aim)
-    {
-        return Err(Fail::from("a line must be fit"));
+    let (start, aim) = (search.start, &search.targets);
+    if !is_rect_inside(map.size(), aim.rect) || !is_fit(map, class, start, search.points, aim) {
+        return Ok(false);
     }
     let mut ticks = Ticks::<L>::new(blank);
-    let traced = jump_search(alloc, map, class, start, aim, &mut ticks)?;
     let found = jump_find(alloc, map, class, start, aim, &mut ticks)?;
-    Ok((traced, found))
+    if !is_found(search, &found) {
+        return Ok(false);
+    }
+    let traced = jump_search(alloc, map, class, start, aim, &mut ticks)?;
+    Ok(traced.opened == opened && is_found(search, &traced.found))
 }
 
-fn answers(alloc: Global, search: &Search) -> Result<(Traced, Found), Fail> {
-    answers_counted::<Brand>(alloc, search, Blank::new(1))
+/// Whether a line of `TABLE` says what the answer is. None where it is not in the form of the table.
+fn answers_as_the_line_says(alloc: Global, line: &str) -> Option<bool> {
+    let [map, start, targets, end, cost, points, opened] = fields_of(line);
+    let opened = opened.parse().ok()?;
+    let search = search_of(alloc, [start, targets, end, cost, points])?;
+    let map = drawn(alloc, map)?;
+    answers_counted::<Brand>(alloc, &map, &search, opened, Blank::new(1)).ok()
 }
 
 #[test]
-fn answers_as_the_table_says(rt: HostRuntime) -> Result<(), Fail> {
-    for text in TABLE.lines() {
-        let line = parsed_line(rt.alloc(), text)?;
-        let (traced, found) = answers(rt.alloc(), &line.search)?;
-        assert!(rt; is_found(&line.search, &traced.found), "{text}");
-        assert!(rt; is_found(&line.search, &found), "{text}");
-        assert!(rt; traced.opened == line.opened, "{text}");
+fn answers_as_the_table_says(rt: HostRuntime) {
+    for line in TABLE.lines() {
+        assert!(rt;
+            answers_as_the_line_says(rt.alloc(), line) == Some(true),
+            "{line}"
+        );
     }
-    Ok(())
 }
 
-/// An open map of 1024 by 1024 cells, from the first cell to the last.
-fn wide_search(alloc: Global) -> Result<Search, Fail> {
-    let size = Size::new(1024, 1024).ok_or("the size of a map")?;
-    let end = Cell::new(1023, 1023);
-    let mut cells = Vec::new(alloc);
-    cells.push(end)?;
-    let mut points = Vec::new(alloc);
-    points.push(end)?;
-    Ok(Search {
-        plan: Plan {
-            size,
-            free: vec![in alloc; true; 1024 * 1024]?,
-        },
-        start: Cell::new(0, 0),
-        targets: targets_of(cells).ok_or("targets")?,
-        end,
-        cost: 94_813_686,
-        points,
-    })
-}
-
-/// The answer of the search over the runs, which count what it alone asks.
-fn traced_over<L: Ledger>(
+/// The same over runs that count what the searches alone ask.
+fn answers_over<L: Ledger>(
     alloc: Global,
-    runs: &Counted<Plan>,
-    search: &Search,
+    runs: &Counted<'_, Grid>,
+    search: &Search<'_>,
+    opened: u64,
     blank: Blank,
-) -> Result<Traced, Fail>
+) -> Result<bool, NoMemory>
     requires name { blank.name ≡ L.name }
     requires parts { blank.parts ≡ L.parts }
     requires some { 0 < L.parts }
 {
     let class = Class::new(0);
     let (start, aim) = (search.start, &search.targets);
-    if !is_rect_inside(runs.size(), search.targets.rect)
-        || !is_fit(runs, class, start, search.points.as_slice(), aim)
-    {
-        return Err(Fail::from("a line must be fit"));
+    if !is_rect_inside(runs.size(), aim.rect) || !is_fit(runs, class, start, search.points, aim) {
+        return Ok(false);
     }
     runs.reset();
     let mut ticks = Ticks::<L>::new(blank);
-    Ok(jump_search_with(alloc, runs, class, start, aim, &mut ticks)?)
-}
-
-/// The same by the search for the walk alone.
-fn found_over<L: Ledger>(
-    alloc: Global,
-    runs: &Counted<Plan>,
-    search: &Search,
-    blank: Blank,
-) -> Result<Found, Fail>
-    requires name { blank.name ≡ L.name }
-    requires parts { blank.parts ≡ L.parts }
-    requires some { 0 < L.parts }
-{
-    let class = Class::new(0);
-    let (start, aim) = (search.start, &search.targets);
-    if !is_rect_inside(runs.size(), search.targets.rect)
-        || !is_fit(runs, class, start, search.points.as_slice(), aim)
-    {
-        return Err(Fail::from("a line must be fit"));
+    let found = jump_find_with(alloc, runs, class, start, aim, &mut ticks)?;
+    if !is_found(search, &found) {
+        return Ok(false);
     }
-    runs.reset();
-    let mut ticks = Ticks::<L>::new(blank);
-    Ok(jump_find_with(alloc, runs, class, start, aim, &mut ticks)?)
+    let traced = jump_search_with(alloc, runs, class, start, aim, &mut ticks)?;
+    Ok(traced.opened == opened && is_found(search, &traced.found))
+}
+
+/// Whether the two searches from the first to the last cell of an open map of 1024 by 1024 answer as they should and ask
+/// together for fewer than 1000 cells and 100 runs. None where there is no memory.
+fn asks_few_cells(alloc: Global) -> Option<bool> {
+    let end = "1023,1023";
+    let search = search_of(alloc, ["0,0", end, end, "94813686", end])?;
+    let map = Grid::new(alloc, Size::new(1024, 1024)?).ok()?;
+    let runs = Counted::new(&map);
+    let answers = answers_over::<Brand>(alloc, &runs, &search, 2, Blank::new(1)).ok()?;
+    Some(answers && runs.cells() < 1000 && runs.runs() < 100)
 }
 
 #[test]
-fn a_search_of_a_wide_map_asks_few_cells(rt: HostRuntime) -> Result<(), Fail> {
-    let search = wide_search(rt.alloc())?;
-    let runs = Counted::new(&search.plan);
-    let traced = traced_over::<Brand>(rt.alloc(), &runs, &search, Blank::new(1))?;
-    assert!(rt; is_found(&search, &traced.found) && traced.opened == 2);
-    assert!(rt; runs.cells() < 1000 && runs.runs() < 100);
-    Ok(())
-}
-
-#[test]
-fn the_walk_alone_over_a_wide_map_asks_few_cells(rt: HostRuntime) -> Result<(), Fail> {
-    let search = wide_search(rt.alloc())?;
-    let runs = Counted::new(&search.plan);
-    let found = found_over::<Brand>(rt.alloc(), &runs, &search, Blank::new(1))?;
-    assert!(rt; is_found(&search, &found));
-    assert!(rt; runs.cells() < 1000 && runs.runs() < 100);
-    Ok(())
+fn searches_of_a_wide_map_ask_few_cells(rt: HostRuntime) {
+    assert!(rt; asks_few_cells(rt.alloc()) == Some(true));
 }

@@ -31,8 +31,6 @@ mod lane_rows_tests;
 #[cfg(test)]
 mod nav_types_tests;
 #[cfg(test)]
-mod navcell_grid_tests;
-#[cfg(test)]
 mod obstruction_shapes_tests;
 #[cfg(test)]
 mod obstruction_store_tests;

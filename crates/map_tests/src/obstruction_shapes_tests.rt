@@ -1,8 +1,10 @@
-use crate::fixtures::texts::{fixed, rect_of, size_of};
-use fixed_point::{Fixed, Rectangle};
+ghost use Rattle.obstruction_shapes.specs.Shapes.{HasUnitVector};
+
+use crate::fixtures::figures::shape_of;
+use crate::fixtures::texts::{fields_of, rect_of, size_of};
+use fixed_point::Fixed;
 use nav_types::{Cell, Size};
 use obstruction_shapes::{Shape, blocks, check, reach_rect};
-use std::test::Fail;
 
 /// In each line a shape with its numbers raw, a clearance, a row, and the columns of that row
 /// whose cells the shape blocks and those whose cells it does not block, at and beside the rim.
@@ -309,106 +311,64 @@ square 1 1 46341 -46341 5 5;fits
 square 1 1 -2147483648 -2147483648 5 5;bad
 square 2621440 1 65536 0 5 5;bad";
 
-/// The shape of a text.
-fn shape_of(text: &str) -> Option<Shape> {
-    let mut words = text.split_whitespace();
-    let kind = words.next()?;
-    let x = fixed(words.next())?;
-    let z = fixed(words.next())?;
-    if kind == "unit" {
-        let half = fixed(words.next())?;
-        return Some(Shape::Unit { x, z, half });
-    }
-    let ux = fixed(words.next())?;
-    let uz = fixed(words.next())?;
-    let hw = fixed(words.next())?;
-    let hh = fixed(words.next())?;
-    Some(Shape::Square(Rectangle {
-        x,
-        z,
-        ux,
-        uz,
-        hw,
-        hh,
-    }))
-}
-
-/// Whether the cells of these columns of a row are blocked as they should be; none where a text is
-/// not in the form of its table.
-fn row_is(shape: Shape, clearance: Fixed, row: &str, columns: &str, wanted: bool) -> Option<bool> {
-    let j = row.parse().ok()?;
-    let size = Size::new(2048, 2048)?;
-    let Ok(shape) = check(shape, size) else {
-        return None;
-    };
+/// Whether the cells of these columns of a row are blocked as they should be. None where a column is no number.
+fn row_is(shape: &Shape, clearance: Fixed, j: u16, columns: &str, wanted: bool) -> Option<bool>
+    requires { HasUnitVector shape.now }
+{
     for column in columns.split_whitespace() {
-        if blocks(&shape, clearance, Cell::new(column.parse().ok()?, j)) != wanted {
+        if blocks(shape, clearance, Cell::new(column.parse().ok()?, j)) != wanted {
             return Some(false);
         }
     }
     Some(true)
 }
 
+/// Whether a line of `BLOCKS` says which cells are blocked. None where it is not in the form of the table.
+fn blocks_as_the_line_says(line: &str) -> Option<bool> {
+    let [shape, clearance, row, blocked, free, ..] = fields_of(line);
+    let clearance = Fixed::from_raw(clearance.parse().ok()?);
+    let row = row.parse().ok()?;
+    let Ok(shape) = check(shape_of(shape)?, Size::new(2048, 2048)?) else {
+        return None;
+    };
+    Some(
+        row_is(&shape, clearance, row, blocked, true)?
+            && row_is(&shape, clearance, row, free, false)?,
+    )
+}
+
 #[test]
-fn cells_are_blocked_to_the_rim(rt: HostRuntime) -> Result<(), Fail> {
+fn cells_are_blocked_to_the_rim(rt: HostRuntime) {
     for line in BLOCKS.lines() {
-        let mut fields = line.split(';');
-        let shape = shape_of(fields.next().ok_or("a shape")?).ok_or("a shape")?;
-        let clearance = fixed(fields.next()).ok_or("a clearance")?;
-        let row = fields.next().ok_or("a row")?;
-        let blocked = fields.next().ok_or("columns")?;
-        let free = fields.next().ok_or("columns")?;
-        assert_eq!(rt;
-            row_is(shape, clearance, row, blocked, true),
-            Some(true),
-            "{line}"
-        );
-        assert_eq!(rt;
-            row_is(shape, clearance, row, free, false),
-            Some(true),
-            "{line}"
-        );
+        assert!(rt; blocks_as_the_line_says(line) == Some(true), "{line}");
     }
-    Ok(())
+}
+
+/// Whether a line of `REACHES` says which cells are near. None where it is not in the form of the table.
+fn reaches_as_the_line_says(line: &str) -> Option<bool> {
+    let [shape, clearance, size, rect, ..] = fields_of(line);
+    let size = size_of(size)?;
+    let clearance = Fixed::from_raw(clearance.parse().ok()?);
+    let Ok(shape) = check(shape_of(shape)?, size) else {
+        return None;
+    };
+    Some(reach_rect(&shape, clearance, size) == rect_of(rect))
 }
 
 #[test]
-fn near_cells_are_a_rectangle(rt: HostRuntime) -> Result<(), Fail> {
+fn near_cells_are_a_rectangle(rt: HostRuntime) {
     for line in REACHES.lines() {
-        let mut fields = line.split(';');
-        let shape = shape_of(fields.next().ok_or("a shape")?).ok_or("a shape")?;
-        let clearance = fixed(fields.next()).ok_or("a clearance")?;
-        let size = size_of(fields.next().ok_or("a size")?).ok_or("a size")?;
-        let wanted = rect_of(fields.next().ok_or("a rectangle")?);
-        let Ok(fitting) = check(shape, size) else {
-            assert!(rt; false, "{line}");
-            continue;
-        };
-        assert_eq!(rt; reach_rect(&fitting, clearance, size), wanted, "{line}");
+        assert!(rt; reaches_as_the_line_says(line) == Some(true), "{line}");
     }
-    Ok(())
 }
 
 #[test]
-fn a_shape_is_checked_to_its_limits(rt: HostRuntime) -> Result<(), Fail> {
-    let size = Size::new(40, 30).ok_or("a size")?;
+fn a_shape_is_checked_to_its_limits(rt: HostRuntime) {
     for line in LIMITS.lines() {
-        let (text, answer) = line.split_once(';').ok_or("two fields")?;
-        let shape = shape_of(text).ok_or("a shape")?;
-        assert_eq!(rt; check(shape, size).is_ok(), answer == "fits", "{line}");
+        let [shape, answer, ..] = fields_of(line);
+        let (Some(shape), Some(size)) = (shape_of(shape), Size::new(40, 30)) else {
+            panic!(rt; "{line}");
+        };
+        assert!(rt; check(shape, size).is_ok() == (answer == "fits"), "{line}");
     }
-    Ok(())
-}
-
-#[test]
-fn a_shape_moves_whole(rt: HostRuntime) -> Result<(), Fail> {
-    let [x, z] = [7, 9].map(Fixed::from_raw);
-    let unit = shape_of("unit 1 2 3").ok_or("a shape")?;
-    let square = shape_of("square 1 2 0 -65536 3 4").ok_or("a shape")?;
-    assert_eq!(rt; Some(unit.moved(x, z)), shape_of("unit 7 9 3"));
-    assert_eq!(rt;
-        Some(square.moved(x, z)),
-        shape_of("square 7 9 0 -65536 3 4")
-    );
-    Ok(())
 }

@@ -1,11 +1,11 @@
 //! The plain search over small maps that are drawn as text.
 
-use crate::fixtures::plans::is_rect_inside;
-use crate::fixtures::searches::{Search, is_fit, is_found, parsed_search};
+use crate::fixtures::maps::{drawn, is_rect_inside};
+use crate::fixtures::searches::{is_fit, is_found, search_of};
+use crate::fixtures::texts::fields_of;
 use nav_types::Class;
 use std::alloc::Global;
-use std::test::Fail;
-use walks::{Found, plain_search};
+use walks::plain_search;
 
 /// In each line the rows of a map from the first up, `#` impassable, the start and the targets, and then the end, the cost
 /// and the waypoints of the answer.
@@ -52,24 +52,26 @@ const TABLE: &str = "\
 #..../#..../...../..#../.....;3,1;3,0 3,1 4,1 4,2;3,1;0;
 ";
 
-/// The answer of the search.
-fn answer(alloc: Global, search: &Search) -> Result<Found, Fail> {
+/// Whether a line of `TABLE` says what the answer is. None where its walk does not fit its map, or there is no memory.
+fn answers_as_the_line_says(alloc: Global, line: &str) -> Option<bool> {
+    let [map, start, targets, end, cost, points, _] = fields_of(line);
     let class = Class::new(0);
-    let (map, start, aim) = (&search.plan, search.start, &search.targets);
-    if !is_rect_inside(search.plan.size, search.targets.rect)
-        || !is_fit(map, class, start, search.points.as_slice(), aim)
-    {
-        return Err(Fail::from("a line must be fit"));
+    let search = search_of(alloc, [start, targets, end, cost, points])?;
+    let map = drawn(alloc, map)?;
+    let (start, aim) = (search.start, &search.targets);
+    if !is_rect_inside(map.size(), aim.rect) || !is_fit(&map, class, start, points, aim) {
+        return None;
     }
-    Ok(plain_search(alloc, map, class, start, aim)?)
+    let found = plain_search(alloc, &map, class, start, aim).ok()?;
+    Some(is_found(&search, &found))
 }
 
 #[test]
-fn answers_as_the_table_says(rt: HostRuntime) -> Result<(), Fail> {
+fn answers_as_the_table_says(rt: HostRuntime) {
     for line in TABLE.lines() {
-        let search = parsed_search(rt.alloc(), line)?;
-        let found = answer(rt.alloc(), &search)?;
-        assert!(rt; is_found(&search, &found), "{line}");
+        assert!(rt;
+            answers_as_the_line_says(rt.alloc(), line) == Some(true),
+            "{line}"
+        );
     }
-    Ok(())
 }

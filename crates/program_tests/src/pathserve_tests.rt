@@ -1,12 +1,12 @@
 //! The top call over memory: scripts with their answers, faults and limits.
-use io_edges::{MemorySink, MemorySource, OpenGate};
+use io_edges::{Gate, MemorySink, MemorySource, OpenGate};
 use itoa::Buffer;
 use nav_types::{Bytes, NoMemory, Words};
 use pathserve::{BadLine, Status, run};
 use script_text::{Cause, Key, Wanted};
 use std::alloc::Global;
 use std::sync::Wait;
-use std::test::Fail;
+use std::test::*;
 use std::thread::Threads;
 
 mod made_matches;
@@ -44,28 +44,21 @@ fn words_of(alloc: Global, words: &[&str]) -> Result<Words, NoMemory> {
     Ok(list)
 }
 
-/// Runs the words over these bytes.
-fn run_over<R: Threads + Wait + Sync>(
+/// Runs the words over these bytes, at a gate.
+fn run_over<R: Threads + Wait + Sync, G: Gate + Sync>(
     rt: &R,
     alloc: Global,
     words: &[&str],
     bytes: &[u8],
     read_fails: &[u64],
     write_fails: &[u64],
+    gate: &G,
 ) -> Result<Ran, NoMemory> {
     let words = words_of(alloc, words)?;
     let mut source = MemorySource::new(alloc, bytes, 4096, read_fails)?;
     let mut sink = MemorySink::new(alloc, 4096, write_fails)?;
     let mut why = None;
-    let status = run(
-        rt,
-        alloc,
-        &words,
-        &mut source,
-        &mut sink,
-        &OpenGate,
-        &mut why,
-    );
+    let status = run(rt, alloc, &words, &mut source, &mut sink, gate, &mut why);
     Ok(Ran { status, why, sink })
 }
 
@@ -89,28 +82,27 @@ fn runs_to<R: Threads + Wait + Sync>(
     status: Status,
     text: &str,
 ) -> bool {
-    match run_over(rt, alloc, words, bytes, read_fails, write_fails) {
+    match run_over(rt, alloc, words, bytes, read_fails, write_fails, &OpenGate) {
         Ok(ran) => ran.status == status && ran.sink.kept() == text.as_bytes(),
         Err(NoMemory) => false,
     }
 }
 
-/// The same for a replay in which no read and no write fails.
-fn replays_to<R: Threads + Wait + Sync>(
-    rt: &R,
-    alloc: Global,
-    bytes: &[u8],
-    status: Status,
-    text: &str,
-) -> bool {
-    runs_to(rt, alloc, &["replay"], bytes, &[], &[], status, text)
-}
-
 #[test]
 fn scripts_are_answered(rt: HostRuntime) {
     for (script, status, answers) in SCRIPTS {
+        let bytes = script.as_bytes();
         assert!(rt;
-            replays_to(&rt, rt.alloc(), script.as_bytes(), status, answers),
+            runs_to(
+                &rt,
+                rt.alloc(),
+                &["replay"],
+                bytes,
+                &[],
+                &[],
+                status,
+                answers
+            ),
             "{script}"
         );
     }
@@ -121,7 +113,7 @@ fn is_bad_for<R: Threads + Wait + Sync>(rt: &R, alloc: Global, lines: &str, bad:
     let Ok(text) = script(alloc, &[MAP_LINE, lines]) else {
         return false;
     };
-    match run_over(rt, alloc, &["replay"], text.as_slice(), &[], &[]) {
+    match run_over(rt, alloc, &["replay"], text.as_slice(), &[], &[], &OpenGate) {
         Ok(ran) => ran.why == Some(bad),
         Err(NoMemory) => false,
     }
@@ -144,48 +136,6 @@ fn a_bad_line_has_its_cause(rt: HostRuntime) {
     assert!(rt; is_bad_for(&rt, rt.alloc(), "\n{\"caller\":0,\"remove\":1}", no_end));
 }
 
-/// Whether a replay over a source and a sink of small pieces is that over large ones.
-fn replays_in_pieces<R: Threads + Wait + Sync>(
-    rt: &R,
-    alloc: Global,
-    script: &str,
-    answers: &str,
-) -> Result<bool, NoMemory> {
-    let words = words_of(alloc, &["replay"])?;
-    let mut source = MemorySource::new(alloc, script.as_bytes(), 7, &[])?;
-    let mut sink = MemorySink::new(alloc, 5, &[])?;
-    let mut why = None;
-    let status = run(
-        rt,
-        alloc,
-        &words,
-        &mut source,
-        &mut sink,
-        &OpenGate,
-        &mut why,
-    );
-    Ok(status == Status::Done && sink.kept() == answers.as_bytes())
-}
-
-#[test]
-fn pieces_change_nothing(rt: HostRuntime) {
-    assert!(rt; replays_in_pieces(&rt, rt.alloc(), COVER, COVER_ANSWERS) == Ok(true));
-}
-
-/// Whether a run of the words, none of whose reads and writes may fail, reads and writes nothing.
-fn is_usage<R: Threads + Wait + Sync>(rt: &R, alloc: Global, words: &[&str]) -> bool {
-    runs_to(
-        rt,
-        alloc,
-        words,
-        COVER.as_bytes(),
-        &[1],
-        &[1],
-        Status::Usage,
-        "",
-    )
-}
-
 /// Words that are not in the grammar.
 const OTHER_WORDS: [&[&str]; 14] = [
     &[],
@@ -204,10 +154,12 @@ const OTHER_WORDS: [&[&str]; 14] = [
     &["profile", "replay"],
 ];
 
+// None of the reads and writes may fail.
 #[test]
 fn other_words_read_nothing(rt: HostRuntime) {
     for words in OTHER_WORDS {
-        assert!(rt; is_usage(&rt, rt.alloc(), words));
+        let bytes = COVER.as_bytes();
+        assert!(rt; runs_to(&rt, rt.alloc(), words, bytes, &[1], &[1], Status::Usage, ""));
     }
 }
 
@@ -226,27 +178,30 @@ const FOUR_ALIKE: (&str, &str) = (
 0 3 path 0 0 2 2 goal 185364 1 2.5,2.5\n",
 );
 
-/// Whether so many workers give the answers to the four paths.
-fn answers_four<R: Threads + Wait + Sync>(rt: &R, alloc: Global, workers: &str) -> bool {
-    let (script, answers) = FOUR_ALIKE;
-    runs_to(
-        rt,
-        alloc,
-        &["replay", "--workers", workers],
-        script.as_bytes(),
-        &[],
-        &[],
-        Status::Done,
-        answers,
-    )
-}
-
 #[test]
 fn any_number_of_workers_answers_alike(rt: HostRuntime) {
+    let (script, answers) = FOUR_ALIKE;
     for workers in ["1", "2", "64"] {
-        assert!(rt; answers_four(&rt, rt.alloc(), workers), "{workers} workers");
+        let words = ["replay", "--workers", workers];
+        let bytes = script.as_bytes();
+        assert!(rt;
+            runs_to(
+                &rt,
+                rt.alloc(),
+                &words,
+                bytes,
+                &[],
+                &[],
+                Status::Done,
+                answers
+            ),
+            "{workers} workers"
+        );
     }
 }
+
+/// Words for a profile, by four workers and by three.
+const PROFILE_WORDS: [&[&str]; 2] = [&["profile"], &["profile", "--workers", "3"]];
 
 /// Scripts with what a profile of them writes.
 const PROFILES: [(&str, &str); 2] = [
@@ -271,91 +226,55 @@ const PROFILES: [(&str, &str); 2] = [
     ),
 ];
 
-/// Whether a run of the words over this script ends well, and writes this text.
-fn profiles_to<R: Threads + Wait + Sync>(
-    rt: &R,
-    alloc: Global,
-    words: &[&str],
-    script: &str,
-    text: &str,
-) -> bool {
-    runs_to(
-        rt,
-        alloc,
-        words,
-        script.as_bytes(),
-        &[],
-        &[],
-        Status::Done,
-        text,
-    )
-}
-
 #[test]
 fn a_profile_tells_the_opened_numbers(rt: HostRuntime) {
     for (script, text) in PROFILES {
-        assert!(rt;
-            profiles_to(&rt, rt.alloc(), &["profile"], script, text),
-            "{script}"
-        );
-        assert!(rt;
-            profiles_to(
-                &rt,
-                rt.alloc(),
-                &["profile", "--workers", "3"],
-                script,
-                text
-            ),
-            "{script}"
-        );
+        for words in PROFILE_WORDS {
+            let bytes = script.as_bytes();
+            assert!(rt;
+                runs_to(&rt, rt.alloc(), words, bytes, &[], &[], Status::Done, text),
+                "{script}"
+            );
+        }
     }
-}
-
-/// Whether a replay whose read of this number fails ends with a read fault, and has written the text and nothing more.
-fn read_fails_after<R: Threads + Wait + Sync>(
-    rt: &R,
-    alloc: Global,
-    read: u64,
-    text: &str,
-) -> bool {
-    runs_to(
-        rt,
-        alloc,
-        &["replay"],
-        COVER.as_bytes(),
-        &[read],
-        &[],
-        Status::ReadFault,
-        text,
-    )
 }
 
 #[test]
 fn a_read_fault_ends_the_run(rt: HostRuntime) {
-    assert!(rt; read_fails_after(&rt, rt.alloc(), 1, ""));
-    assert!(rt; read_fails_after(&rt, rt.alloc(), 2, COVER_ANSWERS));
-}
-
-/// Whether a replay of three turns whose third write fails ends with a write fault, and has written the first two.
-fn third_write_fails<R: Threads + Wait + Sync>(rt: &R, alloc: Global) -> bool {
-    let Ok(three) = script(alloc, &[COVER, "{\"end\":3}\n"]) else {
-        return false;
-    };
-    runs_to(
-        rt,
-        alloc,
-        &["replay"],
-        three.as_slice(),
-        &[],
-        &[3],
-        Status::WriteFault,
-        COVER_ANSWERS,
-    )
+    let bytes = COVER.as_bytes();
+    for (read, text) in [(1, ""), (2, COVER_ANSWERS)] {
+        assert!(rt;
+            runs_to(
+                &rt,
+                rt.alloc(),
+                &["replay"],
+                bytes,
+                &[read],
+                &[],
+                Status::ReadFault,
+                text
+            ),
+            "read {read}"
+        );
+    }
 }
 
 #[test]
 fn a_write_fault_ends_the_run(rt: HostRuntime) {
-    assert!(rt; third_write_fails(&rt, rt.alloc()));
+    let three = script(rt.alloc(), &[COVER, "{\"end\":3}\n"]).expect(&rt, "memory");
+    let bytes = three.as_slice();
+    assert!(rt;
+        runs_to(
+            &rt,
+            rt.alloc(),
+            &["replay"],
+            bytes,
+            &[],
+            &[3],
+            Status::WriteFault,
+            COVER_ANSWERS,
+        )
+    );
 }
 
 /// The map line with spaces up to a length, and its newline.
@@ -368,23 +287,16 @@ fn padded(alloc: Global, length: usize) -> Result<Bytes, NoMemory> {
     Ok(text)
 }
 
-/// Whether a replay of a map line of this length ends with the status, and writes nothing.
-fn line_ends_with<R: Threads + Wait + Sync>(
-    rt: &R,
-    alloc: Global,
-    length: usize,
-    status: Status,
-) -> bool {
-    match padded(alloc, length) {
-        Ok(text) => replays_to(rt, alloc, text.as_slice(), status, ""),
-        Err(NoMemory) => false,
-    }
-}
-
 #[test]
 fn a_line_has_a_limit(rt: HostRuntime) {
-    assert!(rt; line_ends_with(&rt, rt.alloc(), 8_388_608, Status::Done));
-    assert!(rt; line_ends_with(&rt, rt.alloc(), 8_388_609, Status::TooLong));
+    for (length, status) in [(8_388_608, Status::Done), (8_388_609, Status::TooLong)] {
+        let text = padded(rt.alloc(), length).expect(&rt, "memory");
+        let bytes = text.as_slice();
+        assert!(rt;
+            runs_to(&rt, rt.alloc(), &["replay"], bytes, &[], &[], status, ""),
+            "{length}"
+        );
+    }
 }
 
 /// Appends a line that adds a unit without a side, in the middle of a cell, under a number.
@@ -414,7 +326,7 @@ fn full_store(alloc: Global) -> Result<Bytes, NoMemory> {
 
 /// Whether the script is answered to its end, and its answers begin and end so.
 fn full_store_refuses<R: Threads + Wait + Sync>(rt: &R, alloc: Global, text: &[u8]) -> bool {
-    let Ok(got) = run_over(rt, alloc, &["replay"], text, &[], &[]) else {
+    let Ok(got) = run_over(rt, alloc, &["replay"], text, &[], &[], &OpenGate) else {
         return false;
     };
     let kept = got.sink.kept();
@@ -424,8 +336,7 @@ fn full_store_refuses<R: Threads + Wait + Sync>(rt: &R, alloc: Global, text: &[u
 }
 
 #[test]
-fn a_full_store_takes_one_more_after_a_remove(rt: HostRuntime) -> Result<(), Fail> {
-    let text = full_store(rt.alloc())?;
+fn a_full_store_takes_one_more_after_a_remove(rt: HostRuntime) {
+    let text = full_store(rt.alloc()).expect(&rt, "memory");
     assert!(rt; full_store_refuses(&rt, rt.alloc(), text.as_slice()));
-    Ok(())
 }

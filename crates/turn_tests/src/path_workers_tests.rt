@@ -1,107 +1,109 @@
 //! Turns on a map of one row, solved by several workers.
 use crate::fixtures::{path_asked, point, row_version};
-use grid_versions::Version;
+use grid_versions::{Refusal, Version};
 use io_edges::{Gate, OpenGate};
+use nav_types::NoMemory;
 use path_workers::{Workers, run_turn, run_turn_traced};
 use std::alloc::Global;
 use std::sync::atomic::{AtomicBool, AtomicU64, Ordering};
-use std::test::Fail;
+use std::test::*;
 use std::thread;
 use std::thread::Threads;
-use turn_core::{Answer, Answers, Jobs, solve};
+use turn_core::{Answer, Answers, Jobs};
 
-/// Asks for a path of a class by its name, along the row from one point to another, in halves.
-fn push_path(alloc: Global, jobs: &mut Jobs, name: &[u8], from: i16, to: i16) -> Option<()> {
-    let request = path_asked(alloc, name, from, point(to))?;
-    jobs.push(request).ok()
-}
+/// The column in which a path ends with its cost, or why it is refused.
+type Told = Result<(u16, u64), Refusal>;
+
+/// A job on a row of five navcells, with its answer: a path of a class by its name, along the row from one point to
+/// another, in halves.
+type Row = (&'static str, i16, i16, Told);
 
 /// Jobs of which each has another answer.
-fn seven_jobs(alloc: Global) -> Option<Jobs> {
-    let mut jobs = Jobs::new(alloc);
-    push_path(alloc, &mut jobs, b"default", 1, 9)?;
-    push_path(alloc, &mut jobs, b"other", 1, 9)?;
-    push_path(alloc, &mut jobs, b"default", 9, 1)?;
-    push_path(alloc, &mut jobs, b"default", 11, 1)?;
-    push_path(alloc, &mut jobs, b"default", 1, 3)?;
-    push_path(alloc, &mut jobs, b"default", 1, -1)?;
-    push_path(alloc, &mut jobs, b"default", 5, 5)?;
-    Some(jobs)
-}
+const SEVEN: [Row; 7] = [
+    ("default", 1, 9, Ok((4, 262_144))),
+    ("other", 1, 9, Err(Refusal::UnknownClass)),
+    ("default", 9, 1, Ok((0, 262_144))),
+    ("default", 11, 1, Err(Refusal::StartOutside)),
+    ("default", 1, 3, Ok((1, 65_536))),
+    ("default", 1, -1, Err(Refusal::GoalOutside)),
+    ("default", 5, 5, Ok((2, 0))),
+];
 
-/// Four times the same job.
-fn four_jobs(alloc: Global) -> Option<Jobs> {
+/// The first of these jobs.
+const FIRST: Row = ("default", 1, 9, Ok((4, 262_144)));
+
+/// The jobs of these rows.
+fn jobs_of(alloc: Global, rows: &[Row]) -> Option<Jobs> {
     let mut jobs = Jobs::new(alloc);
-    for _ in 0..4 {
-        push_path(alloc, &mut jobs, b"default", 1, 9)?;
+    for (name, from, to, _) in rows {
+        let path = path_asked(alloc, name, *from, point(*to))?;
+        jobs.push(path).ok()?;
     }
     Some(jobs)
 }
 
-/// Whether two answers read alike.
-fn read_alike(alloc: Global, one: &Answer, other: &Answer) -> Option<bool> {
-    let one = format!(in alloc; "{one:?}").ok()?;
-    let other = format!(in alloc; "{other:?}").ok()?;
-    Some(one == other)
+/// Whether this is the answer.
+fn is_told(answer: &Answer, expected: Told) -> bool {
+    match answer {
+        Answer::Path(path) => expected == Ok((path.end.i, path.cost.0)),
+        Answer::Refused(refusal) => expected == Err(*refusal),
+        _ => false,
+    }
 }
 
-/// Whether there is one answer for each job, and it reads as the one that `solve` gives.
-fn are_solved(alloc: Global, version: &Version, jobs: &Jobs, answers: &Answers) -> Option<bool> {
-    for (job, answer) in jobs.as_slice().iter().zip(answers.as_slice()) {
-        let expected = solve(alloc, version, job).ok()?;
-        if !read_alike(alloc, &expected, answer)? {
-            return Some(false);
+/// Whether these are the answers to the jobs of these rows.
+fn are_told(answers: &Answers, rows: &[Row]) -> bool {
+    for (answer, row) in answers.as_slice().iter().zip(rows) {
+        if !is_told(answer, row.3) {
+            return false;
         }
     }
-    Some(jobs.len() == answers.len())
+    answers.len() == rows.len()
 }
 
-/// Whether the seven jobs are solved by so many workers at a gate.
-fn solves_seven<R: Threads + Sync, G: Gate + Sync>(
+/// Whether so many workers solve the seven jobs.
+fn solve_seven<R: Threads + Sync>(
     rt: &R,
     alloc: Global,
     workers: u8,
-    gate: &G,
-) -> Option<bool> {
-    if workers < 1 || workers > 64 {
-        return None;
+    version: &Version,
+    jobs: &Jobs,
+) -> bool {
+    if workers < 1 || workers > 64 || jobs.len() > 7 {
+        return false;
     }
-    let version = row_version(alloc, 5, None)?;
-    let jobs = seven_jobs(alloc)?;
-    if jobs.len() > 7 {
-        return None;
+    match run_turn(rt, alloc, version, jobs, workers, &OpenGate) {
+        Ok(answers) => are_told(&answers, &SEVEN),
+        Err(NoMemory) => false,
     }
-    let answers = run_turn(rt, alloc, &version, &jobs, workers, gate).ok()?;
-    are_solved(alloc, &version, &jobs, &answers)
 }
 
 #[test]
-fn each_job_has_its_answer_by_any_number_of_workers(rt: HostRuntime) -> Result<(), Fail> {
+fn each_job_has_its_answer_by_any_number_of_workers(rt: HostRuntime) {
+    let alloc = rt.alloc();
+    let version = row_version(alloc, 5, &[]).expect(&rt, "the version");
+    let jobs = jobs_of(alloc, &SEVEN).expect(&rt, "the jobs");
     for workers in [1u8, 2, 7, 64] {
-        let solved = solves_seven(&rt, rt.alloc(), workers, &OpenGate).ok_or("no answers")?;
-        assert!(rt; solved, "{workers} workers");
+        assert!(rt;
+            solve_seven(&rt, alloc, workers, &version, &jobs),
+            "{workers} workers"
+        );
     }
-    Ok(())
 }
 
-/// Whether two workers tell the opened number of each of the seven jobs, beside its answer: on an open row the start and
-/// the goal are the only jump states, and a refused job opens none.
-fn traces_seven<R: Threads + Sync>(rt: &R, alloc: Global) -> Option<bool> {
-    let version = row_version(alloc, 5, None)?;
-    let jobs = seven_jobs(alloc)?;
-    if jobs.len() > 7 {
-        return None;
-    }
-    let traced = run_turn_traced(rt, alloc, &version, &jobs, 2, &OpenGate).ok()?;
-    let solved = are_solved(alloc, &version, &jobs, &traced.answers)?;
-    let expected = [2, 0, 2, 0, 2, 0, 1];
-    Some(solved && traced.opened.as_slice() == expected.as_slice())
-}
-
+/// On an open row the start and the goal are the only jump states, and a refused job opens none.
 #[test]
-fn each_job_has_its_opened_number(rt: HostRuntime) -> Result<(), Fail> {
-    assert!(rt; traces_seven(&rt, rt.alloc()).ok_or("no answers")?);
-    Ok(())
+fn each_job_has_its_opened_number(rt: HostRuntime) {
+    let alloc = rt.alloc();
+    let version = row_version(alloc, 5, &[]).expect(&rt, "the version");
+    let jobs = jobs_of(alloc, &SEVEN).expect(&rt, "the jobs");
+    assert!(rt; jobs.len() <= 7);
+    let Ok(traced) = run_turn_traced(&rt, alloc, &version, &jobs, 2, &OpenGate) else {
+        panic!(rt; "the answers")
+    };
+    assert!(rt; are_told(&traced.answers, &SEVEN));
+    let opened = [2, 0, 2, 0, 2, 0, 1];
+    assert!(rt; traced.opened.as_slice() == opened.as_slice());
 }
 
 /// Counts passes, and holds the first one until three others have come.
@@ -138,33 +140,35 @@ impl Gate for HoldingGate {
 }
 
 /// Whether two workers at a gate solve four equal jobs.
-fn two_solve_four<R: Threads + Sync, G: Gate + Sync>(
-    rt: &R,
-    alloc: Global,
-    gate: &G,
-) -> Option<bool> {
-    let version = row_version(alloc, 5, None)?;
-    let jobs = four_jobs(alloc)?;
+fn two_solve_four<R: Threads + Sync>(rt: &R, alloc: Global, gate: &HoldingGate) -> bool {
+    let rows = [FIRST, FIRST, FIRST, FIRST];
+    let Some(version) = row_version(alloc, 5, &[]) else {
+        return false;
+    };
+    let Some(jobs) = jobs_of(alloc, &rows) else {
+        return false;
+    };
     if jobs.len() > 4 {
-        return None;
+        return false;
     }
     let workers = Workers::new(2, gate);
     workers.staged(4);
-    let answers = workers.run(rt, alloc, &version, &jobs).ok()?;
-    Some(are_solved(alloc, &version, &jobs, &answers)? && answers.len() == 4)
+    match workers.run(rt, alloc, &version, &jobs) {
+        Ok(answers) => are_told(&answers, &rows),
+        Err(NoMemory) => false,
+    }
 }
 
 #[test]
-fn two_workers_run_beside_each_other(rt: HostRuntime) -> Result<(), Fail> {
+fn two_workers_run_beside_each_other(rt: HostRuntime) {
     let gate = HoldingGate {
         passes: AtomicU64::new(0),
         numbers: AtomicU64::new(0),
         posts: AtomicU64::new(0),
         gave_up: AtomicBool::new(false),
     };
-    assert!(rt; two_solve_four(&rt, rt.alloc(), &gate).ok_or("no answers")?);
-    assert_eq!(rt; gate.posts.load(Ordering::SeqCst), 4);
-    assert_eq!(rt; gate.numbers.load(Ordering::SeqCst), 0x0101_0101);
+    assert!(rt; two_solve_four(&rt, rt.alloc(), &gate));
+    assert!(rt; gate.posts.load(Ordering::SeqCst) == 4);
+    assert!(rt; gate.numbers.load(Ordering::SeqCst) == 0x0101_0101);
     assert!(rt; !gate.gave_up.load(Ordering::SeqCst));
-    Ok(())
 }

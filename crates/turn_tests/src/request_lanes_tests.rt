@@ -1,53 +1,27 @@
 ghost use Rattle.std.specs.Prelude.{◌≡◌, []};
 
-use nav_types::Sequence;
 use request_lanes::{Ended, LaneIn, LaneOut, lane};
-use std::alloc::AllocError;
 use std::sync::Wait;
 use std::test::*;
 use std::thread;
-use std::thread::Threads;
 
 const POSTED: u32 = 100_000;
 
-const TAKEN_BESIDE: usize = 60_000;
+const TAKEN_BESIDE: u64 = 60_000;
 
-#[test]
-fn items_come_in_order(rt: HostRuntime) -> Result<(), Fail> {
-    let (mut lane_in, mut lane_out) = lane::<u32>(&rt, rt.alloc())?;
-    assert_eq!(rt; lane_out.take(&rt), None);
-    assert_eq!(rt; lane_in.post(&rt, 7), Ok(0));
-    assert_eq!(rt; lane_in.post(&rt, 8), Ok(1));
-    assert_eq!(rt; lane_in.post(&rt, 9), Ok(2));
-    let notice = lane_in.notice(&rt);
-    lane_out.hear(&rt, notice);
-    assert_eq!(rt; lane_out.take(&rt), Some((0, 7)));
-    let mut whole = lane_out.finish(&rt, lane_in.end());
-    assert_eq!(rt; whole.take(&rt), Some((1, 8)));
-    assert_eq!(rt; whole.take(&rt), Some((2, 9)));
-    assert_eq!(rt; whole.take(&rt), None);
-    Ok(())
+/// What may go to another thread.
+fn sent<T: Send>(value: T) -> T
+    ensures { result ≡ value }
+{
+    value
 }
 
-fn there_and_back<E: Send + Drop + 'static>(rt: &impl Threads, end: E) -> Result<E, AllocError> {
-    Ok(thread::spawn(rt, move || end)?.join(rt))
-}
-
-/// The ends of a lane of any items that may cross threads.
-fn ends_cross<T: Send + Drop + 'static>(
-    rt: &impl Threads,
-    lane_in: LaneIn<T>,
-    lane_out: LaneOut<T>,
-) -> Result<(LaneIn<T>, LaneOut<T>), AllocError> {
-    Ok((there_and_back(rt, lane_in)?, there_and_back(rt, lane_out)?))
-}
-
-#[test]
-fn ends_may_be_with_other_threads(rt: HostRuntime) -> Result<(), Fail> {
-    let (lane_in, lane_out) = lane::<String>(&rt, rt.alloc())?;
-    let (_lane_in, mut lane_out) = ends_cross(&rt, lane_in, lane_out)?;
-    assert!(rt; lane_out.take(&rt).is_none());
-    Ok(())
+/// The ends of a lane of any items that may go to other threads.
+fn ends_cross<T: Send + Drop>(lane_in: LaneIn<T>, lane_out: LaneOut<T>) -> (LaneIn<T>, LaneOut<T>)
+    ensures posts { result.0 ≡ lane_in }
+    ensures takes { result.1 ≡ lane_out }
+{
+    (sent(lane_in), sent(lane_out))
 }
 
 fn post_all(rt: &impl Wait, mut lane_in: LaneIn<u32>) -> Ended<u32>
@@ -55,58 +29,57 @@ fn post_all(rt: &impl Wait, mut lane_in: LaneIn<u32>) -> Ended<u32>
     ensures { result.lane ≡ lane_in.lane }
 {
     for number in 0..POSTED {
-        // A number that was refused is missing in the list below.
+        // A number that was refused is missing below.
         let _ = lane_in.post(rt, number);
     }
     lane_in.end()
 }
 
-fn take_some(
-    rt: &impl Wait,
-    mut lane_out: LaneOut<u32>,
-    mut taken: Sequence<u32>,
-) -> (LaneOut<u32>, Sequence<u32>)
+// Takes numbers beside the posting, and tells whether each is its place.
+fn take_some(rt: &impl Wait, mut lane_out: LaneOut<u32>) -> (LaneOut<u32>, bool)
     ensures { result.0.lane ≡ lane_out.lane }
 {
+    let mut taken = 0;
+    let mut in_place = true;
     for _ in rt.forever() {
-        if taken.len() == TAKEN_BESIDE {
+        if taken == TAKEN_BESIDE {
             break;
         }
         match lane_out.take(rt) {
-            Some((_, number)) => {
-                let _ = taken.push(number);
+            Some((place, number)) => {
+                in_place &= u64::from(number) == place;
+                taken = place.saturating_add(1);
             }
             None => thread::yield_now(),
         }
     }
-    (lane_out, taken)
+    (lane_out, in_place)
 }
 
 #[test]
 fn what_is_taken_is_what_was_posted(rt: HostRuntime) -> Result<(), Fail> {
     let (lane_in, lane_out) = lane::<u32>(&rt, rt.alloc())?;
-    let none = Sequence::new(rt.alloc());
-    let (ended, (lane_out, mut taken)) = thread::join(
+    let (lane_in, lane_out) = ends_cross(lane_in, lane_out);
+    let (ended, (lane_out, in_place)) = thread::join(
         &rt,
         move || -> Ended<u32>
             requires { lane_in.posted ≡ [] }
             ensures { result.lane ≡ lane_in.lane }
         { post_all(&rt, lane_in) },
-        move || -> (LaneOut<u32>, Sequence<u32>)
+        move || -> (LaneOut<u32>, bool)
             ensures { result.0.lane ≡ lane_out.lane }
-        { take_some(&rt, lane_out, none) },
+        { take_some(&rt, lane_out) },
     );
+    assert!(rt; in_place);
     let mut whole = lane_out.finish(&rt, ended);
+    let mut taken = 0;
     for _ in rt.forever() {
         let Some((place, number)) = whole.take(&rt) else {
             break;
         };
-        assert_eq!(rt; place, taken.len() as u64);
-        taken.push(number)?;
+        assert!(rt; u64::from(number) == place, "{number} at {place}");
+        taken = place.saturating_add(1);
     }
-    assert_eq!(rt; taken.len(), POSTED as usize);
-    for (place, number) in taken.as_slice().iter().enumerate() {
-        assert_eq!(rt; *number as usize, place);
-    }
+    assert!(rt; taken == u64::from(POSTED));
     Ok(())
 }

@@ -1,25 +1,16 @@
 //! Matches made out of numbers, and their summaries.
 use super::{run_over, runs_to};
 use grid_versions::Edit;
+use io_edges::OpenGate;
 use nav_types::{Bytes, NoMemory};
 use pathserve::{Made, Status, make_script};
 use script_text::{have_lines, write_journal, write_map};
 use std::alloc::Global;
 use std::str;
 use std::sync::Wait;
+use std::test::*;
 use std::thread::Threads;
 use turn_core::{Post, Posts};
-
-/// The first column of the first base rectangle of the match of a number.
-fn first_column(alloc: Global, seed: u64) -> Option<u16> {
-    let Ok(made) = make_script(alloc, seed) else {
-        return None;
-    };
-    match made.map.base().get(0) {
-        Some((rect, _mask)) => Some(rect.i0),
-        None => None,
-    }
-}
 
 /// Whether each of the posts is an add, and there are 25.
 fn are_25_adds(posts: &Posts) -> bool {
@@ -63,7 +54,15 @@ fn replay_tells<R: Threads + Wait + Sync>(
     last: &str,
 ) -> Result<bool, NoMemory> {
     let script = script_of(alloc, &make_script(alloc, seed)?)?;
-    let ran = run_over(rt, alloc, &["replay"], script.as_slice(), &[], &[])?;
+    let ran = run_over(
+        rt,
+        alloc,
+        &["replay"],
+        script.as_slice(),
+        &[],
+        &[],
+        &OpenGate,
+    )?;
     let told = match str::from_utf8(ran.sink.kept()) {
         Ok(text) => text.contains(last),
         Err(_) => false,
@@ -73,9 +72,10 @@ fn replay_tells<R: Threads + Wait + Sync>(
 
 #[test]
 fn numbers_make_matches(rt: HostRuntime) {
-    assert!(rt; first_column(rt.alloc(), 0) == Some(447));
-    let made = make_script(rt.alloc(), 7);
-    assert!(rt; matches!(&made, Ok(made) if is_of_size(made)));
+    let made = make_script(rt.alloc(), 0).expect(&rt, "memory");
+    assert!(rt; matches!(made.map.base().get(0), Some((rect, _)) if rect.i0 == 447));
+    let made = make_script(rt.alloc(), 7).expect(&rt, "memory");
+    assert!(rt; is_of_size(&made));
 }
 
 #[test]

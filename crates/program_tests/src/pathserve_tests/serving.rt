@@ -1,13 +1,10 @@
 //! Callers that are served: their works, the driver and the workers beside each other.
-use super::words_of;
-use io_edges::{Gate, MemorySink, MemorySource};
-use nav_types::NoMemory;
-use pathserve::{Status, run};
-use std::alloc::Global;
-use std::sync::Wait;
+use super::run_over;
+use io_edges::Gate;
+use pathserve::Status;
 use std::sync::atomic::{AtomicBool, AtomicU64, Ordering};
+use std::test::*;
 use std::thread;
-use std::thread::Threads;
 
 /// A turn in which each of three callers asks for a path.
 const THREE_CALLERS: &str =
@@ -27,23 +24,6 @@ struct StagingGate {
     firsts: AtomicU64,
     staged: AtomicU64,
     gave_up: AtomicBool,
-}
-
-impl StagingGate {
-    /// A gate that nobody has passed.
-    fn new() -> StagingGate {
-        StagingGate {
-            passes: AtomicU64::new(0),
-            firsts: AtomicU64::new(0),
-            staged: AtomicU64::new(0),
-            gave_up: AtomicBool::new(false),
-        }
-    }
-
-    /// Whether three have passed, none of them held for too long.
-    fn three_passed(&self) -> bool {
-        self.passes.load(Ordering::SeqCst) == 3 && !self.gave_up.load(Ordering::SeqCst)
-    }
 }
 
 impl Gate for StagingGate {
@@ -76,21 +56,6 @@ struct BeginningGate {
     gave_up: AtomicBool,
 }
 
-impl BeginningGate {
-    /// A gate that nobody has passed.
-    fn new() -> BeginningGate {
-        BeginningGate {
-            begun: AtomicU64::new(0),
-            gave_up: AtomicBool::new(false),
-        }
-    }
-
-    /// Whether three have begun, none of them held for too long.
-    fn three_began(&self) -> bool {
-        self.begun.load(Ordering::SeqCst) == 3 && !self.gave_up.load(Ordering::SeqCst)
-    }
-}
-
 impl Gate for BeginningGate {
     fn pass(&self, _job: u64) {}
 
@@ -108,28 +73,30 @@ impl Gate for BeginningGate {
     }
 }
 
-/// How three callers are served at a gate.
-fn three_served<R: Threads + Wait + Sync, G: Gate + Sync>(
-    rt: &R,
-    alloc: Global,
-    gate: &G,
-) -> Result<Status, NoMemory> {
-    let words = words_of(alloc, &["serve"])?;
-    let mut source = MemorySource::new(alloc, THREE_CALLERS.as_bytes(), 4096, &[])?;
-    let mut sink = MemorySink::new(alloc, 4096, &[])?;
-    Ok(run(rt, alloc, &words, &mut source, &mut sink, gate, &mut None))
-}
-
 #[test]
 fn a_turn_is_staged_beside_one_that_runs(rt: HostRuntime) {
-    let gate = StagingGate::new();
-    assert!(rt; three_served(&rt, rt.alloc(), &gate) == Ok(Status::Done));
-    assert!(rt; gate.three_passed());
+    let gate = StagingGate {
+        passes: AtomicU64::new(0),
+        firsts: AtomicU64::new(0),
+        staged: AtomicU64::new(0),
+        gave_up: AtomicBool::new(false),
+    };
+    let bytes = THREE_CALLERS.as_bytes();
+    let ran = run_over(&rt, rt.alloc(), &["serve"], bytes, &[], &[], &gate).expect(&rt, "memory");
+    assert!(rt; ran.status == Status::Done);
+    assert!(rt; gate.passes.load(Ordering::SeqCst) == 3);
+    assert!(rt; !gate.gave_up.load(Ordering::SeqCst));
 }
 
 #[test]
 fn callers_post_beside_each_other(rt: HostRuntime) {
-    let gate = BeginningGate::new();
-    assert!(rt; three_served(&rt, rt.alloc(), &gate) == Ok(Status::Done));
-    assert!(rt; gate.three_began());
+    let gate = BeginningGate {
+        begun: AtomicU64::new(0),
+        gave_up: AtomicBool::new(false),
+    };
+    let bytes = THREE_CALLERS.as_bytes();
+    let ran = run_over(&rt, rt.alloc(), &["serve"], bytes, &[], &[], &gate).expect(&rt, "memory");
+    assert!(rt; ran.status == Status::Done);
+    assert!(rt; gate.begun.load(Ordering::SeqCst) == 3);
+    assert!(rt; !gate.gave_up.load(Ordering::SeqCst));
 }

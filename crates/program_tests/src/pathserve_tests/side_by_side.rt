@@ -1,13 +1,10 @@
 //! Workers of a turn that wait for each other.
-use super::words_of;
-use io_edges::{Gate, MemorySink, MemorySource};
-use nav_types::NoMemory;
-use pathserve::{Status, run, run_replay};
-use std::alloc::Global;
-use std::sync::Wait;
+use super::run_over;
+use io_edges::Gate;
+use pathserve::Status;
 use std::sync::atomic::{AtomicBool, AtomicU64, Ordering};
+use std::test::*;
 use std::thread;
-use std::thread::Threads;
 
 /// A turn with four times the same path.
 const FOUR_PATHS: &str =
@@ -32,21 +29,6 @@ struct HoldingGate {
     gave_up: AtomicBool,
 }
 
-impl HoldingGate {
-    /// A gate that nobody has passed.
-    fn new() -> HoldingGate {
-        HoldingGate {
-            passes: AtomicU64::new(0),
-            gave_up: AtomicBool::new(false),
-        }
-    }
-
-    /// Whether four have passed, none of them held for too long.
-    fn four_passed(&self) -> bool {
-        self.passes.load(Ordering::SeqCst) == 4 && !self.gave_up.load(Ordering::SeqCst)
-    }
-}
-
 impl Gate for HoldingGate {
     fn pass(&self, _job: u64) {
         if self.passes.fetch_add(1, Ordering::SeqCst) > 0 {
@@ -66,42 +48,17 @@ impl Gate for HoldingGate {
     fn begun(&self, _caller: u8) {}
 }
 
-/// Whether the script ends as it should, and has the answers.
-fn is_answered(status: Status, sink: &MemorySink) -> bool {
-    status == Status::Done && sink.kept() == FOUR_ANSWERS.as_bytes()
-}
-
-/// Whether two workers of `run_replay` answer the script at a gate.
-fn two_replay<R: Threads + Sync>(
-    rt: &R,
-    alloc: Global,
-    gate: &HoldingGate,
-) -> Result<bool, NoMemory> {
-    let mut source = MemorySource::new(alloc, FOUR_PATHS.as_bytes(), 4096, &[])?;
-    let mut sink = MemorySink::new(alloc, 4096, &[])?;
-    let status = run_replay(rt, alloc, 2, &mut source, &mut sink, gate, &mut None);
-    Ok(is_answered(status, &sink))
-}
-
-/// Whether two workers of `run` answer the script at a gate.
-fn two_run<R: Threads + Wait + Sync>(
-    rt: &R,
-    alloc: Global,
-    gate: &HoldingGate,
-) -> Result<bool, NoMemory> {
-    let words = words_of(alloc, &["replay", "--workers", "2"])?;
-    let mut source = MemorySource::new(alloc, FOUR_PATHS.as_bytes(), 4096, &[])?;
-    let mut sink = MemorySink::new(alloc, 4096, &[])?;
-    let status = run(rt, alloc, &words, &mut source, &mut sink, gate, &mut None);
-    Ok(is_answered(status, &sink))
-}
-
 #[test]
 fn two_workers_answer_a_turn_beside_each_other(rt: HostRuntime) {
-    let gate = HoldingGate::new();
-    assert!(rt; two_replay(&rt, rt.alloc(), &gate) == Ok(true));
-    assert!(rt; gate.four_passed());
-    let gate = HoldingGate::new();
-    assert!(rt; two_run(&rt, rt.alloc(), &gate) == Ok(true));
-    assert!(rt; gate.four_passed());
+    let gate = HoldingGate {
+        passes: AtomicU64::new(0),
+        gave_up: AtomicBool::new(false),
+    };
+    let words = ["replay", "--workers", "2"];
+    let bytes = FOUR_PATHS.as_bytes();
+    let ran = run_over(&rt, rt.alloc(), &words, bytes, &[], &[], &gate).expect(&rt, "memory");
+    assert!(rt; ran.status == Status::Done);
+    assert!(rt; ran.sink.kept() == FOUR_ANSWERS.as_bytes());
+    assert!(rt; gate.passes.load(Ordering::SeqCst) == 4);
+    assert!(rt; !gate.gave_up.load(Ordering::SeqCst));
 }

@@ -1,75 +1,26 @@
 //! The causes of bad lines, as values and as text.
-ghost use Rattle.std.specs.Prelude.{IsFalse, IsSome};
-ghost use Rattle.script_text.specs.Reader.{rules_at};
-
-use io_edges::MemorySource;
-use nav_types::{NoMemory, Size};
-use script_text::{Cause, Key, ScriptFault, ScriptReader, Wanted};
+use super::{MAP_1, MAP_2, MAP_3, read_behind};
+use nav_types::Size;
+use script_text::{Cause, Key, Wanted};
 use std::alloc::Global;
 use std::process::Abort;
 
-/// The cause of the bad line that the first or the second turn of a script meets.
-fn cause_in_turns(
-    alloc: Global,
-    reader: &mut ScriptReader,
-    source: &mut MemorySource,
-) -> Result<Option<Cause>, NoMemory>
-    requires map { IsSome (rules_at reader.old.place.part) }
-    requires going { IsFalse reader.old.over }
-{
-    match reader.next_turn(alloc, source) {
-        Ok(Some(_)) => cause_in_turn(alloc, reader, source),
-        Err(ScriptFault::BadLine(_)) => Ok(Some(reader.cause(alloc)?)),
-        _ => Ok(None),
-    }
-}
-
-/// The cause of the bad line that the next turn meets.
-fn cause_in_turn(
-    alloc: Global,
-    reader: &mut ScriptReader,
-    source: &mut MemorySource,
-) -> Result<Option<Cause>, NoMemory>
-    requires map { IsSome (rules_at reader.old.place.part) }
-    requires going { IsFalse reader.old.over }
-{
-    match reader.next_turn(alloc, source) {
-        Err(ScriptFault::BadLine(_)) => Ok(Some(reader.cause(alloc)?)),
-        _ => Ok(None),
-    }
-}
-
-/// The cause of the bad line of a script.
-fn cause_in(alloc: Global, script: &str) -> Result<Option<Cause>, NoMemory> {
-    let mut source = MemorySource::new(alloc, script.as_bytes(), 7, &[])?;
-    let mut reader = ScriptReader::new(alloc)?;
-    match reader.read_map(alloc, &mut source) {
-        Ok(_) => cause_in_turns(alloc, &mut reader, &mut source),
-        Err(ScriptFault::BadLine(_)) => Ok(Some(reader.cause(alloc)?)),
-        Err(_) => Ok(None),
-    }
-}
-
-/// Whether the script has a bad line of this cause, which says this text.
-fn has_cause(alloc: Global, script: &str, cause: Cause, text: &str) -> bool {
-    let Ok(Some(found)) = cause_in(alloc, script) else {
-        return false;
-    };
-    match format!(in alloc; "{found}") {
-        Ok(said) => found == cause && said.as_str() == text,
+/// Whether a cause says this text.
+fn says(alloc: Global, cause: Cause, text: &str) -> bool {
+    match format!(in alloc; "{cause}") {
+        Ok(said) => said.as_str() == text,
         Err(_) => false,
     }
 }
 
-/// Checks the causes of scripts that go on so behind a map line of this version, with 2 callers and a map of 5 by 4.
-fn have_causes(rt: &impl Abort, alloc: Global, version: u8, rows: &[(&str, Cause, &str)]) {
+/// Checks the causes of scripts that go on so behind a map line.
+fn have_causes(rt: &impl Abort, alloc: Global, map: &str, rows: &[(&str, Cause, &str)]) {
     for (lines, cause, text) in rows {
-        let map = "\"size\":[5,4],\"callers\":2,\"classes\":[{\"name\":\"a\",\"clearance\":\"0\"}]";
-        let Ok(script) = format!(in alloc; "{{\"version\":{version},{map}}}\n{lines}") else {
-            assert!(rt; false, "memory");
-            return;
+        let Ok(outcome) = read_behind(alloc, map, lines) else {
+            panic!(rt; "memory")
         };
-        assert!(rt; has_cause(alloc, script.as_str(), *cause, text), "{lines}");
+        assert!(rt; outcome.cause == Some(*cause), "{lines}");
+        assert!(rt; says(alloc, *cause, text), "{lines}");
     }
 }
 
@@ -79,21 +30,27 @@ fn wrong(key: Key, wanted: Wanted) -> Cause {
 
 #[test]
 fn a_script_without_its_map_line_has_a_cause(rt: HostRuntime) {
-    let alloc = rt.alloc();
-    let none = "the script must begin with a map line, and has no line";
-    assert!(rt; has_cause(alloc, "", Cause::NoLine, none));
-    let here =
-        "the map line must be line 1 alone, and base lines must stand between it and the turns";
-    assert!(rt; has_cause(alloc, "{\"end\":1}\n", Cause::NotHere, here));
     have_causes(
         &rt,
-        alloc,
-        4,
-        &[(
-            "",
-            wrong(Key::Version, Wanted::Whole { least: 1, most: 3 }),
-            "the key \"version\" must have a whole number from 1 to 3",
-        )],
+        rt.alloc(),
+        "",
+        &[
+            (
+                "",
+                Cause::NoLine,
+                "the script must begin with a map line, and has no line",
+            ),
+            (
+                "{\"end\":1}\n",
+                Cause::NotHere,
+                "the map line must be line 1 alone, and base lines must stand between it and the turns",
+            ),
+            (
+                "{\"version\":4,\"size\":[5,4],\"callers\":2,\"classes\":[{\"name\":\"a\",\"clearance\":\"0\"}]}\n",
+                wrong(Key::Version, Wanted::Whole { least: 1, most: 3 }),
+                "the key \"version\" must have a whole number from 1 to 3",
+            ),
+        ],
     );
 }
 
@@ -105,7 +62,7 @@ fn lines_of_version_3_have_causes(rt: HostRuntime) {
     have_causes(
         &rt,
         rt.alloc(),
-        3,
+        MAP_3,
         &[
             (
                 "{\"caller\":0,\n",
@@ -168,7 +125,7 @@ fn forms_of_other_versions_have_causes(rt: HostRuntime) {
     have_causes(
         &rt,
         alloc,
-        2,
+        MAP_2,
         &[
             (
                 "{\"caller\":0,\"move\":1,\"to\":[\"0\",\"0\"]}\n",
@@ -190,7 +147,7 @@ fn forms_of_other_versions_have_causes(rt: HostRuntime) {
     have_causes(
         &rt,
         alloc,
-        1,
+        MAP_1,
         &[(
             "{\"caller\":0,\"add\":1,\"unit\":[\"0\",\"0\",\"1\"],\"mask\":1}\n",
             Cause::LaterVersion { version: 2 },

@@ -1,57 +1,57 @@
 //! Events of small machines, with what they answer.
-ghost use Rattle.std.specs.Prelude.{◌≡◌, IfOk};
-
-use crate::fixtures::{one_class, path_asked, point, unit};
-use grid_versions::{BaseRects, EditReply, MapSpec};
-use nav_types::{Cell, Cost, NoMemory, Sequence, Size};
+use crate::fixtures::{map_of, path_asked, point, stays, unit};
+use grid_versions::EditReply;
+use nav_types::{Cell, Cost, NoMemory};
 use std::alloc::Global;
-use std::test::Fail;
-use turn_core::{
-    Answer, Copied, Core, Event, PathAnswer, Post, Posts, Reply, StepRefusal, Takes, Why,
-};
+use std::test::*;
+use turn_core::{Answer, Core, Event, Post, Reply, StepRefusal, Takes, Why};
 
-/// A map of three columns and so many rows of navcells with one class of clearance 0.
-fn map_of(alloc: Global, rows: u16, callers: u8) -> Option<MapSpec> {
-    let size = Size::new(3, rows)?;
-    let classes = one_class(alloc)?;
-    MapSpec::new(1, size, callers, classes, BaseRects::new(alloc))
-}
-
-/// The machine of such a map.
+/// The machine of a map of three columns and so many rows of navcells.
 fn core_of(alloc: Global, rows: u16, callers: u8) -> Option<Core> {
-    let map = map_of(alloc, rows, callers)?;
+    let map = map_of(alloc, 3, rows, callers, &[])?;
     Core::new(alloc, &map).ok()
 }
 
-/// The machine of a map of one row.
-fn small_core(alloc: Global, callers: u8) -> Option<Core> {
-    core_of(alloc, 1, callers)
+/// Why a step is refused, where it is.
+fn refusal(core: &mut Core, event: Event) -> Option<StepRefusal> {
+    core.step(&event).err()
 }
 
-/// A path from the first cell of the first row to its last.
-fn path_post(alloc: Global) -> Option<Post> {
-    Some(Post::Ask(path_asked(alloc, b"default", 1, point(5))?))
-}
-
-/// A small unit in the middle of the first row.
-fn unit_post() -> Post {
-    Post::Edit(unit(1, 3))
-}
-
-/// A stage that takes so many posts of two callers.
-fn stage_of_two(alloc: Global, first: u64, second: u64) -> Option<Event> {
+/// Why a stage of so many posts of each caller is refused, where it is.
+fn stage_refusal(alloc: Global, core: &mut Core, counts: &[u64]) -> Option<StepRefusal> {
     let mut takes = Takes::new(alloc);
-    takes.push(first).ok()?;
-    takes.push(second).ok()?;
-    Some(Event::Stage { takes })
+    match takes.extend(counts) {
+        Ok(()) => refusal(core, Event::Stage { takes }),
+        Err(NoMemory) => Some(StepRefusal::NoMemory),
+    }
 }
 
-/// Makes a step that hands out no reply. None where the step is refused.
-fn go(core: &mut Core, event: Event) -> Option<()> {
-    match core.step(&event) {
-        Ok(None) => Some(()),
-        _ => None,
-    }
+/// The refusal for a cause.
+fn because(cause: Why) -> Option<StepRefusal> {
+    Some(StepRefusal::NotEnabled(cause))
+}
+
+/// Posts a path from the first cell of the first row to its last. Whether it is posted.
+fn posts_path(alloc: Global, core: &mut Core) -> bool {
+    let Some(path) = path_asked(alloc, "default", 1, point(5)) else {
+        return false;
+    };
+    let post = Post::Ask(path);
+    refusal(core, Event::Post { caller: 0, post }) == None
+}
+
+/// Why the caller may not post a unit in the middle of the first row, where it may not.
+fn unit_refusal(core: &mut Core, caller: u8) -> Option<StepRefusal> {
+    let post = Post::Edit(unit(1, 3));
+    refusal(core, Event::Post { caller, post })
+}
+
+/// The staged turn of one job runs and is delivered. Whether it is.
+fn runs_turn(core: &mut Core) -> bool {
+    refusal(core, Event::Start) == None
+        && refusal(core, Event::Claim) == None
+        && refusal(core, Event::Finish { job: 0 }) == None
+        && refusal(core, Event::Deliver) == None
 }
 
 /// The next reply to a caller.
@@ -62,245 +62,78 @@ fn collected(core: &mut Core, caller: u8) -> Option<Reply> {
     }
 }
 
-/// Whether the event is not enabled for this cause.
-fn is_refused(core: &mut Core, event: Event, cause: Why) -> bool {
-    match core.step(&event) {
-        Err(StepRefusal::NotEnabled(why)) => why == cause,
-        _ => false,
-    }
+/// Whether the causes are those of a machine of two callers in its opening state.
+fn has_opening_causes(alloc: Global, core: &mut Core) -> bool {
+    unit_refusal(core, 2) == because(Why::Callers(2))
+        && stage_refusal(alloc, core, &[]) == because(Why::Callers(2))
+        && stage_refusal(alloc, core, &[0, 1]) == because(Why::Posted(1, 0))
+        && refusal(core, Event::Claim) == because(Why::NoneRunning(0))
+        && refusal(core, Event::Collect { caller: 2 }) == because(Why::Callers(2))
+        && refusal(core, Event::Collect { caller: 1 }) == because(Why::Collected(0))
 }
 
-/// The first caller posts a path and the second a unit, and both are staged in one turn.
-fn stage_both(alloc: Global, core: &mut Core) -> Option<()> {
-    let post = path_post(alloc)?;
-    go(core, Event::Post { caller: 0, post })?;
-    let post = unit_post();
-    go(core, Event::Post { caller: 1, post })?;
-    let stage = stage_of_two(alloc, 1, 1)?;
-    go(core, stage)
+/// Whether the causes are those of a turn of one job that is staged, and then of one that runs beside an empty one.
+fn has_turn_causes(alloc: Global, core: &mut Core) -> bool {
+    stage_refusal(alloc, core, &[0, 0]) == because(Why::Staged(1))
+        && refusal(core, Event::Deliver) == because(Why::NoneRunning(1))
+        && refusal(core, Event::Start) == None
+        && stage_refusal(alloc, core, &[0, 0]) == None
+        && refusal(core, Event::Start) == because(Why::Running(1))
+        && refusal(core, Event::Finish { job: 0 }) == because(Why::Claimed(0))
+        && refusal(core, Event::Deliver) == because(Why::Unclaimed(0))
 }
 
-/// The staged turn runs and is delivered.
-fn run_turn(core: &mut Core) -> Option<()> {
-    go(core, Event::Start)?;
-    go(core, Event::Claim)?;
-    go(core, Event::Finish { job: 0 })?;
-    go(core, Event::Deliver)
-}
-
-/// Whether the path goes nowhere, since the goal is out of reach.
-fn stays(path: &PathAnswer) -> bool {
-    path.start == Cell::new(0, 0)
-        && path.end == Cell::new(0, 0)
-        && path.near
-        && path.cost == Cost(0)
-        && path.waypoints.is_empty()
-}
-
-/// Whether the reply is such a path.
-fn is_path_that_stays(reply: Option<Reply>) -> bool {
-    match reply {
-        Some(Reply::Answer(Answer::Path(path))) => stays(&path),
-        _ => false,
-    }
-}
-
-/// Whether the obstruction of the number was added.
-fn is_added(reply: Option<Reply>, number: u32) -> bool {
-    match reply {
-        Some(Reply::Edit(EditReply::Added(id))) => id == number,
-        _ => false,
-    }
-}
-
-/// The machine of two callers where a turn of both is staged.
-fn staged_core(alloc: Global) -> Option<Core> {
-    let mut core = small_core(alloc, 2)?;
-    stage_both(alloc, &mut core)?;
-    Some(core)
-}
-
-/// The machine of two callers where a turn of both runs.
-fn running_core(alloc: Global) -> Option<Core> {
-    let mut core = staged_core(alloc)?;
-    go(&mut core, Event::Start)?;
-    Some(core)
-}
-
-/// Whether a stage that takes so many posts of two callers is not enabled for this cause.
-fn is_stage_refused(alloc: Global, core: &mut Core, first: u64, second: u64, cause: Why) -> bool {
-    match stage_of_two(alloc, first, second) {
-        Some(stage) => is_refused(core, stage, cause),
-        None => false,
-    }
-}
-
-/// Whether a stage that takes no posts is made.
-fn is_empty_stage_made(alloc: Global, core: &mut Core) -> bool {
-    match stage_of_two(alloc, 0, 0) {
-        Some(stage) => go(core, stage).is_some(),
-        None => false,
-    }
-}
-
-/// Whether a post of the caller is not enabled for this cause.
-fn is_post_refused(core: &mut Core, caller: u8, cause: Why) -> bool {
-    let post = unit_post();
-    is_refused(core, Event::Post { caller, post }, cause)
-}
-
-/// Whether a stage that names no caller is not enabled for this cause.
-fn is_bare_stage_refused(alloc: Global, core: &mut Core, cause: Why) -> bool {
-    let takes = Takes::new(alloc);
-    is_refused(core, Event::Stage { takes }, cause)
+/// Whether the causes are those of a running turn of one job, which is claimed and then answered.
+fn has_job_causes(core: &mut Core) -> bool {
+    refusal(core, Event::Claim) == None
+        && refusal(core, Event::Claim) == because(Why::AllClaimed(1))
+        && refusal(core, Event::Deliver) == because(Why::Unanswered(0))
+        && refusal(core, Event::Finish { job: 0 }) == None
+        && refusal(core, Event::Finish { job: 0 }) == because(Why::Answered(0))
 }
 
 #[test]
-fn an_edit_of_the_turn_counts_for_its_requests(rt: HostRuntime) -> Result<(), Fail> {
-    let mut core = staged_core(rt.alloc()).ok_or("refused")?;
-    assert!(rt; run_turn(&mut core).is_some());
-    assert!(rt; is_path_that_stays(collected(&mut core, 0)));
-    assert!(rt; is_added(collected(&mut core, 1), 1));
-    assert!(rt; is_refused(&mut core, Event::Start, Why::NoneStaged(1)));
-    Ok(())
-}
-
-#[test]
-fn posts_and_stages_have_their_causes(rt: HostRuntime) -> Result<(), Fail> {
+fn an_edit_of_the_turn_counts_for_its_requests(rt: HostRuntime) {
     let alloc = rt.alloc();
-    let mut core = small_core(alloc, 2).ok_or("refused")?;
-    assert!(rt; is_post_refused(&mut core, 2, Why::Callers(2)));
-    assert!(rt; is_bare_stage_refused(alloc, &mut core, Why::Callers(2)));
-    assert!(rt; is_stage_refused(alloc, &mut core, 0, 1, Why::Posted(1, 0)));
-    Ok(())
+    let mut core = core_of(alloc, 1, 2).expect(&rt, "the machine");
+    assert!(rt; posts_path(alloc, &mut core) && unit_refusal(&mut core, 1) == None);
+    assert!(rt; stage_refusal(alloc, &mut core, &[1, 1]) == None && runs_turn(&mut core));
+    let path = collected(&mut core, 0);
+    assert!(rt; stays(path.as_ref()));
+    let edit = collected(&mut core, 1);
+    assert!(rt; matches!(edit, Some(Reply::Edit(EditReply::Added(1)))));
+    assert!(rt; refusal(&mut core, Event::Start) == because(Why::NoneStaged(1)));
 }
 
 #[test]
-fn refused_steps_say_why(rt: HostRuntime) -> Result<(), Fail> {
+fn refused_events_have_their_causes(rt: HostRuntime) {
     let alloc = rt.alloc();
-    let few = StepRefusal::NotEnabled(Why::Posted(3, 12)).to_string(alloc)?;
-    assert_eq!(rt;
-        few.as_str(),
-        "the event is not enabled: caller 3 has 12 posts left"
-    );
-    let runs = StepRefusal::NotEnabled(Why::Running(7)).to_string(alloc)?;
-    assert_eq!(rt; runs.as_str(), "the event is not enabled: turn 7 runs");
-    Ok(())
-}
-
-#[test]
-fn claims_and_collects_have_their_causes(rt: HostRuntime) -> Result<(), Fail> {
-    let mut core = small_core(rt.alloc(), 2).ok_or("refused")?;
-    assert!(rt; is_refused(&mut core, Event::Claim, Why::NoneRunning(0)));
-    assert!(rt; is_refused(&mut core, Event::Collect { caller: 2 }, Why::Callers(2)));
-    assert!(rt; is_refused(&mut core, Event::Collect { caller: 1 }, Why::Collected(0)));
-    Ok(())
-}
-
-#[test]
-fn staged_turns_have_their_causes(rt: HostRuntime) -> Result<(), Fail> {
-    let alloc = rt.alloc();
-    let mut core = staged_core(alloc).ok_or("refused")?;
-    assert!(rt; is_stage_refused(alloc, &mut core, 0, 0, Why::Staged(1)));
-    assert!(rt; is_refused(&mut core, Event::Deliver, Why::NoneRunning(1)));
-    assert!(rt; go(&mut core, Event::Start).is_some());
-    assert!(rt; is_empty_stage_made(alloc, &mut core));
-    assert!(rt; is_refused(&mut core, Event::Start, Why::Running(1)));
-    Ok(())
-}
-
-#[test]
-fn running_turns_have_their_causes(rt: HostRuntime) -> Result<(), Fail> {
-    let mut core = running_core(rt.alloc()).ok_or("refused")?;
-    assert!(rt; is_refused(&mut core, Event::Finish { job: 0 }, Why::Claimed(0)));
-    assert!(rt; is_refused(&mut core, Event::Deliver, Why::Unclaimed(0)));
-    assert!(rt; go(&mut core, Event::Claim).is_some());
-    assert!(rt; is_refused(&mut core, Event::Claim, Why::AllClaimed(1)));
-    Ok(())
-}
-
-#[test]
-fn claimed_jobs_have_their_causes(rt: HostRuntime) -> Result<(), Fail> {
-    let mut core = running_core(rt.alloc()).ok_or("refused")?;
-    assert!(rt; go(&mut core, Event::Claim).is_some());
-    assert!(rt; is_refused(&mut core, Event::Deliver, Why::Unanswered(0)));
-    assert!(rt; go(&mut core, Event::Finish { job: 0 }).is_some());
-    assert!(rt; is_refused(&mut core, Event::Finish { job: 0 }, Why::Answered(0)));
-    Ok(())
-}
-
-/// The one caller posts, and its post is staged.
-fn stage_one(alloc: Global, core: &mut Core, post: Post) -> Option<()> {
-    go(core, Event::Post { caller: 0, post })?;
-    let mut takes = Takes::new(alloc);
-    takes.push(1).ok()?;
-    go(core, Event::Stage { takes })
-}
-
-/// The machine of one caller on a map of two rows, where a path along the first row is staged beside a running turn that
-/// adds a unit in its middle.
-fn core_of_two_turns(alloc: Global) -> Option<Core> {
-    let mut core = core_of(alloc, 2, 1)?;
-    stage_one(alloc, &mut core, unit_post())?;
-    go(&mut core, Event::Start)?;
-    let post = path_post(alloc)?;
-    stage_one(alloc, &mut core, post)?;
-    Some(core)
-}
-
-/// Both turns are delivered.
-fn run_both(core: &mut Core) -> Option<()> {
-    go(core, Event::Deliver)?;
-    run_turn(core)
+    let mut core = core_of(alloc, 1, 2).expect(&rt, "the machine");
+    assert!(rt; has_opening_causes(alloc, &mut core));
+    assert!(rt; posts_path(alloc, &mut core) && stage_refusal(alloc, &mut core, &[1, 0]) == None);
+    assert!(rt; has_turn_causes(alloc, &mut core));
+    assert!(rt; has_job_causes(&mut core));
 }
 
 /// Whether a path goes round the middle of the first row by the second.
-fn goes_round(reply: Option<Reply>) -> bool {
-    match reply {
-        Some(Reply::Answer(Answer::Path(path))) => {
-            path.end == Cell::new(2, 0) && path.cost == Cost(4 * 65536) && path.waypoints.len() == 3
-        }
-        _ => false,
-    }
+fn goes_round(reply: Option<&Reply>) -> bool {
+    let Some(Reply::Answer(Answer::Path(path))) = reply else {
+        return false;
+    };
+    path.end == Cell::new(2, 0) && path.cost == Cost(4 * 65536) && path.waypoints.len() == 3
 }
 
 #[test]
-fn a_turn_beside_a_running_one_stands_on_its_edits(rt: HostRuntime) -> Result<(), Fail> {
-    let mut core = core_of_two_turns(rt.alloc()).ok_or("refused")?;
-    assert!(rt; run_both(&mut core).is_some());
-    assert!(rt; is_added(collected(&mut core, 0), 1));
-    assert!(rt; goes_round(collected(&mut core, 0)));
-    Ok(())
-}
-
-/// A turn of one list, which has a path and a unit.
-fn small_turn(alloc: Global) -> Option<Sequence<Posts>> {
-    let mut posts = Posts::new(alloc);
-    posts.push(unit_post()).ok()?;
-    posts.push(path_post(alloc)?).ok()?;
-    let mut turn = Sequence::new(alloc);
-    turn.push(posts).ok()?;
-    Some(turn)
-}
-
-/// Copies a value through its bound.
-fn copy_of<T: Copied>(alloc: Global, value: &T) -> Result<T, NoMemory>
-    ensures { IfOk result (λ made. made ≡ value.now) }
-{
-    value.copy(alloc)
-}
-
-/// How many lists a copy of the turn has, and how many posts the first of them.
-fn copied_lengths(alloc: Global, turn: &Sequence<Posts>) -> Option<(usize, usize)> {
-    let made = copy_of(alloc, turn).ok()?;
-    let first = made.get(0)?;
-    Some((made.len(), first.len()))
-}
-
-#[test]
-fn lists_of_posts_are_copied(rt: HostRuntime) -> Result<(), Fail> {
+fn a_turn_beside_a_running_one_stands_on_its_edits(rt: HostRuntime) {
     let alloc = rt.alloc();
-    let turn = small_turn(alloc).ok_or("no memory")?;
-    assert_eq!(rt; copied_lengths(alloc, &turn), Some((1, 2)));
-    Ok(())
+    let mut core = core_of(alloc, 2, 1).expect(&rt, "the machine");
+    assert!(rt; unit_refusal(&mut core, 0) == None);
+    assert!(rt; stage_refusal(alloc, &mut core, &[1]) == None);
+    assert!(rt; refusal(&mut core, Event::Start) == None);
+    assert!(rt; posts_path(alloc, &mut core) && stage_refusal(alloc, &mut core, &[1]) == None);
+    assert!(rt; refusal(&mut core, Event::Deliver) == None && runs_turn(&mut core));
+    let edit = collected(&mut core, 0);
+    assert!(rt; matches!(edit, Some(Reply::Edit(EditReply::Added(1)))));
+    let path = collected(&mut core, 0);
+    assert!(rt; goes_round(path.as_ref()));
 }

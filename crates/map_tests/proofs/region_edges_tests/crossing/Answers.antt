@@ -6,7 +6,7 @@ use Rattle.map_tests.proofs.region_edges_tests.crossing.Goals as goal
 
 pub between-requires : goal.between-requires
 between-requires c =
-    let size = c.args.plan.now.size in
+    let size = c.args.map.now.size in
     let here_is = c.in-Some.ensures.chunk in
     let there_is = c.in-Some-labelled.ensures.chunk in
     let column = ap (λ (chunk : Chunk). chunk.ci) there_is in

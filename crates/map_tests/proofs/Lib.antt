@@ -1,2 +1,0 @@
-mod Corner
-mod TwoRooms
