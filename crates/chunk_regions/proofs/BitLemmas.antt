@@ -3,20 +3,8 @@ use Rattle.std.proofs.Common.{ℕ, zero, suc, Bool, true, false, ◌≡◌, ◌�
 use Rattle.std.specs.Int.{bit_at, trailing_zeros, w128}
 use Rattle.std.proofs.Math.Nat.{div-add-mod}
 use Rattle.std.proofs.lemmas.Bool.{cases_lt}
-use Rattle.std.proofs.lemmas.Nat.{mod_below, pow-add, pow_below}
+use Rattle.std.proofs.lemmas.Nat.{mod_below, pow-add, pow_below, pow_pos}
 use Rattle.std.proofs.lemmas.Nat.Bits.{bit_at_cat_low, bit_at_cat_high, bit_at_above, bit_at_and, bit_at_lowest, bit_at-suc, bit_at-zero, bit_at-trailing_zeros, same_from_bits_below}
-
-pow_positive : (k : ℕ) → 0 < 2 ^ k
-pow_positive zero = omega arith
-pow_positive (suc k) = let before = pow_positive k in let double = pow-add 2 k 1 in omega arith
-
--- a shift moves each bit
-pub bit_at-shr : (n a i : ℕ) → bit_at (n / 2 ^ a) i ≡ bit_at n (a + i)
-bit_at-shr n a i =
-    let whole : n / 2 ^ a * 2 ^ a + n % 2 ^ a ≡ n = let e = div-add-mod n (2 ^ a) in omega arith in
-    sym (ap (λ m. bit_at m (a + i)) (sym whole)
-    ∙ bit_at_cat_high (n / 2 ^ a) a (n % 2 ^ a) (a + i) (mod_below n (2 ^ a) (pow_positive a)) (omega arith)
-    ∙ ap (λ k. bit_at (n / 2 ^ a) k) (omega arith))
 
 -- a bit's place one further up
 pub bit_at-double : (n i : ℕ) → bit_at (n * 2) (suc i) ≡ bit_at n i
@@ -33,7 +21,7 @@ pub record IsTaken (old place new : ℕ) : Type 0 where
 low_part : (n t : ℕ) → ((i : ℕ) → i < t → bit_at n i ≡ 0) → n % 2 ^ t ≡ 0
 low_part n t clear =
     let whole : n / 2 ^ t * 2 ^ t + n % 2 ^ t ≡ n = let e = div-add-mod n (2 ^ t) in omega arith in
-    same_from_bits_below t (n % 2 ^ t) 0 (mod_below n (2 ^ t) (pow_positive t)) (pow_positive t)
+    same_from_bits_below t (n % 2 ^ t) 0 (mod_below n (2 ^ t) (pow_pos t)) (pow_pos t)
     (λ i less. sym (bit_at_cat_low (n / 2 ^ t) t (n % 2 ^ t) i less) ∙ ap (λ m. bit_at m i) whole ∙ clear i less ∙ sym (bit_at-zero i))
 
 -- one less than an odd number: all bits but the lowest are the same
@@ -50,7 +38,7 @@ without_lowest n t one clear =
     let whole : n / p * p + n % p ≡ n = let e = div-add-mod n p in omega arith in
     let none = low_part n t clear in
     let odd : h * 2 + 1 ≡ n / p = omega arith in
-    let some = pow_positive t in
+    let some = pow_pos t in
     let is : (h * 2 + 1) * p + 0 ≡ n = let e = ap (λ m. m * p) odd in omega arith in
     let less : h * 2 * p + (p - 1) ≡ n - 1 = omega arith in
     let both = bit_at_and n (n - 1) in

@@ -3,7 +3,7 @@ use Rattle.std.proofs.Common.{ℕ, Bool, true, false, ◌≡◌, ◌≤◌, ◌+
 use Rattle.std.specs.Int.{bit_at}
 use Rattle.std.specs.List.{range_with_len}
 use Rattle.std.specs.Prelude.{slice_index}
-use Rattle.std.proofs.lemmas.Bool.{and_parts, and_from, eqb-true, eq-eqb, cases_Bool, both_ways}
+use Rattle.std.proofs.lemmas.Bool.{and_from, eqb-true, eq-eqb, cases_Bool, both_ways}
 use Rattle.std.proofs.lemmas.List.FromFn.{get_or-map-range_with_len}
 use Rattle.std.proofs.lemmas.Nat.{div-mul-add, mod-mul-add, mul-add-lt}
 use Rattle.std.proofs.lemmas.Option.{slice_get_within}
@@ -20,6 +20,7 @@ use Rattle.chunk_regions.specs.inner.Spans.{Runs, AreRuns, Holds, IsCut, region_
 use Rattle.chunk_regions.specs.inner.Joining.{IsNumbered}
 use Rattle.chunk_regions.proofs.SpanLemmas.{region_of-blocked}
 use Rattle.nav_types.proofs.CellOrder.{same_cell}
+use Rattle.nav_types.proofs.Regions.{lies_in}
 
 -- a cell past the map's end is not passable
 pub shut_past : (passes : Cell → Bool) (size : Size) → ((cell : Cell) → IsTrue (passes cell) → IsInside size cell) → (cell : Cell)
@@ -38,14 +39,13 @@ pub IsCut-from_bits : (passes : Cell → Bool) (chunk : Chunk) (bits : List ℕ)
 IsCut-from_bits passes chunk bits runs of are = record {
   are = are.are;
   held = λ cell here.
-      let parts = and_parts ((cell.i / 96 == chunk.ci) && (cell.j / 96 == chunk.cj)) (passes cell) here in
-      let both = and_parts (cell.i / 96 == chunk.ci) (cell.j / 96 == chunk.cj) parts.0 in
-      let column = eqb-true (cell.i / 96) chunk.ci both.0 in
-      let row = eqb-true (cell.j / 96) chunk.cj both.1 in
+      let lies = lies_in passes chunk cell here in
+      let column = lies.column in
+      let row = lies.row in
       let r = cell.j - 96 * chunk.cj in
       let x = cell.i - 96 * chunk.ci in
       let same : cell_at (96 * chunk.ci + x) (96 * chunk.cj + r) ≡ cell = same_cell (cell_at (96 * chunk.ci + x) (96 * chunk.cj + r)) cell (omega arith) (omega arith) in
-      let set : (bit_at (slice_index bits r) x == 1) ≡ true = of.set r x (omega arith) (omega arith) ∙ ap passes same ∙ parts.1 in
+      let set : (bit_at (slice_index bits r) x == 1) ≡ true = of.set r x (omega arith) (omega arith) ∙ ap passes same ∙ lies.passable in
       let is = are.holds r x (omega arith) (omega arith) (eqb-true (bit_at (slice_index bits r) x) 1 set) in
       let h = is.1 in
       let west = h.west in

@@ -14,7 +14,7 @@ use Rattle.nav_types.specs.Regions.{JoinedStraight}
 use Rattle.chunk_regions.specs.declared.flood.Place.{Place}
 use Rattle.chunk_regions.specs.declared.spans.Span.{Span}
 use Rattle.chunk_regions.specs.inner.Spans.{Runs, AreSpans, IsPlace, HasCell, IsCut, region_of}
-use Rattle.chunk_regions.specs.inner.Joining.{Overlap, Reach, MeetsTo, AreUnited, KeepsOne, AreBounded, IsPlaced, AreGroups, IsNumbered, number_after}
+use Rattle.chunk_regions.specs.inner.Joining.{Overlap, Reach, MeetsTo, AreUnited, KeepsOne, AreBounded, IsNumberAmong, AreGroups, IsNumbered, number_after}
 use Rattle.nav_types.proofs.CellOrder.{IsBefore-trans}
 use Rattle.nav_types.proofs.Walking.{JoinedStraight-sym, JoinedStraight-trans}
 use Rattle.nav_types.proofs.Items.{slice_get-append_left, slice_get-push_last, slice_get-push_cases}
@@ -103,7 +103,7 @@ AreGroups-follow passes chunk runs regions firsts south north cut o next g =
     let earlier = overlap_order runs south north o in
     record {
       placed = λ p c has within. elim (cases_lt p.at (length regions)) [
-        | inl less ↦ subst (λ m. IsPlaced passes firsts c m) (sym (older_region regions n p.at less)) (g.placed p c has less)
+        | inl less ↦ subst (λ m. IsNumberAmong passes firsts c m) (sym (older_region regions n p.at less)) (g.placed p c has less)
         | inr more ↦
             let same : p.at ≡ length regions = omega arith in
             let own = HasCell-at chunk runs cut.are p north c o.north_is has (same ∙ next) in
@@ -302,7 +302,7 @@ AreGroups-end passes chunk runs regions firsts cut all united g =
       placed = λ c passing.
           let p = cut.held c passing in
           let within = p.1.is.within in
-          subst (λ n. IsPlaced passes firsts c n) (sym (region_of-cell chunk runs regions are p.0 c p.1)) (g.placed p.0 c p.1 (omega arith));
+          subst (λ n. IsNumberAmong passes firsts c n) (sym (region_of-cell chunk runs regions are p.0 c p.1)) (g.placed p.0 c p.1 (omega arith));
       settled = λ a b open_a open_b side.
           let p = cut.held a open_a in
           let q = cut.held b open_b in

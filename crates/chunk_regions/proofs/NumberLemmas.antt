@@ -11,13 +11,13 @@ use Rattle.nav_types.specs.Counting.{AreFirsts}
 use Rattle.nav_types.specs.Directions.{is_straight}
 use Rattle.nav_types.specs.Regions.{JoinedStraight, IsBeside}
 use Rattle.nav_types.specs.Walks.{IsWalk}
-use Rattle.chunk_regions.specs.inner.Joining.{IsPlaced, IsNumbered}
+use Rattle.chunk_regions.specs.inner.Joining.{IsNumberAmong, IsNumbered}
 use Rattle.nav_types.proofs.CellOrder.{IsBefore-cases}
 use Rattle.nav_types.proofs.Items.{Contains-from_slice_get}
 
 -- cells side by side have one number, and each cell is joined to the first one of its number
 pub record AreSettled (passes : Cell → Bool) (number : Cell → ℕ) (firsts : List Cell) : Type 0 where
-  pub placed : (cell : Cell) → IsTrue (passes cell) → IsPlaced passes firsts cell (number cell)
+  pub placed : (cell : Cell) → IsTrue (passes cell) → IsNumberAmong passes firsts cell (number cell)
   pub settled : (a b : Cell) → IsTrue (passes a) → IsTrue (passes b) → IsBeside a b → number b ≡ number a
   pub first_numbers : (place : ℕ) (first : Cell) → slice_get firsts place ≡ Some first
       → IsTrue (passes first) × (number first ≡ place + 1)

@@ -13,7 +13,7 @@ use Rattle.nav_types.specs.Directions.{is_straight, Leads}
 use Rattle.nav_types.specs.Regions.{JoinedStraight, IsBeside}
 use Rattle.chunk_regions.specs.declared.flood.Place.{Place}
 use Rattle.chunk_regions.specs.declared.spans.Span.{Span}
-use Rattle.chunk_regions.specs.inner.Spans.{Runs, AreSpans, Holds, IsPlace, HasCell, IsCut, holds, region_from, region_at, region_of}
+use Rattle.chunk_regions.specs.inner.Spans.{Runs, AreSpans, Holds, IsPlace, HasCell, IsCut, span_has, region_from, region_at, region_of}
 use Rattle.chunk_regions.specs.inner.Joining.{Overlap}
 use Rattle.nav_types.proofs.CellOrder.{same_cell}
 use Rattle.nav_types.proofs.Walking.{JoinedStraight-refl, JoinedStraight-beside, JoinedStraight-sym, JoinedStraight-trans}
@@ -84,8 +84,8 @@ HasCell-order chunk runs are p q a b in_p in_q less =
 -- ---- regions of cells
 
 -- the region of the only span that holds the column
-region_from-found : (runs : Runs) (regions : List ℕ) (x count k m : ℕ) → k ≤ m → m < k + count → holds (slice_get runs.spans m) x ≡ true
-    → ((e : ℕ) → k ≤ e → e < m → holds (slice_get runs.spans e) x ≡ false) → region_from runs regions x count k ≡ slice_index regions m
+region_from-found : (runs : Runs) (regions : List ℕ) (x count k m : ℕ) → k ≤ m → m < k + count → span_has (slice_get runs.spans m) x ≡ true
+    → ((e : ℕ) → k ≤ e → e < m → span_has (slice_get runs.spans e) x ≡ false) → region_from runs regions x count k ≡ slice_index regions m
 region_from-found runs regions x zero k m from to here before = absurd (omega arith)
 region_from-found runs regions x (suc count) k m from to here before =
     let either = λ (b : Bool). if b then slice_index regions k else region_from runs regions x count (k + 1) in
@@ -95,10 +95,10 @@ region_from-found runs regions x (suc count) k m from to here before =
           ∙ region_from-found runs regions x count (k + 1) m (omega arith) (omega arith) here (λ e later sooner. before e (omega arith) sooner)
       | inr more ↦
           let same : m ≡ k = omega arith in
-          ap either (subst (λ n. holds (slice_get runs.spans n) x ≡ true) same here) ∙ ap (λ n. slice_index regions n) (sym same)
+          ap either (subst (λ n. span_has (slice_get runs.spans n) x ≡ true) same here) ∙ ap (λ n. slice_index regions n) (sym same)
     ]
 
-pub region_from-none : (runs : Runs) (regions : List ℕ) (x count k : ℕ) → ((e : ℕ) → k ≤ e → e < k + count → holds (slice_get runs.spans e) x ≡ false)
+pub region_from-none : (runs : Runs) (regions : List ℕ) (x count k : ℕ) → ((e : ℕ) → k ≤ e → e < k + count → span_has (slice_get runs.spans e) x ≡ false)
     → region_from runs regions x count k ≡ 0
 region_from-none runs regions x zero k none = refl
 region_from-none runs regions x (suc count) k none =
@@ -106,17 +106,17 @@ region_from-none runs regions x (suc count) k none =
     ∙ region_from-none runs regions x count (k + 1) (λ e later sooner. none e (omega arith) (omega arith))
 
 -- a span that holds a column
-held_by : (runs : Runs) (k x : ℕ) → holds (slice_get runs.spans k) x ≡ true → (span : Span) × ((slice_get runs.spans k ≡ Some span) × ((span.first ≤ x) × (x ≤ span.last)))
+held_by : (runs : Runs) (k x : ℕ) → span_has (slice_get runs.spans k) x ≡ true → (span : Span) × ((slice_get runs.spans k ≡ Some span) × ((span.first ≤ x) × (x ≤ span.last)))
 held_by runs k x held = elim (slice_get_cases runs.spans k).1 [
   | inl there ↦
-      let both : (nat_le there.0.first x && nat_le x there.0.last) ≡ true = sym (ap (λ s. holds s x) there.2) ∙ held in
+      let both : (nat_le there.0.first x && nat_le x there.0.last) ≡ true = sym (ap (λ s. span_has s x) there.2) ∙ held in
       let parts = and_parts (nat_le there.0.first x) (nat_le x there.0.last) both in
       (there.0, (there.2, (leb-true there.0.first x parts.0, leb-true x there.0.last parts.1)))
-  | inr past ↦ absurd (false≢true (sym (ap (λ s. holds s x) past.1) ∙ held))
+  | inr past ↦ absurd (false≢true (sym (ap (λ s. span_has s x) past.1) ∙ held))
 ]
 
-holds-from : (span : Span) (x : ℕ) → span.first ≤ x → x ≤ span.last → holds (Some span) x ≡ true
-holds-from span x west east = and_from (nat_le span.first x) (nat_le x span.last) (le-leb span.first x west) (le-leb x span.last east)
+span_has-from : (span : Span) (x : ℕ) → span.first ≤ x → x ≤ span.last → span_has (Some span) x ≡ true
+span_has-from span x west east = and_from (nat_le span.first x) (nat_le x span.last) (le-leb span.first x west) (le-leb x span.last east)
 
 -- the region in a column of a row is that of the span that holds it
 pub region_at-held : (runs : Runs) (regions : List ℕ) (r k x : ℕ) → AreSpans runs → Holds runs r k x → region_at runs regions r x ≡ slice_index regions k
@@ -126,9 +126,9 @@ region_at-held runs regions r k x are held =
     let from = held.from in
     let to = held.to in
     let west = held.west in
-    let here : holds (slice_get runs.spans k) x ≡ true = ap (λ s. holds s x) held.found ∙ holds-from held.span x west held.east in
-    let before : (e : ℕ) → start ≤ e → e < k → holds (slice_get runs.spans e) x ≡ false = λ e later less.
-    elim (cases_Bool (holds (slice_get runs.spans e) x)) [
+    let here : span_has (slice_get runs.spans k) x ≡ true = ap (λ s. span_has s x) held.found ∙ span_has-from held.span x west held.east in
+    let before : (e : ℕ) → start ≤ e → e < k → span_has (slice_get runs.spans e) x ≡ false = λ e later less.
+    elim (cases_Bool (span_has (slice_get runs.spans e) x)) [
       | inl yes_held ↦
           let other = held_by runs e x yes_held in
           let gap = are.apart r e k other.0 held.span held.row later less to other.1.0 held.found in
@@ -143,7 +143,7 @@ pub region_at-none : (runs : Runs) (regions : List ℕ) (r x : ℕ) → r < 96 �
 region_at-none runs regions r x in_row none =
     let start = slice_index runs.starts r in
     let end = slice_index runs.starts (r + 1) in
-    region_from-none runs regions x (end - start) start (λ e later less. elim (cases_Bool (holds (slice_get runs.spans e) x)) [
+    region_from-none runs regions x (end - start) start (λ e later less. elim (cases_Bool (span_has (slice_get runs.spans e) x)) [
       | inl yes_held ↦
           let span = held_by runs e x yes_held in
           absurd (none e (record { span = span.0; found = span.1.0; row = in_row; from = later; to = omega arith; west = span.1.1.0; east = span.1.1.1 }))

@@ -14,7 +14,8 @@ use Rattle.serde_json.specs.Find.{as_array}
 use Rattle.serde_json.specs.View.{view, items_of, items_view}
 use Rattle.serde_json.specs.declared.value.Value.{Value}
 use Rattle.class_config.specs.declared.table.PassabilityClass.{PassabilityClass}
-use Rattle.class_config.specs.Forms.{has_keys, text_under, some_if, is_class_name}
+use Rattle.fixed_point.specs.Text.{some_if}
+use Rattle.class_config.specs.Forms.{has_keys, text_under, is_class_name}
 use Rattle.class_config.specs.Classes.{is_class, is_clearance, class_of, class_with, clearance_under, has_name, are_distinct, is_table, list_of, are_classes, classes_of}
 
 -- ---- tests
@@ -174,7 +175,7 @@ is_class-slice_get classes k class table is =
 pub is_clearance-is_class : (class : PassabilityClass) → is_class class ≡ true → is_clearance class.clearance ≡ true
 is_clearance-is_class class h = (and_parts (is_class_name class.name) (is_clearance class.clearance) h).1
 
-list_of-items_of : (ds : List Data) → list_of (items_of ds) ≡ ds
+pub list_of-items_of : (ds : List Data) → list_of (items_of ds) ≡ ds
 list_of-items_of [] = refl
 list_of-items_of (d ∷ ds) = ap (λ rest. d ∷ rest) (list_of-items_of ds)
 

@@ -4,9 +4,9 @@ use Rattle.std.specs.List.{list_all, list_any, filter_map}
 use Rattle.nav_types.specs.declared.limits.TheConstants.{MAX_CLEARANCE}
 use Rattle.serde_json.specs.Data.{Data, Items, no_items, item}
 use Rattle.serde_json.specs.Find.{as_array}
-use Rattle.fixed_point.specs.Text.{fixed_value}
+use Rattle.fixed_point.specs.Text.{fixed_value, some_if}
 use Rattle.class_config.specs.declared.table.PassabilityClass.{PassabilityClass}
-use Rattle.class_config.specs.Forms.{has_keys, text_under, some_if, is_class_name}
+use Rattle.class_config.specs.Forms.{has_keys, text_under, is_class_name}
 
 -- ---- what a table keeps
 

@@ -1,6 +1,6 @@
 -- Forms over the reading of serde_json: objects with exactly the keys of a form, the strings under them, and class
 -- names.
-use Rattle.std.specs.Prelude.{ℕ, ◌&&◌, ◌||◌, ◌==◌, List, [], ◌∷◌, length, count_by, bytes_eq, Bool, false, nat_le, if◌then◌else◌, Option, Some, None, option_and_then}
+use Rattle.std.specs.Prelude.{ℕ, ◌&&◌, ◌||◌, ◌==◌, List, [], ◌∷◌, length, count_by, bytes_eq, Bool, false, nat_le, Option, option_and_then}
 use Rattle.std.specs.List.{list_all, list_any}
 use Rattle.std.specs.Char.{is_ascii_alphanumeric}
 use Rattle.serde_json.specs.Data.{Data, object, array, Members, no_members, member, null, boolean, number, string}
@@ -25,10 +25,6 @@ has_keys keys (object ms) = list_all (λ key. list_any (bytes_eq key) keys) (key
 -- the string under a key
 abbrev pub text_under : List ℕ → Data → Option (List ℕ)
 text_under key d = option_and_then as_str (get key d)
-
--- a value where the test holds, and else none
-abbrev pub some_if : {T : Type 0} → Bool → T → Option T
-some_if test value = if test then Some value else None
 
 -- a class name: 1 to 64 bytes, each an ASCII letter, a digit, `-` (45) or `_` (95)
 abbrev pub is_class_name : List ℕ → Bool

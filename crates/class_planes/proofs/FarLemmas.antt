@@ -73,7 +73,7 @@ down_end lanes from n within =
     ap₂ (λ a b. max (1 - a) b) (here lanes.mid)
     (ap₂ max (ap₂ opening (before lanes.left) (here lanes.left)) (ap₂ opening (before lanes.right) (here lanes.right)))
 
-bit_small : (words : List ℕ) (i : ℕ) → bit_in words i < 2
+pub bit_small : (words : List ℕ) (i : ℕ) → bit_in words i < 2
 bit_small words i = bit_at-lt (get_or words (i / 64) 0) (i % 64)
 
 pub down_small : (words : List ℕ) (from n : ℕ) → down_bits words from n < 2

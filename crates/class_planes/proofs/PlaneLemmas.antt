@@ -5,6 +5,7 @@ use Rattle.std.proofs.lemmas.List.{get_or_past, get_or_append_left, get_or_at}
 use Rattle.std.proofs.lemmas.Nat.Bits.{bit_at_ones}
 use Rattle.std.specs.Int.{bit_at}
 use Rattle.std.proofs.lemmas.List.FromFn.{get_or-map-range_with_len}
+use Rattle.std.proofs.lemmas.Option.{none-some}
 use Rattle.nav_types.specs.declared.cells.Cell.{Cell}
 use Rattle.nav_types.specs.declared.cells.Size.{Size}
 use Rattle.nav_types.specs.Cells.{IsInside, cell_at}
@@ -137,7 +138,7 @@ pub free_passable : (table : RowTable) (plane : PlaneCells) → plane_of table �
     → free_cell table cell ≡ is_passable plane cell
 free_passable table plane is cell = sym (passable_is table cell) ∙ ap (λ (p : PlaneCells). is_passable p cell) is
 
-both_parts : (a b x : Bool) → IsTrue (a && b && x) → IsTrue a × IsTrue b
+pub both_parts : (a b x : Bool) → IsTrue (a && b && x) → IsTrue a × IsTrue b
 both_parts true true x all = (refl, refl)
 both_parts true false x all = absurd (false≢true all)
 both_parts false b x all = absurd (false≢true all)
@@ -151,9 +152,6 @@ only_inside plane cell passing =
     record { column = ltb-true cell.i size.w sides.0; row = ltb-true cell.j size.h sides.1 }
 
 -- planes that were built of a map are planes of it
-none_some : (plane : PlaneCells) → None ≡ Some plane → ⊥
-none_some plane is = grind arith
-
 pub are_of : (size : Size) (passes : ℕ → Cell → Bool) (mask count : ℕ) (planes : List (Option PlaneCells))
     → ArePlanes size passes mask count planes → AreOf size passes planes
 are_of size passes mask count planes are class plane is = elim (cases_lt class count) [
@@ -161,7 +159,7 @@ are_of size passes mask count planes are class plane is = elim (cases_lt class c
   | inr past ↦
       let none : get_or planes class None ≡ None =
       get_or_past planes class None (subst (λ many. many ≤ class) (sym are.many) past) in
-      absurd (none_some plane (sym none ∙ is))
+      absurd (none-some plane (sym none ∙ is))
 ]
 
 -- ---- planes after a change

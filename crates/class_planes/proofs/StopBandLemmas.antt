@@ -10,7 +10,7 @@ use Rattle.nav_types.specs.declared.cells.Rect.{Rect}
 use Rattle.class_planes.specs.declared.stop_words.Way.{Way}
 use Rattle.class_planes.specs.inner.Lines.{LineTable, AreLines, line_at, line_in, patched}
 use Rattle.class_planes.specs.inner.Runs.{bit_in, LaneWords}
-use Rattle.class_planes.specs.inner.StopLines.{AreMapLines, AreBandStops, AreStops, AreStopsBefore, AreStopsWhere, IsBandStop, IsFarFrom, IsNear, line_before, with_band}
+use Rattle.class_planes.specs.inner.StopLines.{AreMapLines, AreBandStops, AreStops, AreStopsBefore, AreStopsWhere, IsBandStop, IsFarFrom, IsInTouchedWord, line_before, with_band}
 use Rattle.class_planes.proofs.PlaneLemmas.{each_more}
 use Rattle.class_planes.proofs.ReadLemmas.{line_word, row_long}
 use Rattle.class_planes.proofs.TurnLemmas.{patched_here, patched_elsewhere}
@@ -111,7 +111,7 @@ put_other band out new words k m i is long below wide other =
 
 -- the lines near the rectangle before line n are right near it, and what was right stays so
 pub record AreNear (way : Way) (lines : LineTable) (rect : Rect) (count first n : ℕ) (old now : List ℕ) : Type 0 where
-  pub near : (m i : ℕ) → m < 32 → first + m < count → i / 64 < lines.words → IsNear rect (first + m) i → first + m < n
+  pub near : (m i : ℕ) → m < 32 → first + m < count → i / 64 < lines.words → IsInTouchedWord rect (first + m) i → first + m < n
       → IsBandStop way lines count first now m i
   pub kept : (m i : ℕ) → m < 32 → first + m < count → i / 64 < lines.words → IsBandStop way lines count first old m i
       → IsBandStop way lines count first now m i
@@ -126,13 +126,13 @@ none_near way lines rect count first n band begins = record {
 }
 
 pub line_near : (way : Way) (lines : LineTable) (rect : Rect) (count first n : ℕ) (whole old new : List ℕ)
-    → ((m i : ℕ) → first + m ≡ n → IsNear rect n i → IsBandStop way lines count first new m i)
+    → ((m i : ℕ) → first + m ≡ n → IsInTouchedWord rect n i → IsBandStop way lines count first new m i)
     → ((m i : ℕ) → m < 32 → first + m < count → i / 64 < lines.words → IsBandStop way lines count first old m i
     → IsBandStop way lines count first new m i)
     → AreNear way lines rect count first n whole old → AreNear way lines rect count first (n + 1) whole new
 line_near way lines rect count first n whole old new here kept so_far = record {
   near = λ m i small line within is below. ⊎_elim
-      (λ (same : first + m ≡ n). here m i same (subst (λ (q : ℕ). IsNear rect q i) same is))
+      (λ (same : first + m ≡ n). here m i same (subst (λ (q : ℕ). IsInTouchedWord rect q i) same is))
       (λ (other : first + m ≢ n).
       kept m i small line within (so_far.near m i small line within is (omega (arith, below, other))))
       (cases_eq (first + m) n);
@@ -141,7 +141,7 @@ line_near way lines rect count first n whole old new here kept so_far = record {
 
 -- ---- all rectangles
 
-pub near_or_not : {P : Type 0} (rect : Rect) (n i : ℕ) → (IsNear rect n i → P) → ((IsNear rect n i → ⊥) → P) → P
+pub near_or_not : {P : Type 0} (rect : Rect) (n i : ℕ) → (IsInTouchedWord rect n i → P) → ((IsInTouchedWord rect n i → ⊥) → P) → P
 near_or_not rect n i here out = elim (cases_lt (n + 1) rect.j0) [
   | inl south ↦ out (λ near. let most : rect.j0 ≤ n + 1 = near.south in omega (arith, most, south))
   | inr from_south ↦ elim (cases_lt (rect.j1 + 1) n) [
@@ -159,12 +159,12 @@ near_or_not rect n i here out = elim (cases_lt (n + 1) rect.j0) [
 -- the bits are right where none of the rectangles from place `from` on is near
 abbrev pub AreStopsBut : Way → LineTable → ℕ → ℕ → List Rect → ℕ → List ℕ → Type 0
 AreStopsBut way lines count first rects from band = (m i : ℕ) → m < 32 → first + m < count → i / 64 < lines.words
-    → ((k : ℕ) (d : Rect) → from ≤ k → k < length rects → IsNear (get_or rects k d) (first + m) i → ⊥)
+    → ((k : ℕ) (d : Rect) → from ≤ k → k < length rects → IsInTouchedWord (get_or rects k d) (first + m) i → ⊥)
     → IsBandStop way lines count first band m i
 
 pub stops_but_more : (way : Way) (lines : LineTable) (count first : ℕ) (rects : List Rect) (from : ℕ) (rect : Rect)
     (old new : List ℕ) → ((d : Rect) → get_or rects from d ≡ rect)
-    → ((m i : ℕ) → m < 32 → first + m < count → i / 64 < lines.words → IsNear rect (first + m) i
+    → ((m i : ℕ) → m < 32 → first + m < count → i / 64 < lines.words → IsInTouchedWord rect (first + m) i
     → IsBandStop way lines count first new m i)
     → ((m i : ℕ) → m < 32 → first + m < count → i / 64 < lines.words → IsBandStop way lines count first old m i
     → IsBandStop way lines count first new m i)
@@ -173,7 +173,7 @@ stops_but_more way lines count first rects from rect old new is near kept so_far
     near_or_not rect (first + m) i
     (λ here. near m i small line within here)
     (λ not_here. kept m i small line within (so_far m i small line within (λ k d least below at. ⊎_elim
-    (λ (same : k ≡ from). not_here (subst (λ (r : Rect). IsNear r (first + m) i)
+    (λ (same : k ≡ from). not_here (subst (λ (r : Rect). IsInTouchedWord r (first + m) i)
     (ap (λ p. get_or rects p d) same ∙ is d) at))
     (λ (later : k ≢ from). far k d (omega (arith, least, later)) below at)
     (cases_eq k from))))

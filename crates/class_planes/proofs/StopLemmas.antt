@@ -1,6 +1,6 @@
 -- Where straight runs over a plane stop.
-use Rattle.std.proofs.Common.{◌≡◌, ℕ, zero, suc, ◌-◌, ◌<◌, ◌≤◌, Bool, true, false, ◌⊎◌, ◌↔◌, IsTrue, IsFalse, inl, inr, refl, sym, ◌∙◌, subst, arith}
-use Rattle.std.proofs.lemmas.Bool.{cases_lt, false≢true, false_from_ne_true}
+use Rattle.std.proofs.Common.{◌≡◌, ℕ, zero, suc, ◌-◌, ◌<◌, ◌≤◌, Bool, true, false, ◌⊎◌, ◌↔◌, IsTrue, IsFalse, inl, inr, sym, ◌∙◌, subst, arith}
+use Rattle.std.proofs.lemmas.Bool.{cases_lt, false≢true, false_from_ne_true, cases_Bool}
 use Rattle.nav_types.specs.declared.cells.Cell.{Cell}
 use Rattle.nav_types.specs.declared.cells.Rect.{Rect}
 use Rattle.nav_types.specs.declared.cells.Size.{Size}
@@ -81,10 +81,6 @@ stop_none passes hit dir from far runs misses is =
     ]))
     (runs.ends is)
 
-pub either_way : (test : Bool) → (test ≡ true) ⊎ (test ≡ false)
-either_way true = inl refl
-either_way false = inr refl
-
 -- one of the cells is the first that is hit, or none of them is
 first_or_none : (hit : Cell → Bool) (dir : Dir) (from : Cell) (count : ℕ)
     → ((steps : ℕ) × IsFirstHit hit dir from count steps)
@@ -95,7 +91,7 @@ first_or_none hit dir from (suc count) = elim (first_or_none hit dir from count)
       let first = found.1 in
       let most = first.most in
       inl (found.0, record { some = first.some; most = omega (arith, most); hits = first.hits; none = first.none })
-  | inr none ↦ elim (either_way (hit (cell_along dir from (suc count)))) [
+  | inr none ↦ elim (cases_Bool (hit (cell_along dir from (suc count)))) [
     | inl hits ↦ inl (
       suc count,
       record {
@@ -148,7 +144,7 @@ pub known_stop : (plane : PlaneCells) (hit framed : Cell → Bool) (rect : Rect)
     → IsTrue stop ↔ HasStraightStop (is_passable plane) hit dir from
 known_stop plane hit framed rect dir from stop frame within apart known = (
   λ is. stop_somewhere (is_passable plane) hit dir from known.0 known.1.0 (sym known.1.1 ∙ is),
-  λ has. elim (either_way stop) [
+  λ has. elim (cases_Bool stop) [
     | inl is ↦ is
     | inr misses ↦ absurd (stop_none (is_passable plane) hit dir from known.0 known.1.0
         (run_misses plane hit framed rect dir from known.0 frame within apart known.1.0)

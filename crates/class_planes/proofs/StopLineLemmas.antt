@@ -1,7 +1,6 @@
 -- Runs along the lines of a map whose stops are known beforehand.
 use Rattle.std.proofs.Common.{◌≡◌, ◌≢◌, ℕ, zero, suc, ◌+◌, ◌-◌, ◌*◌, ◌/◌, ◌%◌, ◌<◌, ◌≤◌, Bool, true, false, ◌&&◌, ltb, eqb, IsTrue, min, max, List, [], length, get_or, inl, inr, refl, sym, ap, ap₂, ◌∙◌, subst, arith}
 use Rattle.std.proofs.lemmas.Bool.{cases_lt, cases_eq, true≢false, false≢true, lt-ltb, le-ltb}
-use Rattle.std.proofs.lemmas.Nat.Bits.{bit_at-lt}
 use Rattle.nav_types.specs.declared.cells.Cell.{Cell}
 use Rattle.nav_types.specs.declared.cells.Size.{Size}
 use Rattle.nav_types.specs.declared.directions.Dir.TheVariants.{N, E, S, W}
@@ -13,7 +12,7 @@ use Rattle.class_planes.specs.declared.stop_words.Way.TheVariants.{Up, Down}
 use Rattle.class_planes.specs.inner.Lines.{LineTable, RowTable, AreLines, AreRows, AreColumns, free_at, free_cell, line_at, line_in, plane_of}
 use Rattle.class_planes.specs.inner.Runs.{AreLanesOf, Far, GoesFar, LaneWords, TellsStop, bit_in, down_bits, is_before, opening, opens_after, up_bits}
 use Rattle.class_planes.specs.inner.StopLines.{AreStops, IsStopBit, lanes_of, line_before, stop_bit}
-use Rattle.class_planes.proofs.FarLemmas.{down_at, down_past, down_small}
+use Rattle.class_planes.proofs.FarLemmas.{bit_small, down_at, down_past, down_small}
 use Rattle.class_planes.proofs.PlaneLemmas.{free_passable, line_free, only_inside, told}
 use Rattle.class_planes.proofs.TrackLemmas.{down_room, east_track, far_runs, north_track, south_track, west_track}
 use Rattle.class_planes.proofs.TurnLemmas.{line_long, past_rows}
@@ -127,9 +126,6 @@ run_told mid left right stop last along start =
     (λ m below. absurd (omega (arith, below)))
 
 -- ---- along a line
-
-bit_small : (words : List ℕ) (i : ℕ) → bit_in words i < 2
-bit_small words i = bit_at-lt (get_or words (i / 64) 0) (i % 64)
 
 either_small : (a b c d : ℕ) → b < 2 → d < 2 → max (opening a b) (opening c d) < 2
 either_small a b c d small_b small_d = omega (arith, small_b, small_d)

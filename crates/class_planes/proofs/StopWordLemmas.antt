@@ -8,7 +8,7 @@ use Rattle.class_planes.specs.declared.stop_words.Way.{Way}
 use Rattle.class_planes.specs.declared.stop_words.Way.TheVariants.{Up, Down}
 use Rattle.class_planes.specs.inner.Runs.{bit_in, opening, LaneWords}
 use Rattle.class_planes.specs.inner.StopLines.{stop_bit, IsStopBit}
-use Rattle.class_planes.proofs.TurnLemmas.{moved_bit}
+use Rattle.nav_types.proofs.Bits.{bit_at-shr}
 use Rattle.class_planes.proofs.WordLemmas.{in_word, of_word}
 
 -- ---- one word
@@ -344,5 +344,5 @@ pub carry_down_same : (old now : List ℕ) (w word : ℕ) → w < length now →
     → word / 2 ^ 63 ≡ get_or now w 0 / 2 ^ 63 → bit_in (set now w word) (64 * w + 63) ≡ bit_in old (64 * w + 63)
 carry_down_same old now w word within kept same =
     bit_set now w word 63 within (omega arith)
-    ∙ sym (moved_bit word 63 0) ∙ ap (λ n. bit_at n 0) same ∙ moved_bit (get_or now w 0) 63 0
+    ∙ sym (bit_at-shr word 63 0) ∙ ap (λ n. bit_at n 0) same ∙ bit_at-shr (get_or now w 0) 63 0
     ∙ ap (λ n. bit_at n 63) kept ∙ of_word old w 63 (64 * w + 63) (omega arith) refl

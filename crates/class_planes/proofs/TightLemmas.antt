@@ -3,11 +3,12 @@ use Rattle.std.proofs.Common.{◌≡◌, ◌≢◌, ℕ, ◌+◌, ◌<◌, ◌�
 use Rattle.std.proofs.lemmas.Bool.{cases_lt, cases_eq}
 use Rattle.nav_types.specs.declared.cells.Rect.{Rect}
 use Rattle.nav_types.specs.Cells.{IsInRect, cell_at}
+use Rattle.nav_types.proofs.Items.{all_front, all_last}
 use Rattle.class_planes.specs.Planes.{IsOutside}
 use Rattle.class_planes.specs.inner.Lines.{LineTable, line_at}
 use Rattle.class_planes.specs.inner.Runs.{bit_in}
 use Rattle.class_planes.specs.inner.StopLines.{AreSameIn}
-use Rattle.class_planes.proofs.UpdateLemmas.{all_front, all_last, in_rect_or_not}
+use Rattle.class_planes.proofs.UpdateLemmas.{in_rect_or_not}
 
 -- the same lines and one more
 pub same_more : (before lines : LineTable) (rect : Rect) (from n : ℕ) → AreSameIn before lines rect from n

@@ -1,6 +1,6 @@
 -- A run of cells whose bits are known.
-use Rattle.std.proofs.Common.{◌≡◌, ℕ, suc, ◌+◌, ◌-◌, ◌/◌, ◌%◌, ◌<◌, ◌≤◌, ◌⊎◌, Bool, true, false, ◌&&◌, ltb, IsTrue, max, List, get_or, inl, inr, refl, sym, ap, ◌∙◌, subst, arith}
-use Rattle.std.proofs.lemmas.Bool.{cases_lt, false≢true, lt-ltb, ltb-true, and_parts}
+use Rattle.std.proofs.Common.{◌≡◌, ℕ, suc, ◌+◌, ◌-◌, ◌/◌, ◌%◌, ◌<◌, ◌≤◌, ◌⊎◌, Bool, true, false, ◌&&◌, ltb, IsTrue, List, get_or, inl, inr, refl, sym, ap, ◌∙◌, subst, arith}
+use Rattle.std.proofs.lemmas.Bool.{cases_lt, false≢true, lt-ltb, ltb-true, and_parts, and_from}
 use Rattle.std.proofs.lemmas.Nat.Bits.{bit_at-lt}
 use Rattle.nav_types.specs.declared.cells.Cell.{Cell}
 use Rattle.nav_types.specs.declared.directions.Dir.{Dir}
@@ -10,6 +10,7 @@ use Rattle.nav_types.specs.Directions.{is_straight, Leads}
 use Rattle.nav_types.specs.Beside.{IsFreeBeside}
 use Rattle.nav_types.proofs.CellOrder.{same_cell}
 use Rattle.nav_types.proofs.Walking.{straight_step, leads_from_same, leads_to_same}
+use Rattle.nav_types.proofs.Bits.{set_in_either}
 use Rattle.jump_scan.specs.declared.turns.Side.{Side}
 use Rattle.jump_scan.specs.declared.turns.Side.TheVariants.{Left, Right}
 use Rattle.jump_scan.specs.Turns.{aside_to}
@@ -72,12 +73,6 @@ forced_opens passes dir from mid left right bits side n track is here there both
           absurd (both.0.1 (cell_along dir from n) (track.leads n there) (is.free n here one))
     ]
 
-either : (a b : ℕ) → a < 2 → b < 2 → max a b ≡ 1 → (a ≡ 1) ⊎ (b ≡ 1)
-either a b small_a small_b is = elim (cases_lt a 1) [
-  | inl low ↦ inr (omega (arith, is, low))
-  | inr high ↦ inl (omega (arith, high, small_a))
-]
-
 opening_small : (before bit : ℕ) → bit < 2 → opening before bit < 2
 opening_small before bit small = omega (arith, small)
 
@@ -88,7 +83,7 @@ forced_from : (passes : Cell → Bool) (dir : Dir) (from : Cell) (mid left right
     → IsTrack passes dir from mid left right
     → mid n ≡ 1 → mid (suc n) ≡ 1 → opens_after left right n ≡ 1 → HasForced passes (cell_along dir from (suc n)) dir
 forced_from passes dir from mid left right n track here there is =
-    elim (either (opening (left n) (left (suc n))) (opening (right n) (right (suc n)))
+    elim (set_in_either (opening (left n) (left (suc n))) (opening (right n) (right (suc n)))
     (opening_small (left n) (left (suc n)) (track.at_one.small (suc n)))
     (opening_small (right n) (right (suc n)) (track.at_two.small (suc n))) is) [
       | inl one ↦
@@ -214,13 +209,9 @@ side_before passes dir from mid bits side beside place small is leads some = rec
   set = λ n here free.
       let there = some n free.0 free.1.0 in
       is n here ∙ flag_one (ltb 0 place && passes (beside n))
-      (both_true (ltb 0 place) (passes (beside n)) (lt-ltb 0 place there)
+      (and_from (ltb 0 place) (passes (beside n)) (lt-ltb 0 place there)
       (free_to passes (aside_to side dir) (cell_along dir from n) (beside n) (leads n there) free));
 }
-  where
-    both_true : (a b : Bool) → IsTrue a → IsTrue b → IsTrue (a && b)
-    both_true true b one two = two
-    both_true false b one two = absurd (false≢true one)
 
 left_right : (side : Side) → (side ≡ Left) ⊎ (side ≡ Right)
 left_right Left = inl refl

@@ -1,31 +1,21 @@
 -- Columns that are read from rows, 16 at a time.
-use Rattle.std.proofs.Common.{[], ◌∷◌, replicate, IsTrue, ◌≡◌, ◌≢◌, ℕ, ◌+◌, ◌-◌, ◌*◌, ◌/◌, ◌%◌, ◌^◌, ◌<◌, ◌≤◌, Bool, true, false, ◌&&◌, ltb, List, ◌++◌, take, drop, length, get_or, set, refl, sym, ap, ap₂, ◌∙◌, subst, ⊎_elim, drop-drop, arith}
+use Rattle.std.proofs.Common.{[], ◌∷◌, replicate, ◌≡◌, ◌≢◌, ℕ, ◌+◌, ◌-◌, ◌*◌, ◌/◌, ◌%◌, ◌^◌, ◌<◌, ◌≤◌, Bool, true, false, ◌&&◌, ltb, List, ◌++◌, take, drop, length, get_or, set, refl, sym, ap, ap₂, ◌∙◌, subst, ⊎_elim, drop-drop, arith}
 use Rattle.std.specs.Int.{bit_at}
-use Rattle.std.proofs.lemmas.Bool.{cases_lt, cases_eq, true≢false, false≢true, false_from_ne_true, le-ltb, ltb-true}
-use Rattle.std.proofs.Math.Nat.{mod-lt}
-use Rattle.std.proofs.lemmas.Nat.{div-add-mod', mul-le, pow_pos}
-use Rattle.std.proofs.lemmas.Nat.Bits.{bit_at-zero, bit_at_cat_low, bit_at_cat_high}
+use Rattle.std.proofs.lemmas.Bool.{cases_lt, cases_eq, true≢false, false_from_ne_true, le-ltb, ltb-true}
+use Rattle.std.proofs.lemmas.Nat.{mul-le}
+use Rattle.std.proofs.lemmas.Nat.Bits.{bit_at-zero, bit_at_cat_low}
 use Rattle.std.proofs.lemmas.List.{get_or_past, length-take, length-replicate, get_or-set_same, get_or-set_other, get_or_append_left, get_or-append_right, get_or-take, get_or-drop, length-take-le, length-append, length-drop}
 use Rattle.std.specs.Prelude.{slice_range}
 use Rattle.nav_types.specs.declared.cells.Rect.{Rect}
 use Rattle.nav_types.specs.Cells.{cell_at}
+use Rattle.nav_types.proofs.Bits.{bit_at-shr}
 use Rattle.lane_rows.specs.Rows.{one_if}
 use Rattle.class_planes.specs.Planes.{AreFreeBits, IsOutside}
 use Rattle.class_planes.specs.inner.Lines.{LineTable, RowTable, IsBand, AreLines, AreLinesBut, AreColumnsBefore, HasNextLine, line_at, line_in, patched, free_at, free_cell}
 use Rattle.class_planes.specs.inner.Runs.{bit_in}
 use Rattle.class_planes.proofs.BitLemmas.{zero_at}
 use Rattle.class_planes.proofs.LineLemmas.{band_more}
-use Rattle.class_planes.proofs.PlaneLemmas.{line_free}
-
--- the bits of a word that is moved down
-pub moved_bit : (word s k : ℕ) → bit_at (word / 2 ^ s) k ≡ bit_at word (s + k)
-moved_bit word s k =
-    let rest : word % 2 ^ s < 2 ^ s = mod-lt word (pow_pos s) in
-    let parts : word / 2 ^ s * 2 ^ s + word % 2 ^ s ≡ word = div-add-mod' word (2 ^ s) in
-    let place : s + k - s ≡ k = omega arith in
-    ap (bit_at (word / 2 ^ s)) (sym place)
-    ∙ sym (bit_at_cat_high (word / 2 ^ s) s (word % 2 ^ s) (s + k) rest (omega arith))
-    ∙ ap (λ n. bit_at n (s + k)) parts
+use Rattle.class_planes.proofs.PlaneLemmas.{line_free, both_parts}
 
 -- 16 bits of a word that is moved down
 pub quarter_bit : (word s k : ℕ) → k < 16 → bit_at (word / 2 ^ s % 65536) k ≡ bit_at word (s + k)
@@ -34,7 +24,7 @@ quarter_bit word s k small =
     let parts : x / 65536 * 65536 + x % 65536 ≡ x = omega arith in
     sym (bit_at_cat_low (x / 65536) 16 (x % 65536) k small)
     ∙ ap (λ n. bit_at n k) parts
-    ∙ moved_bit word s k
+    ∙ bit_at-shr word s k
 
 -- the word and the place in it of one of 16 bits
 pub sixteen_bit : (line : List ℕ) (at group k : ℕ) → at ≡ group → k < 16
@@ -235,11 +225,6 @@ blank_band first words n long = record {
       ap (λ word. bit_at word (i % 64)) (zero_in n (k * words) (k * words + words) (i / 64)) ∙ bit_at-zero (i % 64);
 }
 
-both_sides : (a b x : Bool) → IsTrue (a && b && x) → IsTrue a × IsTrue b
-both_sides true true x holds = (refl, refl)
-both_sides true false x holds = absurd (false≢true holds)
-both_sides false b x holds = absurd (false≢true holds)
-
 -- the blank lines are right outside of a rectangle that is the whole map
 pub blank_before : (table : RowTable) (rects : List Rect) (rect : Rect) (columns : LineTable) → rects ≡ rect ∷ []
     → rect.i0 ≡ 0 → rect.j0 ≡ 0 → rect.i1 + 1 ≡ table.size.w → rect.j1 + 1 ≡ table.size.h
@@ -251,7 +236,7 @@ blank_before table rects rect columns one i0 j0 i1 j1 blank = record {
   same = λ cell out.
       let outside : IsOutside (rect ∷ []) cell = subst (λ (rs : List Rect). IsOutside rs cell) one out in
       sym (false_from_ne_true (free_cell table cell) (λ yes.
-      let sides = both_sides (ltb cell.i table.size.w) (ltb cell.j table.size.h) (free_at table.rows cell.j cell.i) yes in
+      let sides = both_parts (ltb cell.i table.size.w) (ltb cell.j table.size.h) (free_at table.rows cell.j cell.i) yes in
       let east : cell.i < table.size.w = ltb-true cell.i table.size.w sides.0 in
       let north : cell.j < table.size.h = ltb-true cell.j table.size.h sides.1 in
       outside 0 rect (omega arith)

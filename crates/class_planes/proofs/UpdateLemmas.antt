@@ -1,13 +1,14 @@
 -- Lines in which some places have changed.
-use Rattle.std.proofs.Common.{refl, false, ◌++◌, take, length-append, IsTrue, Result, Ok, Err, OnOk, ◌≡◌, ℕ, ◌+◌, ◌/◌, ◌<◌, ◌≤◌, Bool, List, [], ◌∷◌, length, get_or, map, sym, ap, ◌∙◌, subst, inl, inr, arith}
+use Rattle.std.proofs.Common.{false, ◌++◌, take, IsTrue, Result, Ok, Err, OnOk, ◌≡◌, ℕ, ◌+◌, ◌/◌, ◌<◌, ◌≤◌, Bool, List, [], ◌∷◌, length, get_or, map, sym, ap, ◌∙◌, subst, inl, inr, arith}
 use Rattle.std.proofs.lemmas.Bool.{cases_lt, false≢true}
 use Rattle.std.specs.Prelude.{All}
-use Rattle.std.proofs.lemmas.List.{length-map, get_or-map, get_or_append_left, get_or_at}
+use Rattle.std.proofs.lemmas.List.{length-map, get_or-map}
 use Rattle.std.proofs.lemmas.List.Elements.{All-more, All-push}
 use Rattle.nav_types.specs.declared.cells.Cell.{Cell}
 use Rattle.nav_types.specs.declared.cells.Rect.{Rect}
 use Rattle.nav_types.specs.declared.cells.Size.{Size}
 use Rattle.nav_types.specs.Cells.{IsInside, IsInRect, IsRectInside, cell_at}
+use Rattle.nav_types.proofs.Items.{all_front, all_last}
 use Rattle.lane_rows.specs.Rows.{has_class, one_if}
 use Rattle.class_planes.specs.declared.changed_parts.ChangedPart.{ChangedPart}
 use Rattle.class_planes.specs.Planes.{PlaneCells, is_passable, IsOutside, IsKept}
@@ -49,14 +50,6 @@ both_ok (Ok v) a b both = both a b
 both_ok (Err e) a b both = tt
 
 -- ---- lists of rectangles
-
-pub all_front : {X : Type 0} (P : X → Type 0) (xs : List X) (x : X) → All P (xs ++ x ∷ []) → All P xs
-all_front P xs x all k d below =
-    subst P (get_or_append_left xs (x ∷ []) d k below) (all k d (omega (arith, length-append xs (x ∷ []))))
-
-pub all_last : {X : Type 0} (P : X → Type 0) (xs : List X) (x : X) → All P (xs ++ x ∷ []) → P x
-all_last P xs x all =
-    subst P (get_or_at xs x [] x (length xs) refl) (all (length xs) x (omega (arith, length-append xs (x ∷ []))))
 
 -- a part that has changed for the class is listed
 pub kept_listed : (parts : List ChangedPart) (class i : ℕ) (d : ChangedPart) (old new : List Rect) → i < length parts

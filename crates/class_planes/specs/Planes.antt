@@ -25,13 +25,13 @@ abbrev pub AreFreeBits : (ℕ → Bool) → List ℕ → Type 0
 AreFreeBits free words = (i : ℕ) → bit_at (slice_index words (i / 64)) (i % 64) ≡ one_if (free i)
 
 -- the plane of a map of this size with exactly these passable cells
-pub record IsPlane (size : Size) (passes : Cell → Bool) (plane : PlaneCells) : Type 0 where
+pub record IsPlaneOf (size : Size) (passes : Cell → Bool) (plane : PlaneCells) : Type 0 where
   pub extent : plane.size ≡ size
   pub cells : is_passable plane ≡ passes
 
 -- the plane, where it is wanted, and none elsewhere
 abbrev pub IsPlaneIn : Size → (Cell → Bool) → Bool → Option PlaneCells → Type 0
-IsPlaneIn size passes wanted (Some plane) = IsTrue wanted × IsPlane size passes plane
+IsPlaneIn size passes wanted (Some plane) = IsTrue wanted × IsPlaneOf size passes plane
 IsPlaneIn size passes wanted None = IsFalse wanted
 
 -- the planes of the first so many classes whose bits are set in the mask
@@ -44,7 +44,7 @@ pub record ArePlanes (size : Size) (passes : ℕ → Cell → Bool) (mask count 
 -- each plane is that of its class in a map of this size with these passable cells
 abbrev pub AreOf : Size → (ℕ → Cell → Bool) → List (Option PlaneCells) → Type 0
 AreOf size passes planes = (class : ℕ) (plane : PlaneCells) → slice_index_or planes class None ≡ Some plane
-    → IsPlane size (passes class) plane
+    → IsPlaneOf size (passes class) plane
 
 -- none of the rectangles holds the cell
 abbrev pub IsOutside : List Rect → Cell → Type 0

@@ -5,7 +5,7 @@ ghost use Rattle.std.specs.Int.{bit_at};
 ghost use Rattle.std.specs.Option.{option_map};
 ghost use Rattle.nav_types.specs.declared.cells.Cell.{Cell};
 ghost use Rattle.nav_types.specs.Cells.{IsRectInside};
-ghost use Rattle.class_planes.specs.Planes.{IsPlane, IsPlaneIn, ArePlanes, AreOf, AreOfBefore, AreOfSame, IsKept};
+ghost use Rattle.class_planes.specs.Planes.{IsPlaneOf, IsPlaneIn, ArePlanes, AreOf, AreOfBefore, AreOfSame, IsKept};
 ghost use Rattle.class_planes.specs.inner.Changes.{IsPlaneBefore};
 ghost use Rattle.class_planes.specs.inner.Reading.{AreRead, IsUnread};
 
@@ -154,7 +154,7 @@ fn updated_plane<V: Rows>(
     requires inside { All (λ part. IsRectInside (V.extent view.now) part.rect) parts.now }
     requires before { IsPlaneBefore (V.extent view.now) (V.passes view.now class) parts.now class
         (arc_value before.now) }
-    ensures { IfOk result (λ plane. IsPlane (V.extent view.now) (V.passes view.now class) (arc_value plane)) }
+    ensures { IfOk result (λ plane. IsPlaneOf (V.extent view.now) (V.passes view.now class) (arc_value plane)) }
 {
     let rects = rects_of(alloc, parts, class)?;
     if rects.is_empty() {

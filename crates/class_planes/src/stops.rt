@@ -1,7 +1,7 @@
 //! Where the straight runs along the lines of a map have a stop for a side that opens, known beforehand.
 ghost use Rattle.std.specs.Prelude.{ℕ, ⊤, ◌≡◌, ◌<◌, ◌≤◌, ◌+◌, ◌*◌, ◌/◌, All, length, map, IsFalse, IfOk, OnOk};
 ghost use Rattle.class_planes.specs.declared.stop_words.Way.TheVariants as Way;
-ghost use Rattle.class_planes.specs.inner.StopLines.{IsBandStop, IsStopBit, AreAlike, AreMapLines, AreSameOutside, AreBandStops, AreStopsWhere, AreStops, AreStopsBefore, IsFarFrom, IsNear, IsRectOf, lanes_of, line_before, turned_rect};
+ghost use Rattle.class_planes.specs.inner.StopLines.{IsBandStop, IsStopBit, AreAlike, AreMapLines, AreSameOutside, AreBandStops, AreStopsWhere, AreStops, AreStopsBefore, IsFarFrom, IsInTouchedWord, IsRectOf, lanes_of, line_before, turned_rect};
 
 use crate::lines::{Lines, copied, is_inner};
 use crate::stop_table::{StopTable, blank_stops};
@@ -173,7 +173,7 @@ fn write_rect(lines: &Lines, count: u16, way: Way, rect: Rect, first: u16, band:
     requires low { first ≤ 4096 }
     requires band { length band.old ≡ 32 * lines.now.words }
     ensures stays { length band.new ≡ length band.old }
-    ensures near { (m i : ℕ) → m < 32 → first + m < count → i / 64 < lines.now.words → IsNear rect (first + m) i
+    ensures near { (m i : ℕ) → m < 32 → first + m < count → i / 64 < lines.now.words → IsInTouchedWord rect (first + m) i
         → IsBandStop way lines.now count first band.new m i }
     ensures kept { (m i : ℕ) → m < 32 → first + m < count → i / 64 < lines.now.words
         → IsBandStop way lines.now count first band.old m i → IsBandStop way lines.now count first band.new m i }
@@ -194,7 +194,7 @@ fn write_line(lines: &Lines, count: u16, way: Way, rect: Rect, n: u16, first: u1
     requires high { n < first + 32 }
     requires band { length band.old ≡ 32 * lines.now.words }
     ensures stays { length band.new ≡ length band.old }
-    ensures near { (m i : ℕ) → first + m ≡ n → IsNear rect n i → IsBandStop way lines.now count first band.new m i }
+    ensures near { (m i : ℕ) → first + m ≡ n → IsInTouchedWord rect n i → IsBandStop way lines.now count first band.new m i }
     ensures kept { (m i : ℕ) → m < 32 → first + m < count → i / 64 < lines.now.words
         → IsBandStop way lines.now count first band.old m i → IsBandStop way lines.now count first band.new m i }
 {
@@ -210,7 +210,7 @@ fn renew_line(lines: &Lines, count: u16, way: Way, rect: Rect, n: u16, stops: &m
     requires line { n < count }
     requires words { length stops.old ≡ lines.now.words }
     ensures stays { length stops.new ≡ length stops.old }
-    ensures near { (i : ℕ) → IsNear rect n i → IsStopBit way (lanes_of lines.now count n) stops.new i }
+    ensures near { (i : ℕ) → IsInTouchedWord rect n i → IsStopBit way (lanes_of lines.now count n) stops.new i }
     ensures kept { (i : ℕ) → i / 64 < lines.now.words → IsStopBit way (lanes_of lines.now count n) stops.old i
         → IsStopBit way (lanes_of lines.now count n) stops.new i }
 {

@@ -6,6 +6,7 @@ use Rattle.std.specs.Option.{option_map_or}
 use Rattle.std.proofs.lemmas.Nat.Bits.{bit_at_or, bit_at_set_same, bit_at_set_other}
 use Rattle.std.proofs.lemmas.Bool.{cases_lt, cases_eq, both_ways, and_parts, eq-eqb, ne_eqb}
 use Rattle.std.proofs.lemmas.Option.{slice_get_past, none-some}
+use Rattle.std.proofs.Math.Bool.{or-true, or-false}
 use Rattle.nav_types.specs.declared.cells.Cell.{Cell}
 use Rattle.nav_types.specs.declared.cells.Rect.{Rect}
 use Rattle.lane_rows.specs.Rows.{has_class, one_if}
@@ -22,14 +23,6 @@ either true true = refl
 either true false = refl
 either false true = refl
 either false false = refl
-
-or_true : (x : Bool) → (x || true) ≡ true
-or_true true = refl
-or_true false = refl
-
-or_false : (x : Bool) → (x || false) ≡ x
-or_false true = refl
-or_false false = refl
 
 -- a class is in two masks put together where it is in one of them
 pub in_both : (k m n : ℕ) → has_class k (bit_or m n) ≡ (has_class k m || has_class k n)
@@ -121,10 +114,10 @@ with_class : (found number k : ℕ) → number < 16 → has_class k (bit_or foun
 with_class found number k small = ⊎_elim
     (λ (same : k ≡ number).
     ap (λ b. b == 1) (ap (λ i. bit_at (bit_or found (1 * 2 ^ number % 65536)) i) same ∙ bit_at_set_same w16 found number small)
-    ∙ sym (ap (λ b. has_class k found || b) (eq-eqb k number same) ∙ or_true (has_class k found)))
+    ∙ sym (ap (λ b. has_class k found || b) (eq-eqb k number same) ∙ or-true (has_class k found)))
     (λ (other : k ≡ number → ⊥).
     ap (λ b. b == 1) (bit_at_set_other w16 found number small k other)
-    ∙ sym (ap (λ b. has_class k found || b) (ne_eqb k number other) ∙ or_false (has_class k found)))
+    ∙ sym (ap (λ b. has_class k found || b) (ne_eqb k number other) ∙ or-false (has_class k found)))
     (cases_eq k number)
 
 pub found_more : (classes : List PassabilityClass) (clearance : ℤ) (mask found number : ℕ) → number < 16
@@ -134,11 +127,11 @@ found_more classes clearance mask found number small are is k = (
   λ set. ⊎_elim
       (λ (same : k ≡ number). (omega arith, subst (λ (i : ℕ). IsTrue (has_class i mask) × (clearance_at classes i ≡ Some clearance)) (sym same) is))
       (λ (other : k ≡ number → ⊥).
-      let before = (are k).0 (sym (or_false (has_class k found)) ∙ ap (λ b. has_class k found || b) (sym (ne_eqb k number other)) ∙ sym (with_class found number k small) ∙ set) in
+      let before = (are k).0 (sym (or-false (has_class k found)) ∙ ap (λ b. has_class k found || b) (sym (ne_eqb k number other)) ∙ sym (with_class found number k small) ∙ set) in
       let below = before.0 in (omega arith, before.1))
       (cases_eq k number),
   λ both. ⊎_elim
-      (λ (same : k ≡ number). with_class found number k small ∙ ap (λ b. has_class k found || b) (eq-eqb k number same) ∙ or_true (has_class k found))
+      (λ (same : k ≡ number). with_class found number k small ∙ ap (λ b. has_class k found || b) (eq-eqb k number same) ∙ or-true (has_class k found))
       (λ (other : k ≡ number → ⊥).
       let low = both.0 in
       let below : k < number = ⊎_elim (λ (less : k < number). less) (λ (more : number ≤ k). absurd (other (omega arith))) (cases_lt k number) in
@@ -177,7 +170,7 @@ pub done_more : (classes : List PassabilityClass) (clearance : ℤ) (mask done a
 done_more classes clearance mask done alike number are alike_are is k low in_mask = ⊎_elim
     (λ (same : k ≡ number).
     let set = (alike_are k).1 (in_mask, subst (λ (i : ℕ). clearance_at classes i ≡ Some clearance) (sym same) is) in
-    in_both k done alike ∙ ap (λ b. has_class k done || b) set ∙ or_true (has_class k done))
+    in_both k done alike ∙ ap (λ b. has_class k done || b) set ∙ or-true (has_class k done))
     (λ (other : k ≡ number → ⊥).
     let below : k < number = ⊎_elim (λ (less : k < number). less) (λ (more : number ≤ k). absurd (other (omega arith))) (cases_lt k number) in
     in_both k done alike ∙ ap (λ b. b || has_class k alike) (are k below in_mask))

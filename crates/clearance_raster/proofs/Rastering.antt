@@ -4,10 +4,12 @@ use Rattle.std.specs.Prelude.{bit_or, nat_lt, IsTrue, IsFalse, ◌↔◌}
 use Rattle.std.specs.Int.{bit_at}
 use Rattle.std.proofs.lemmas.Nat.Bits.{bit_at_or, bit_at-lt}
 use Rattle.std.proofs.lemmas.Bool.{cases_lt, cases_eq, cases_Bool, both_ways, eq-eqb, ne_eqb, lt-ltb, le-ltb, and_right}
+use Rattle.std.proofs.Math.Nat.{max-zero}
 use Rattle.nav_types.specs.declared.cells.Cell.{Cell}
 use Rattle.nav_types.specs.declared.cells.Rect.{Rect}
 use Rattle.nav_types.specs.declared.cells.Size.{Size}
 use Rattle.nav_types.specs.Cells.{cell_at, IsInside, IsInRect}
+use Rattle.nav_types.proofs.NumberTies.{below_next}
 use Rattle.lane_rows.specs.Rows.{has_class, one_if}
 use Rattle.navcell_grid.specs.Grids.{GridCells, number_at, IsInSpan}
 use Rattle.navcell_grid.specs.Patches.{IsPartOf}
@@ -21,12 +23,9 @@ Test = ℕ → Cell → Bool
 abbrev pub Agree : Size → Test → Test → Type 0
 Agree size s t = (k : ℕ) (cell : Cell) → IsInside size cell → s k cell ≡ t k cell
 
-max_none : (b : ℕ) → b ≡ max b 0
-max_none b = omega arith
-
 -- a bit that stays where the test does not hold
 stays_bit : (old new k : ℕ) (test : Bool) → new ≡ old → test ≡ false → bit_at new k ≡ max (bit_at old k) (one_if test)
-stays_bit old new k test same fails = ap (λ n. bit_at n k) same ∙ max_none (bit_at old k) ∙ ap (λ f. max (bit_at old k) (one_if f)) (sym fails)
+stays_bit old new k test same fails = ap (λ n. bit_at n k) same ∙ sym (max-zero (bit_at old k)) ∙ ap (λ f. max (bit_at old k) (one_if f)) (sym fails)
 
 -- a bit is 1 or 0 as its test says
 pub one_if-has_class : (k n : ℕ) → one_if (has_class k n) ≡ bit_at n k
@@ -203,15 +202,6 @@ row_none mask j part reach hit free reached k cell inside = ⊎_elim
 -- the rows below row j are done
 abbrev pub RowsTest : ℕ → ℕ → (Cell → Bool) → Test
 RowsTest mask j hit = λ k cell. has_class k mask && nat_lt cell.j j && hit cell
-
-below_next : (a j : ℕ) → (nat_lt a j || a == j) ≡ nat_lt a (j + 1)
-below_next a j = ⊎_elim
-    (λ (less : a < j). ap (λ b. b || a == j) (lt-ltb a j less) ∙ sym (lt-ltb a (j + 1) (omega arith)))
-    (λ (more : j ≤ a). ap (λ b. b || a == j) (le-ltb a j more) ∙ ⊎_elim
-    (λ (same : a ≡ j). eq-eqb a j same ∙ sym (lt-ltb a (j + 1) (omega arith)))
-    (λ (apart : a ≡ j → ⊥). ne_eqb a j apart ∙ sym (le-ltb a (j + 1) (⊎_elim (λ (same : a < j + 1). absurd (apart (omega arith))) (λ (above : j + 1 ≤ a). above) (cases_lt a (j + 1)))))
-    (cases_eq a j))
-    (cases_lt a j)
 
 spread_rows : (c x y h : Bool) → (c && x && h || c && y && h) ≡ (c && (x || y) && h)
 spread_rows true true y true = refl

@@ -11,11 +11,10 @@ use Rattle.nav_types.specs.Cells.{IsInside, IsInRect, IsRectInside}
 use Rattle.lane_rows.specs.Rows.{has_class}
 use Rattle.class_config.specs.declared.table.PassabilityClass.{PassabilityClass}
 use Rattle.class_config.specs.Classes.{clearance_at}
-use Rattle.obstruction_shapes.specs.declared.shapes.Shape.{Shape}
 use Rattle.obstruction_shapes.specs.declared.shapes.Obstruction.{Obstruction}
 use Rattle.obstruction_shapes.specs.Shapes.{HasUnitVector}
-use Rattle.obstruction_shapes.specs.Blocking.{blocked, reach, IsNear}
-use Rattle.obstruction_shapes.proofs.Near.{blocked_near}
+use Rattle.obstruction_shapes.specs.Blocking.{blocked, IsNear}
+use Rattle.obstruction_shapes.proofs.Near.{blocked_near, IsNear-rises}
 use Rattle.clearance_raster.specs.Rasters.{blocks_class, IsGreatestClearance}
 
 -- a cell of a part lies in the map that holds the part
@@ -142,19 +141,6 @@ pub found_none : (mask : ℕ) (classes : List PassabilityClass) (number : ℕ) (
 found_none mask classes number None all is = λ k clearance k_in k_has. let low = in_table classes k clearance k_has in is.1 k (omega arith) k_in
 found_none mask classes number (Some greatest) all is = tt
 
--- ---- near for a clearance, near for each greater one
-
-reach-rises : (shape : Shape) (clearance greatest : ℤ) → unsigned_abs clearance ≤ unsigned_abs greatest
-    → reach shape clearance ≤ reach shape greatest
-unfolding reach
-reach-rises shape clearance greatest less = omega arith
-
-pub near_rises : (shape : Shape) (clearance greatest : ℤ) (cell : Cell) → unsigned_abs clearance ≤ unsigned_abs greatest
-    → IsNear shape clearance cell → IsNear shape greatest cell
-near_rises shape clearance greatest cell less near =
-    let rises = reach-rises shape clearance greatest less in
-    record { column = omega (arith, rises, near.column); row = omega (arith, rises, near.row) }
-
 -- ---- blocked for a class, near for the greatest clearance
 
 map_some : (f : ℤ → Bool) (o : Option ℤ) → option_map_or f o false ≡ true → (c : ℤ) × ((o ≡ Some c) × (f c ≡ true))
@@ -168,10 +154,5 @@ near_where_blocked obstruction classes greatest k cell unit is blocks =
     let parts = and_parts (has_class k obstruction.mask) (option_map_or hit (clearance_at classes k) false) blocks in
     let found = map_some hit (clearance_at classes k) parts.1 in
     let clearance = found.0 in
-    near_rises obstruction.shape clearance greatest cell (is.most k clearance parts.0 found.1.0)
+    IsNear-rises obstruction.shape clearance greatest cell (is.most k clearance parts.0 found.1.0)
     (blocked_near obstruction.shape clearance cell unit found.1.1)
-
--- what follows where there is a value
-pub if_some_then : {X : Type 0} (r : Option X) {P Q : X → Type 0} → IfSome r P → ((x : X) → P x → Q x) → IfSome r Q
-if_some_then None holds then = tt
-if_some_then (Some x) holds then = then x holds

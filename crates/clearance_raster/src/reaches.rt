@@ -13,6 +13,7 @@ use crate::masks::includes;
 use class_config::ClassTable;
 use fixed_point::{Fixed, magnitude};
 use nav_types::{Class, Rect, Size};
+use navcell_grid::common;
 use obstruction_shapes::{Obstruction, Shape, reach_rect};
 
 /// The cells of a map that an obstruction can block for some class of its mask: those that are near enough to its shape
@@ -79,23 +80,4 @@ pub fn reach_in(shape: &Shape, clearance: Fixed, part: Rect, size: Size) -> Opti
 {
     let reach = reach_rect(shape, clearance, size)?;
     common(reach, part)
-}
-
-/// The cells that lie in both rectangles. None exactly where there is none.
-fn common(a: Rect, b: Rect) -> Option<Rect>
-    ensures part { IfSome result (λ rect. IsPartOf b rect) }
-    ensures cells { IfSome result (λ rect. (cell : Cell) → (IsInRect rect cell ↔ (IsInRect a cell × IsInRect b cell))) }
-    ensures none { IfNone result ((cell : Cell) → IsInRect a cell → ¬ IsInRect b cell) }
-{
-    let rect = Rect {
-        i0: a.i0.max(b.i0),
-        j0: a.j0.max(b.j0),
-        i1: a.i1.min(b.i1),
-        j1: a.j1.min(b.j1),
-    };
-    if rect.i0 <= rect.i1 && rect.j0 <= rect.j1 {
-        Some(rect)
-    } else {
-        None
-    }
 }

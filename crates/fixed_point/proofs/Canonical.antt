@@ -1,6 +1,6 @@
 -- The canonical text: how its parts are made, and how long they are.
-use Rattle.std.proofs.Common.{cond, ◌≡◌, ℕ, zero, suc, ◌+◌, ◌*◌, ◌/◌, ◌%◌, ◌^◌, ◌<◌, ◌≤◌, Bool, true, false, List, [], ◌∷◌, length, decimal, eqb, arith, ap, length-append}
-use Rattle.std.proofs.lemmas.Bool.{cond_both}
+use Rattle.std.proofs.Common.{cond, ◌≡◌, ℕ, zero, suc, ◌+◌, ◌*◌, ◌/◌, ◌%◌, ◌^◌, ◌<◌, ◌≤◌, Bool, true, false, List, [], ◌∷◌, length, decimal, eqb, arith, ap, refl, length-append}
+use Rattle.std.proofs.lemmas.Bool.{cond_both, eqb-true}
 use Rattle.std.proofs.lemmas.Fmt.{decimal_step, length-decimal-le}
 use Rattle.fixed_point.specs.Text.{fraction_digits, fraction_text}
 
@@ -24,6 +24,12 @@ pub length_fraction_text : (n : ℕ) → length (fraction_text n) ≤ 17
 length_fraction_text n =
     cond_both (eqb n 0) [] _ (λ ds. length ds ≤ 17) (λ _. omega arith)
     (λ _. omega (arith, length_fraction_digits 16 n))
+
+-- the text of a fraction that is not 0
+pub fraction_text_some : (n : ℕ) → 0 < n → fraction_text n ≡ 46 ∷ fraction_digits 16 n
+fraction_text_some n some =
+    cond_both (eqb n 0) [] (46 ∷ fraction_digits 16 n) (λ ds. ds ≡ 46 ∷ fraction_digits 16 n)
+    (λ none. absurd (omega (arith, eqb-true n 0 none))) (λ _. refl)
 
 -- at most one byte for the sign
 pub length_sign : (negative : Bool) (sign : List ℕ) → sign ≡ cond negative (45 ∷ []) [] → length sign ≤ 1

@@ -4,5 +4,6 @@ pub mod Magnitudes
 pub mod ReadsBack
 pub mod Decimals
 pub mod PlaneTests
+pub mod Products
 pub mod Squares
 pub mod TurningBack

@@ -69,7 +69,7 @@ impl Fixed {
     pub fn mul(self, other: Fixed) -> Option<Fixed>
         ensures rounded_down { SomeIff result (FitsSigned w32 (floor_of (self *ℤ other))) (floor_of (self *ℤ other)) }
     {
-        let product = i64::from(self.0) * i64::from(other.0);
+        let product = raw_product(self.0, other.0);
         i32::try_from(product.div_euclid(65536))
             .ok()
             .map(Fixed::from_raw)
@@ -93,4 +93,11 @@ impl Fixed {
     {
         Fixed(65536 * i32::from(i) + 32768)
     }
+}
+
+/// The product of two raw numbers.
+fn raw_product(first: i32, second: i32) -> i64
+    ensures { result ≡ first *ℤ second }
+{
+    i64::from(first) * i64::from(second)
 }

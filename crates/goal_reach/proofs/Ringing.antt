@@ -7,7 +7,7 @@ use Rattle.nav_types.specs.declared.cells.Rect.{Rect}
 use Rattle.nav_types.specs.declared.cells.Size.{Size}
 use Rattle.nav_types.specs.Cells.{IsInside, IsInRect}
 use Rattle.goal_reach.specs.declared.rings.Block.{Block}
-use Rattle.goal_reach.specs.inner.Rings.{whole, widened, clipped, Holds, IsOnRing, IsInBlock}
+use Rattle.goal_reach.specs.inner.Rings.{whole_map, widened, clipped, Encloses, IsOnRing, IsInBlock}
 use Rattle.goal_reach.specs.declared.choices.Ranked.{Ranked}
 use Rattle.goal_reach.specs.inner.Ranking.{IsNoWorse, IsBest}
 use Rattle.goal_reach.proofs.Choosing.{both_best, best_stays, best_of_more}
@@ -66,7 +66,7 @@ ring_sides inner outer cell (h, off) =
     ]
 
 -- each cell on a side is one of the ring
-pub sides_ring : (inner outer : Rect) → Holds outer inner → inner.i0 ≤ inner.i1 → inner.j0 ≤ inner.j1
+pub sides_ring : (inner outer : Rect) → Encloses outer inner → inner.i0 ≤ inner.i1 → inner.j0 ≤ inner.j1
     → (cell : Cell) → IsOnSides inner outer cell → IsOnRing inner outer cell
 sides_ring inner outer holds columns rows cell (inl (inl h)) =
     let west = h.west in let east = h.east in let south = h.south in let north = h.north in
@@ -99,7 +99,7 @@ unclip size rect cell h =
     record { west = h.west; east = omega arith; south = h.south; north = omega arith }
 
 -- a rectangle of one ring more holds that of one less
-pub wider_holds : (size : Size) (core : Rect) (rings : ℕ) → Holds (clipped size (widened (rings + 1) core)) (clipped size (widened rings core))
+pub wider_holds : (size : Size) (core : Rect) (rings : ℕ) → Encloses (clipped size (widened (rings + 1) core)) (clipped size (widened rings core))
 wider_holds size core rings =
     let a = min-le_left (core.i1 + rings) (size.w - 1) in let b = min-le_right (core.i1 + rings) (size.w - 1) in
     let c = min-le_left (core.j1 + rings) (size.h - 1) in let d = min-le_right (core.j1 + rings) (size.h - 1) in
@@ -139,12 +139,12 @@ ring_adds rank Offered size core inner outer rings best next result within is_in
       )
     ]))
 
-whole_has : (size : Size) (cell : Cell) → IsInside size cell → IsInRect (whole size) cell
+whole_has : (size : Size) (cell : Cell) → IsInside size cell → IsInRect (whole_map size) cell
 whole_has size cell inside = let column = inside.column in let row = inside.row in record { west = omega arith; east = omega arith; south = omega arith; north = omega arith }
 
 -- where all the map has been looked at
 pub all_of_map : (rank : Cell → ℕ) (Offered : Cell → Type 0) (size : Size) (core : Rect) (rings : ℕ) (best : Option Ranked)
-    → ((cell : Cell) → Offered cell → IsInside size cell) → clipped size (widened rings core) ≡ whole size
+    → ((cell : Cell) → Offered cell → IsInside size cell) → clipped size (widened rings core) ≡ whole_map size
     → IsBest rank (λ cell. Offered cell × IsInRect (widened rings core) cell) best → IsBest rank Offered best
 all_of_map rank Offered size core rings best within is was =
     best_stays rank (λ cell. Offered cell × IsInRect (widened rings core) cell) Offered best was

@@ -5,7 +5,7 @@ ghost use Rattle.nav_types.specs.Cells.{IsInside, IsInRect, IsRectInside};
 ghost use Rattle.goal_reach.specs.declared.choices.Ranked.{Ranked};
 ghost use Rattle.goal_reach.specs.Choices.{IsLeastBy};
 ghost use Rattle.goal_reach.specs.inner.Ranking.{IsBest};
-ghost use Rattle.goal_reach.specs.inner.Rings.{rect_of, whole, clipped, widened, IsInRun, IsInBlock, IsBlockInside, IsOnRing, Holds};
+ghost use Rattle.goal_reach.specs.inner.Rings.{rect_of, whole_map, clipped, widened, IsInRun, IsInBlock, IsBlockInside, IsOnRing, Encloses};
 
 use crate::choices::{Choice, Ranked, better};
 use nav_types::{Cell, Rect, Size};
@@ -86,7 +86,7 @@ fn widened(rect: Rect, rings: u16, size: Size) -> Rect
 
 /// Whether the rectangle is the whole map.
 fn is_whole(rect: Rect, size: Size) -> bool
-    ensures { IsTrue result ↔ (rect ≡ whole size) }
+    ensures { IsTrue result ↔ (rect ≡ whole_map size) }
 {
     let map = Rect {
         i0: 0,
@@ -112,7 +112,7 @@ fn best_on_ring<C: Choice>(choice: &C, inner: Rect, outer: Rect) -> Option<Ranke
     requires sound { C.sound choice.now }
     requires inner { IsRectInside (C.extent choice.now) inner }
     requires outer { IsRectInside (C.extent choice.now) outer }
-    requires holds { Holds outer inner }
+    requires holds { Encloses outer inner }
     ensures { IsBest (C.rank_of choice.now) (λ cell. C.offered choice.now cell × IsOnRing inner outer cell) result }
 {
     let south = Block {

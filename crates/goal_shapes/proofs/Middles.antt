@@ -10,9 +10,9 @@ use Rattle.nav_types.specs.declared.cells.Cell.{Cell}
 use Rattle.fixed_point.specs.Raw.{floor_of}
 use Rattle.fixed_point.specs.declared.plane.Rectangle.{Rectangle}
 use Rattle.fixed_point.specs.Plane.{square, from_centre, along, across}
-use Rattle.goal_shapes.specs.Goals.{HoldsPoint, holds, gap, squared_length, meets_axis, meets_side, meets_circle, meets_square}
+use Rattle.goal_shapes.specs.Goals.{HoldsPoint, holds_point, gap, squared_length, meets_axis, meets_side, meets_circle, meets_square}
 
-pub is_held : (x z : ℤ) (cell : Cell) → HoldsPoint x z cell → IsTrue (holds x z cell)
+pub is_held : (x z : ℤ) (cell : Cell) → HoldsPoint x z cell → IsTrue (holds_point x z cell)
 is_held x z cell h =
     and_from (int_eq (floor_of x) (pos cell.i)) (int_eq (floor_of z) (pos cell.j))
     ((Decides-int_eq (floor_of x) (pos cell.i)).1 h.column) ((Decides-int_eq (floor_of z) (pos cell.j)).1 h.row)

@@ -18,8 +18,8 @@ pub record HoldsPoint (x z : ℤ) (cell : Cell) : Type 0 where
   pub row : floor_of z ≡ pos cell.j
 
 -- whether it does
-abbrev pub holds : ℤ → ℤ → Cell → Bool
-holds x z cell = int_eq (floor_of x) (pos cell.i) && int_eq (floor_of z) (pos cell.j)
+abbrev pub holds_point : ℤ → ℤ → Cell → Bool
+holds_point x z cell = int_eq (floor_of x) (pos cell.i) && int_eq (floor_of z) (pos cell.j)
 
 -- the columns (or rows) from the one that holds a coordinate to column i
 abbrev pub columns_from : ℕ → ℤ → ℕ
@@ -113,7 +113,7 @@ depth rectangle cell =
 
 -- the cell is a goal cell: it holds the point, it meets the circle or the square, or some corner of it lies off them
 unfoldable pub contains : Goal → Cell → Bool
-contains (Point x z) cell = holds x z cell
+contains (Point x z) cell = holds_point x z cell
 contains (Circle x z r) cell = meets_circle x z r cell
 contains (NotCircle x z r) cell = list_any (is_off_circle x z r) (corners_of cell)
 contains (Square rectangle) cell = meets_square rectangle cell
@@ -133,7 +133,7 @@ remoteness (NotSquare rectangle) cell = depth rectangle cell
 -- the cell lies in the goal's box: in the cell that holds the point, no further than the radius from a circle's middle
 -- along each axis of the map, where no axis of the map separates it from the square, and anywhere for the others
 unfoldable pub framed : Goal → Cell → Bool
-framed (Point x z) cell = holds x z cell
+framed (Point x z) cell = holds_point x z cell
 framed (Circle x z r) cell = is_near_circle x z r cell
 framed (NotCircle x z r) cell = true
 framed (Square rectangle) cell = meets_axes rectangle cell

@@ -4,7 +4,7 @@ ghost use Rattle.nav_types.specs.Cells.{IsInside, IsInRect, IsRectInside};
 ghost use Rattle.nav_types.specs.Frames.{IsFrame};
 ghost use Rattle.fixed_point.specs.Plane.{from_centre, IsOnAxis};
 ghost use Rattle.goal_shapes.specs.Limits.{IsWellFormedSquare};
-ghost use Rattle.goal_shapes.specs.Goals.{holds, is_near_circle, meets_axes};
+ghost use Rattle.goal_shapes.specs.Goals.{holds_point, is_near_circle, meets_axes};
 
 use crate::points::cell_of_point;
 use crate::squares::axis_reach;
@@ -15,7 +15,7 @@ use nav_types::{Rect, Size};
 pub(crate) fn point_box(x: Fixed, z: Fixed, size: Size) -> Rect
     requires column { IsOnAxis size.w x }
     requires row { IsOnAxis size.h z }
-    ensures { IsFrame (holds x z) size result }
+    ensures { IsFrame (holds_point x z) size result }
 {
     match cell_of_point(x, z, size) {
         Some(cell) => Rect {

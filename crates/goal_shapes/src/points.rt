@@ -2,7 +2,7 @@ ghost use Rattle.std.specs.Prelude.{◌≡◌, ◌≤◌, ◌+◌, ◌*◌, ◌^
 ghost use Rattle.fixed_point.specs.Raw.{floor_of};
 ghost use Rattle.fixed_point.specs.Plane.{square, IsOnAxis};
 ghost use Rattle.nav_types.specs.Cells.{IsInside};
-ghost use Rattle.goal_shapes.specs.Goals.{HoldsPoint, holds, columns_from};
+ghost use Rattle.goal_shapes.specs.Goals.{HoldsPoint, holds_point, columns_from};
 
 use fixed_point::{Fixed, is_on_axis, magnitude, squared};
 use nav_types::{Cell, Size};
@@ -31,7 +31,7 @@ fn column_of(x: Fixed) -> u16
 
 /// Whether the cell holds the point.
 pub(crate) fn is_held(x: Fixed, z: Fixed, cell: Cell) -> bool
-    ensures { result ≡ holds x z cell }
+    ensures { result ≡ holds_point x z cell }
 {
     x.floor() == i32::from(cell.i) && z.floor() == i32::from(cell.j)
 }

@@ -1,8 +1,8 @@
 -- The areas of all regions under all edges are the areas of the map.
-use Rattle.std.proofs.Common.{ℕ, ◌≡◌, ◌-◌, ◌≤◌, ◌⊎◌, Bool, List, [], IsTrue, IsFalse, map, get_or, refl, ap, inl, inr, sym, subst, ◌∙◌, arith, Option, None, Some, option_map}
+use Rattle.std.proofs.Common.{ℕ, ◌≡◌, ◌-◌, ◌≤◌, Bool, List, [], IsTrue, IsFalse, map, get_or, refl, ap, inl, inr, sym, subst, ◌∙◌, arith, Option, None, Some, option_map}
 use Rattle.std.specs.List.{Contains, slice_get}
 use Rattle.std.proofs.lemmas.List.{length-map}
-use Rattle.std.proofs.lemmas.Bool.{cases_Bool, cases_order, both_ways}
+use Rattle.std.proofs.lemmas.Bool.{cases_Bool, both_ways}
 use Rattle.std.proofs.lemmas.Option.{slice_get-map, slice_get_within, get_or_from_slice_get, same_Some}
 use Rattle.nav_types.specs.declared.cells.Cell.{Cell}
 use Rattle.nav_types.specs.declared.cells.Chunk.{Chunk}
@@ -19,23 +19,15 @@ use Rattle.region_edges.specs.Edges.{PassesInside}
 use Rattle.reach_sets.specs.declared.regions.RegionId.{RegionId}
 use Rattle.reach_sets.specs.RegionOrder.{IsRegionBefore}
 use Rattle.reach_sets.specs.AreaNumbers.{area_of, AreJoined, IsFirstRegion}
-use Rattle.reach_sets.proofs.RowLemmas.{same_region}
+use Rattle.reach_sets.proofs.UniqueLemmas.{IsRegionBefore-cases}
 use Rattle.grid_versions.specs.Chunks.{chunk_place}
 use Rattle.grid_versions.specs.inner.ChunkLists.{chunk_numbered}
 use Rattle.grid_versions.specs.inner.Tables.{Tables, AreTables, region_counts, region_in}
 use Rattle.nav_types.proofs.Items.{from_map, Contains-map, AllPairs-map}
-use Rattle.grid_versions.proofs.ChunkLemmas.{one_place, before_place, chunk_inside, lies_in}
+use Rattle.nav_types.proofs.Regions.{lies_in}
+use Rattle.grid_versions.proofs.ChunkLemmas.{one_place, before_place, chunk_inside}
 use Rattle.grid_versions.proofs.RegionLemmas.{has_region, region_exists, joined_from_same, HasFirst, has_first}
 use Rattle.grid_versions.proofs.LinkLemmas.{JoinedStraight-from_region, regions_joined, cells_joined}
-
-IsRegionBefore-cases : (a b : RegionId) → (a ≡ b) ⊎ (IsRegionBefore a b ⊎ IsRegionBefore b a)
-IsRegionBefore-cases a b = elim (cases_order a.chunk b.chunk) [
-  | inl chunk ↦ elim (cases_order a.region b.region) [
-    | inl number ↦ inl (same_region a b chunk number)
-    | inr apart ↦ elim apart [ inl low ↦ inr (inl (inr (chunk, low))) | inr high ↦ inr (inr (inr (sym chunk, high))) ]
-  ]
-  | inr apart ↦ elim apart [ inl low ↦ inr (inl (inl low)) | inr high ↦ inr (inr (inl high)) ]
-]
 
 -- ---- first cells
 

@@ -5,7 +5,7 @@ use Rattle.std.specs.Int.{bit_at}
 use Rattle.std.proofs.lemmas.Bool.{cases_lt}
 use Rattle.std.proofs.lemmas.Nat.Bits.{bit_at_cat_low, bit_at_cat_high, bit_at_and, bit_at_ones, bit_at-lt}
 use Rattle.lane_rows.specs.Rows.{one_if}
-use Rattle.chunk_regions.proofs.BitLemmas.{bit_at-shr}
+use Rattle.nav_types.proofs.Bits.{bit_at-shr}
 
 -- the lesser of a bit and 1
 least_one : (b : ℕ) → b < 2 → min b 1 ≡ b

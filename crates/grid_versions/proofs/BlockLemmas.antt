@@ -3,12 +3,13 @@ use Rattle.std.proofs.Common.{ℕ, zero, suc, ◌≡◌, ◌+◌, ◌*◌, ◌/�
 use Rattle.std.proofs.Common.{set, get_or, refl, ap, sym, subst, ◌∙◌, arith, Some, length-append}
 use Rattle.std.specs.List.{All, flat_map, slice_get}
 use Rattle.std.proofs.lemmas.List.{set-append_left, set-append_right, append_assoc, append-nil, get_or-append-add}
-use Rattle.std.proofs.lemmas.List.{get_or_append_left, get_or-map, length-set, length-map, map-set}
+use Rattle.std.proofs.lemmas.List.{get_or-map, length-set, length-map, map-set}
 use Rattle.std.proofs.lemmas.List.Concat.{flat_map-cons}
 use Rattle.std.proofs.lemmas.List.Elements.{All-set, All-push}
 use Rattle.std.proofs.lemmas.Grind.{flat_map-append}
 use Rattle.std.proofs.lemmas.Option.{slice_get_within, slice_get-get_or, get_or_from_slice_get}
 use Rattle.grid_versions.specs.inner.Blocks.{AreBlocks, in_blocks}
+use Rattle.nav_types.proofs.Items.{slice_get-append_left}
 
 module _ {A : Type 0} where
   -- the item at a place of a list that stands behind another
@@ -20,15 +21,6 @@ module _ {A : Type 0} where
       let got : get_or (xs ++ ys) at a ≡ a = ap (λ (n : ℕ). get_or (xs ++ ys) n a) is ∙ get_or-append-add xs ys k a
       ∙ get_or_from_slice_get ys k a a here in
       slice_get-get_or (xs ++ ys) at a (omega (arith, long, low, is)) ∙ ap (λ (x : A). Some x) got
-
-  -- the item at a place of a list that stands before another
-  before : (xs ys : List A) (at : ℕ) (a : A) → slice_get xs at ≡ Some a → slice_get (xs ++ ys) at ≡ Some a
-  before xs ys at a here =
-      let low = slice_get_within xs at a here in
-      let long = length-append xs ys in
-      let got : get_or (xs ++ ys) at a ≡ a = get_or_append_left xs ys a at low
-      ∙ get_or_from_slice_get xs at a a here in
-      slice_get-get_or (xs ++ ys) at a (omega (arith, long, low)) ∙ ap (λ (x : A). Some x) got
 
   abbrev all_of : List (List A) → List A
   all_of blocks = flat_map (λ block. block) blocks
@@ -62,7 +54,7 @@ module _ {A : Type 0} where
       let same : y ≡ x = get_or_from_slice_get (y ∷ ys) 0 x x block in
       let at_is : at ≡ j = omega (arith, is) in
       ap (λ (xs : List A). slice_get xs at) (joined y ys)
-      ∙ before y (all_of ys) at a
+      ∙ slice_get-append_left y (all_of ys) at a
       (subst (λ (n : ℕ). slice_get y n ≡ Some a) (sym at_is) (subst (λ (b : List A). slice_get b j ≡ Some a)
       (sym same) item))
   in_block (y ∷ ys) (suc i) j at x a whole is block item =
@@ -108,7 +100,7 @@ module _ {A : Type 0} where
       → AreBlocks blocks rest → slice_get blocks (at / 32) ≡ Some block
       → slice_get block (at % 32) ≡ Some a → slice_get (in_blocks blocks rest) at ≡ Some a
   block_item blocks rest at block a are here item =
-      before (all_of blocks) rest at a (in_block blocks (at / 32) (at % 32) at block a are.whole (omega arith)
+      slice_get-append_left (all_of blocks) rest at a (in_block blocks (at / 32) (at % 32) at block a are.whole (omega arith)
       here item)
 
   pub rest_item : (blocks : List (List A)) (rest : List A) (at k : ℕ) (a : A) → AreBlocks blocks rest

@@ -26,11 +26,11 @@ use Rattle.reach_sets.specs.AreaNumbers.{AreaNumbers}
 use Rattle.reach_sets.proofs.RowLemmas.{same_region}
 use Rattle.grid_versions.specs.Chunks.{chunk_columns, chunk_rows, chunk_count, chunk_place}
 use Rattle.grid_versions.specs.inner.ChunkLists.{chunk_numbered, IsChunkInside, east_of, north_of, neighbour_on}
-use Rattle.grid_versions.specs.inner.Tables.{counts_of, AreTouching, AreLinks, AreAllLabels, AreAllEdges, AreFew}
+use Rattle.grid_versions.specs.inner.Tables.{label_counts, HaveEdge, AreLinks, AreAllLabels, AreAllEdges, AreFew}
 use Rattle.grid_versions.specs.inner.Building.{IsLaidOut, link_between, IsSideLink}
 use Rattle.nav_types.proofs.Items.{same_pair, from_map, Contains-map, AllPairs-map, AllPairs-tail, head_apart, Contains-head, Contains-tail, Contains-none}
-use Rattle.grid_versions.proofs.ChunkLemmas.{place_below, numbered-place, place-numbered, chunk_inside, lies_in, item_at, AreOfChunks-at, AreOfChunks-weaker}
-use Rattle.grid_versions.proofs.RegionLemmas.{one_number}
+use Rattle.nav_types.proofs.Regions.{lies_in, one_region}
+use Rattle.grid_versions.proofs.ChunkLemmas.{place_below, numbered-place, place-numbered, chunk_inside, item_at, AreOfChunks-at, AreOfChunks-weaker}
 
 -- ---- neighbours
 
@@ -171,7 +171,7 @@ next_beyond North chunk = inr (refl, refl)
 -- a link on a side is an edge
 touch_from_link : (passes : Cell → Bool) (size : Size) (side : Side) (all : List (List (ℕ × ℕ)))
     → AreAllEdges side passes size all
-    → (a b : RegionId) → IsSideLink size side all (a, b) → AreTouching passes size a b
+    → (a b : RegionId) → IsSideLink size side all (a, b) → HaveEdge passes size a b
 touch_from_link passes size side all of a b link =
     let here = chunk_numbered size a.chunk in
     record {
@@ -185,7 +185,7 @@ touch_from_link passes size side all of a b link =
 
 link_from_touch : (passes : Cell → Bool) (size : Size) (side : Side) (all : List (List (ℕ × ℕ))) → PassesInside passes size
     → AreAllEdges side passes size all
-    → (a b : RegionId) (touch : AreTouching passes size a b) → neighbour_on side touch.here ≡ touch.there → IsSideLink size side all (a, b)
+    → (a b : RegionId) (touch : HaveEdge passes size a b) → neighbour_on side touch.here ≡ touch.there → IsSideLink size side all (a, b)
 link_from_touch passes size side all inside of a b touch beyond_is =
     let edge = touch.edge in
     let lies = lies_in passes touch.here edge.from edge.from_passes in
@@ -250,7 +250,7 @@ number_listed passes size chunk labels cell number are here inside has =
     let lies = lies_in passes chunk cell here in
     let within : IsInRect labels.cells.rect cell = subst (λ (rect : Rect). IsInRect rect cell) (sym are.extent)
     (in_rect size chunk cell inside (ap (λ (c : Chunk). c.ci) lies.in_chunk) (ap (λ (c : Chunk). c.cj) lies.in_chunk)) in
-    let same : number_of labels.cells cell ≡ number = one_number passes chunk cell (number_of labels.cells cell) number (are.numbers cell within) has in
+    let same : number_of labels.cells cell ≡ number = one_region passes chunk cell (number_of labels.cells cell) number (are.numbers cell within) has in
     let placed = AreLabels-placed passes size chunk labels are cell within here in
     let value = placed.1.1.1.1 in
     let most = AreLabels-at_most passes size chunk labels are cell within in
@@ -348,11 +348,11 @@ chunks_few size =
 
 module _ (passes : Cell → Bool) (size : Size) (labels : List Labelling) (inside : PassesInside passes size)
     (of : AreAllLabels passes size labels) where
-  pub regions_few : All (λ count. count ≤ 9216) (counts_of labels) → sum (counts_of labels) ≤ 4460544
+  pub regions_few : All (λ count. count ≤ 9216) (label_counts labels) → sum (label_counts labels) ≤ 4460544
   regions_few most =
-      sum_small (counts_of labels) (chunk_count size) (length-map labels (λ (one : Labelling). length one.firsts) ∙ of.each) (chunks_few size) most
+      sum_small (label_counts labels) (chunk_count size) (length-map labels (λ (one : Labelling). length one.firsts) ∙ of.each) (chunks_few size) most
 
-  edge_most : All (λ count. count ≤ 9216) (counts_of labels) → (here there : Chunk) (near far : ℕ) → IsEdge passes here there near far
+  edge_most : All (λ count. count ≤ 9216) (label_counts labels) → (here there : Chunk) (near far : ℕ) → IsEdge passes here there near far
       → (near ≤ 9216) × (far ≤ 9216)
   edge_most most here there near far edge =
       let a : RegionId = record { chunk = chunk_place size here; region = near } in
@@ -364,7 +364,7 @@ module _ (passes : Cell → Bool) (size : Size) (labels : List Labelling) (insid
       let b_most = most (chunk_place size there) 0 b_is.chunk in
       (omega arith, omega arith)
 
-  pub side_few : All (λ count. count ≤ 9216) (counts_of labels) → (side : Side) (all : List (List (ℕ × ℕ)))
+  pub side_few : All (λ count. count ≤ 9216) (label_counts labels) → (side : Side) (all : List (List (ℕ × ℕ)))
       → AreAllEdges side passes size all
       → sum_by length all ≤ 484 * 84953089
   side_few most side all edges_of =
@@ -380,7 +380,7 @@ module _ (passes : Cell → Bool) (size : Size) (labels : List Labelling) (insid
         mul-le (length all) 84953089 484 84953089 (omega arith) (omega arith),
       )
 
-  pub tables_few : All (λ count. count ≤ 9216) (counts_of labels) → (east north : List (List (ℕ × ℕ))) (areas : AreaNumbers)
+  pub tables_few : All (λ count. count ≤ 9216) (label_counts labels) → (east north : List (List (ℕ × ℕ))) (areas : AreaNumbers)
       → AreAllEdges East passes size east
       → AreAllEdges North passes size north
       → AreFew (record { labels = labels; east = east; north = north; areas = areas })

@@ -22,9 +22,9 @@ use Rattle.reach_sets.specs.AreaNumbers.{AreaNumbers, AreAreas}
 use Rattle.grid_versions.specs.Chunks.{chunk_count, chunk_place}
 use Rattle.grid_versions.specs.inner.ChunkLists.{chunk_numbered, neighbour_on, IsChunkInside}
 use Rattle.grid_versions.specs.inner.Building.{IsSideLink, AreSides}
-use Rattle.grid_versions.specs.inner.Tables.{Tables, AreTables, HasTotals, counts_of, region_counts}
+use Rattle.grid_versions.specs.inner.Tables.{Tables, AreTables, HasTotals, label_counts, region_counts}
 use Rattle.grid_versions.specs.inner.Tallying.{Differs}
-use Rattle.grid_versions.specs.inner.Changing.{AgreeIn, AreChanges}
+use Rattle.grid_versions.specs.inner.Changing.{AgreeInChunk, AreChanges}
 use Rattle.grid_versions.proofs.ChunkLemmas.{chunk_inside, place_below, numbered-place, item_at}
 use Rattle.grid_versions.proofs.TallyLemmas.{differing_inside}
 use Rattle.grid_versions.proofs.BuildLemmas.{sum_more, sides_linked, links_are}
@@ -36,7 +36,7 @@ both_and : (here x y : Bool) → (here ≡ true → x ≡ y) → (here && x) ≡
 both_and true x y same = same refl
 both_and false x y same = refl
 
-pub same_in : (before now : Cell → Bool) (chunk : Chunk) → AgreeIn before now chunk → passes_in before chunk ≡ passes_in now chunk
+pub same_in : (before now : Cell → Bool) (chunk : Chunk) → AgreeInChunk before now chunk → passes_in before chunk ≡ passes_in now chunk
 same_in before now chunk agree = λ i cell.
     both_and ((cell.i / 96 == chunk.ci) && (cell.j / 96 == chunk.cj)) (before cell) (now cell)
     (λ here. let place = and_parts (cell.i / 96 == chunk.ci) (cell.j / 96 == chunk.cj) here in
@@ -48,7 +48,7 @@ same_region_number : (before now : Cell → Bool) (chunk : Chunk) (cell : Cell) 
 same_region_number before now chunk cell number same has =
     subst (λ (P : Cell → Bool). HasNumber P (JoinedStraight P) IsBefore cell number) same has
 
-pub labels_stay : (before now : Cell → Bool) (size : Size) (chunk : Chunk) (labels : Labelling) → AgreeIn before now chunk
+pub labels_stay : (before now : Cell → Bool) (size : Size) (chunk : Chunk) (labels : Labelling) → AgreeInChunk before now chunk
     → AreLabels before size chunk labels → AreLabels now size chunk labels
 labels_stay before now size chunk labels agree are =
     let same = same_in before now chunk agree in
@@ -71,7 +71,7 @@ edge_stays before now here there near far same_here same_there edge = record {
   to_region = same_region_number before now there edge.to far same_there edge.to_region;
 }
 
-pub edges_stay : (before now : Cell → Bool) (here there : Chunk) (edges : List (ℕ × ℕ)) → AgreeIn before now here → AgreeIn before now there
+pub edges_stay : (before now : Cell → Bool) (here there : Chunk) (edges : List (ℕ × ℕ)) → AgreeInChunk before now here → AgreeInChunk before now there
     → AreEdges before here there edges → AreEdges now here there edges
 edges_stay before now here there edges agree_here agree_there are =
     let same_here = same_in before now here agree_here in
@@ -92,7 +92,7 @@ same_unless false false not_apart = refl
 
 -- a chunk without a mark
 pub unmarked_agrees : (before now : Cell → Bool) (size : Size) (class : ℕ) (bits : List ℕ) (place : ℕ) (mark : Bool) → AreChanges before now size class bits
-    → slice_get (map (has_class class) bits) place ≡ Some mark → IsFalse mark → AgreeIn before now (chunk_numbered size place)
+    → slice_get (map (has_class class) bits) place ≡ Some mark → IsFalse mark → AgreeInChunk before now (chunk_numbered size place)
 unmarked_agrees before now size class bits place mark changes at unmarked cell here =
     same_unless (before cell) (now cell) (λ apart.
     let marked : IsTrue mark = (changes.marks.are place mark at).1 (cell, (here, apart)) in
@@ -100,7 +100,7 @@ unmarked_agrees before now size class bits place mark changes at unmarked cell h
 
 -- a chunk outside both maps
 pub outside_agrees : (before now : Cell → Bool) (size : Size) (class : ℕ) (bits : List ℕ) (chunk : Chunk) → AreChanges before now size class bits
-    → (IsChunkInside size chunk → ⊥) → AgreeIn before now chunk
+    → (IsChunkInside size chunk → ⊥) → AgreeInChunk before now chunk
 outside_agrees before now size class bits chunk changes outside cell here =
     same_unless (before cell) (now cell) (λ apart.
     outside (subst (λ (c : Chunk). IsChunkInside size c) here
@@ -115,7 +115,7 @@ beyond_outside size side place next is past inside =
 -- a neighbour without a mark, which may lie outside both maps
 pub neighbour_agrees : (before now : Cell → Bool) (size : Size) (class : ℕ) (bits : List ℕ) (side : Side) (place next : ℕ) (mark : Bool)
     → AreChanges before now size class bits → chunk_place size (neighbour_on side (chunk_numbered size place)) ≡ next
-    → slice_get (map (has_class class) bits) next ≡ Some mark → IsFalse mark → AgreeIn before now (neighbour_on side (chunk_numbered size place))
+    → slice_get (map (has_class class) bits) next ≡ Some mark → IsFalse mark → AgreeInChunk before now (neighbour_on side (chunk_numbered size place))
 neighbour_agrees before now size class bits side place next mark changes is at unmarked =
     let there = neighbour_on side (chunk_numbered size place) in
     elim (cases_lt (96 * there.ci) size.w) [
@@ -123,7 +123,7 @@ neighbour_agrees before now size class bits side place next mark changes is at u
         | inl row ↦
             let inside : IsChunkInside size there = record { column = column; row = row } in
             let same : chunk_numbered size next ≡ there = ap (λ (k : ℕ). chunk_numbered size k) (sym is) ∙ numbered-place size there inside in
-            subst (λ (chunk : Chunk). AgreeIn before now chunk) same (unmarked_agrees before now size class bits next mark changes at unmarked)
+            subst (λ (chunk : Chunk). AgreeInChunk before now chunk) same (unmarked_agrees before now size class bits next mark changes at unmarked)
         | inr past ↦ outside_agrees before now size class bits there changes (λ inside. let row = inside.row in omega arith)
       ]
       | inr past ↦ outside_agrees before now size class bits there changes (λ inside. let column = inside.column in omega arith)
@@ -178,7 +178,7 @@ areas_stay before now size old new inside were sides counts east north areas =
 
 -- so do the numbers of all regions and edges
 pub totals_stay : (old : Tables) (labels : List Labelling) (east north : List (List (ℕ × ℕ))) (areas : AreaNumbers) (regions edges : ℕ)
-    → HasTotals old regions edges → counts_of labels ≡ region_counts old → east ≡ old.east → north ≡ old.north
+    → HasTotals old regions edges → label_counts labels ≡ region_counts old → east ≡ old.east → north ≡ old.north
     → HasTotals (record { labels = labels; east = east; north = north; areas = areas }) regions edges
 totals_stay old labels east north areas regions edges has counts same_east same_north =
     let count = λ (one : Labelling). length one.firsts in

@@ -2,7 +2,7 @@
 use Rattle.std.proofs.Common.{ℕ, [], ◌∷◌, ◌++◌, length-append, ◌≡◌, ◌+◌, ◌*◌, ◌/◌, ◌<◌, ◌≤◌, ◌==◌, ◌&&◌, Bool, List, IsTrue, refl, ap, inl, inr, sym, subst, ◌∙◌, arith, Some}
 use Rattle.std.specs.List.{slice_get}
 use Rattle.std.proofs.lemmas.Nat.{mul-le, mul-add-lt, div-mul-add, mod-mul-add, div_below, mod_below, div-add-mod'}
-use Rattle.std.proofs.lemmas.Bool.{and_parts, and_from, eqb-true, eq-eqb}
+use Rattle.std.proofs.lemmas.Bool.{and_from, eq-eqb}
 use Rattle.std.proofs.lemmas.Option.{slice_get_cases}
 use Rattle.nav_types.specs.declared.cells.Cell.{Cell}
 use Rattle.nav_types.specs.declared.cells.Chunk.{Chunk}
@@ -84,20 +84,6 @@ before_place size a b a_in b_in low = elim (IsChunkBefore-cases a b) [
     | inr after ↦ absurd (omega (arith, place_before size b a b_in a_in after))
   ]
 ]
-
--- a cell that passes in a chunk: where it lies
-pub record LiesIn (passes : Cell → Bool) (chunk : Chunk) (cell : Cell) : Type 0 where
-  pub in_chunk : chunk_of cell ≡ chunk
-  pub passable : IsTrue (passes cell)
-
-pub lies_in : (passes : Cell → Bool) (chunk : Chunk) (cell : Cell) → IsTrue (passes_in passes chunk cell) → LiesIn passes chunk cell
-lies_in passes chunk cell all =
-    let parts = and_parts ((cell.i / 96 == chunk.ci) && (cell.j / 96 == chunk.cj)) (passes cell) all in
-    let place = and_parts (cell.i / 96 == chunk.ci) (cell.j / 96 == chunk.cj) parts.0 in
-    record {
-      in_chunk = same_chunk (chunk_of cell) chunk (eqb-true (cell.i / 96) chunk.ci place.0) (eqb-true (cell.j / 96) chunk.cj place.1);
-      passable = parts.1;
-    }
 
 -- a passable cell passes in its own chunk
 pub passes_own : (passes : Cell → Bool) (cell : Cell) → IsTrue (passes cell) → IsTrue (passes_in passes (chunk_of cell) cell)

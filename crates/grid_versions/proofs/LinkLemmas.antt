@@ -21,9 +21,10 @@ use Rattle.reach_sets.specs.AreaNumbers.{IsLink, AreJoined}
 use Rattle.reach_sets.proofs.ChainLemmas.{chained_same, chained_once, chained_on, chained_back}
 use Rattle.reach_sets.proofs.RowLemmas.{same_region}
 use Rattle.grid_versions.specs.Chunks.{chunk_place}
-use Rattle.grid_versions.specs.inner.Tables.{Tables, AreTables, AreTouching, region_in}
-use Rattle.grid_versions.proofs.ChunkLemmas.{lies_in, passes_own}
-use Rattle.grid_versions.proofs.RegionLemmas.{one_number, has_region, joined_from_same, same_from_joined}
+use Rattle.grid_versions.specs.inner.Tables.{Tables, AreTables, HaveEdge, region_in}
+use Rattle.nav_types.proofs.Regions.{lies_in, one_region}
+use Rattle.grid_versions.proofs.ChunkLemmas.{passes_own}
+use Rattle.grid_versions.proofs.RegionLemmas.{has_region, joined_from_same, same_from_joined}
 
 -- ---- walks
 
@@ -102,7 +103,7 @@ pub record HasTouch (passes : Cell → Bool) (size : Size) (tables : Tables) (a 
 module _ (passes : Cell → Bool) (size : Size) (tables : Tables) (inside : PassesInside passes size) (are : AreTables passes size tables) where
   -- passable cells side by side in neighbouring chunks: an edge joins their regions
   touching : (a b : Cell) → IsBeside a b → IsTrue (passes a) → IsTrue (passes b) → IsNextChunk (chunk_of a) (chunk_of b)
-      → AreTouching passes size (region_in size tables a) (region_in size tables b)
+      → HaveEdge passes size (region_in size tables a) (region_in size tables b)
   touching a b beside here there next = record {
     here = chunk_of a;
     there = chunk_of b;
@@ -156,7 +157,7 @@ module _ (passes : Cell → Bool) (size : Size) (tables : Tables) (inside : Pass
       walk_joined straight.0 a b straight.1.0 straight.1.1
 
   -- an edge is between two cells with these regions
-  pub has_touch : (a b : RegionId) → AreTouching passes size a b → HasTouch passes size tables a b
+  pub has_touch : (a b : RegionId) → HaveEdge passes size a b → HasTouch passes size tables a b
   has_touch a b touch =
       let edge = touch.edge in
       let from_lies = lies_in passes touch.here edge.from edge.from_passes in
@@ -175,10 +176,10 @@ module _ (passes : Cell → Bool) (size : Size) (tables : Tables) (inside : Pass
         to_passes = to_lies.passable;
         from_is = same_region (region_in size tables edge.from) a
             (ap (λ (chunk : Chunk). chunk_place size chunk) from_lies.in_chunk ∙ sym touch.from)
-            (one_number passes touch.here edge.from (region_in size tables edge.from).region a.region from_has edge.from_region);
+            (one_region passes touch.here edge.from (region_in size tables edge.from).region a.region from_has edge.from_region);
         to_is = same_region (region_in size tables edge.to) b
             (ap (λ (chunk : Chunk). chunk_place size chunk) to_lies.in_chunk ∙ sym touch.to)
-            (one_number passes touch.there edge.to (region_in size tables edge.to).region b.region to_has edge.to_region);
+            (one_region passes touch.there edge.to (region_in size tables edge.to).region b.region to_has edge.to_region);
       }
 
   -- passable cells of one region are joined

@@ -5,14 +5,17 @@ use Rattle.std.specs.Prelude.{nat_lt, bit_or, ◌↔◌}
 use Rattle.std.specs.Int.{bit_at}
 use Rattle.std.specs.List.{list_any}
 use Rattle.std.proofs.lemmas.Nat.Bits.{bit_at_or, bit_at-zero, bit_at-lt}
-use Rattle.std.proofs.lemmas.Bool.{cases_Bool, cases_lt, cases_eq, both_ways, and_parts, and_from, and_left, and_right}
-use Rattle.std.proofs.lemmas.Bool.{eq-eqb, ne_eqb, eqb-true, lt-ltb, le-ltb, ltb-true, false_from_ne_true}
+use Rattle.std.proofs.lemmas.Bool.{cases_Bool, both_ways, and_parts, and_from, and_left, and_right}
+use Rattle.std.proofs.lemmas.Bool.{eq-eqb, eqb-true, lt-ltb, ltb-true, false_from_ne_true}
 use Rattle.std.proofs.lemmas.List.{drop_more, get_or-replicate}
 use Rattle.std.proofs.Math.ListN.{drop_of_length-le}
+use Rattle.std.proofs.Math.Bool.{or-true, or-false}
+use Rattle.std.proofs.Math.Nat.{max-zero}
 use Rattle.nav_types.specs.declared.cells.Cell.{Cell}
 use Rattle.nav_types.specs.declared.cells.Rect.{Rect}
 use Rattle.nav_types.specs.Cells.{IsInRect}
 use Rattle.nav_types.specs.Numbering.{Numbering, columns, rows, number_of, place_in}
+use Rattle.nav_types.proofs.NumberTies.{below_next}
 use Rattle.lane_rows.specs.Rows.{has_class, one_if}
 use Rattle.navcell_grid.specs.Grids.{IsInSpan}
 use Rattle.navcell_grid.proofs.PatchCells.{place_in-low}
@@ -21,9 +24,6 @@ use Rattle.clearance_raster.proofs.Rastering.{Test, Numbers, part_none, part_bot
 use Rattle.grid_versions.specs.Maps.{Map}
 use Rattle.grid_versions.specs.Passing.{is_in_rect, has_base}
 use Rattle.grid_versions.proofs.PassingLemmas.{in_rect_from, in_rect_to}
-
-max-none : (n : ℕ) → max n 0 ≡ n
-max-none n = omega arith
 
 -- ---- a rectangle, row by row
 
@@ -69,21 +69,11 @@ raster_row rect part now new mask j south north span others = record {
       (λ (out : in_row part j cell ≡ false).
       ap (λ n. bit_at n k)
       (others cell inside (λ at. both_ways (in_row part j cell) out (span_to part j cell south north at)))
-      ∙ sym (max-none (bit_at (now cell) k))
+      ∙ sym (max-zero (bit_at (now cell) k))
       ∙ ap (λ f. max (bit_at (now cell) k) (one_if f)) (sym (and_right (has_class k mask) (in_row part j cell) out)))
       (cases_Bool (in_row part j cell));
   others = λ cell inside out. absurd (out inside);
 }
-
-below_next : (a j : ℕ) → (nat_lt a j || a == j) ≡ nat_lt a (j + 1)
-below_next a j = ⊎_elim
-    (λ (less : a < j). ap (λ b. b || a == j) (lt-ltb a j less) ∙ sym (lt-ltb a (j + 1) (omega arith)))
-    (λ (more : j ≤ a). ap (λ b. b || a == j) (le-ltb a j more) ∙ ⊎_elim
-    (λ (same : a ≡ j). eq-eqb a j same ∙ sym (lt-ltb a (j + 1) (omega arith)))
-    (λ (apart : a ≡ j → ⊥). ne_eqb a j apart ∙ sym (le-ltb a (j + 1)
-    (⊎_elim (λ (same : a < j + 1). absurd (apart (omega arith))) (λ (above : j + 1 ≤ a). above) (cases_lt a (j + 1)))))
-    (cases_eq a j))
-    (cases_lt a j)
 
 spread_or : (c r x y : Bool) → (c && (r && x) || c && (r && y)) ≡ (c && (r && (x || y)))
 spread_or true true x y = refl
@@ -201,22 +191,14 @@ Ends-past rect part test all xs i first now past so =
 
 -- ---- a patch that is painted
 
-or_true : (x : Bool) → (x || true) ≡ true
-or_true true = refl
-or_true false = refl
-
-or_false : (x : Bool) → (x || false) ≡ x
-or_false true = refl
-or_false false = refl
-
 -- a bit after a raster
 pub class_after : (old new k : ℕ) (test : Bool) → bit_at new k ≡ max (bit_at old k) (one_if test)
     → has_class k new ≡ (has_class k old || test)
 class_after old new k true is =
     let low = bit_at-lt old k in
     let set : bit_at new k ≡ 1 = omega (arith, is) in
-    eq-eqb (bit_at new k) 1 set ∙ sym (or_true (has_class k old))
-class_after old new k false is = ap (λ b. b == 1) (is ∙ max-none (bit_at old k)) ∙ sym (or_false (has_class k old))
+    eq-eqb (bit_at new k) 1 set ∙ sym (or-true (has_class k old))
+class_after old new k false is = ap (λ b. b == 1) (is ∙ max-zero (bit_at old k)) ∙ sym (or-false (has_class k old))
 
 -- the numbers of a new patch
 pub new_number : (rect : Rect) (patch : Numbering) (cell : Cell) → patch.rect ≡ rect

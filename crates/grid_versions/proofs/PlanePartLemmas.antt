@@ -1,8 +1,8 @@
 -- What changes in the planes of a version.
-use Rattle.std.proofs.Common.{◌≡◌, ◌≢◌, ℕ, ◌<◌, ◌≤◌, ◌⊎◌, ◌||◌, ◌==◌, Bool, true, false, not, List, [], ◌∷◌, ◌++◌, length, map as each_of, get_or, inl, inr, refl, sym, ap, ◌∙◌, subst, ⊎_elim, arith, Some, option_map, length-append}
-use Rattle.std.specs.Prelude.{All, IsTrue, IsFalse, slice_get}
+use Rattle.std.proofs.Common.{◌≡◌, ◌≢◌, ℕ, ◌<◌, ◌≤◌, ◌⊎◌, ◌||◌, ◌==◌, Bool, true, false, not, List, length, map as each_of, get_or, inl, inr, refl, sym, ap, ◌∙◌, subst, ⊎_elim, arith, Some, option_map}
+use Rattle.std.specs.Prelude.{IsTrue, IsFalse, slice_get}
 use Rattle.std.proofs.lemmas.Bool.{cases_Bool, cases_lt, false_from_ne_true}
-use Rattle.std.proofs.lemmas.List.{get_or_append_left, get_or_at, length-map}
+use Rattle.std.proofs.lemmas.List.{length-map}
 use Rattle.std.proofs.lemmas.Nat.Bits.{bit_at-zero}
 use Rattle.std.proofs.lemmas.Option.{same_Some, slice_get-map, slice_get-get_or}
 use Rattle.nav_types.specs.declared.cells.Cell.{Cell}
@@ -33,14 +33,6 @@ use Rattle.grid_versions.proofs.TallyLemmas.{differing_inside}
 use Rattle.grid_versions.proofs.VersionLemmas.{passable-inside, own_rect, chunk-passes}
 
 -- ---- one part more
-
-pub all_front : {X : Type 0} (P : X → Type 0) (xs : List X) (x : X) → All P (xs ++ x ∷ []) → All P xs
-all_front P xs x all k d below =
-    subst P (get_or_append_left xs (x ∷ []) d k below) (all k d (omega (arith, length-append xs (x ∷ []))))
-
-pub all_last : {X : Type 0} (P : X → Type 0) (xs : List X) (x : X) → All P (xs ++ x ∷ []) → P x
-all_last P xs x all =
-    subst P (get_or_at xs x [] x (length xs) refl) (all (length xs) x (omega (arith, length-append xs (x ∷ []))))
 
 -- ---- the part of one chunk
 

@@ -9,6 +9,7 @@ use Rattle.std.specs.FinMap as fin_map
 use Rattle.std.proofs.lemmas.Bool.{cases_Bool, cases_eq, both_ways, or_parts, true_from_ne_false, false_from_ne_true}
 use Rattle.std.proofs.lemmas.List.Folds.{list_any-append}
 use Rattle.std.proofs.lemmas.List.Elements.{Contains-push, Contains-append_left}
+use Rattle.std.proofs.Math.Bool.{or-true}
 use Rattle.nav_types.specs.declared.cells.Cell.{Cell}
 use Rattle.nav_types.specs.declared.cells.Rect.{Rect}
 use Rattle.nav_types.specs.Cells.{IsInside, IsInRect}
@@ -141,10 +142,6 @@ covers_none map standing rects = record { same = λ k cell inside out. refl }
 
 -- ---- which numbers have changed
 
-true_last : (x : Bool) → (x || true) ≡ true
-true_last true = refl
-true_last false = refl
-
 in_first : (xs ys : List Rect) (cell : Cell) → is_in_some xs cell ≡ true → is_in_some (xs ++ ys) cell ≡ true
 in_first xs ys cell is =
     let in_cell : Rect → Bool = λ rect. is_in_rect rect cell in
@@ -153,7 +150,7 @@ in_first xs ys cell is =
 in_second : (xs ys : List Rect) (cell : Cell) → is_in_some ys cell ≡ true → is_in_some (xs ++ ys) cell ≡ true
 in_second xs ys cell is =
     let in_cell : Rect → Bool = λ rect. is_in_rect rect cell in
-    list_any-append in_cell xs ys ∙ ap (λ b. is_in_some xs cell || b) is ∙ true_last (is_in_some xs cell)
+    list_any-append in_cell xs ys ∙ ap (λ b. is_in_some xs cell || b) is ∙ or-true (is_in_some xs cell)
 
 pub names_more : (map : Map) (first before now : Standing) (id : ℕ) (rects : List Rect) (ids : List ℕ)
     (was is : Option Rect) → ((n : ℕ) → n ≢ id → fin_map.get now n ≡ fin_map.get before n) → HoldsReach map now id is

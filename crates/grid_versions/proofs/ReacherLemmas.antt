@@ -4,7 +4,7 @@ use Rattle.std.proofs.Common.{refl, sym, ap, subst, ⊎_elim, ◌∙◌, inl, in
 use Rattle.std.specs.List.{list_any, Contains}
 use Rattle.std.specs.Option.{option_map_or}
 use Rattle.std.specs.FinMap as fin_map
-use Rattle.std.proofs.lemmas.Bool.{cases_Bool, both_ways, true_from_ne_false, false_from_ne_true}
+use Rattle.std.proofs.lemmas.Bool.{cases_Bool, both_ways, true_from_ne_false, false_from_ne_true, or_right}
 use Rattle.std.proofs.lemmas.List.Elements.{Contains-push, Contains-append_left}
 use Rattle.nav_types.specs.declared.cells.Cell.{Cell}
 use Rattle.nav_types.specs.declared.cells.Rect.{Rect}
@@ -22,7 +22,7 @@ use Rattle.grid_versions.specs.Maps.{Map}
 use Rattle.grid_versions.specs.Passing.{has_base, is_blocked}
 use Rattle.grid_versions.specs.inner.Painting.{is_covered}
 use Rattle.grid_versions.specs.inner.Reaching.{is_in_some, LiesWithin, NameChanges, OnlyAdds}
-use Rattle.grid_versions.specs.inner.Reachers.{blocks_under, HoldReachers, HoldUnpainted, IsReached, HoldReached}
+use Rattle.grid_versions.specs.inner.Reachers.{blocks_under, HoldReachers, HoldUnpainted, IsReachNoted, HoldReached}
 use Rattle.grid_versions.proofs.PassingLemmas.{none_meets, any_none}
 
 -- ---- what stands under a number
@@ -136,10 +136,6 @@ or_absorb true e n later = refl
 or_absorb false true n later = sym (later refl)
 or_absorb false false n later = refl
 
-or_second : (b e : Bool) → e ≡ true → (b || e) ≡ true
-or_second true e is = refl
-or_second false e is = is
-
 module _ (map : Map) (earlier now : Standing) (added : List ℕ) (adds : OnlyAdds earlier now added) where
   -- what was blocked is
   stays_blocked : (k : ℕ) (cell : Cell) → is_blocked map earlier k cell ≡ true → is_blocked map now k cell ≡ true
@@ -160,7 +156,7 @@ module _ (map : Map) (earlier now : Standing) (added : List ℕ) (adds : OnlyAdd
       all = λ id o stands k cell inside blocks. elim (adds.named id o stands) [
         | inl stood ↦
             inl (bits k cell inside
-            ∙ or_second (has_base map k cell) (is_blocked map earlier k cell)
+            ∙ or_right (has_base map k cell) (is_blocked map earlier k cell)
             (one_blocks map earlier k cell id o stood blocks))
         | inr listed ↦ inr listed
       ];
@@ -189,18 +185,18 @@ abbrev pub no_reacher : Reacher
 no_reacher = record { id = 0; rect = record { i0 = 0; j0 = 0; i1 = 0; j1 = 0 } }
 
 -- a rectangle put behind others
-pub IsReached-push : (reachers : List Reacher) (reacher : Reacher) (id : ℕ) (cell : Cell) → IsReached reachers id cell
-    → IsReached (reachers ++ reacher ∷ []) id cell
-IsReached-push reachers reacher id cell is = record {
+pub IsReachNoted-push : (reachers : List Reacher) (reacher : Reacher) (id : ℕ) (cell : Cell) → IsReachNoted reachers id cell
+    → IsReachNoted (reachers ++ reacher ∷ []) id cell
+IsReachNoted-push reachers reacher id cell is = record {
   reacher = is.reacher;
   listed = Contains-append_left reachers (reacher ∷ []) is.reacher is.listed;
   of = is.of;
   holds = is.holds;
 }
 
-pub IsReached-last : (reachers : List Reacher) (reacher : Reacher) (cell : Cell) → IsInRect reacher.rect cell
-    → IsReached (reachers ++ reacher ∷ []) reacher.id cell
-IsReached-last reachers reacher cell holds = record {
+pub IsReachNoted-last : (reachers : List Reacher) (reacher : Reacher) (cell : Cell) → IsInRect reacher.rect cell
+    → IsReachNoted (reachers ++ reacher ∷ []) reacher.id cell
+IsReachNoted-last reachers reacher cell holds = record {
   reacher = reacher;
   listed = Contains-push reachers reacher;
   of = refl;
@@ -225,7 +221,7 @@ module _ (map : Map) (earlier now : Standing) (rects : List Rect) (changed : Lis
   -- what is made of the old list without the changed numbers, and of the changes, has all
   pub reachers_made : (ids made : List ℕ) → ((id : ℕ) → Contains ids id → HoldReached map now changed id)
       → ((id : ℕ) → Contains old id → Contains ids id ⊎ Contains made id)
-      → ((id : ℕ) (cell : Cell) → IsReached changed id cell → IsInRect rect cell → Contains made id)
+      → ((id : ℕ) (cell : Cell) → IsReachNoted changed id cell → IsInRect rect cell → Contains made id)
       → HoldReachers map now rect made
   reachers_made ids made named kept listed = record {
     all = λ id o stands k cell inside blocks.

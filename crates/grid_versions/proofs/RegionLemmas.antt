@@ -16,7 +16,7 @@ use Rattle.chunk_regions.specs.Labelling.{Labelling, AreLabels}
 use Rattle.nav_types.proofs.CellOrder.{IsBefore-asym, IsBefore-cases}
 use Rattle.nav_types.proofs.Walking.{JoinedStraight-refl, JoinedStraight-sym, JoinedStraight-trans}
 use Rattle.nav_types.proofs.Items.{Contains-from_slice_get}
-use Rattle.nav_types.proofs.FirstCells.{HasNumber-unique, HasNumber-same, HasNumber-together}
+use Rattle.nav_types.proofs.FirstCells.{HasNumber-same, HasNumber-together}
 use Rattle.chunk_regions.proofs.LabelLemmas.{in_rect, AreLabels-placed, AreLabels-at_most}
 use Rattle.region_edges.specs.Edges.{PassesInside}
 use Rattle.reach_sets.specs.declared.regions.RegionId.{RegionId}
@@ -25,7 +25,8 @@ use Rattle.reach_sets.proofs.RowLemmas.{same_region}
 use Rattle.grid_versions.specs.Chunks.{chunk_count, chunk_place}
 use Rattle.grid_versions.specs.inner.ChunkLists.{chunk_numbered}
 use Rattle.grid_versions.specs.inner.Tables.{Tables, AreTables, region_counts, region_in, number_in}
-use Rattle.grid_versions.proofs.ChunkLemmas.{place_below, numbered-place, place-numbered, one_place, chunk_inside, lies_in, passes_own, item_at}
+use Rattle.nav_types.proofs.Regions.{lies_in, one_region}
+use Rattle.grid_versions.proofs.ChunkLemmas.{place_below, numbered-place, place-numbered, one_place, chunk_inside, passes_own, item_at}
 
 -- the number of regions of a chunk with labels
 pub count_at : (tables : Tables) (place : ℕ) (labels : Labelling) → slice_get tables.labels place ≡ Some labels
@@ -34,12 +35,6 @@ count_at tables place labels at =
     let count = λ (one : Labelling). length one.firsts in
     get_or_from_slice_get (region_counts tables) place (length labels.firsts) 0
     (slice_get-map count tables.labels place ∙ ap (λ o. option_map count o) at)
-
--- a cell has one region number at most
-pub one_number : (passes : Cell → Bool) (chunk : Chunk) (cell : Cell) (m n : ℕ) → HasRegion passes chunk cell m → HasRegion passes chunk cell n → m ≡ n
-one_number passes chunk =
-    let P = passes_in passes chunk in
-    HasNumber-unique P (InOneRegion passes chunk) IsBefore (JoinedStraight-sym P) (JoinedStraight-trans P) IsBefore-asym IsBefore-cases
 
 -- what the labels of a cell's chunk say of the cell
 pub record HasPlace (passes : Cell → Bool) (size : Size) (tables : Tables) (cell : Cell) : Type 0 where
@@ -184,7 +179,7 @@ module _ (passes : Cell → Bool) (size : Size) (tables : Tables) (inside : Pass
       } in
       let by_tables : HasRegion passes chunk cell (region_in size tables cell).region =
       subst (λ (c : Chunk). HasRegion passes c cell (region_in size tables cell).region) lies.in_chunk (has_region passes size tables are cell (inside cell lies.passable)) in
-      let value = one_number passes chunk cell (region_in size tables cell).region ((id.region - 1) + 1) by_tables number in
+      let value = one_region passes chunk cell (region_in size tables cell).region ((id.region - 1) + 1) by_tables number in
       record {
         labels = labels;
         at = item.1;

@@ -20,7 +20,8 @@ use Rattle.grid_versions.specs.inner.Tables.{Tables, AreTables, AreAllEdges, reg
 use Rattle.grid_versions.specs.inner.Tallying.{HasClassTallies, AreTablesOf, Differs, AreMarks, AreMarksOf}
 use Rattle.nav_types.proofs.Items.{IsOnce, same_pair}
 use Rattle.nav_types.proofs.Counting.{Counts-none, Counts-one, Counts-carried, Counts-either, Counts-listed}
-use Rattle.grid_versions.proofs.ChunkLemmas.{place_below, numbered-place, place-numbered, numbered_inside, chunk_inside, lies_in}
+use Rattle.nav_types.proofs.Regions.{lies_in}
+use Rattle.grid_versions.proofs.ChunkLemmas.{place_below, numbered-place, place-numbered, numbered_inside, chunk_inside}
 use Rattle.grid_versions.proofs.AreaLemmas.{area_tally}
 
 -- an ordered list has each item once

@@ -5,8 +5,7 @@ ghost use Rattle.chunk_regions.specs.Labelling.{AreBitsOf};
 ghost use Rattle.class_planes.specs.Planes.{is_passable};
 ghost use Rattle.grid_versions.specs.inner.ChunkLists.{IsChunkInside};
 
-use crate::chunks::cells_of;
-use chunk_regions::ChunkBits;
+use chunk_regions::{ChunkBits, cells_of};
 use class_planes::ClassPlane;
 use nav_types::{Chunk, Class, View};
 

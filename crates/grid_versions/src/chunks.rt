@@ -1,12 +1,9 @@
 ghost use Rattle.std.specs.Prelude.{ℕ, ◌≡◌, ◌+◌, ◌<◌, ◌≤◌, IfSome, IfNone};
-ghost use Rattle.nav_types.specs.Cells.{IsRectInside};
-ghost use Rattle.nav_types.specs.Numbering.{IsPatch};
-ghost use Rattle.chunk_regions.specs.Labelling.{chunk_rect};
 ghost use Rattle.grid_versions.specs.Chunks.{chunk_columns, chunk_rows, chunk_count, chunk_place};
 ghost use Rattle.grid_versions.specs.inner.ChunkLists.{chunk_numbered, neighbour_on, IsChunkInside};
 
 use nav_types::limits::CHUNK_SIDE;
-use nav_types::{Chunk, Rect, Size};
+use nav_types::{Chunk, Size};
 use region_edges::Side;
 
 /// How many columns of chunks a map of this size has, from 1 to 22.
@@ -83,22 +80,5 @@ pub fn step_to(size: Size, side: Side) -> u32
     match side {
         Side::East => 1,
         Side::North => u32::from(columns(size)),
-    }
-}
-
-/// The cells of a chunk in a map of this size.
-pub fn cells_of(size: Size, chunk: Chunk) -> Rect
-    requires { IsChunkInside size chunk }
-    ensures value { result ≡ chunk_rect size chunk }
-    ensures patch { IsPatch result }
-    ensures inside { IsRectInside size result }
-{
-    let i0 = chunk.ci * CHUNK_SIDE;
-    let j0 = chunk.cj * CHUNK_SIDE;
-    Rect {
-        i0,
-        j0,
-        i1: (i0 + 95).min(size.w - 1),
-        j1: (j0 + 95).min(size.h - 1),
     }
 }

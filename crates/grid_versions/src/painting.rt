@@ -16,11 +16,11 @@ ghost use Rattle.grid_versions.specs.inner.Reachers.{blocks_under, HoldUnpainted
 use crate::chunk_cells::ChunkCells;
 use crate::chunks;
 use crate::maps::MapSpec;
-use crate::parts::common;
 use crate::shared_list::SharedList;
+use chunk_regions::cells_of;
 use clearance_raster::{raster_in, reach_of};
 use nav_types::{NoMemory, Rect};
-use navcell_grid::Patch;
+use navcell_grid::{Patch, common};
 use obstruction_shapes::Obstruction;
 use obstruction_store::{Ids, Store};
 use std::alloc::Global;
@@ -34,7 +34,7 @@ pub fn base_patches(alloc: Global, map: &MapSpec) -> Result<SharedList<Patch>, N
     let count = chunks::count(size);
     let mut all = SharedList::with_capacity(alloc, count as usize)?;
     for place in 0..count {
-        let rect = chunks::cells_of(size, chunks::numbered(size, place));
+        let rect = cells_of(size, chunks::numbered(size, place));
         all.push(alloc, base_patch(alloc, map, rect)?)?;
     }
     Ok(all)
@@ -59,7 +59,7 @@ pub fn painted_patches(
     let mut all = SharedList::with_capacity(alloc, count as usize)?;
     for place in 0..count {
         let under = base.at(place as usize);
-        let rect = chunks::cells_of(size, chunks::numbered(size, place));
+        let rect = cells_of(size, chunks::numbered(size, place));
         let near = reachers.at(place as usize);
         let patch = repainted(alloc, map, shapes, near.as_slice(), under, under, rect)?;
         all.push(alloc, ChunkCells::new(alloc, patch, map.classes().count())?)?;

@@ -1,5 +1,5 @@
 //! Parts of rectangles.
-ghost use Rattle.std.specs.Prelude.{◌↔◌, IsTrue, IfSome, IfNone, IsSomeAnd};
+ghost use Rattle.std.specs.Prelude.{IsTrue, IfSome, IsSomeAnd};
 ghost use Rattle.nav_types.specs.declared.cells.Cell.{Cell};
 ghost use Rattle.nav_types.specs.declared.cells.Rect.{Rect};
 ghost use Rattle.nav_types.specs.Cells.{IsInRect};
@@ -7,25 +7,7 @@ ghost use Rattle.navcell_grid.specs.Patches.{IsPartOf};
 ghost use Rattle.grid_versions.specs.inner.Reaching.{is_in_some};
 
 use nav_types::Rect;
-
-/// The cells that lie in both rectangles. None exactly where there is none.
-pub fn common(a: Rect, b: Rect) -> Option<Rect>
-    ensures part { IfSome result (IsPartOf b) }
-    ensures cells { IfSome result (λ rect. (cell : Cell) → (IsInRect rect cell ↔ (IsInRect a cell × IsInRect b cell))) }
-    ensures none { IfNone result ((cell : Cell) → IsInRect a cell → ¬ IsInRect b cell) }
-{
-    let rect = Rect {
-        i0: a.i0.max(b.i0),
-        j0: a.j0.max(b.j0),
-        i1: a.i1.min(b.i1),
-        j1: a.j1.min(b.j1),
-    };
-    if rect.i0 <= rect.i1 && rect.j0 <= rect.j1 {
-        Some(rect)
-    } else {
-        None
-    }
-}
+use navcell_grid::common;
 
 /// The least rectangle that holds both.
 pub fn hull(a: Rect, b: Rect) -> Rect

@@ -9,14 +9,16 @@ ghost use Rattle.obstruction_store.specs.Standing.{Standing, AllFit};
 ghost use Rattle.grid_versions.specs.Maps.{Map};
 ghost use Rattle.grid_versions.specs.Chunks.{chunk_count};
 ghost use Rattle.grid_versions.specs.inner.ChunkLists.{chunk_numbered};
-ghost use Rattle.grid_versions.specs.inner.Reachers.{HoldChunkReachers, AreReachers, AreReachersBefore, AreReachersSince, IsReached, HoldReached};
+ghost use Rattle.grid_versions.specs.inner.Reachers.{HoldChunkReachers, AreReachers, AreReachersBefore, AreReachersSince, IsReachNoted, HoldReached};
 
 use crate::chunks;
 use crate::maps::MapSpec;
-use crate::parts::{common, dirty_part};
+use crate::parts::dirty_part;
 use crate::shared_list::SharedList;
 use crate::standing_edits::reach_under;
+use chunk_regions::cells_of;
 use nav_types::{NoMemory, Rect, Size};
+use navcell_grid::common;
 use obstruction_store::{Ids, Store};
 use std::alloc::Global;
 use std::sync::Arc;
@@ -36,8 +38,8 @@ fn push_reacher(
     reachers: &mut Vec<Reacher>,
 ) -> Result<(), NoMemory>
     requires { AllFit map.now.size shapes.now }
-    ensures kept { OnOk result ((n : ℕ) (cell : Cell) → IsReached reachers.old.items n cell
-        → IsReached reachers.new.items n cell) }
+    ensures kept { OnOk result ((n : ℕ) (cell : Cell) → IsReachNoted reachers.old.items n cell
+        → IsReachNoted reachers.new.items n cell) }
     ensures reached { OnOk result (HoldReached map.now shapes.now reachers.new.items id) }
 {
     let Some(rect) = reach_under(map, shapes, id) else {
@@ -84,7 +86,7 @@ fn list_reacher(rect: Rect, reacher: Reacher, ids: &mut Ids) -> Result<(), NoMem
 /// Appends the numbers whose cells meet the rectangle, each once.
 fn list_reachers(rect: Rect, reachers: &[Reacher], ids: &mut Ids) -> Result<(), NoMemory>
     ensures kept { OnOk result ((n : ℕ) → Contains ids.old n → Contains ids.new n) }
-    ensures listed { OnOk result ((id : ℕ) (cell : Cell) → IsReached reachers.now id cell
+    ensures listed { OnOk result ((id : ℕ) (cell : Cell) → IsReachNoted reachers.now id cell
         → IsInRect rect cell → Contains ids.new id) }
 {
     for reacher in reachers {
@@ -95,7 +97,7 @@ fn list_reachers(rect: Rect, reachers: &[Reacher], ids: &mut Ids) -> Result<(), 
 
 /// The numbers whose cells meet the rectangle.
 fn reachers_in(alloc: Global, reachers: &[Reacher], rect: Rect) -> Result<Ids, NoMemory>
-    ensures { IfOk result (λ ids. (id : ℕ) (cell : Cell) → IsReached reachers.now id cell
+    ensures { IfOk result (λ ids. (id : ℕ) (cell : Cell) → IsReachNoted reachers.now id cell
         → IsInRect rect cell → Contains ids id) }
 {
     let mut ids = Ids::new(alloc);
@@ -154,7 +156,7 @@ pub fn all_reachers(
     let reachers = reachers_of(alloc, map, shapes, ids.as_slice())?;
     let mut all = SharedList::with_capacity(alloc, count as usize)?;
     for place in 0..count {
-        let rect = chunks::cells_of(size, chunks::numbered(size, place));
+        let rect = cells_of(size, chunks::numbered(size, place));
         let made = reachers_in(alloc, &reachers, rect)?;
         all.push(alloc, made)?;
     }
@@ -178,7 +180,7 @@ fn reachers_at(
         → AreReachersSince map now before.now reaches.now ids.now changed.now
         → HoldChunkReachers map now (chunk_numbered size place) (arc_value made)) }
 {
-    let rect = chunks::cells_of(size, chunks::numbered(size, place));
+    let rect = cells_of(size, chunks::numbered(size, place));
     let Some(_) = dirty_part(reaches, rect) else {
         let shared = before.shared(place as usize)?;
         return Ok(shared);

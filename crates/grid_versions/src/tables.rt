@@ -6,7 +6,7 @@ ghost use Rattle.reach_sets.specs.AreaNumbers.{area_of};
 ghost use Rattle.grid_versions.specs.Chunks.{chunk_count};
 ghost use Rattle.grid_versions.specs.inner.Building.{AreSides};
 ghost use Rattle.grid_versions.specs.inner.Changing.{AreChanges};
-ghost use Rattle.grid_versions.specs.inner.Tables.{AreTables, AreOfMap, counts_of, region_counts, region_in};
+ghost use Rattle.grid_versions.specs.inner.Tables.{AreTables, AreOfMap, label_counts, region_counts, region_in};
 ghost use Rattle.grid_versions.specs.inner.Tables.{region_total, edge_total};
 
 mod areas;
@@ -135,7 +135,7 @@ impl ClassTables {
         east: SharedList<Edges>,
         north: SharedList<Edges>,
     ) -> Result<ClassTables, NoMemory>
-        requires counts { counts_of labels ≡ region_counts self.now }
+        requires counts { label_counts labels ≡ region_counts self.now }
         requires east { east ≡ self.now.east }
         requires north { north ≡ self.now.north }
         ensures { IfOk result (λ tables. tables

@@ -8,7 +8,7 @@ use Rattle.nav_types.specs.declared.directions.DirSet.{DirSet}
 use Rattle.nav_types.specs.Directions.{is_straight, row_part, column_part}
 use Rattle.nav_types.specs.DirSets.{holds}
 use Rattle.nav_types.specs.Beside.{IsFreeBeside, IsLegalFrom}
-use Rattle.nav_types.proofs.Walking.{straight_step, legal_is_free}
+use Rattle.nav_types.proofs.Walking.{straight_step, legal_is_free, own_parts, ways_straight}
 use Rattle.jump_scan.specs.declared.turns.Side.{Side}
 use Rattle.jump_scan.specs.declared.turns.Side.TheVariants.{Left, Right}
 use Rattle.jump_scan.specs.Turns.{ahead_to, aside_to, IsTurn}
@@ -20,36 +20,6 @@ use Rattle.jump_scan.proofs.Turning.{aside_straight, free_aside}
 -- the two straight parts of the direction are free
 abbrev pub AreParts : (Cell → Bool) → Cell → Dir → Type 0
 AreParts passes cell dir = IsFreeBeside passes cell (row_part dir) × IsFreeBeside passes cell (column_part dir)
-
-row_straight : (dir : Dir) → is_straight (row_part dir) ≡ true
-row_straight N = refl
-row_straight E = refl
-row_straight S = refl
-row_straight W = refl
-row_straight NE = refl
-row_straight SE = refl
-row_straight SW = refl
-row_straight NW = refl
-
-column_straight : (dir : Dir) → is_straight (column_part dir) ≡ true
-column_straight N = refl
-column_straight E = refl
-column_straight S = refl
-column_straight W = refl
-column_straight NE = refl
-column_straight SE = refl
-column_straight SW = refl
-column_straight NW = refl
-
-own_parts : (dir : Dir) → is_straight dir ≡ true → (row_part dir ≡ dir) × (column_part dir ≡ dir)
-own_parts N straight = (refl, refl)
-own_parts E straight = (refl, refl)
-own_parts S straight = (refl, refl)
-own_parts W straight = (refl, refl)
-own_parts NE straight = absurd (false≢true straight)
-own_parts SE straight = absurd (false≢true straight)
-own_parts SW straight = absurd (false≢true straight)
-own_parts NW straight = absurd (false≢true straight)
 
 turn_parts : (side : Side) (dir : Dir) → is_straight dir ≡ true
     → ((row_part (ahead_to side dir) ≡ dir) × (column_part (ahead_to side dir) ≡ aside_to side dir))
@@ -106,8 +76,8 @@ kept_diagonal passes cell arrived row column is_row is_column is_onward none alo
     empty with_row with_column with_onward dir =
     let Legal = λ (way : Dir). IsLegalFrom passes cell way in
     let Free = λ (way : Dir). IsFreeBeside passes cell way in
-    let straight_row : is_straight row ≡ true = ap is_straight at_row ∙ row_straight arrived in
-    let straight_column : is_straight column ≡ true = ap is_straight at_column ∙ column_straight arrived in (
+    let straight_row : is_straight row ≡ true = ap is_straight at_row ∙ (ways_straight arrived).0 in
+    let straight_column : is_straight column ≡ true = ap is_straight at_column ∙ (ways_straight arrived).1 in (
       (λ has. elim ((with_onward dir).0 has) [
         | inl both ↦ elim ((with_column dir).0 both) [
           | inl first ↦ elim ((with_row dir).0 first) [

@@ -11,27 +11,21 @@ use Rattle.nav_types.specs.Counting.{Counts}
 use Rattle.nav_types.specs.Frames.{IsFrame}
 use Rattle.nav_types.specs.Walks.{IsWalk, walk_cost, CanReach}
 use Rattle.walks.specs.Chosen.{IsChosen, IsAnswer}
-use Rattle.walks.specs.Waypoints.{IsInGrid, waypoints}
-use Rattle.walks.proofs.Tracing.{chosen_walk, chosen_cost}
+use Rattle.walks.specs.Waypoints.{waypoints}
+use Rattle.walks.proofs.Tracing.{chosen_walk, chosen_cost, in_grid}
 use Rattle.jump_search.specs.declared.nodes.Node.{Node}
 use Rattle.jump_search.specs.declared.searching.Best.{Best}
 use Rattle.jump_search.specs.JumpStates.{IsOpened}
 use Rattle.jump_search.specs.inner.Searched.{IsSearched}
 use Rattle.jump_search.specs.inner.Underway.{opened_count, IsHalted, IsExhausted, HasEnded}
-use Rattle.jump_search.specs.inner.Traced.{IsNear, IsTraceable}
+use Rattle.jump_search.specs.inner.Traced.{HitsLieIn, IsTraceable}
 use Rattle.jump_search.proofs.Bounding.{IsClosed}
 use Rattle.jump_search.proofs.Ending.{near_frame, least_hit, some_hit, nearest_end, first_end, end_distance}
 use Rattle.jump_search.proofs.Opening.{opened_number, few_opened}
 
--- cells of a map lie in the largest map
-in_grid : (size : Size) (cell : Cell) → IsInside size cell → IsInGrid cell
-in_grid size cell inside =
-    let wide = size.wide in let high = size.high in
-    (omega (arith, inside.column, wide.few), omega (arith, inside.row, high.few))
-
 pub traceable : (all : Bool) (passes hit : Cell → Bool) (start : Cell) (size : Size) (rect : Rect) (end : Cell)
     (bound : ℕ) (nodes : List Node)
-    → ((cell : Cell) → IsTrue (passes cell) → IsInside size cell) → IsTrue (passes start) → IsNear passes hit rect
+    → ((cell : Cell) → IsTrue (passes cell) → IsInside size cell) → IsTrue (passes start) → HitsLieIn passes hit rect
     → IsSearched all passes hit start rect end bound nodes → IsTraceable all passes hit start rect end bound nodes
 traceable all passes hit start size rect end bound nodes within passing near searched =
     record {
@@ -45,7 +39,7 @@ traceable all passes hit start size rect end bound nodes within passing near sea
 -- a search with a hit cell to reach doesn't end without one
 pub not_exhausted : (all : Bool) (passes hit : Cell → Bool) (start : Cell) (rect : Rect) (nodes : List Node)
     → IsTrue (passes start)
-    → IsNear passes hit rect → CanReach passes start hit → IsExhausted all passes hit start nodes → ⊥
+    → HitsLieIn passes hit rect → CanReach passes start hit → IsExhausted all passes hit start nodes → ⊥
 not_exhausted all passes hit start rect nodes passing near reach ended =
     some_hit all passes hit start rect nodes
     (λ bound. record {
@@ -86,7 +80,7 @@ counts_of all passes hit start rect end bound nodes searched is opened count =
 
 -- estimates don't come past the cost of an answer
 halted_below : (all : Bool) (passes hit : Cell → Bool) (start : Cell) (rect : Rect) (floor : ℕ) (nodes : List Node)
-    → IsHalted all passes hit start rect floor nodes → IsTrue (passes start) → IsNear passes hit rect
+    → IsHalted all passes hit start rect floor nodes → IsTrue (passes start) → HitsLieIn passes hit rect
     → (target : Cell) (dirs : List Dir) → IsTrue (hit target) → IsWalk passes start dirs target → floor ≤ walk_cost dirs
 halted_below all passes hit start rect floor nodes halted passing near target dirs is_hit walk =
     elim (cases_lt (walk_cost dirs) floor) [
@@ -108,7 +102,7 @@ halted_below all passes hit start rect floor nodes halted passing near target di
     ]
 
 pub halted_most : (all : Bool) (passes hit : Cell → Bool) (start : Cell) (rect : Rect) (floor : ℕ) (nodes : List Node)
-    → IsHalted all passes hit start rect floor nodes → IsTrue (passes start) → IsNear passes hit rect
+    → IsHalted all passes hit start rect floor nodes → IsTrue (passes start) → HitsLieIn passes hit rect
     → (end : Cell) (cost : ℕ) (points : List Cell) → IsAnswer passes start hit end cost points → (n : ℕ)
     → Counts (IsOpened passes hit start rect cost) n → opened_count nodes ≤ n
 halted_most all passes hit start rect floor nodes halted passing near end cost points answer n counts =

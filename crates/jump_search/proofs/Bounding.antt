@@ -2,7 +2,7 @@
 use Rattle.std.proofs.Common.{ℕ, ◌≡◌, ◌+◌, ◌<◌, ◌≤◌, ◌⊎◌, Bool, true, false, IsTrue, IsFalse, List, [], ◌∷◌, Option}
 use Rattle.std.proofs.Common.{Some, inl, inr, refl, sym, subst, ap, ◌∙◌, arith}
 use Rattle.std.specs.Prelude.{slice_get}
-use Rattle.std.proofs.lemmas.Bool.{false≢true}
+use Rattle.std.proofs.lemmas.Bool.{false≢true, cases_Bool}
 use Rattle.nav_types.specs.declared.cells.Cell.{Cell}
 use Rattle.nav_types.specs.declared.cells.Rect.{Rect}
 use Rattle.nav_types.specs.declared.directions.Dir.{Dir}
@@ -41,16 +41,12 @@ pub record HasOpened (nodes : List Node) (state : JumpState) (cost : ℕ) : Type
   pub cheap : node.cost ≤ cost
   pub opened : IsTrue node.opened
 
-pub true_or_false : (answer : Bool) → IsTrue answer ⊎ IsFalse answer
-true_or_false true = inl refl
-true_or_false false = inr refl
-
 -- a node within the bound that is not dearer than another of its cell is opened
 pub opened_within : (all : Bool) (passes hit : Cell → Bool) (start : Cell) (rect : Rect) (bound : ℕ) (nodes : List Node)
     → IsClosed all passes hit start rect bound nodes → (place : ℕ) (node : Node) → slice_get nodes place ≡ Some node
     → node.cost + octile_to rect node.state.cell ≤ bound → (IsFalse all → IsDearer nodes node → ⊥) → IsTrue node.opened
 opened_within all passes hit start rect bound nodes ended place node known near cheapest =
-    elim (true_or_false node.opened) [
+    elim (cases_Bool node.opened) [
       | inl is ↦ is
       | inr not ↦ elim (ended.beyond place node known not) [
         | inl far ↦ absurd (omega (arith, far, near))

@@ -17,7 +17,7 @@ use Rattle.jump_search.specs.declared.states.JumpState.{JumpState}
 use Rattle.jump_search.specs.JumpStates.{octile_to, jumps_cost}
 use Rattle.jump_search.specs.inner.Following.{Follows}
 use Rattle.jump_search.specs.inner.Searched.{IsSearched}
-use Rattle.jump_search.specs.inner.Traced.{IsNear}
+use Rattle.jump_search.specs.inner.Traced.{HitsLieIn}
 use Rattle.jump_search.proofs.Framing.{framed_none}
 use Rattle.jump_search.proofs.Measuring.{Walked, jumps_walk}
 use Rattle.jump_search.proofs.Stable.{some_chosen}
@@ -36,7 +36,7 @@ goes_by_states passes hit start passing cell is_hit joined none =
 pub near_frame : (passes hit framed : Cell → Bool) (size : Size) (rect : Rect)
     → ((cell : Cell) → IsTrue (passes cell) → IsInside size cell)
     → ((cell : Cell) → IsInside size cell → IsTrue (hit cell) → IsTrue (framed cell)) → IsFrame framed size rect
-    → IsNear passes hit rect
+    → HitsLieIn passes hit rect
 near_frame passes hit framed size rect within hits_framed frame cell passing is_hit =
     let inside = within cell passing in
     framed_none framed size rect cell frame inside (hits_framed cell inside is_hit)
@@ -52,7 +52,7 @@ follows_least passes hit start next (before ∷ rest) state follows dirs walk = 
 
 -- a hit cell within the bound has an opened node that costs no more than any walk to it
 pub least_hit : (all : Bool) (passes hit : Cell → Bool) (start : Cell) (rect : Rect) (bound : ℕ) (nodes : List Node)
-    → IsClosed all passes hit start rect bound nodes → IsTrue (passes start) → IsNear passes hit rect
+    → IsClosed all passes hit start rect bound nodes → IsTrue (passes start) → HitsLieIn passes hit rect
     → (target : Cell) (dirs : List Dir) → IsTrue (hit target) → IsWalk passes start dirs target → walk_cost dirs ≤ bound
     → ((place : ℕ) (node : Node) → slice_get nodes place ≡ Some node → IsTrue node.opened → node.state.cell ≡ target
     → node.cost ≤ walk_cost dirs → ⊥) → ⊥
@@ -72,7 +72,7 @@ least_hit all passes hit start rect bound nodes ended passing near target dirs i
 
 -- where no opened node is hit there is none to reach
 pub some_hit : (all : Bool) (passes hit : Cell → Bool) (start : Cell) (rect : Rect) (nodes : List Node)
-    → ((bound : ℕ) → IsClosed all passes hit start rect bound nodes) → IsTrue (passes start) → IsNear passes hit rect
+    → ((bound : ℕ) → IsClosed all passes hit start rect bound nodes) → IsTrue (passes start) → HitsLieIn passes hit rect
     → CanReach passes start hit
     → ((place : ℕ) (node : Node) → slice_get nodes place ≡ Some node → IsTrue node.opened → IsTrue (hit node.state.cell)
     → ⊥) → ⊥
@@ -88,7 +88,7 @@ some_hit all passes hit start rect nodes ended passing near reach none =
 
 pub nearest_end : (all : Bool) (passes hit : Cell → Bool) (start : Cell) (rect : Rect) (end : Cell) (bound : ℕ)
     (nodes : List Node)
-    → IsSearched all passes hit start rect end bound nodes → IsTrue (passes start) → IsNear passes hit rect
+    → IsSearched all passes hit start rect end bound nodes → IsTrue (passes start) → HitsLieIn passes hit rect
     → (target : Cell) (dirs : List Dir) → IsTrue (hit target) → IsWalk passes start dirs target → bound ≤ walk_cost dirs
 nearest_end all passes hit start rect end bound nodes searched passing near target dirs is_hit walk =
     elim (cases_lt (walk_cost dirs) bound) [
@@ -123,7 +123,7 @@ not_after_cases a b never = elim (IsBefore-cases a b) [
 
 pub first_end : (all : Bool) (passes hit : Cell → Bool) (start : Cell) (rect : Rect) (end : Cell) (bound : ℕ)
     (nodes : List Node)
-    → IsSearched all passes hit start rect end bound nodes → IsTrue (passes start) → IsNear passes hit rect
+    → IsSearched all passes hit start rect end bound nodes → IsTrue (passes start) → HitsLieIn passes hit rect
     → (target : Cell) → IsTrue (hit target) → IsDistance passes start target bound → IsNotAfter end target
 first_end all passes hit start rect end bound nodes searched passing near target is_hit distance =
     let dirs = distance.walk.0 in
@@ -141,7 +141,7 @@ first_end all passes hit start rect end bound nodes searched passing near target
 
 pub end_distance : (all : Bool) (passes hit : Cell → Bool) (start : Cell) (rect : Rect) (end : Cell) (bound : ℕ)
     (nodes : List Node)
-    → IsSearched all passes hit start rect end bound nodes → IsTrue (passes start) → IsNear passes hit rect
+    → IsSearched all passes hit start rect end bound nodes → IsTrue (passes start) → HitsLieIn passes hit rect
     → IsDistance passes start end bound
 end_distance all passes hit start rect end bound nodes searched passing near =
     let ends = searched.ends.1.1 in

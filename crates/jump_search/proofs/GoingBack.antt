@@ -7,6 +7,7 @@ use Rattle.std.proofs.Math.Nat.{mul-le-mul_right}
 use Rattle.std.proofs.lemmas.Bool.{cases_eq}
 use Rattle.std.proofs.lemmas.List.{append-nil, reverse-append, reverse-reverse, replicate-append-replicate}
 use Rattle.std.proofs.lemmas.List.Sums.{sum_by-append}
+use Rattle.std.proofs.lemmas.Option.{same_Some, none-some}
 use Rattle.nav_types.specs.declared.cells.Cell.{Cell}
 use Rattle.nav_types.specs.declared.cells.Rect.{Rect}
 use Rattle.nav_types.specs.declared.directions.Dir.{Dir}
@@ -21,7 +22,7 @@ use Rattle.jump_search.specs.declared.states.JumpState.{JumpState}
 use Rattle.jump_search.specs.JumpStates.{IsJump, octile_between, octile_to, start_state, AreJumps, jumps_cost}
 use Rattle.jump_search.specs.inner.Following.{IsFollowed, Follows}
 use Rattle.jump_search.specs.inner.Searched.{IsKeptRun, AreMet, IsSearched}
-use Rattle.jump_search.specs.inner.Traced.{HasRun, IsExact, IsTraced, IsNear, IsTraceable}
+use Rattle.jump_search.specs.inner.Traced.{HasRun, IsExact, IsTraced, HitsLieIn, IsTraceable}
 use Rattle.jump_search.specs.inner.Traced.{Moves}
 use Rattle.jump_search.proofs.Measuring.{run_moves, octile_to_through, octile_run, run_cost}
 use Rattle.jump_search.proofs.Measuring.{jumped, Walked, jumps_walk}
@@ -54,14 +55,8 @@ record ByJump (passes hit : Cell → Bool) (nodes : List Node) (node : Node) (di
   some : 0 < node.run
   sums : node.cost ≡ parent.cost + node.run * step_cost dir
 
-some_same : (d e : Dir) → Some d ≡ Some e → d ≡ e
-some_same d e p = cc
-
-none_some : (way : Option Dir) (d : Dir) → way ≡ None → way ≡ Some d → ⊥
-none_some way d p q = cc
-
 not_start : (start : Cell) (state : JumpState) (d : Dir) → state ≡ start_state start → state.arrived ≡ Some d → ⊥
-not_start start state d is arrived = none_some state.arrived d (ap (λ (s : JumpState). s.arrived) is) arrived
+not_start start state d is arrived = none-some d (sym (ap (λ (s : JumpState). s.arrived) is) ∙ arrived)
 
 by_jump : (passes hit : Cell → Bool) (start : Cell) (nodes : List Node) → AreMet passes hit start nodes
     → (place : ℕ) (node : Node)
@@ -76,11 +71,11 @@ by_jump passes hit start nodes met place node known dir arrived =
     ] in
     let parent = met.parents place node known later in
     let last = parent.last in
-    let way : last.0 ≡ dir = some_same last.0 dir (sym last.1.0 ∙ arrived) in
+    let way : last.0 ≡ dir = same_Some last.0 dir (sym last.1.0 ∙ arrived) in
     let steps : IsRun passes dir node.run parent.parent.state.cell node.state.cell =
     subst (λ (d : Dir). IsRun passes d node.run parent.parent.state.cell node.state.cell) way last.1.1 in
     let jump = jumped passes hit parent.parent.state node.state parent.jump in
-    let gone : jump.dir ≡ dir = some_same jump.dir dir (sym jump.arrived ∙ arrived) in
+    let gone : jump.dir ≡ dir = same_Some jump.dir dir (sym jump.arrived ∙ arrived) in
     let run : IsRun passes dir jump.count parent.parent.state.cell node.state.cell =
     subst (λ (d : Dir). IsRun passes d jump.count parent.parent.state.cell node.state.cell) gone jump.run in
     let all = one_count passes dir jump.count node.run parent.parent.state.cell node.state.cell run steps in
@@ -259,7 +254,7 @@ came_by : (passes hit : Cell → Bool) (start : Cell) (next : Option Dir) (befor
 came_by passes hit start next before rest state followed distance follows cell is =
     let dir = followed.dir in
     let jump = jumped passes hit before state followed.jump in
-    let same : jump.dir ≡ dir = some_same jump.dir dir (sym jump.arrived ∙ followed.arrived) in
+    let same : jump.dir ≡ dir = same_Some jump.dir dir (sym jump.arrived ∙ followed.arrived) in
     let steps : IsRun passes dir jump.count before.cell state.cell =
     subst (λ (d : Dir). IsRun passes d jump.count before.cell state.cell) same jump.run in
     let cost = octile_run passes dir jump.count before.cell state.cell steps in
@@ -416,7 +411,7 @@ reverse-run dir (suc run) =
 
 pub traced_at_end : (all : Bool) (passes hit : Cell → Bool) (start : Cell) (rect : Rect) (end : Cell) (bound : ℕ)
     (nodes : List Node)
-    → IsSearched all passes hit start rect end bound nodes → IsTrue (passes start) → IsNear passes hit rect
+    → IsSearched all passes hit start rect end bound nodes → IsTrue (passes start) → HitsLieIn passes hit rect
     → IsTraced passes hit start nodes end bound end bound None []
 traced_at_end all passes hit start rect end bound nodes searched passing near =
     let ends = searched.ends.1.1 in

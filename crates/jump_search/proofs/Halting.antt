@@ -11,7 +11,7 @@ use Rattle.open_heap.specs.Queue.{Queue}
 use Rattle.jump_search.specs.declared.nodes.Node.{Node}
 use Rattle.jump_search.specs.declared.searching.Best.{Best}
 use Rattle.jump_search.specs.inner.Searched.{IsDearer}
-use Rattle.jump_search.specs.inner.Underway.{estimate_of, IsQueued, IsUnderway, IsBest, IsPast, IsHalted, HasEnded}
+use Rattle.jump_search.specs.inner.Underway.{estimate_of, IsQueued, IsUnderway, IsBestSoFar, IsPast, IsHalted, HasEnded}
 use Rattle.jump_search.proofs.Listing.{one_item}
 use Rattle.jump_search.proofs.Queueing.{get_cases}
 
@@ -46,7 +46,7 @@ waits_or_skipped all rect floor nodes queue queued number node found not = elim 
       inl (some.0, (some.1, (subst (λ (n : Node). some.0.estimate ≡ estimate_of rect n) is has.1.1.1.0, has.1.1.1.1.1)))
 ]
 
-none_passed : (hit : Cell → Bool) (nodes : List Node) (floor : ℕ) (best : Option Best) → IsBest hit nodes floor best
+none_passed : (hit : Cell → Bool) (nodes : List Node) (floor : ℕ) (best : Option Best) → IsBestSoFar hit nodes floor best
     → (number : ℕ) (node : Node) → slice_get nodes number ≡ Some node → IsTrue node.opened
     → IsTrue (hit node.state.cell) → floor ≤ node.cost
 none_passed hit nodes floor None none number node found opened is = absurd (none number node found opened is)

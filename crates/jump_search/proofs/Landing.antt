@@ -18,7 +18,7 @@ use Rattle.jump_search.specs.declared.nodes.Node.{Node}
 use Rattle.jump_search.specs.declared.states.JumpState.{JumpState}
 use Rattle.jump_search.specs.JumpStates.{IsStopOf, IsJump, octile_between, octile_to}
 use Rattle.jump_search.specs.inner.Numbered.{HasCheaper}
-use Rattle.jump_search.specs.inner.Searched.{IsLastRun, HasParent, IsNoted}
+use Rattle.jump_search.specs.inner.Searched.{IsLastRun, HasOpenedParent, IsNoted}
 use Rattle.jump_search.specs.inner.Underway.{steps_over, estimate_of, IsOpenNode, IsFollowedAlong}
 use Rattle.jump_search.specs.inner.Underway.{IsFollowable, Relaxes, Notes, Follows}
 use Rattle.jump_search.specs.inner.Traced.{Moves}
@@ -103,7 +103,7 @@ pub parent_landed : (passes hit : Cell → Bool) (nodes : List Node) (from : Jum
     (stop : Cell) (node : Node)
     → IsSuccessor passes from.cell from.arrived dir → IsStopOf passes hit dir from.cell stop
     → HasLanded from cost dir stop node
-    → IsOpenNode nodes from cost → HasParent passes hit nodes node
+    → IsOpenNode nodes from cost → HasOpenedParent passes hit nodes node
 parent_landed passes hit nodes from cost dir stop node successor is landed has =
     let jump = jump_landed passes hit from cost dir stop node successor is landed in
     let run = subst (λ (c : Cell). IsRun passes dir (steps_over from.cell c) from.cell c) (sym landed.cell)

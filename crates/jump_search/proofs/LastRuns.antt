@@ -2,15 +2,16 @@
 -- followed.
 use Rattle.std.proofs.Common.{ℕ, zero, suc, ◌≡◌, ◌+◌, ◌-◌, ◌*◌, ◌<◌, ◌⊎◌, Bool, true, false, List}
 use Rattle.std.proofs.Common.{[], ◌∷◌, ◌++◌, Option, Some, None, inl, inr, refl, sym, subst, ap, ◌∙◌, arith, replicate}
-use Rattle.std.proofs.lemmas.Bool.{cases_lt, false≢true}
+use Rattle.std.proofs.lemmas.Bool.{cases_lt, false≢true, cases_Bool}
 use Rattle.std.proofs.lemmas.List.Sums.{sum_by-append}
+use Rattle.std.proofs.lemmas.Option.{same_Some}
 use Rattle.nav_types.specs.declared.cells.Cell.{Cell}
 use Rattle.nav_types.specs.declared.directions.Dir.{Dir}
 use Rattle.nav_types.specs.declared.directions.Dir.TheVariants.{N, E, S, W, NE, SE, SW, NW}
 use Rattle.nav_types.specs.Directions.{is_straight, step_cost}
 use Rattle.nav_types.specs.Walks.{Step, IsDistance}
 use Rattle.nav_types.proofs.CellOrder.{same_cell}
-use Rattle.nav_types.proofs.Walking.{IsWalk-append, IsDistance-unique, ways_straight}
+use Rattle.nav_types.proofs.Walking.{IsWalk-append, IsDistance-unique, ways_straight, step_cost_some}
 use Rattle.walks.specs.Chosen.{Enters, preference, IsFirstIn, CanGoStraight, IsPicked, IsChosenBack}
 use Rattle.walks.proofs.Tracing.{first_within, picked_within}
 use Rattle.jump_scan.specs.Stops.{IsRun, IsStraightStop, IsDiagonalStop}
@@ -19,9 +20,8 @@ use Rattle.jump_search.specs.declared.states.JumpState.{JumpState}
 use Rattle.jump_search.specs.JumpStates.{IsStopOf, IsJump}
 use Rattle.jump_search.specs.inner.Following.{Follows}
 use Rattle.jump_search.specs.inner.Searched.{IsKeptRun}
-use Rattle.jump_search.proofs.Bounding.{true_or_false}
 use Rattle.jump_search.specs.inner.Traced.{Moves}
-use Rattle.jump_search.proofs.Measuring.{run_moves, octile_run, run_cost, step_cost_some, Walked, walked_run}
+use Rattle.jump_search.proofs.Measuring.{run_moves, octile_run, run_cost, Walked, walked_run}
 
 -- steps of a run
 
@@ -163,14 +163,11 @@ can_widen : (Exact Within : Dir → Type 0) (next : Option Dir) (dir : Dir) → 
 can_widen Exact Within None dir exact same can = can
 can_widen Exact Within (Some ahead) dir exact same can = let e : dir ≡ ahead = cc in (can.0, subst Exact e exact)
 
-some_same : (d e : Dir) → Some d ≡ Some e → d ≡ e
-some_same d e p = cc
-
 -- within fewer directions the same one is picked, where it is among them
 pub one_pick : (Exact Within : Dir → Type 0) (next : Option Dir) (picked dir : Dir)
     → ((other : Dir) → Exact other → Within other) → Exact dir
     → IsPicked Exact next picked → IsPicked Within next dir → picked ≡ dir
-one_pick Exact Within next picked dir inside exact (inl p) (inl q) = some_same picked dir (sym p.1 ∙ q.1)
+one_pick Exact Within next picked dir inside exact (inl p) (inl q) = same_Some picked dir (sym p.1 ∙ q.1)
 one_pick Exact Within next picked dir inside exact (inl p) (inr q) =
     absurd (q.0 (can_narrow Exact Within next inside p.0))
 one_pick Exact Within next picked dir inside exact (inr p) (inl q) =
@@ -206,7 +203,7 @@ pub straight_stop : (passes hit : Cell → Bool) (from to : JumpState) (dir : Di
     → to.arrived ≡ Some dir
     → is_straight dir ≡ true → IsStraightStop passes hit dir from.cell to.cell
 straight_stop passes hit from to dir jump arrived straight =
-    let same : jump.dir ≡ dir = some_same jump.dir dir (sym jump.arrived ∙ arrived) in
+    let same : jump.dir ≡ dir = same_Some jump.dir dir (sym jump.arrived ∙ arrived) in
     elim (subst (λ (d : Dir). IsStopOf passes hit d from.cell to.cell) same jump.stop) [
       | inl is ↦ is.1
       | inr other ↦ absurd (false≢true (sym other.0 ∙ straight))
@@ -216,7 +213,7 @@ pub diagonal_stop : (passes hit : Cell → Bool) (from to : JumpState) (dir : Di
     → to.arrived ≡ Some dir
     → is_straight dir ≡ false → IsDiagonalStop passes hit dir from.cell to.cell
 diagonal_stop passes hit from to dir jump arrived diagonal =
-    let same : jump.dir ≡ dir = some_same jump.dir dir (sym jump.arrived ∙ arrived) in
+    let same : jump.dir ≡ dir = same_Some jump.dir dir (sym jump.arrived ∙ arrived) in
     elim (subst (λ (d : Dir). IsStopOf passes hit d from.cell to.cell) same jump.stop) [
       | inl other ↦ absurd (false≢true (sym diagonal ∙ other.0))
       | inr is ↦ is.1
@@ -293,11 +290,11 @@ diagonal_halts : (passes hit : Cell → Bool) (start : Cell) (dir : Dir) (to kep
     → 0 < run → ⊥
 diagonal_halts passes hit start dir to kept before run count way grand into arrived enters first diagonal jump by longer
     too steps through less some =
-    elim (true_or_false (is_straight way)) [
+    elim (cases_Bool (is_straight way)) [
       | inl straight ↦ false≢true (sym diagonal
           ∙ straight_first (Enters passes start kept.cell) dir way straight enters first)
       | inr slant ↦
-          let taken : jump.dir ≡ dir = some_same jump.dir dir (sym jump.arrived ∙ by) in
+          let taken : jump.dir ≡ dir = same_Some jump.dir dir (sym jump.arrived ∙ by) in
           let P = λ (d : Dir) (from : Option Dir). IsSuccessor passes kept.cell from d in
           let successor : IsSuccessor passes kept.cell (Some way) dir =
           subst (λ (from : Option Dir). P dir from) arrived

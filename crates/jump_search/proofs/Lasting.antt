@@ -11,7 +11,7 @@ use Rattle.jump_search.specs.declared.nodes.Node.{Node}
 use Rattle.jump_search.specs.declared.states.JumpState.{JumpState}
 use Rattle.jump_search.specs.JumpStates.{IsJump, octile_between}
 use Rattle.jump_search.specs.inner.Numbered.{HasState, LacksState, HasCheaper}
-use Rattle.jump_search.specs.inner.Searched.{IsLastRun, IsKeptRun, IsReached, HasParent, IsRelaxed, IsNoted, IsDearer, AreMet}
+use Rattle.jump_search.specs.inner.Searched.{IsLastRun, IsKeptRun, IsMetByJumps, HasOpenedParent, IsRelaxed, IsNoted, IsDearer, AreMet}
 use Rattle.jump_search.specs.inner.Searched.{IsFollowedFrom}
 use Rattle.jump_search.specs.inner.Underway.{IsLaterNode, AreLater, IsOpenNode, IsFollowedAlong, Gains}
 
@@ -150,8 +150,8 @@ dearer_later old new a b later same most dearer =
     )
 
 pub parent_later : (passes hit : Cell → Bool) (old new : List Node) (node : Node) → AreLater old new
-    → HasParent passes hit old node
-    → HasParent passes hit new node
+    → HasOpenedParent passes hit old node
+    → HasOpenedParent passes hit new node
 parent_later passes hit old new node later has =
     let next = later.each has.place has.parent has.known in
     let parent = next.0 in
@@ -170,7 +170,7 @@ parent_later passes hit old new node later has =
 
 pub parent_as : (passes hit : Cell → Bool) (nodes : List Node) (a b : Node) → b.state ≡ a.state → b.cost ≡ a.cost
     → b.run ≡ a.run
-    → HasParent passes hit nodes a → HasParent passes hit nodes b
+    → HasOpenedParent passes hit nodes a → HasOpenedParent passes hit nodes b
 parent_as passes hit nodes a b same cost run has = record {
   place = has.place;
   parent = has.parent;
@@ -184,15 +184,15 @@ parent_as passes hit nodes a b same cost run has = record {
 }
 
 pub reached_as : (passes hit : Cell → Bool) (start : Cell) (a b : Node) → b.state ≡ a.state → b.cost ≡ a.cost
-    → IsReached passes hit start a
-    → IsReached passes hit start b
+    → IsMetByJumps passes hit start a
+    → IsMetByJumps passes hit start b
 reached_as passes hit start a b same cost has =
-    let Way = λ (s : JumpState) (n : ℕ). IsReached passes hit start
+    let Way = λ (s : JumpState) (n : ℕ). IsMetByJumps passes hit start
     (record { state = s; cost = n; run = 0; opened = false }) in
     subst (λ (n : ℕ). Way b.state n) (sym cost) (subst (λ (s : JumpState). Way s a.cost) (sym same) has)
 
 reached_by : (passes hit : Cell → Bool) (start : Cell) (nodes : List Node) (node : Node) → AreMet passes hit start nodes
-    → HasParent passes hit nodes node → IsReached passes hit start node
+    → HasOpenedParent passes hit nodes node → IsMetByJumps passes hit start node
 reached_by passes hit start nodes node met has =
     let way = met.reached has.place has.parent has.known in (
       has.parent.state ∷ way.0,
@@ -206,7 +206,7 @@ reached_by passes hit start nodes node met has =
 abbrev pub IsFrom : (Cell → Bool) → (Cell → Bool) → List Node → ℕ → Node → Type 0
 IsFrom passes hit old number b =
     ((a : Node) × ((slice_get old number ≡ Some a) × ((b.state ≡ a.state) × ((b.cost ≡ a.cost) × (b.run ≡ a.run)))))
-    ⊎ (HasParent passes hit old b × (HasState old b.state number ⊎ ((number ≡ length old) × LacksState old b.state)))
+    ⊎ (HasOpenedParent passes hit old b × (HasState old b.state number ⊎ ((number ≡ length old) × LacksState old b.state)))
 
 -- the state of a node of the new list is that of the same number, or new
 stood : (passes hit : Cell → Bool) (old : List Node) (number : ℕ) (b : Node) → IsFrom passes hit old number b

@@ -59,16 +59,6 @@ pub run_cost : (dir : Dir) (count : ℕ) → walk_cost (replicate count dir) ≡
 run_cost dir zero = omega arith
 run_cost dir (suc count) = omega (arith, sum_by-cons step_cost dir (replicate count dir), run_cost dir count)
 
-pub step_cost_some : (dir : Dir) → 0 < step_cost dir
-step_cost_some N = omega arith
-step_cost_some E = omega arith
-step_cost_some S = omega arith
-step_cost_some W = omega arith
-step_cost_some NE = omega arith
-step_cost_some SE = omega arith
-step_cost_some SW = omega arith
-step_cost_some NW = omega arith
-
 -- a jump by its run
 pub record Jumped (passes : Cell → Bool) (from to : JumpState) : Type 0 where
   pub dir : Dir

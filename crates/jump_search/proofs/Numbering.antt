@@ -11,8 +11,8 @@ use Rattle.nav_types.specs.declared.directions.Dir.{Dir}
 use Rattle.nav_types.specs.declared.directions.Dir.TheVariants.{N, E, S, W, NE, SE, SW, NW}
 use Rattle.jump_search.specs.declared.nodes.Node.{Node}
 use Rattle.jump_search.specs.declared.states.JumpState.{JumpState}
-use Rattle.jump_search.specs.inner.Numbered.{arrival_number, key_of, same_key, HasState, LacksState, IsLast, AreLinked}
-use Rattle.jump_search.specs.inner.Numbered.{AreChained, IsSought, IsSearchable, AreDown}
+use Rattle.jump_search.specs.inner.Numbered.{arrival_number, key_of, same_key, HasState, LacksState, IsLastInSlot, AreLinked}
+use Rattle.jump_search.specs.inner.Numbered.{AreSlotChains, IsSought, IsSearchable, AreDown}
 use Rattle.jump_search.proofs.Listing.{one_item, get_set_cases}
 
 -- the arrival of a number
@@ -65,7 +65,7 @@ same_key_refl a =
 last_kept : (Slot : Cell → ℕ) (nodes new : List Node) (slot bound after : ℕ)
     → ((k : ℕ) (b : Node) → k < bound → slice_get new k ≡ Some b
     → (a : Node) × ((slice_get nodes k ≡ Some a) × (a.state.cell ≡ b.state.cell)))
-    → IsLast Slot nodes slot bound after → IsLast Slot new slot bound after
+    → IsLastInSlot Slot nodes slot bound after → IsLastInSlot Slot new slot bound after
 last_kept Slot nodes new slot bound after back last =
     let most = last.within in
     record {
@@ -79,8 +79,8 @@ last_kept Slot nodes new slot bound after back last =
     }
 
 pub chained_put : (Slot Head : Cell → ℕ) (nodes : List Node) (links : List ℕ) (number : ℕ) (node : Node)
-    → AreChained Slot Head nodes links → HasState nodes node.state number
-    → AreChained Slot Head (set nodes number node) links
+    → AreSlotChains Slot Head nodes links → HasState nodes node.state number
+    → AreSlotChains Slot Head (set nodes number node) links
 chained_put Slot Head nodes links number node chained has =
     let new = set nodes number node in
     let long = length-set nodes number node in
@@ -101,12 +101,12 @@ chained_put Slot Head nodes links number node chained has =
         long = chained.linked.long ∙ sym long;
         each = λ place other found.
             let old = back place other found in
-            subst (λ (cell : Cell). IsLast Slot new (Slot cell) place (get_or links place 0)) old.1.1
+            subst (λ (cell : Cell). IsLastInSlot Slot new (Slot cell) place (get_or links place 0)) old.1.1
             (last_kept Slot nodes new (Slot old.0.state.cell) place (get_or links place 0)
             (λ k b low got. back k b got) (chained.linked.each place old.0 old.1.0));
       };
       heads = λ cell.
-          subst (λ (n : ℕ). IsLast Slot new (Slot cell) n (Head cell)) (sym long)
+          subst (λ (n : ℕ). IsLastInSlot Slot new (Slot cell) n (Head cell)) (sym long)
           (last_kept Slot nodes new (Slot cell) (length nodes) (Head cell) (λ k b low got. back k b got)
           (chained.heads cell));
     }
@@ -121,7 +121,7 @@ before_push nodes node bound most k b low found = elim (slice_get-push_cases nod
 ]
 
 links_more : (Slot Head : Cell → ℕ) (nodes : List Node) (links : List ℕ) (node : Node)
-    → AreChained Slot Head nodes links
+    → AreSlotChains Slot Head nodes links
     → AreLinked Slot (nodes ++ node ∷ []) (links ++ Head node.state.cell ∷ [])
 links_more Slot Head nodes links node chained =
     let new = nodes ++ node ∷ [] in
@@ -135,22 +135,22 @@ links_more Slot Head nodes links node chained =
             let low = slice_get_within nodes number other before in
             let link : get_or more number 0 ≡ get_or links number 0 =
             get_or_append_left links (head ∷ []) 0 number (omega (arith, low, long)) in
-            subst (λ (n : ℕ). IsLast Slot new (Slot other.state.cell) number n) (sym link)
+            subst (λ (n : ℕ). IsLastInSlot Slot new (Slot other.state.cell) number n) (sym link)
             (last_kept Slot nodes new (Slot other.state.cell) number (get_or links number 0)
             (before_push nodes node number (omega (arith, low))) (chained.linked.each number other before))
         | inr end ↦
             let link : get_or more number 0 ≡ head = get_or_push links head 0 number (long ∙ sym end.0) in
             let last = last_kept Slot nodes new (Slot node.state.cell) (length nodes) head
             (before_push nodes node (length nodes) (omega arith)) (chained.heads node.state.cell) in
-            let at = subst (λ (n : ℕ). IsLast Slot new (Slot node.state.cell) n head) (sym end.0) last in
-            let to = subst (λ (n : ℕ). IsLast Slot new (Slot node.state.cell) number n) (sym link) at in
-            subst (λ (n : Node). IsLast Slot new (Slot n.state.cell) number (get_or more number 0)) end.1 to
+            let at = subst (λ (n : ℕ). IsLastInSlot Slot new (Slot node.state.cell) n head) (sym end.0) last in
+            let to = subst (λ (n : ℕ). IsLastInSlot Slot new (Slot node.state.cell) number n) (sym link) at in
+            subst (λ (n : Node). IsLastInSlot Slot new (Slot n.state.cell) number (get_or more number 0)) end.1 to
       ];
     }
 
 head_here : (Slot : Cell → ℕ) (nodes : List Node) (node : Node) (slot after : ℕ)
     → Slot node.state.cell ≡ slot → after ≡ length nodes + 1
-    → IsLast Slot (nodes ++ node ∷ []) slot (length (nodes ++ node ∷ [])) after
+    → IsLastInSlot Slot (nodes ++ node ∷ []) slot (length (nodes ++ node ∷ [])) after
 head_here Slot nodes node slot after same is =
     let new = nodes ++ node ∷ [] in
     let long = length_push nodes node in
@@ -166,8 +166,8 @@ head_here Slot nodes node slot after same is =
     }
 
 head_apart : (Slot : Cell → ℕ) (nodes : List Node) (node : Node) (slot after : ℕ)
-    → Slot node.state.cell ≢ slot → IsLast Slot nodes slot (length nodes) after
-    → IsLast Slot (nodes ++ node ∷ []) slot (length (nodes ++ node ∷ [])) after
+    → Slot node.state.cell ≢ slot → IsLastInSlot Slot nodes slot (length nodes) after
+    → IsLastInSlot Slot (nodes ++ node ∷ []) slot (length (nodes ++ node ∷ [])) after
 head_apart Slot nodes node slot after differ old =
     let new = nodes ++ node ∷ [] in
     let long = length_push nodes node in
@@ -184,32 +184,32 @@ head_apart Slot nodes node slot after differ old =
     }
 
 pub chained_more : (Slot Head New : Cell → ℕ) (nodes : List Node) (links : List ℕ) (node : Node) (after : ℕ)
-    → AreChained Slot Head nodes links → after ≡ length nodes + 1
+    → AreSlotChains Slot Head nodes links → after ≡ length nodes + 1
     → ((other : Cell) → Slot other ≡ Slot node.state.cell → New other ≡ after)
     → ((other : Cell) → Slot other ≢ Slot node.state.cell → New other ≡ Head other)
-    → AreChained Slot New (nodes ++ node ∷ []) (links ++ Head node.state.cell ∷ [])
+    → AreSlotChains Slot New (nodes ++ node ∷ []) (links ++ Head node.state.cell ∷ [])
 chained_more Slot Head New nodes links node after chained is here apart =
     let new = nodes ++ node ∷ [] in
     record {
       linked = links_more Slot Head nodes links node chained;
       heads = λ cell. elim (cases_eq (Slot cell) (Slot node.state.cell)) [
         | inl same ↦
-            subst (λ (n : ℕ). IsLast Slot new (Slot cell) (length new) n) (sym (here cell same))
+            subst (λ (n : ℕ). IsLastInSlot Slot new (Slot cell) (length new) n) (sym (here cell same))
             (head_here Slot nodes node (Slot cell) after (sym same) is)
         | inr differ ↦
-            subst (λ (n : ℕ). IsLast Slot new (Slot cell) (length new) n) (sym (apart cell differ))
+            subst (λ (n : ℕ). IsLastInSlot Slot new (Slot cell) (length new) n) (sym (apart cell differ))
             (head_apart Slot nodes node (Slot cell) (Head cell) (λ same. differ (sym same)) (chained.heads cell))
       ];
     }
 
-pub chained_none : (Slot Head : Cell → ℕ) → ((cell : Cell) → Head cell ≡ 0) → AreChained Slot Head [] []
+pub chained_none : (Slot Head : Cell → ℕ) → ((cell : Cell) → Head cell ≡ 0) → AreSlotChains Slot Head [] []
 chained_none Slot Head zero = record {
   linked = record {
     long = refl;
     each = λ number node found. absurd (none-some node found);
   };
   heads = λ cell.
-      subst (λ (n : ℕ). IsLast Slot [] (Slot cell) 0 n) (sym (zero cell))
+      subst (λ (n : ℕ). IsLastInSlot Slot [] (Slot cell) 0 n) (sym (zero cell))
       (record {
         within = omega arith;
         here = λ number node next found. absurd (none-some node found);
@@ -217,7 +217,7 @@ chained_none Slot Head zero = record {
       });
 }
 
-pub chained_down : (Slot Head : Cell → ℕ) (nodes : List Node) (links : List ℕ) → AreChained Slot Head nodes links
+pub chained_down : (Slot Head : Cell → ℕ) (nodes : List Node) (links : List ℕ) → AreSlotChains Slot Head nodes links
     → AreDown nodes links
 chained_down Slot Head nodes links chained = record {
   long = chained.linked.long;
@@ -228,7 +228,7 @@ chained_down Slot Head nodes links chained = record {
 }
 
 pub sought_start : (Slot Head : Cell → ℕ) (nodes : List Node) (links : List ℕ) (state : JumpState)
-    → AreChained Slot Head nodes links → IsSearchable nodes links state (Head state.cell)
+    → AreSlotChains Slot Head nodes links → IsSearchable nodes links state (Head state.cell)
 sought_start Slot Head nodes links state chained =
     let last = chained.heads state.cell in
     let sought : IsSought Slot nodes state (Head state.cell) = record {

@@ -1,8 +1,8 @@
 -- How many nodes a search has opened.
-use Rattle.std.proofs.Common.{ℕ, zero, suc, ◌≡◌, ◌≢◌, ◌+◌, ◌<◌, ◌≤◌, Bool, true, IsTrue, IsFalse, List, []}
+use Rattle.std.proofs.Common.{ℕ, zero, suc, ◌≡◌, ◌≢◌, ◌+◌, ◌≤◌, Bool, true, IsTrue, List, []}
 use Rattle.std.proofs.Common.{◌∷◌, length, map, get_or, Some, inl, inr, refl, sym, subst, ap, ◌∙◌, arith}
 use Rattle.std.specs.List.{AllPairs, Contains, filter, count_by, slice_get}
-use Rattle.std.proofs.lemmas.Bool.{cases_lt, cond-true, cond-false, false≢true}
+use Rattle.std.proofs.lemmas.Bool.{cases_lt, cond-true, cond-false, both_ways, cases_Bool}
 use Rattle.std.proofs.lemmas.List.{length-map}
 use Rattle.std.proofs.lemmas.List.Sums.{length-filter}
 use Rattle.std.proofs.lemmas.List.Kept.{AllPairs-filter}
@@ -11,22 +11,20 @@ use Rattle.nav_types.specs.declared.cells.Cell.{Cell}
 use Rattle.nav_types.specs.declared.cells.Rect.{Rect}
 use Rattle.nav_types.specs.Counting.{Counts}
 use Rattle.nav_types.proofs.Items.{Contains-head, Contains-tail, Contains-cons_cases, Contains-none, Contains-map}
-use Rattle.nav_types.proofs.Items.{from_map, Contains-from_slice_get, AllPairs-map, AllPairs-tail, head_apart}
+use Rattle.nav_types.proofs.Items.{from_map, Contains-from_slice_get, AllPairs-map}
+use Rattle.nav_types.proofs.Counting.{no_longer}
 use Rattle.jump_search.specs.declared.nodes.Node.{Node}
 use Rattle.jump_search.specs.declared.states.JumpState.{JumpState}
 use Rattle.jump_search.specs.JumpStates.{octile_to, AreJumps, jumps_cost, IsPrunedCost, IsOpened}
 use Rattle.jump_search.specs.inner.Searched.{AreMet, IsSearched}
-use Rattle.jump_search.proofs.Bounding.{closed, bounded, true_or_false}
+use Rattle.jump_search.proofs.Bounding.{closed, bounded}
 
 -- the items that pass a test
-
-both : (answer : Bool) → IsFalse answer → IsTrue answer → ⊥
-both answer fails holds = false≢true (sym fails ∙ holds)
 
 Contains-filter : {A : Type 0} (p : A → Bool) (xs : List A) (x : A) → Contains xs x → IsTrue (p x)
     → Contains (filter p xs) x
 Contains-filter p [] x has is = absurd (Contains-none x has)
-Contains-filter p (y ∷ ys) x has is = elim (true_or_false (p y)) [
+Contains-filter p (y ∷ ys) x has is = elim (cases_Bool (p y)) [
   | inl kept ↦ subst (λ l. Contains l x) (sym (cond-true (p y) (y ∷ filter p ys) (filter p ys) kept))
       (elim (Contains-cons_cases y ys x has) [
         | inl here ↦ subst (λ z. Contains (y ∷ filter p ys) z) here (Contains-head y (filter p ys))
@@ -34,7 +32,7 @@ Contains-filter p (y ∷ ys) x has is = elim (true_or_false (p y)) [
       ])
   | inr left ↦ subst (λ l. Contains l x) (sym (cond-false (p y) (y ∷ filter p ys) (filter p ys) left))
       (elim (Contains-cons_cases y ys x has) [
-        | inl here ↦ absurd (both (p y) left (subst (λ z. IsTrue (p z)) (sym here) is))
+        | inl here ↦ absurd (both_ways (p y) left (subst (λ z. IsTrue (p z)) (sym here) is))
         | inr later ↦ Contains-filter p ys x later is
       ])
 ]
@@ -42,7 +40,7 @@ Contains-filter p (y ∷ ys) x has is = elim (true_or_false (p y)) [
 from_filter : {A : Type 0} (p : A → Bool) (xs : List A) (x : A) → Contains (filter p xs) x → Contains xs x
     × IsTrue (p x)
 from_filter p [] x has = absurd (Contains-none x has)
-from_filter p (y ∷ ys) x has = elim (true_or_false (p y)) [
+from_filter p (y ∷ ys) x has = elim (cases_Bool (p y)) [
   | inl kept ↦ elim (Contains-cons_cases y (filter p ys) x
       (subst (λ l. Contains l x) (cond-true (p y) (y ∷ filter p ys) (filter p ys) kept) has)) [
         | inl here ↦ (subst (λ z. Contains (y ∷ ys) z) here (Contains-head y ys), subst (λ z. IsTrue (p z)) here kept)
@@ -51,41 +49,6 @@ from_filter p (y ∷ ys) x has = elim (true_or_false (p y)) [
   | inr left ↦ (let rest = from_filter p ys x (subst (λ l. Contains l x)
       (cond-false (p y) (y ∷ filter p ys) (filter p ys) left) has) in (Contains-tail y ys x rest.0, rest.1))
 ]
-
--- a list that has each item once is no longer than one that can lack none of its items
-
-abbrev without : {A : Type 0} → ℕ → List A → List A
-without k [] = []
-without zero (y ∷ ys) = ys
-without (suc k) (y ∷ ys) = y ∷ without k ys
-
-length-without : {A : Type 0} (k : ℕ) (ys : List A) → k < length ys → length (without k ys) + 1 ≡ length ys
-length-without k [] low = absurd (omega arith)
-length-without zero (y ∷ ys) low = omega arith
-length-without (suc k) (y ∷ ys) low = omega (arith, length-without k ys (omega arith))
-
-Contains-without : {A : Type 0} (k : ℕ) (ys : List A) (x y : A) → k < length ys → get_or ys k x ≡ x → x ≢ y
-    → Contains ys y → Contains (without k ys) y
-Contains-without k [] x y low is apart has = absurd (Contains-none y has)
-Contains-without zero (z ∷ ys) x y low is apart has = elim (Contains-cons_cases z ys y has) [
-  | inl here ↦ absurd (apart (sym is ∙ here))
-  | inr later ↦ later
-]
-Contains-without (suc k) (z ∷ ys) x y low is apart has = elim (Contains-cons_cases z ys y has) [
-  | inl here ↦ subst (λ w. Contains (z ∷ without k ys) w) here (Contains-head z (without k ys))
-  | inr later ↦ Contains-tail z (without k ys) y (Contains-without k ys x y (omega arith) is apart later)
-]
-
-no_longer : {A : Type 0} (xs ys : List A) → AllPairs (λ a b. a ≢ b) xs
-    → ((x : A) → Contains xs x → (Contains ys x → ⊥) → ⊥)
-    → length ys < length xs → ⊥
-no_longer [] ys once within longer = omega (arith, longer)
-no_longer (x ∷ xs) ys once within longer =
-    within x (Contains-head x xs)
-    (λ has. no_longer xs (without has.0 ys) (AllPairs-tail (λ a b. a ≢ b) x xs once)
-    (λ y inside lacks. within y (Contains-tail x xs y inside)
-    (λ there. lacks (Contains-without has.0 ys x y has.1 has.2 (head_apart (λ a b. a ≢ b) x xs y once inside) there)))
-    (omega (arith, longer, length-without has.0 ys has.1)))
 
 -- the states of the opened nodes
 

@@ -6,7 +6,7 @@ use Rattle.std.proofs.lemmas.Bool.{cases_lt}
 use Rattle.std.proofs.lemmas.List.{get_or-replicate, get_or_past, length-replicate, get_or-set_same}
 use Rattle.std.proofs.lemmas.List.{get_or-set_other}
 use Rattle.nav_types.specs.declared.cells.Cell.{Cell}
-use Rattle.jump_search.specs.inner.Paged.{place_of, spot_of, slot_of, number_at, number_of, ArePages, IsSet}
+use Rattle.jump_search.specs.inner.Paged.{page_place, spot_of, slot_of, number_on_page, cell_number, ArePages, IsSet}
 
 pub spot_low : (cell : Cell) → spot_of cell < 256
 unfolding spot_of
@@ -35,14 +35,14 @@ pages_blank table numbers places size tables is some long = record {
 }
 
 pub number_blank : (table numbers : List ℕ) (size : ℕ) → numbers ≡ replicate size 0 → (cell : Cell)
-    → number_of table numbers cell ≡ 0
-unfolding number_of
+    → cell_number table numbers cell ≡ 0
+unfolding cell_number
 number_blank table numbers size is cell =
-    zero_in numbers size is (get_or table (place_of cell) 0 * 256 + spot_of cell)
+    zero_in numbers size is (get_or table (page_place cell) 0 * 256 + spot_of cell)
 
 set_apart : (table numbers : List ℕ) (place spot value : ℕ) → ArePages table numbers → 0 < get_or table place 0
     → spot < 256 → (p s : ℕ) → s < 256 → p * 256 + s ≢ place * 256 + spot
-    → number_at table (set numbers (get_or table place 0 * 256 + spot) value) p s ≡ number_at table numbers p s
+    → number_on_page table (set numbers (get_or table place 0 * 256 + spot) value) p s ≡ number_on_page table numbers p s
 set_apart table numbers place spot value pages more low p s small other =
     let index = get_or table place 0 * 256 + spot in
     let apart : get_or table p 0 * 256 + s ≢ index = λ (e : get_or table p 0 * 256 + s ≡ index).
@@ -53,34 +53,34 @@ set_apart table numbers place spot value pages more low p s small other =
 
 -- the number of a cell was set, after its page was made
 pub set_is : (table numbers made more : List ℕ) (cell : Cell) (place spot value : ℕ) → ArePages made more
-    → ((p s : ℕ) → s < 256 → number_at made more p s ≡ number_at table numbers p s)
-    → place ≡ place_of cell → spot ≡ spot_of cell → 0 < get_or made place 0
-    → IsSet cell value (number_of table numbers)
-    (number_of made (set more (get_or made place 0 * 256 + spot) value))
-unfolding number_of slot_of
+    → ((p s : ℕ) → s < 256 → number_on_page made more p s ≡ number_on_page table numbers p s)
+    → place ≡ page_place cell → spot ≡ spot_of cell → 0 < get_or made place 0
+    → IsSet cell value (cell_number table numbers)
+    (cell_number made (set more (get_or made place 0 * 256 + spot) value))
+unfolding cell_number slot_of
 set_is table numbers made more cell place spot value pages kept at on some =
     let index = get_or made place 0 * 256 + spot in
     let new = set more index value in
     let low : spot < 256 = subst (λ (n : ℕ). n < 256) (sym on) (spot_low cell) in
     record {
       here = λ other same.
-          let sums : place_of other * 256 + spot_of other ≡ place_of cell * 256 + spot_of cell = same in
+          let sums : page_place other * 256 + spot_of other ≡ page_place cell * 256 + spot_of cell = same in
           let small = spot_low other in
-          let places_same : place_of other ≡ place = omega (arith, sums, small, low, at, on) in
+          let places_same : page_place other ≡ place = omega (arith, sums, small, low, at, on) in
           let spots_same : spot_of other ≡ spot = omega (arith, sums, small, low, at, on) in
           let within = pages.inside place in
-          ap (λ (p : ℕ). number_at made new p (spot_of other)) places_same
-          ∙ ap (λ (s : ℕ). number_at made new place s) spots_same
+          ap (λ (p : ℕ). number_on_page made new p (spot_of other)) places_same
+          ∙ ap (λ (s : ℕ). number_on_page made new place s) spots_same
           ∙ get_or-set_same more index value 0 (omega (arith, within, low));
       apart = λ other differ.
-          let differs : place_of other * 256 + spot_of other ≢ place * 256 + spot =
-          λ (e : place_of other * 256 + spot_of other ≡ place * 256 + spot).
-          let sums : place_of other * 256 + spot_of other ≡ place_of cell * 256 + spot_of cell =
-          e ∙ ap (λ (p : ℕ). p * 256 + spot) at ∙ ap (λ (s : ℕ). place_of cell * 256 + s) on in
+          let differs : page_place other * 256 + spot_of other ≢ place * 256 + spot =
+          λ (e : page_place other * 256 + spot_of other ≡ place * 256 + spot).
+          let sums : page_place other * 256 + spot_of other ≡ page_place cell * 256 + spot_of cell =
+          e ∙ ap (λ (p : ℕ). p * 256 + spot) at ∙ ap (λ (s : ℕ). page_place cell * 256 + s) on in
           differ sums in
-          set_apart made more place spot value pages some low (place_of other) (spot_of other)
+          set_apart made more place spot value pages some low (page_place other) (spot_of other)
           (spot_low other) differs
-          ∙ kept (place_of other) (spot_of other) (spot_low other);
+          ∙ kept (page_place other) (spot_of other) (spot_low other);
     }
 
 pub page_within : (table numbers : List ℕ) (place page spot : ℕ) → ArePages table numbers → page ≡ get_or table place 0
@@ -88,21 +88,21 @@ pub page_within : (table numbers : List ℕ) (place page spot : ℕ) → ArePage
 page_within table numbers place page spot pages is low =
     let within = pages.inside place in omega (arith, within, is, low)
 
-pub number_read : (table numbers : List ℕ) (cell : Cell) (place page spot : ℕ) → place ≡ place_of cell
+pub number_read : (table numbers : List ℕ) (cell : Cell) (place page spot : ℕ) → place ≡ page_place cell
     → page ≡ get_or table place 0 → spot ≡ spot_of cell
-    → get_or numbers (page * 256 + spot) 0 ≡ number_of table numbers cell
-unfolding number_of
+    → get_or numbers (page * 256 + spot) 0 ≡ cell_number table numbers cell
+unfolding cell_number
 number_read table numbers cell place page spot at is on =
     ap (λ (n : ℕ). get_or numbers (n * 256 + spot) 0) (is ∙ ap (λ (p : ℕ). get_or table p 0) at)
-    ∙ ap (λ (s : ℕ). number_at table numbers (place_of cell) s) on
+    ∙ ap (λ (s : ℕ). number_on_page table numbers (page_place cell) s) on
 
 -- what was read after the cell's page was made
 pub number_before : (table numbers made more : List ℕ) (cell : Cell) (place page spot : ℕ)
-    → ((p s : ℕ) → s < 256 → number_at made more p s ≡ number_at table numbers p s)
-    → place ≡ place_of cell → page ≡ get_or made place 0 → spot ≡ spot_of cell → spot < 256
-    → get_or more (page * 256 + spot) 0 ≡ number_of table numbers cell
-unfolding number_of
+    → ((p s : ℕ) → s < 256 → number_on_page made more p s ≡ number_on_page table numbers p s)
+    → place ≡ page_place cell → page ≡ get_or made place 0 → spot ≡ spot_of cell → spot < 256
+    → get_or more (page * 256 + spot) 0 ≡ cell_number table numbers cell
+unfolding cell_number
 number_before table numbers made more cell place page spot kept at is on low =
     ap (λ (n : ℕ). get_or more (n * 256 + spot) 0) is ∙ kept place spot low
-    ∙ ap (λ (p : ℕ). number_at table numbers p spot) at
-    ∙ ap (λ (s : ℕ). number_at table numbers (place_of cell) s) on
+    ∙ ap (λ (p : ℕ). number_on_page table numbers p spot) at
+    ∙ ap (λ (s : ℕ). number_on_page table numbers (page_place cell) s) on

@@ -1,28 +1,13 @@
 -- An open list of which one key has been added, lowered or taken out.
-use Rattle.std.proofs.Common.{ℕ, ◌≡◌, ◌≢◌, ◌+◌, ◌-◌, ◌≤◌, ◌⊎◌, true, false, Option, Some, None, is_some, inl, inr, refl}
+use Rattle.std.proofs.Common.{ℕ, ◌≡◌, ◌≢◌, ◌+◌, ◌-◌, ◌≤◌, ◌⊎◌, Option, Some, None, is_some, inl, inr, refl}
 use Rattle.std.proofs.Common.{ap, sym, ◌∙◌, arith}
 use Rattle.std.proofs.lemmas.Bool.{cases_lt, cond-true, cond-false}
-use Rattle.std.specs.Cmp.{ranked, nat_cmp_is, nat_cmp_total}
+use Rattle.std.specs.Cmp.{nat_cmp_total}
 use Rattle.std.specs.FinMap as map
-use Rattle.std.specs.Ordering.{nat_cmp, eq_by_cmp, is_eq}
-use Rattle.std.specs.declared.cmp.Ordering.{Ordering}
-use Rattle.std.specs.declared.cmp.Ordering.TheVariants.{Less, Equal, Greater}
+use Rattle.std.specs.Ordering.{nat_cmp, eq_by_cmp}
 use Rattle.open_heap.specs.declared.entries.Priority.{Priority}
 use Rattle.open_heap.specs.Queue.{Queue}
-
-ties_at : (a b : ℕ) → a ≡ b → eq_by_cmp nat_cmp a b ≡ true
-ties_at a b same = ap is_eq (sym (nat_cmp_is a b Equal same))
-
-same_by : (a b : ℕ) (r : Ordering) → r ≡ nat_cmp a b → is_eq r ≡ true → a ≡ b
-same_by a b Less e is = absurd (cc)
-same_by a b Equal e is = ranked a b Equal e
-same_by a b Greater e is = absurd (cc)
-
-apart_at : (a b : ℕ) → a ≢ b → eq_by_cmp nat_cmp a b ≡ false
-apart_at a b apart = elim (eq_by_cmp nat_cmp a b) as (λ r. eq_by_cmp nat_cmp a b ≡ r → r ≡ false) [
-  | true ↦ λ ties. absurd (apart (same_by a b (nat_cmp a b) refl ties))
-  | false ↦ λ ties. refl
-] refl
+use Rattle.nav_types.proofs.NumberTies.{ties_at, apart_at}
 
 pub inserted_here : (queue : Queue) (key : ℕ) (priority : Priority)
     → map.get (map.insert queue key priority) key ≡ Some priority

@@ -1,12 +1,12 @@
 -- Noting a jump: its state's node is added, gets a cost that is less, or keeps the better of two last runs.
 use Rattle.std.proofs.Common.{ℕ, ◌≡◌, ◌+◌, ◌<◌, ◌≤◌, ◌⊎◌, Bool, true, false, cond, IsTrue, IsFalse, List, [], ◌∷◌, ◌++◌, length, set}
-use Rattle.std.proofs.Common.{Option, Some, None, inl, inr, refl, ap, sym, subst, ◌∙◌, arith}
+use Rattle.std.proofs.Common.{Some, None, inl, inr, refl, ap, sym, subst, ◌∙◌, arith}
 use Rattle.std.specs.List.{slice_get}
 use Rattle.std.specs.FinMap as map
 use Rattle.std.proofs.lemmas.Bool.{cases_eq, both_ways}
 use Rattle.std.proofs.lemmas.List.{length-append, length-set}
 use Rattle.std.proofs.lemmas.List.Sums.{sum_by-append, sum_by-cons, sum_by-set}
-use Rattle.std.proofs.lemmas.Option.{same_Some, slice_get_within, get_or_from_slice_get}
+use Rattle.std.proofs.lemmas.Option.{same_Some, slice_get_within, get_or_from_slice_get, none-some}
 use Rattle.nav_types.proofs.Items.{slice_get-append_left, slice_get-push_last, slice_get-push_cases}
 use Rattle.nav_types.specs.declared.cells.Cell.{Cell}
 use Rattle.nav_types.specs.declared.cells.Rect.{Rect}
@@ -16,15 +16,12 @@ use Rattle.jump_search.specs.declared.nodes.Node.{Node}
 use Rattle.jump_search.specs.declared.states.JumpState.{JumpState}
 use Rattle.jump_search.specs.JumpStates.{octile_to}
 use Rattle.jump_search.specs.inner.Numbered.{LacksState, HasCheaper}
-use Rattle.jump_search.specs.inner.Searched.{IsKeptRun, HasParent, IsDearer}
+use Rattle.jump_search.specs.inner.Searched.{IsKeptRun, HasOpenedParent, IsDearer}
 use Rattle.jump_search.specs.inner.Underway.{estimate_of, priority_of, opened_count, IsQueued, IsLaterNode, AreLater}
 use Rattle.jump_search.specs.inner.Underway.{Relaxes}
 use Rattle.jump_search.proofs.Listing.{get_set_same, get_set_other, get_set_cases, one_item}
 use Rattle.jump_search.proofs.Queueing.{inserted_here, inserted_apart, len_added, len_lowered, get_cases}
 use Rattle.jump_search.proofs.Lasting.{kept_self, later_self, gains_none, dearer_later, parent_as, IsFrom, met_later}
-
-pub none_is_some : {A : Type 0} (a : A) (found : Option A) → found ≡ None → found ≡ Some a → ⊥
-none_is_some a found none some = let bad : None ≡ Some a = sym none ∙ some in absurd (cc)
 
 -- one for an opened node
 pub one_if_opened : Node → ℕ
@@ -80,7 +77,7 @@ later_added nodes node not = record {
 }
 
 from_added : (passes hit : Cell → Bool) (nodes : List Node) (node : Node) → LacksState nodes node.state
-    → HasParent passes hit nodes node
+    → HasOpenedParent passes hit nodes node
     → (number : ℕ) (b : Node) → slice_get (nodes ++ node ∷ []) number ≡ Some b → IsFrom passes hit nodes number b
 from_added passes hit nodes node lacks parent number b found = elim (slice_get-push_cases nodes node number b found) [
   | inl before ↦ inl (b, (before, (refl, (refl, refl))))
@@ -124,7 +121,7 @@ queued_added all rect floor nodes queue node not early queued =
             let here : map.get longer number ≡ Some (priority_of rect node) =
             subst (λ (n : ℕ). map.get longer n ≡ Some (priority_of rect node)) (sym end)
             (inserted_here queue (length nodes) (priority_of rect node)) in
-            absurd (none_is_some (priority_of rect node) (map.get longer number) none here)
+            absurd (none-some (priority_of rect node) (sym none ∙ here))
         | inr before ↦ elim (slice_get-push_cases nodes node number b found) [
           | inl old ↦
               let was = queued.taken number b old (sym
@@ -295,7 +292,7 @@ queued_lowered all rect floor nodes queue number a b not later found early queue
             let is : map.get new place ≡ Some (priority_of rect b) =
             subst (λ (n : ℕ). map.get new n ≡ Some (priority_of rect b)) (sym here.0)
             (inserted_here queue number (priority_of rect b)) in
-            absurd (none_is_some (priority_of rect b) (map.get new place) none is)
+            absurd (none-some (priority_of rect b) (sym none ∙ is))
         | inr apart ↦
             let was = queued.taken place x apart.1 (sym (inserted_apart queue number (priority_of rect b) place apart.0)
             ∙ none) in (

@@ -3,16 +3,15 @@ use Rattle.std.proofs.Common.{ℕ, zero, suc, ◌≡◌, ◌≢◌, ◌+◌, ◌
 use Rattle.std.proofs.Common.{◌++◌, Option, None, Some, IsTrue, reverse, refl, sym, ap, subst, ◌∙◌, arith}
 use Rattle.std.proofs.lemmas.Bool.{cases_eq, cases_lt, false≢true}
 use Rattle.std.proofs.lemmas.List.{reverse-reverse}
+use Rattle.std.proofs.lemmas.Option.{same_Some}
 use Rattle.nav_types.specs.declared.cells.Cell.{Cell}
 use Rattle.nav_types.specs.declared.directions.Dir.{Dir}
 use Rattle.nav_types.specs.declared.directions.Dir.TheVariants.{N, E, S, W, NE, SE, SW, NW}
 use Rattle.nav_types.specs.Directions.{is_straight, step_cost}
 use Rattle.nav_types.specs.Walks.{Step, IsWalk, walk_cost, Joined, IsDistance}
 use Rattle.nav_types.proofs.CellOrder.{same_cell}
-use Rattle.nav_types.proofs.Walking.{IsWalk-push, walk_cost-push, IsDistance-unique, leads_from_same}
+use Rattle.nav_types.proofs.Walking.{IsWalk-push, walk_cost-push, IsDistance-unique, leads_from_same, step_cost_some}
 use Rattle.walks.specs.Chosen.{Enters, preference, IsFirstIn, CanGoStraight, IsPicked, IsChosenBack, IsChosen}
-use Rattle.walks.proofs.OneAnswer.{some_same}
-use Rattle.walks.proofs.Sweeping.{step_cost_some}
 use Rattle.walks.proofs.Tracing.{picked_within, turned, chosen_turned}
 use Rattle.walks.proofs.Walking.{some_enters}
 use Rattle.jump_scan.proofs.Keeping.{place_of_dir, same_place}
@@ -63,7 +62,7 @@ picked_stable Within (Some ahead) dir within surely =
         | false ↦ λ diagonal.
             picked_by_first Within (Some ahead) dir within (λ on. false≢true (sym diagonal ∙ on.0.0)) surely
       ] refl
-      | inr other ↦ picked_by_first Within (Some ahead) dir within (λ on. other (some_same ahead dir on.1)) surely
+      | inr other ↦ picked_by_first Within (Some ahead) dir within (λ on. other (same_Some ahead dir on.1)) surely
     ]
 
 -- ---- a walk that can't fail to be chosen is chosen

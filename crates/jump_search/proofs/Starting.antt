@@ -5,7 +5,7 @@ use Rattle.std.specs.List.{slice_get}
 use Rattle.std.specs.FinMap as map
 use Rattle.std.specs.Ordering.{nat_cmp}
 use Rattle.std.proofs.lemmas.Bool.{cases_eq, both_ways}
-use Rattle.std.proofs.lemmas.Option.{same_Some, slice_get_within}
+use Rattle.std.proofs.lemmas.Option.{same_Some, slice_get_within, none-some}
 use Rattle.nav_types.specs.declared.cells.Cell.{Cell}
 use Rattle.nav_types.specs.declared.cells.Rect.{Rect}
 use Rattle.open_heap.specs.declared.entries.Priority.{Priority}
@@ -15,7 +15,6 @@ use Rattle.jump_search.specs.JumpStates.{start_state}
 use Rattle.jump_search.specs.inner.Searched.{AreMet}
 use Rattle.jump_search.specs.inner.Underway.{estimate_of, priority_of, IsUnderway}
 use Rattle.jump_search.proofs.Queueing.{inserted_here, inserted_apart, len_added}
-use Rattle.jump_search.proofs.Relaxing.{none_is_some}
 
 -- the node of the start
 abbrev pub start_node : Cell → Node
@@ -74,15 +73,15 @@ underway_start all passes hit start rect =
                   ),
                 ),
               )
-          | inr apart ↦ absurd (none_is_some priority (map.get queue number)
-              (inserted_apart empty 0 (priority_of rect node) number apart ∙ none number) found)
+          | inr apart ↦ absurd (none-some priority
+              (sym (inserted_apart empty 0 (priority_of rect node) number apart ∙ none number) ∙ found))
         ];
         taken = λ number x found lacks.
             let zero_is = (only start number x found).0 in
             let is : map.get queue number ≡ Some (priority_of rect node) =
             subst (λ (n : ℕ). map.get queue n ≡ Some (priority_of rect node)) (sym zero_is)
             (inserted_here empty 0 (priority_of rect node)) in
-            absurd (none_is_some (priority_of rect node) (map.get queue number) lacks is);
+            absurd (none-some (priority_of rect node) (sym lacks ∙ is));
       };
       followed = λ number x found opened.
           let is = (only start number x found).1 in

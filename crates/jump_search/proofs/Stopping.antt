@@ -2,13 +2,13 @@
 use Rattle.std.proofs.Common.{ℕ, zero, suc, ◌≡◌, ◌+◌, ◌<◌, ◌≤◌, ◌⊎◌, inl, inr, Bool, true, false, List, [], ◌∷◌, Option}
 use Rattle.std.proofs.Common.{None, Some, IsTrue, IsFalse, reverse, refl, sym, ap, subst, ◌∙◌, arith}
 use Rattle.std.proofs.lemmas.Bool.{false≢true}
+use Rattle.std.proofs.lemmas.Option.{same_Some, none-some}
 use Rattle.nav_types.specs.declared.cells.Cell.{Cell}
 use Rattle.nav_types.specs.declared.directions.Dir.{Dir}
 use Rattle.nav_types.specs.Directions.{is_straight, step_cost, Leads}
 use Rattle.nav_types.specs.Walks.{Step, IsDistance}
 use Rattle.nav_types.proofs.Walking.{leads_from_same, leads_to_same, own_parts, ways_straight, IsDistance-unique}
 use Rattle.walks.specs.Chosen.{Enters, IsPicked, IsChosenBack, IsChosen}
-use Rattle.walks.proofs.OneAnswer.{some_same}
 use Rattle.walks.proofs.Tracing.{picked_within}
 use Rattle.jump_scan.specs.Stops.{IsRun, IsStop, HaltsStraight, HaltsDiagonal, HasStraightStop}
 use Rattle.jump_scan.specs.Successors.{IsSuccessor}
@@ -337,9 +337,6 @@ after_run passes hit start before cell next way dir on some came step picked suc
       no_turn passes hit way dir before (is_straight way) refl never successor stops other
 ]
 
-none_is_some : (dir : Dir) → None ≡ Some dir → ⊥
-none_is_some dir same = cc
-
 -- by one step more the chosen walk comes to a jump state or is on a run
 one_step : (passes hit : Cell → Bool) (start before cell : Cell) (next : Option Dir) (dir : Dir) (dirs : List Dir)
     → IsChosenBack passes start (Some dir) dirs before → Step passes dir before cell
@@ -349,9 +346,9 @@ one_step : (passes hit : Cell → Bool) (start before cell : Cell) (next : Optio
 one_step passes hit start before cell next dir dirs chosen step picked ahead (inl state) =
     let left = leaves passes hit start before (came_by dirs) dir state.0 state.1 ahead.0 in
     one_more passes hit start before cell dir next (record { on = left; step = step; picked = picked })
-one_step passes hit start before cell next dir [] chosen step picked ahead (inr on) = absurd (none_is_some on.0 on.1.0)
+one_step passes hit start before cell next dir [] chosen step picked ahead (inr on) = absurd (none-some on.0 on.1.0)
 one_step passes hit start before cell next dir (last ∷ dirs) chosen step picked ahead (inr on) =
-    let same = some_same last on.0 on.1.0 in
+    let same = same_Some last on.0 on.1.0 in
     let P = λ (way : Dir). IsPicked (Enters passes start before) (Some dir) way in
     let S = λ (way : Dir). IsSuccessor passes before (Some way) dir in
     after_run passes hit start before cell next on.0 dir on.1.1.0 on.1.1.1 (subst P same chosen.1.0) step picked

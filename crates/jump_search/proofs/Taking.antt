@@ -10,6 +10,7 @@ use Rattle.std.proofs.lemmas.Option.{slice_get_within}
 use Rattle.nav_types.specs.declared.cells.Cell.{Cell}
 use Rattle.nav_types.specs.declared.cells.Rect.{Rect}
 use Rattle.nav_types.specs.Cells.{IsNotAfter}
+use Rattle.nav_types.proofs.CellOrder.{IsNotAfter-trans}
 use Rattle.open_heap.specs.declared.entries.Entry.{Entry}
 use Rattle.open_heap.specs.declared.entries.Priority.{Priority}
 use Rattle.open_heap.specs.Queue.{Queue, IsLeast}
@@ -18,10 +19,10 @@ use Rattle.jump_search.specs.declared.searching.Best.{Best}
 use Rattle.jump_search.specs.declared.states.JumpState.{JumpState}
 use Rattle.jump_search.specs.JumpStates.{octile_to, octile_between, IsJump, AreJumps}
 use Rattle.jump_search.specs.inner.Numbered.{HasCheaper}
-use Rattle.jump_search.specs.inner.Searched.{IsLastRun, HasParent, IsDearer, AreMet, IsFollowedFrom, IsRelaxed, IsNoted}
+use Rattle.jump_search.specs.inner.Searched.{IsLastRun, HasOpenedParent, IsDearer, AreMet, IsFollowedFrom, IsRelaxed, IsNoted}
 use Rattle.jump_search.specs.inner.Searched.{IsKeptRun}
 use Rattle.jump_search.specs.inner.Underway.{estimate_of, opened_count, IsQueued, IsGoing, AreLater, IsOpenNode}
-use Rattle.jump_search.specs.inner.Underway.{IsFollowable, Follows, IsBestHit, NoneHit, IsBest, IsUnderway, IsNotPast}
+use Rattle.jump_search.specs.inner.Underway.{IsFollowable, Follows, IsBestHit, NoneHit, IsBestSoFar, IsUnderway, IsNotPast}
 use Rattle.jump_search.specs.inner.Underway.{IsAsGood, IsBetter, IsTaken}
 use Rattle.jump_search.proofs.Listing.{get_set_same, get_set_other, get_set_cases, one_item}
 use Rattle.jump_search.proofs.Queueing.{removed_here, removed_apart, len_taken}
@@ -104,8 +105,8 @@ queued_taken all rect floor nodes before entry node queued least next passed =
 
 -- the best hit stays within the floor
 best_raised : (hit : Cell → Bool) (nodes : List Node) (floor higher : ℕ) (best : Option Best) → IsNotPast best higher
-    → IsBest hit nodes floor best
-    → IsBest hit nodes higher best
+    → IsBestSoFar hit nodes floor best
+    → IsBestSoFar hit nodes higher best
 best_raised hit nodes floor higher None near is = is
 best_raised hit nodes floor higher (Some best) near is = (is.0, near)
 
@@ -140,7 +141,7 @@ opened_node node = record { state = node.state; cost = node.cost; run = node.run
 -- parents stay where a node is opened
 parent_opened : (passes hit : Cell → Bool) (nodes : List Node) (number : ℕ) (a x : Node)
     → slice_get nodes number ≡ Some a → IsFalse a.opened
-    → HasParent passes hit nodes x → HasParent passes hit (set nodes number (opened_node a)) x
+    → HasOpenedParent passes hit nodes x → HasOpenedParent passes hit (set nodes number (opened_node a)) x
 parent_opened passes hit nodes number a x found not has =
     let apart : has.place ≢ number = λ same.
     let is = one_item nodes number has.parent a (subst (λ (n : ℕ). slice_get nodes n ≡ Some has.parent) same has.known)
@@ -484,21 +485,12 @@ followed_opened all passes hit rect nodes new key a before after found follows f
 not_after_self : (a : Cell) → IsNotAfter a a
 not_after_self a = inr (refl, omega arith)
 
-not_after_through : (a b c : Cell) → IsNotAfter a b → IsNotAfter b c → IsNotAfter a c
-not_after_through a b c one two = elim one [
-  | inl p ↦ elim two [ inl q ↦ inl (omega (arith, p, q)) | inr q ↦ let e = q.0 in inl (omega (arith, p, e)) ]
-  | inr p ↦ elim two [
-    | inl q ↦ let e = p.0 in inl (omega (arith, e, q))
-    | inr q ↦ let e = p.0 in let f = q.0 in let m = p.1 in let n = q.1 in inr (omega (arith, e, f), omega (arith, m, n))
-  ]
-]
-
 hit_as : (hit : Cell → Bool) (x y : Node) → x.state ≡ y.state → IsTrue (hit x.state.cell) → IsTrue (hit y.state.cell)
 hit_as hit x y same is = subst (λ (s : JumpState). IsTrue (hit s.cell)) same is
 
 best_missed : (hit : Cell → Bool) (nodes new : List Node) (key : ℕ) (a : Node) (floor higher : ℕ) (best : Option Best)
-    → Regards nodes new key a → IsFalse (hit a.state.cell) → IsNotPast best higher → IsBest hit nodes floor best
-    → IsBest hit new higher best
+    → Regards nodes new key a → IsFalse (hit a.state.cell) → IsNotPast best higher → IsBestSoFar hit nodes floor best
+    → IsBestSoFar hit new higher best
 best_missed hit nodes new key a floor higher None regard missed near none =
     λ number x at opened is. elim (regard.back number x at opened) [
       | inl this ↦ both_ways (hit a.state.cell) missed (hit_as hit x a this.0 is)
@@ -643,7 +635,7 @@ best_better hit nodes new key a floor higher best result regard is_hit level nea
               let before = good_cell result best better.0 level_best in
               let after = was.earliest number old.0 old.1.0 old.1.1.0 hit_y (sym costs ∙ equal ∙ level_best) in
               subst (λ (s : JumpState). IsNotAfter result.cell s.cell) (sym old.1.1.1.0)
-              (not_after_through result.cell best.cell old.0.state.cell before after)
+              (IsNotAfter-trans result.cell best.cell old.0.state.cell before after)
         ];
       },
       elim better.1.1 [
@@ -656,7 +648,7 @@ best_hit : (hit : Cell → Bool) (nodes new : List Node) (key : ℕ) (a : Node) 
     (best result : Option Best)
     → Regards nodes new key a → IsTrue (hit a.state.cell) → higher ≡ a.cost → IsNotPast best higher
     → IfSome result (λ r. IsBetter best (record { cell = a.state.cell; cost = a.cost }) r) → IsSome result
-    → IsBest hit nodes floor best → IsBest hit new higher result
+    → IsBestSoFar hit nodes floor best → IsBestSoFar hit new higher result
 best_hit hit nodes new key a floor higher best None regard is_hit level near better some kept =
     absurd (both_ways false refl some)
 best_hit hit nodes new key a floor higher None (Some r) regard is_hit level near better some kept =
@@ -703,7 +695,7 @@ opened_underway all passes hit start rect floor nodes new queue after best resul
             let both = better is_hit in
             best_hit hit nodes new entry.key a floor higher best result regard is_hit (omega (arith, estimate, none))
             taken.near both.0 both.1 taken.underway.hits
-        | inr not ↦ subst (λ (b : Option Best). IsBest hit new higher b) (sym (missed not))
+        | inr not ↦ subst (λ (b : Option Best). IsBestSoFar hit new higher b) (sym (missed not))
             (best_missed hit nodes new entry.key a floor higher best regard not taken.near taken.underway.hits)
       ];
       costs = λ number x at.

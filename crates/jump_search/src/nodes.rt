@@ -49,14 +49,14 @@ pub(crate) struct Nodes {
 impl Model for Nodes {
     ghost use Rattle.std.specs.Prelude.{List};
     ghost use Rattle.jump_search.specs.declared.nodes.Node.{Node};
-    ghost use Rattle.jump_search.specs.inner.Numbered.{AreChained};
-    ghost use Rattle.jump_search.specs.inner.Paged.{slot_of, number_of};
+    ghost use Rattle.jump_search.specs.inner.Numbered.{AreSlotChains};
+    ghost use Rattle.jump_search.specs.inner.Paged.{slot_of, cell_number};
 
     ghost Value = { List Node };
 
     ghost view = { λ n. n.list.items };
 
-    ghost invariant = { λ n. AreChained slot_of (number_of n.pages.table.items n.pages.numbers.items) n.list.items
+    ghost invariant = { λ n. AreSlotChains slot_of (cell_number n.pages.table.items n.pages.numbers.items) n.list.items
         n.links.items };
 }
 

@@ -1,6 +1,6 @@
 //! Numbers for the cells of a map.
 ghost use Rattle.std.specs.Prelude.{◌≡◌, ◌<◌, ℕ, length, slice_index, IfOk, OnOk, OnErr};
-ghost use Rattle.jump_search.specs.inner.Paged.{place_of, spot_of, number_at, number_of, ArePages, IsSet};
+ghost use Rattle.jump_search.specs.inner.Paged.{page_place, spot_of, number_on_page, cell_number, ArePages, IsSet};
 ghost use Rattle.nav_types.specs.declared.cells.Cell.{Cell};
 
 use nav_types::{Cell, NoMemory};
@@ -36,7 +36,7 @@ fn spot(cell: Cell) -> usize
 
 /// The place of the cell's page.
 fn place(cell: Cell) -> usize
-    ensures place { result ≡ place_of cell }
+    ensures place { result ≡ page_place cell }
     ensures low { result < 1024 }
 {
     usize::from(cell.j / 16 % 32) * 32 + usize::from(cell.i / 16 % 32)
@@ -45,7 +45,7 @@ fn place(cell: Cell) -> usize
 impl Pages {
     /// Pages with 0 for each cell.
     pub(crate) fn new(alloc: Global) -> Result<Pages, NoMemory>
-        ensures { IfOk result (λ pages. (cell : Cell) → number_of pages.table.items pages.numbers.items cell ≡ 0) }
+        ensures { IfOk result (λ pages. (cell : Cell) → cell_number pages.table.items pages.numbers.items cell ≡ 0) }
     {
         let table = vec![in alloc; 0; PLACES]?;
         let mut numbers = Vec::with_capacity(alloc, ROOM * PAGE)?;
@@ -55,7 +55,7 @@ impl Pages {
 
     /// The number of a cell.
     pub(crate) fn get(&self, cell: Cell) -> u32
-        ensures { result ≡ number_of self.now.table.items self.now.numbers.items cell }
+        ensures { result ≡ cell_number self.now.table.items self.now.numbers.items cell }
     {
         let place = place(cell);
         let page = self.table[place];
@@ -69,8 +69,8 @@ impl Pages {
         ensures some { IfOk result (λ page. 0 < page) }
         ensures places { length self.new.table.items ≡ length self.old.table.items }
         ensures same { OnOk result ((at spot : ℕ) → spot < 256
-            → number_at self.new.table.items self.new.numbers.items at spot
-            ≡ number_at self.old.table.items self.old.numbers.items at spot) }
+            → number_on_page self.new.table.items self.new.numbers.items at spot
+            ≡ number_on_page self.old.table.items self.old.numbers.items at spot) }
         ensures table { OnErr result (self.new.table.items ≡ self.old.table.items) }
         ensures numbers { OnErr result (self.new.numbers.items ≡ self.old.numbers.items) }
     {
@@ -90,10 +90,10 @@ impl Pages {
     /// Sets the number of a cell, and gives the one that it had. Where there is no memory the numbers stay.
     pub(crate) fn replace(&mut self, cell: Cell, number: u32) -> Result<u32, NoMemory>
         ensures before { IfOk result (λ before. before
-            ≡ number_of self.old.table.items self.old.numbers.items cell) }
+            ≡ cell_number self.old.table.items self.old.numbers.items cell) }
         ensures set { OnOk result (IsSet cell number
-            (number_of self.old.table.items self.old.numbers.items)
-            (number_of self.new.table.items self.new.numbers.items)) }
+            (cell_number self.old.table.items self.old.numbers.items)
+            (cell_number self.new.table.items self.new.numbers.items)) }
         ensures table { OnErr result (self.new.table.items ≡ self.old.table.items) }
         ensures numbers { OnErr result (self.new.numbers.items ≡ self.old.numbers.items) }
     {

@@ -1,6 +1,7 @@
 -- Counting things of a kind: how counts are carried over, added up, and that a kind has one.
 use Rattle.std.proofs.Common.{ℕ, zero, suc, ◌≡◌, ◌≢◌, ◌+◌, ◌<◌, ◌≤◌, ◌⊎◌, List, [], ◌∷◌, ◌++◌, length, map, get_or, sum, refl, ap, inl, inr, sym, subst, ◌∙◌, arith, length-append, Some, option_map}
 use Rattle.std.specs.List.{Contains, sum_by, slice_get}
+use Rattle.std.proofs.lemmas.Bool.{cases_lt}
 use Rattle.std.proofs.lemmas.List.{length-map}
 use Rattle.std.proofs.lemmas.List.Sums.{sum_by-cons, sum-map}
 use Rattle.std.proofs.lemmas.Option.{slice_get-map, slice_get_cases, get_or_from_slice_get}
@@ -164,14 +165,22 @@ Contains-without (suc k) (z ∷ ys) x y low is apart has = elim (Contains-cons_c
   | inr later ↦ Contains-tail z (without k ys) y (Contains-without k ys x y (omega arith) is apart later)
 ]
 
--- a list that has each item once is no longer than one that has all its items
+-- a list that has each item once is no longer than one that can lack none of its items
+pub no_longer : {A : Type 0} (xs ys : List A) → IsOnce xs → ((x : A) → Contains xs x → (Contains ys x → ⊥) → ⊥) → length ys < length xs → ⊥
+no_longer [] ys once within longer = omega (arith, longer)
+no_longer (x ∷ xs) ys once within longer =
+    within x (Contains-head x xs)
+    (λ has. no_longer xs (without has.0 ys) (AllPairs-tail (λ a b. a ≢ b) x xs once)
+    (λ y inside lacks. within y (Contains-tail x xs y inside)
+    (λ there. lacks (Contains-without has.0 ys x y has.1 has.2 (head_apart (λ a b. a ≢ b) x xs y once inside) there)))
+    (omega (arith, longer, length-without has.0 ys has.1)))
+
+-- nor than one that has all of them
 once_shorter : {A : Type 0} (xs ys : List A) → IsOnce xs → ((x : A) → Contains xs x → Contains ys x) → length xs ≤ length ys
-once_shorter [] ys once within = omega arith
-once_shorter (x ∷ xs) ys once within =
-    let has = within x (Contains-head x xs) in
-    let rest = once_shorter xs (without has.0 ys) (AllPairs-tail (λ a b. a ≢ b) x xs once)
-    (λ y inside. Contains-without has.0 ys x y has.1 has.2 (head_apart (λ a b. a ≢ b) x xs y once inside) (within y (Contains-tail x xs y inside))) in
-    omega (arith, rest, length-without has.0 ys has.1)
+once_shorter xs ys once within = elim (cases_lt (length ys) (length xs)) [
+  | inl longer ↦ absurd (no_longer xs ys once (λ x inside lacks. lacks (within x inside)) longer)
+  | inr most ↦ most
+]
 
 pub Counts-unique : {A : Type 0} (Kind : A → Type 0) (m n : ℕ) → Counts Kind m → Counts Kind n → m ≡ n
 Counts-unique Kind m n one two =

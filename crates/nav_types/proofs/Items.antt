@@ -1,6 +1,6 @@
 -- What a list contains, where its items stand, items that stand in a relation, and pairs.
 use Rattle.std.proofs.Common.{ℕ, zero, suc, ◌≡◌, ◌≢◌, ◌<◌, ◌⊎◌, List, [], ◌∷◌, ◌++◌, length, length-append, map, get_or, refl, ap, inl, inr, sym, subst, ◌∙◌, arith, Some}
-use Rattle.std.specs.List.{AllPairs, Contains, slice_get}
+use Rattle.std.specs.List.{All, AllPairs, Contains, slice_get}
 use Rattle.std.proofs.lemmas.Bool.{cases_lt, cases_order}
 use Rattle.std.proofs.lemmas.List.{length-map, get_or-map, get_or_append_left, get_or_push}
 use Rattle.std.proofs.lemmas.Option.{get_or_from_slice_get, slice_get_within, slice_get-get_or}
@@ -161,3 +161,13 @@ same_place R asym xs ordered p q x at_p at_q =
         | inr more ↦ let own : R x x = subst (λ w. R x w) vp (subst (λ w. R w (get_or xs p x)) vq (ordered q p x more bp)) in absurd (asym x x own own)
       ]
     ]
+
+-- what holds of each item of a list with one more behind it holds of each item of the list
+pub all_front : {A : Type 0} (P : A → Type 0) (xs : List A) (x : A) → All P (xs ++ x ∷ []) → All P xs
+all_front P xs x all k d below =
+    subst P (get_or_append_left xs (x ∷ []) d k below) (all k d (omega (arith, length-append xs (x ∷ []))))
+
+-- and of the one behind
+pub all_last : {A : Type 0} (P : A → Type 0) (xs : List A) (x : A) → All P (xs ++ x ∷ []) → P x
+all_last P xs x all =
+    subst P (get_or_push xs x x (length xs) refl) (all (length xs) x (omega (arith, length-append xs (x ∷ []))))

@@ -6,3 +6,7 @@ pub mod CellOrder
 pub mod Walking
 pub mod DirSetLemmas
 pub mod CellPlaces
+pub mod Sizes
+pub mod Regions
+pub mod Bits
+pub mod Options

@@ -1,5 +1,5 @@
 -- Steps back, straight steps, and walks put together.
-use Rattle.std.proofs.Common.{ℕ, ◌≡◌, ◌≤◌, ◌+◌, ◌⊎◌, ◌↔◌, Bool, true, false, List, [], ◌∷◌, ◌++◌, IsTrue, refl, inl, inr, sym, subst, ◌∙◌, arith}
+use Rattle.std.proofs.Common.{ℕ, ◌≡◌, ◌≤◌, ◌<◌, ◌+◌, ◌⊎◌, ◌↔◌, Bool, true, false, List, [], ◌∷◌, ◌++◌, IsTrue, refl, inl, inr, sym, subst, ◌∙◌, arith}
 use Rattle.std.proofs.lemmas.List.Sums.{sum_by_push}
 use Rattle.std.proofs.lemmas.Bool.{false≢true}
 use Rattle.std.proofs.lemmas.List.Elements.{All-nil, All-cons}
@@ -152,6 +152,27 @@ IsWalk-append passes a b c (dir ∷ front) back here there =
 -- one step more at the end of a walk
 pub IsWalk-push : (passes : Cell → Bool) (dirs : List Dir) (from to next : Cell) (dir : Dir) → IsWalk passes from dirs to → Step passes dir to next → IsWalk passes from (dirs ++ dir ∷ []) next
 IsWalk-push passes dirs from to next dir walk step = IsWalk-append passes from to next dirs (dir ∷ []) walk (next, (step, refl))
+
+-- what a step costs at most and at least
+pub step_cost_most : (dir : Dir) → step_cost dir ≤ 92682
+step_cost_most N = omega arith
+step_cost_most E = omega arith
+step_cost_most S = omega arith
+step_cost_most W = omega arith
+step_cost_most NE = omega arith
+step_cost_most SE = omega arith
+step_cost_most SW = omega arith
+step_cost_most NW = omega arith
+
+pub step_cost_some : (dir : Dir) → 0 < step_cost dir
+step_cost_some N = omega arith
+step_cost_some E = omega arith
+step_cost_some S = omega arith
+step_cost_some W = omega arith
+step_cost_some NE = omega arith
+step_cost_some SE = omega arith
+step_cost_some SW = omega arith
+step_cost_some NW = omega arith
 
 pub walk_cost-push : (dirs : List Dir) (dir : Dir) → walk_cost (dirs ++ dir ∷ []) ≡ walk_cost dirs + step_cost dir
 walk_cost-push dirs dir = sum_by_push step_cost dirs dir

@@ -1,5 +1,5 @@
 -- The cells of a patch as a list: the cell at a place, the free cells, the bits that differ.
-use Rattle.std.proofs.Common.{◌≡◌, ◌≢◌, ℕ, ◌+◌, ◌-◌, ◌*◌, ◌/◌, ◌%◌, ◌<◌, ◌≤◌, ◌==◌, ◌↔◌, Bool, true, false, not, cond, List, length, get_or, refl, sym, ap, subst, ◌∙◌, ◌⊎◌, inl, inr, ⊎_elim, max, arith}
+use Rattle.std.proofs.Common.{◌≡◌, ◌≢◌, ℕ, ◌+◌, ◌-◌, ◌*◌, ◌/◌, ◌%◌, ◌<◌, ◌≤◌, ◌==◌, ◌↔◌, Bool, true, false, not, cond, List, length, get_or, refl, sym, ap, subst, ◌∙◌, ⊎_elim, arith}
 use Rattle.std.specs.Prelude.{IsFalse, bit_or}
 use Rattle.std.specs.List.{count_by}
 use Rattle.std.specs.Int.{bit_at}
@@ -17,6 +17,7 @@ use Rattle.nav_types.specs.Numbering.{Numbering, columns, rows, place_in, number
 use Rattle.nav_types.proofs.CellOrder.{same_cell}
 use Rattle.nav_types.proofs.Items.{same_pair}
 use Rattle.nav_types.proofs.Counting.{Counts-listed, Counts-one, Counts-none, Counts-carried}
+use Rattle.nav_types.proofs.Bits.{set_in_either}
 use Rattle.lane_rows.specs.Rows.{has_class, DifferIn}
 use Rattle.navcell_grid.specs.Grids.{IsInSpan}
 use Rattle.navcell_grid.specs.Patches.{free_count, DiffersIn}
@@ -188,10 +189,6 @@ differs_below_all k rect j bits a b last is = (
 abbrev pub AreOfRow : Rect → ℕ → Numbering → List ℕ → Type 0
 AreOfRow rect j a xs = (cell : Cell) → IsInSpan j rect.i0 rect.i1 cell → get_or xs (cell.i - rect.i0) 0 ≡ number_of a cell
 
-one_or_other : (m n : ℕ) → m < 2 → n < 2 → max m n ≡ 1 → (m ≡ 1) ⊎ (n ≡ 1)
-one_or_other m n low_m low_n one = ⊎_elim
-    (λ (less : m < 1). inr (omega arith)) (λ (more : 1 ≤ m). inl (omega arith)) (cases_lt m 1)
-
 pub differs_below_more : (k : ℕ) (rect : Rect) (j bits more : ℕ) (a b : Numbering) (xs ys : List ℕ) → rect.i0 ≤ rect.i1 → rect.j0 ≤ j → j ≤ rect.j1
     → length xs ≡ rect.i1 - rect.i0 + 1 → AreOfRow rect j a xs → AreOfRow rect j b ys
     → (bit_at more k ≡ 1) ↔ DifferIn k xs ys → (bit_at bits k ≡ 1) ↔ DiffersBelow k rect j a b
@@ -215,7 +212,7 @@ differs_below_more k rect j bits more a b xs ys ordered south north long row_a r
             (ap (λ (p : ℕ). has_class k (get_or xs p 0)) (sym back) ∙ ap (has_class k) (row_a cell at) ∙ same
             ∙ ap (has_class k) (sym (row_b cell at)) ∙ ap (λ (p : ℕ). has_class k (get_or ys p 0)) back);
       })
-      (one_or_other (bit_at bits k) (bit_at more k) (bit_at-lt bits k) (bit_at-lt more k) (sym (bit_at_or bits more k) ∙ set)),
+      (set_in_either (bit_at bits k) (bit_at more k) (bit_at-lt bits k) (bit_at-lt more k) (sym (bit_at_or bits more k) ∙ set)),
   λ d.
       let cell = d.cell in let inside = d.inside in let under = d.below in
       let low_bits = bit_at-lt bits k in let low_more = bit_at-lt more k in

@@ -26,5 +26,5 @@ pub record IsInSpan (j i0 i1 : ℕ) (cell : Cell) : Type 0 where
   pub east : cell.i ≤ i1
 
 -- the cell lies in the map, and the bit of the class is clear in its number
-abbrev pub is_passable : GridCells → ℕ → Cell → Bool
-is_passable grid class cell = nat_lt cell.i grid.size.w && nat_lt cell.j grid.size.h && not (has_class class (number_at grid cell))
+abbrev pub is_free_for : GridCells → ℕ → Cell → Bool
+is_free_for grid class cell = nat_lt cell.i grid.size.w && nat_lt cell.j grid.size.h && not (has_class class (number_at grid cell))

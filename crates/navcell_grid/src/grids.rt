@@ -1,7 +1,7 @@
 ghost use Rattle.std.specs.Prelude.{◌≡◌, ◌≤◌, ◌<◌, ◌+◌, ◌-◌, ◌*◌, ◌⊎◌, ℕ, length, replicate, slice_index, slice_range, bit_or, IfOk};
 ghost use Rattle.nav_types.specs.Cells.{cell_at, IsInside, IsInRect, IsRectInside};
 ghost use Rattle.nav_types.specs.Places.{place_of};
-ghost use Rattle.navcell_grid.specs.Grids.{GridCells, IsWholeGrid, number_at, IsInSpan, is_passable};
+ghost use Rattle.navcell_grid.specs.Grids.{GridCells, IsWholeGrid, number_at, IsInSpan, is_free_for};
 
 use nav_types::limits::MAX_CLASSES;
 use nav_types::{Cell, Class, NoMemory, Rect, Size, View};
@@ -174,14 +174,14 @@ impl Grid {
 }
 
 impl View for Grid {
-    ghost use Rattle.navcell_grid.specs.Grids.{is_passable};
+    ghost use Rattle.navcell_grid.specs.Grids.{is_free_for};
     ghost use Rattle.std.proofs.Common.{rules};
 
     ghost extent = { λ g. g.size };
 
     ghost class_count = { λ _. 16 };
 
-    ghost passes = { is_passable };
+    ghost passes = { is_free_for };
 
     ghost within = { λ g class cell passes. Prim.search rules };
 
@@ -195,7 +195,7 @@ impl View for Grid {
         MAX_CLASSES
     }
 
-    /// Whether the class's bit of the cell's number is clear (`is_passable`).
+    /// Whether the class's bit of the cell's number is clear (`is_free_for`).
     fn passable(&self, class: Class, cell: Cell) -> bool {
         (self.get(cell) >> class.number()) & 1 == 0
     }

@@ -1,5 +1,5 @@
--- Nothing is blocked out of reach.
-use Rattle.std.proofs.Common.{◌*◌, ℤ, leb-true}
+-- Nothing is blocked out of reach, and the reach grows with the clearance.
+use Rattle.std.proofs.Common.{◌*◌, ◌≤◌, ℤ, leb-true, arith}
 use Rattle.std.specs.Prelude.{unsigned_abs, IsTrue}
 use Rattle.nav_types.specs.declared.cells.Cell.{Cell}
 use Rattle.fixed_point.specs.Plane.{square, from_centre, centre_along, centre_across, squared_past}
@@ -21,3 +21,16 @@ blocked_near shape clearance cell unit hit =
     unit.long unit.short
     (leb-true (squared_past s cell.i cell.j) (square (65536 * unsigned_abs clearance)) hit) in
     record { column = near.0; row = near.1 }
+
+-- the reach grows with the clearance
+reach-rises : (shape : Shape) (clearance greatest : ℤ) → unsigned_abs clearance ≤ unsigned_abs greatest
+    → reach shape clearance ≤ reach shape greatest
+unfolding reach
+reach-rises shape clearance greatest less = omega arith
+
+-- what is near for a clearance is near for each greater one
+pub IsNear-rises : (shape : Shape) (clearance greatest : ℤ) (cell : Cell) → unsigned_abs clearance ≤ unsigned_abs greatest
+    → IsNear shape clearance cell → IsNear shape greatest cell
+IsNear-rises shape clearance greatest cell less near =
+    let rises = reach-rises shape clearance greatest less in
+    record { column = omega (arith, rises, near.column); row = omega (arith, rises, near.row) }

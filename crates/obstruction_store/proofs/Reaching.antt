@@ -1,27 +1,14 @@
--- A shape that blocks a cell is near it, for its clearance and for each greater one.
-use Rattle.std.proofs.Common.{◌≤◌, ℤ, IsTrue, arith, unsigned_abs}
+-- A shape that blocks a cell of a rectangle touches the rectangle, for its clearance and for each greater one.
+use Rattle.std.proofs.Common.{◌≤◌, ℤ, IsTrue, unsigned_abs}
 use Rattle.nav_types.specs.declared.cells.Cell.{Cell}
 use Rattle.nav_types.specs.declared.cells.Rect.{Rect}
 use Rattle.nav_types.specs.declared.cells.Size.{Size}
 use Rattle.nav_types.specs.Cells.{IsInside, IsInRect}
 use Rattle.obstruction_shapes.specs.declared.shapes.Shape.{Shape}
 use Rattle.obstruction_shapes.specs.Shapes.{FitsMap}
-use Rattle.obstruction_shapes.specs.Blocking.{blocked, reach, IsNear}
-use Rattle.obstruction_shapes.proofs.Near.{blocked_near}
+use Rattle.obstruction_shapes.specs.Blocking.{blocked}
+use Rattle.obstruction_shapes.proofs.Near.{blocked_near, IsNear-rises}
 use Rattle.obstruction_store.specs.Touching.{Touches}
-
--- the reach grows with the clearance
-reach-rises : (shape : Shape) (clearance greatest : ℤ) → unsigned_abs clearance ≤ unsigned_abs greatest
-    → reach shape clearance ≤ reach shape greatest
-unfolding reach
-reach-rises shape clearance greatest less = omega arith
-
--- what is near for a clearance is near for each greater one
-IsNear-rises : (shape : Shape) (clearance greatest : ℤ) (cell : Cell) → unsigned_abs clearance ≤ unsigned_abs greatest
-    → IsNear shape clearance cell → IsNear shape greatest cell
-IsNear-rises shape clearance greatest cell less near =
-    let rises = reach-rises shape clearance greatest less in
-    record { column = omega (arith, rises, near.column); row = omega (arith, rises, near.row) }
 
 -- a shape that blocks a cell of the rectangle touches it
 pub Touches-blocked : (size : Size) (rect : Rect) (clearance greatest : ℤ) (shape : Shape) (cell : Cell) → FitsMap size shape

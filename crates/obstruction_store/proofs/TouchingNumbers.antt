@@ -16,10 +16,10 @@ use Rattle.nav_types.specs.declared.cells.Size.{Size}
 use Rattle.obstruction_shapes.specs.declared.shapes.Obstruction.{Obstruction}
 use Rattle.obstruction_shapes.specs.Shapes.{FitsMap}
 use Rattle.nav_types.proofs.Items.{Contains-tail, Contains-cons_cases}
+use Rattle.nav_types.proofs.Options.{value_of}
 use Rattle.obstruction_store.specs.Standing.{Standing, AllFit}
 use Rattle.obstruction_store.specs.Touching.{Touches, AreTouching}
 use Rattle.obstruction_store.proofs.Listing.{first, second, less_than, Contains-entries}
-use Rattle.obstruction_store.proofs.Refusing.{value_of}
 
 -- two rectangles whose columns and rows meet have the first of both in common
 pub common_cell : (a b : Rect) → max a.i0 b.i0 ≤ min a.i1 b.i1 → max a.j0 b.j0 ≤ min a.j1 b.j1

@@ -1,5 +1,5 @@
 -- A key of the list, and the place of its entry.
-use Rattle.std.proofs.Common.{ℕ, ◌≡◌, ◌≢◌, ◌<◌, List, length, set, slice_index, Option, Some, None, IsSomeAnd, refl, ap, inl, inr, sym, subst, ◌∙◌, arith}
+use Rattle.std.proofs.Common.{ℕ, ◌≡◌, ◌≢◌, ◌<◌, List, length, set, slice_index, Some, IsSomeAnd, ap, inl, inr, sym, subst, ◌∙◌, arith}
 use Rattle.std.proofs.lemmas.Bool.{cases_eq}
 use Rattle.std.proofs.lemmas.List.{length-set}
 use Rattle.std.specs.FinMap as map
@@ -10,6 +10,7 @@ use Rattle.open_heap.specs.inner.Trees.{entry_at, parent, queue_of, IsHeap, CanR
 use Rattle.open_heap.proofs.EntryOrder.{IsNotLater-trans}
 use Rattle.open_heap.proofs.Gaps.{at_place, filled_here, filled_there, order_as, placed_as, keys_differ}
 use Rattle.open_heap.proofs.Queues.{listed_back}
+use Rattle.nav_types.proofs.Options.{value_of}
 
 -- the key's entry stands at the place that the key leads to, and its priority is not less than the new one
 pub record IsHeld (entries : List Entry) (places : List ℕ) (key : ℕ) (priority : Priority) : Type 0 where
@@ -28,14 +29,10 @@ not_later key a b (inr (same, low)) = inr (
   ],
 )
 
-some_held : (o : Option Priority) (P : Priority → Type 0) → IsSomeAnd o P → (priority : Priority) × ((o ≡ Some priority) × P priority)
-some_held None P is = absurd is
-some_held (Some priority) P is = (priority, (refl, is))
-
 pub IsHeld-from_some : (entries : List Entry) (places : List ℕ) (queue : Queue) (key : ℕ) (priority : Priority) → IsHeap entries places
     → queue_of entries ≡ queue → IsSomeAnd (map.get queue key) (IsNotMore priority) → IsHeld entries places key priority
 IsHeld-from_some entries places queue key priority heap is lower =
-    let held = some_held (map.get queue key) (IsNotMore priority) lower in
+    let held = value_of (IsNotMore priority) (map.get queue key) lower in
     let was = held.0 in
     let found : map.get (queue_of entries) key ≡ Some was = ap (λ (m : Queue). map.get m key) is ∙ held.1.0 in
     let has = listed_back entries key was found in

@@ -16,7 +16,7 @@ use Rattle.path_service.specs.Closings.{closed_by, HasLeft, PostedIsFound, IsClo
 use Rattle.path_service.specs.inner.Ports.{posted_in, sent_in, ids_from, id_of}
 use Rattle.path_service.specs.inner.Closing.{IsPortOf, ArePortsOf, ClosesPort, ClosePorts}
 use Rattle.path_service.specs.inner.Holding.{driver_of, HoldsDriver}
-use Rattle.path_service.proofs.Zips.{all_none, all_more, all_head, all_tail}
+use Rattle.std.proofs.lemmas.List.Elements.{All-nil, All-cons, All-head, All-tail}
 use Rattle.path_service.proofs.HandLists.{past_first_at}
 use Rattle.path_service.proofs.NextTurns.{wide_ports}
 use Rattle.path_service.proofs.NewDrivers.{numbered, length-ids}
@@ -32,12 +32,12 @@ ports_of n (p ∷ ports) (x ∷ ended) e =
     (record { posts = ap (λ (i : CallerId). i.posts) (sym head); replies = ap (λ (i : CallerId). i.replies) (sym head) }, ports_of (n + 1) ports ended rest)
 
 pub all_left : (ports : List Port) (ended : List EndedState) (closed : List ClosedCaller) → ClosePorts ports ended closed → All HasLeft closed
-all_left [] [] [] are = all_none HasLeft
+all_left [] [] [] are = All-nil HasLeft
 all_left [] [] (c ∷ closed) are = absurd are
 all_left [] (x ∷ ended) closed are = absurd are
 all_left (p ∷ ports) [] closed are = absurd are
 all_left (p ∷ ports) (x ∷ ended) [] are = absurd are
-all_left (p ∷ ports) (x ∷ ended) (c ∷ closed) are = all_more HasLeft c closed are.0.left (all_left ports ended closed are.1)
+all_left (p ∷ ports) (x ∷ ended) (c ∷ closed) are = All-cons HasLeft c closed are.0.left (all_left ports ended closed are.1)
 
 one_closed : (d : DriverState) (n : ℕ) (p : Port) (x : EndedState) (c : ClosedCaller) → x.id ≡ id_of n p → list_of d.machine.posted n ≡ p.posts.taken → list_of d.sent n ≡ p.replies.posted
     → ClosesPort p x c → c ≡ closed_by d x
@@ -75,15 +75,15 @@ found_at s c facts =
     ∙ take-append-drop (slice_index s.taken c) (list_of s.posted c)
 
 all_found : (d : DriverState) (ended : List EndedState) → Facts d.machine → All HasLeft (map (closed_by d) ended) → All (PostedIsFound d) ended
-all_found d [] facts all = all_none (PostedIsFound d)
+all_found d [] facts all = All-nil (PostedIsFound d)
 all_found d (x ∷ ended) facts all =
     let c : ℕ = x.id.number in
-    let first : HasLeft (closed_by d x) = all_head HasLeft (closed_by d x) (map (closed_by d) ended) all in
+    let first : HasLeft (closed_by d x) = All-head HasLeft (closed_by d x) (map (closed_by d) ended) all in
     let left : List Post = first.posts.0 in
     let found : x.posted ≡ of_caller c (all_turns d.machine) ++ list_of (in_hand d.machine) c ++ left =
     first.posts.1 ∙ ap (λ (l : List Post). l ++ left) (sym (found_at d.machine c facts)) in
     let one : PostedIsFound d x = (left, (first.posts.1, found)) in
-    all_more (PostedIsFound d) x ended one (all_found d ended facts (all_tail HasLeft (closed_by d x) (map (closed_by d) ended) all))
+    All-cons (PostedIsFound d) x ended one (all_found d ended facts (All-tail HasLeft (closed_by d x) (map (closed_by d) ended) all))
 
 pub is_closed : (a : Inside) (ended : List EndedState) (closed : List ClosedCaller) → HoldsDriver a → map ended_id ended ≡ ids_from 0 a.ports.items → ClosePorts a.ports.items ended closed
     → IsClosedBy (driver_of a) ended (record { map = a.map; journal = a.journal.items; replies = a.replies.items; callers = closed })

@@ -10,7 +10,7 @@ use Rattle.turn_core.specs.declared.replies.Reply.{Reply}
 use Rattle.turn_core.specs.declared.replies.TurnReplies.{TurnReplies}
 use Rattle.turn_core.specs.Solving.{AreAnswersTo}
 use Rattle.turn_core.specs.Words.{Standing, MapState, bare}
-use Rattle.turn_core.specs.Turns.{after, after_turn, jobs, standing, of_caller, replies_in, AreTurnReplies, IsTurnTold, IsOneThread}
+use Rattle.turn_core.specs.Turns.{after, after_turn, jobs, standing, of_caller, replies_in, AreTurnReplies, IsTurnTold, IsOneThread, post_count}
 use Rattle.turn_core.specs.ReadyTurns.{Ready}
 use Rattle.turn_core.specs.States.{State, Run, list_of}
 use Rattle.turn_core.specs.Effects.{IsStep, joined_up}
@@ -21,32 +21,30 @@ use Rattle.turn_core.proofs.Keeping.{kept, lists_front, lists_back}
 use Rattle.turn_core.proofs.CallerLists.{joined_up_at, of_caller_push}
 use Rattle.turn_core.proofs.Settling.{as_many, replies_counted}
 use Rattle.turn_core.proofs.Threads.{standing_more}
-use Rattle.turn_core.proofs.TurnByTurn.{told_more}
+use Rattle.turn_core.proofs.TurnByTurn.{told_more, replies_end}
 use Rattle.path_service.specs.declared.ports.Port.{Port}
 use Rattle.path_service.specs.declared.runs.AnsweredRun.{AnsweredRun}
 use Rattle.path_service.specs.declared.drivers.Driver.TheInside.{Inside}
-use Rattle.path_service.specs.Services.{DriverState, post_count}
+use Rattle.path_service.specs.Services.{DriverState}
 use Rattle.path_service.specs.Steps.{AreRepliesTo, AreDue, BeginEach, HasDelivered, HasSentSome}
 use Rattle.path_service.specs.inner.Zips.{zipped, AllPaired}
 use Rattle.path_service.specs.inner.Ports.{sends, posted_in, told_in, sent_in, ids_from, IsInRoom, HasRoomOn, SendsParts}
 use Rattle.nav_types.specs.declared.sequences.NoMemory.{NoMemory}
-use Rattle.path_service.specs.inner.Running.{base_of, HoldsRun, HoldsRunning}
+use Rattle.path_service.specs.inner.Running.{version_for_next, HoldsRun, HoldsRunning}
 use Rattle.path_service.specs.inner.Holding.{told_up, turn_of, run_of, AreLast, state_with, machine_of, driver_of, HoldsStaged, HoldsBroken, HoldsDriver}
-use Rattle.path_service.proofs.Zips.{paired_from, all_head, all_tail}
+use Rattle.path_service.proofs.Zips.{paired_from}
+use Rattle.std.proofs.lemmas.List.Elements.{All-head, All-tail}
 use Rattle.path_service.proofs.PortLists.{posted_sends, told_sends, sent_sends, ids_sends, room_sends}
-use Rattle.path_service.proofs.RunStarts.{not_both, sent_all, version_is}
+use Rattle.path_service.proofs.RunStarts.{sent_all, version_is}
+use Rattle.std.proofs.lemmas.Bool.{both_ways}
 
 told_up_push : (lists : List (List Reply)) (all : List TurnReplies) (told : TurnReplies) → told_up lists (all ++ told ∷ []) ≡ joined_up (told_up lists all) told.replies
 told_up_push lists [] told = refl
 told_up_push lists (t ∷ all) told = told_up_push (joined_up lists t.replies) all told
 
-replies_push : (all : List TurnReplies) (told : TurnReplies) → replies_in (all ++ told ∷ []) ≡ replies_in all ++ told.replies ∷ []
-replies_push [] told = refl
-replies_push (t ∷ all) told = ap (λ (l : List (List (List Reply))). t.replies ∷ l) (replies_push all told)
-
 no_broken : (b : Bool) (o : Option (List (List Post))) → HoldsBroken b o → b ≡ false → o ≡ None
 no_broken b None held sound = refl
-no_broken b (Some turn) held sound = absurd (not_both b held sound)
+no_broken b (Some turn) held sound = absurd (both_ways b sound held)
 
 -- the running turn is this one
 pub runs : (a : Inside) (run : AnsweredRun) → a.running ≡ Some run → (machine_of a).running ≡ Some (answered_run run.posts run.answers.value)
@@ -89,8 +87,8 @@ wide_replies a run holds is =
 room_at : (ports : List Port) (c : ℕ) (port : Port) → slice_get ports c ≡ Some port → All IsInRoom ports → length (list_of (posted_in ports) c) ≤ 2 ^ 62
 room_at [] zero port is all = cc
 room_at [] (suc c) port is all = cc
-room_at (p ∷ ports) zero port is all = all_head IsInRoom p ports all
-room_at (p ∷ ports) (suc c) port is all = room_at ports c port is (all_tail IsInRoom p ports all)
+room_at (p ∷ ports) zero port is all = All-head IsInRoom p ports all
+room_at (p ∷ ports) (suc c) port is all = room_at ports c port is (All-tail IsInRoom p ports all)
 
 pub sent_at : (ports : List Port) (c : ℕ) (port : Port) → slice_get ports c ≡ Some port → port.replies.posted ≡ list_of (sent_in ports) c
 sent_at [] zero port is = cc
@@ -191,10 +189,10 @@ delivered_holds a b run holds sound is new =
           (subst (IsOneThread m (a.journal.items ++ run.posts ∷ [])) (sym new.replies) longer));
       running = subst (HoldsRunning b.version) (sym new.running) tt;
       broken = subst (λ (f : Bool). HoldsBroken f b.broken) (sym new.failed) (subst (HoldsBroken a.failed) (sym new.broken) holds.broken);
-      staged = λ e. subst (λ (o : Option AnsweredRun). HoldsStaged (base_of b.version o) b.staged) (sym new.running)
+      staged = λ e. subst (λ (o : Option AnsweredRun). HoldsStaged (version_for_next b.version o) b.staged) (sym new.running)
           (subst (λ (v : MapState). HoldsStaged v b.staged) (sym new.version)
           (subst (HoldsStaged run.after) (sym new.staged)
-          (subst (λ (o : Option AnsweredRun). HoldsStaged (base_of a.version o) a.staged) is (holds.staged sound))));
+          (subst (λ (o : Option AnsweredRun). HoldsStaged (version_for_next a.version o) a.staged) is (holds.staged sound))));
       last = subst (λ (p : List (List Post)). AreLast p b.hands.items) (sym posted) (subst (AreLast (posted_in a.ports.items)) (sym new.hands) holds.last);
       few = subst (λ (h : List (List Post)). post_count h ≤ MAX_STAGED_POSTS) (sym new.hands) holds.few;
       room = subst (All IsInRoom) (sym new.ports) (room_sends a.ports.items run.replies.replies holds.room);
@@ -204,7 +202,7 @@ delivered_holds a b run holds sound is new =
             ∙ joined_up_at (sent_in a.ports.items) run.replies.replies c
             ∙ ap (λ (l : List Reply). l ++ list_of run.replies.replies c) (sent_all (driver_of a) a.replies.items holds.sent sound c ∙ append-nil (of_caller c (replies_in a.replies.items)))
             ∙ sym (of_caller_push c (replies_in a.replies.items) run.replies.replies)
-            ∙ ap (of_caller c) (sym (replies_push a.replies.items run.replies) ∙ ap replies_in (sym new.replies))
+            ∙ ap (of_caller c) (sym (replies_end a.replies.items run.replies) ∙ ap replies_in (sym new.replies))
             ∙ sym (append-nil (of_caller c (replies_in b.replies.items)));
         begins = inl refl;
       };
@@ -255,7 +253,7 @@ unsent_holds a b run parts holds sound is begins new =
           (subst (IsOneThread a.map a.journal.items) (sym new.replies) holds.answered));
       running = subst (λ (v : MapState). HoldsRunning v b.running) (sym r.1.0) (subst (HoldsRunning a.version) (sym r.1.1.1.1.0) holds.running);
       broken = subst (λ (f : Bool). HoldsBroken f b.broken) (sym new.failed) (subst (HoldsBroken true) (sym (r.1.1.1.1.1 ∙ no_broken a.failed a.broken holds.broken sound)) tt);
-      staged = λ e. absurd (not_both b.failed new.failed e);
+      staged = λ e. absurd (both_ways b.failed e new.failed);
       last = subst (λ (p : List (List Post)). AreLast p b.hands.items) (sym posted) (subst (AreLast (posted_in a.ports.items)) (sym r.1.1.0) holds.last);
       few = subst (λ (h : List (List Post)). post_count h ≤ MAX_STAGED_POSTS) (sym r.1.1.0) holds.few;
       room = subst (All IsInRoom) (sym new.ports) (room_sends a.ports.items parts holds.room);

@@ -1,16 +1,14 @@
 -- The posts in hand, which are the last of those that were taken off the lanes.
-use Rattle.std.proofs.Common.{◌≡◌, ℕ, zero, suc, ◌+◌, ◌-◌, ◌<◌, ◌≤◌, List, [], ◌∷◌, ◌++◌, length, map, take, drop, get_or, replicate, slice_index, refl, sym, ap, ◌∙◌, arith, append-nil, append_assoc, length-append}
+use Rattle.std.proofs.Common.{◌≡◌, ℕ, zero, suc, ◌+◌, ◌-◌, List, [], ◌∷◌, ◌++◌, length, map, drop, replicate, slice_index, refl, sym, ap, ◌∙◌, arith, append-nil, append_assoc, length-append}
 use Rattle.std.proofs.lemmas.List.Sums.{sum_by-cons}
-use Rattle.std.proofs.lemmas.List.{drop_at, take_more}
+use Rattle.std.proofs.lemmas.List.{drop_at}
 use Rattle.turn_core.specs.declared.posts.Post.{Post}
-use Rattle.turn_core.specs.declared.posts.Post.TheVariants.{Edit as Editing, Ask as Asking}
-use Rattle.turn_core.specs.Turns.{requests, jobs}
+use Rattle.turn_core.specs.Turns.{post_count}
 use Rattle.turn_core.specs.States.{list_of}
 use Rattle.turn_core.specs.Effects.{joined_up, added_up}
 use Rattle.turn_core.proofs.CallerLists.{first_at, rest_at}
-use Rattle.path_service.specs.Services.{past_first, post_count}
+use Rattle.path_service.specs.Services.{past_first}
 use Rattle.path_service.specs.inner.Holding.{taken_before, AreLast}
-use Rattle.path_service.proofs.PortLists.{count_more}
 
 -- they stay the last, where the same is put behind both
 pub last_joined : (posted hands got : List (List Post)) → length got ≡ length hands → AreLast posted hands → AreLast (joined_up posted got) (joined_up hands got)
@@ -89,22 +87,3 @@ none_counted [] c e = refl
 none_counted ([] ∷ turn) zero e = refl
 none_counted ((p ∷ ps) ∷ turn) zero e = absurd (omega (arith, e, sum_by-cons length (p ∷ ps) turn))
 none_counted (ps ∷ turn) (suc c) e = none_counted turn c (omega (arith, e, sum_by-cons length ps turn))
-
-pub count_next : (turn : List (List Post)) (i : ℕ) (d : List Post) → i < length turn → post_count (take (i + 1) turn) ≡ post_count (take i turn) + length (get_or turn i d)
-count_next turn i d less = ap post_count (take_more turn i d less) ∙ count_more (take i turn) (get_or turn i d)
-
-pub count_none : (n : ℕ) → post_count (replicate n no_posts) ≡ 0
-count_none zero = refl
-count_none (suc n) = count_none n
-
-requests_few : (ps : List Post) → length (requests ps) ≤ length ps
-requests_few [] = omega arith
-requests_few (Editing e ∷ ps) = omega (arith, requests_few ps)
-requests_few (Asking q ∷ ps) = omega (arith, requests_few ps)
-
--- a turn has no more jobs than posts
-pub jobs_few : (turn : List (List Post)) → length (jobs turn) ≤ post_count turn
-jobs_few [] = omega arith
-jobs_few (ps ∷ turn) =
-    let all : length (jobs (ps ∷ turn)) ≡ length (requests ps ++ jobs turn) = refl in
-    omega (arith, requests_few ps, jobs_few turn, all, length-append (requests ps) (jobs turn), sum_by-cons length ps turn)

@@ -12,7 +12,7 @@ use Rattle.turn_core.specs.Facts.{Facts}
 use Rattle.path_service.specs.declared.drivers.Driver.TheInside.{Inside}
 use Rattle.path_service.specs.Services.{DriverState, told_of}
 use Rattle.path_service.specs.inner.Holding.{AreLast, turn_of, run_of, state_with, machine_of, driver_of, HoldsDriver}
-use Rattle.path_service.proofs.Zips.{all_more, all_head, all_tail}
+use Rattle.std.proofs.lemmas.List.Elements.{All-cons, All-head, All-tail}
 use Rattle.path_service.proofs.NewDrivers.{length-ids}
 use Rattle.path_service.proofs.Deliveries.{sent_at}
 
@@ -59,10 +59,10 @@ room_set [] c p q is same all = all
 room_set (r ∷ ports) zero p q is same all =
     let own : r ≡ p = cc in
     let taken : q.posts.taken ≡ r.posts.taken = same ∙ ap (λ (x : Port). x.posts.taken) (sym own) in
-    let was : IsInRoom r = all_head IsInRoom r ports all in
-    all_more IsInRoom q ports (omega (arith, was, ap length taken)) (all_tail IsInRoom r ports all)
+    let was : IsInRoom r = All-head IsInRoom r ports all in
+    All-cons IsInRoom q ports (omega (arith, was, ap length taken)) (All-tail IsInRoom r ports all)
 room_set (r ∷ ports) (suc c) p q is same all =
-    all_more IsInRoom r (set ports c q) (all_head IsInRoom r ports all) (room_set ports c p q is same (all_tail IsInRoom r ports all))
+    All-cons IsInRoom r (set ports c q) (All-head IsInRoom r ports all) (room_set ports c p q is same (All-tail IsInRoom r ports all))
 
 -- the port of a caller with this lane
 pub port_with : (n : ℕ) (ports : List Port) (c : ℕ) (id : CallerId) → slice_get (ids_from n ports) c ≡ Some id → (port : Port) × ((slice_get ports c ≡ Some port) × (id_of (n + c) port ≡ id))

@@ -8,13 +8,13 @@ use Rattle.turn_core.specs.declared.posts.Post.{Post}
 use Rattle.turn_core.specs.declared.replies.TurnReplies.{TurnReplies}
 use Rattle.turn_core.specs.Turns.{of_caller}
 use Rattle.turn_core.specs.States.{State, Run, list_of}
-use Rattle.turn_core.specs.Effects.{IsStep, joined_up}
+use Rattle.turn_core.specs.Effects.{IsStep, joined_up, Reaches}
 use Rattle.turn_core.specs.Facts.{all_turns, Facts}
 use Rattle.turn_core.specs.Arrival.{post_events, CanStage, in_stage}
 use Rattle.turn_core.proofs.Reaching.{reach_step, reach_none, all_post, stage_step}
 use Rattle.turn_core.proofs.Keeping.{kept_run_of}
 use Rattle.path_service.specs.Services.{in_hand}
-use Rattle.path_service.specs.Steps.{Reaches, staging}
+use Rattle.path_service.specs.Steps.{staging}
 use Rattle.path_service.specs.inner.Holding.{AreLast, state_with}
 use Rattle.path_service.proofs.HandLists.{last_wide, before_joined, hands_are, before_staged, past_first_at, no_posts}
 

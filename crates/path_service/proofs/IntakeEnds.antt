@@ -9,7 +9,7 @@ use Rattle.turn_core.specs.Words.{Standing}
 use Rattle.turn_core.specs.ReadyTurns.{Ready}
 use Rattle.path_service.specs.declared.ports.Port.{Port}
 use Rattle.path_service.specs.declared.intakes.Intake.{Intake}
-use Rattle.path_service.specs.Services.{post_count}
+use Rattle.turn_core.specs.Turns.{post_count}
 use Rattle.path_service.specs.inner.Zips.{zipped, AllPaired}
 use Rattle.path_service.specs.inner.Ports.{joins, PortHasLooked, FillsPorts}
 use Rattle.path_service.specs.inner.Intakes.{Becomes, HasTakenIn}

@@ -10,7 +10,8 @@ use Rattle.turn_core.specs.States.{list_of}
 use Rattle.path_service.specs.declared.ports.Port.{Port}
 use Rattle.path_service.specs.inner.Zips.{zipped, AllPaired}
 use Rattle.path_service.specs.inner.Ports.{takes, gained, puts, sends, joins, PortHasLooked, FillAll, HasRoom, IsInRoom, Took, TakesPosts, FillsPort, FillsAt, FillsPorts, HasRoomOn, HasRoomFor, SendsPart, SendsAt, SendsParts}
-use Rattle.path_service.proofs.Zips.{zipped_none, zipped_at, zipped_more, paired_none, paired_more, paired_at, all_head, all_tail}
+use Rattle.path_service.proofs.Zips.{zipped_none, zipped_at, zipped_more, paired_none, paired_more, paired_at}
+use Rattle.std.proofs.lemmas.List.Elements.{All-head, All-tail}
 use Rattle.path_service.proofs.PortLists.{fill_more}
 
 lane_is : (lane other : Taking Post) → lane.lane ≡ other.lane → lane.taken ≡ other.taken → lane.told ≡ other.told → lane ≡ other
@@ -178,8 +179,8 @@ filled_more old now new hands held more room caller left next_left got g before 
     room_here [] (suc c) port is all = cc
     room_here (p ∷ ports) zero port is all =
         let same : p ≡ port = cc in
-        subst IsInRoom same (all_head IsInRoom p ports all)
-    room_here (p ∷ ports) (suc c) port is all = room_here ports c port is (all_tail IsInRoom p ports all)
+        subst IsInRoom same (All-head IsInRoom p ports all)
+    room_here (p ∷ ports) (suc c) port is all = room_here ports c port is (All-tail IsInRoom p ports all)
 
 pub filled_all : (old new : List Port) (hands more : List (List Post)) (room caller : ℕ) (left : Result ℕ NoMemory) (got : List (List Post)) → FilledFirst old new hands more room caller left got → caller ≡ length old
     → FillsPorts old new hands more room left got

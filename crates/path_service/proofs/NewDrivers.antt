@@ -6,7 +6,7 @@ use Rattle.turn_core.specs.declared.posts.Post.{Post}
 use Rattle.turn_core.specs.declared.replies.Reply.{Reply}
 use Rattle.turn_core.specs.declared.replies.TurnReplies.{TurnReplies}
 use Rattle.turn_core.specs.Words.{bare}
-use Rattle.turn_core.specs.Turns.{standing, of_caller, replies_in, IsOneThread}
+use Rattle.turn_core.specs.Turns.{standing, of_caller, replies_in, IsOneThread, post_count}
 use Rattle.turn_core.specs.States.{opening, list_of}
 use Rattle.turn_core.specs.Facts.{Facts}
 use Rattle.turn_core.proofs.Keeping.{opened}
@@ -15,13 +15,14 @@ use Rattle.path_service.specs.declared.ports.Port.{Port}
 use Rattle.path_service.specs.declared.runs.AnsweredRun.{AnsweredRun}
 use Rattle.path_service.specs.declared.drivers.Driver.TheInside.{Inside}
 use Rattle.path_service.specs.Callers.{CallerId, CallerState, fresh, AreNumbered}
-use Rattle.path_service.specs.Services.{started_on, post_count}
+use Rattle.path_service.specs.Services.{started_on}
 use Rattle.path_service.specs.inner.Opening.{IsNew}
 use Rattle.path_service.specs.inner.Ports.{posted_in, told_in, sent_in, ids_from, id_of, IsInRoom}
-use Rattle.path_service.specs.inner.Running.{base_of, HoldsRunning}
+use Rattle.path_service.specs.inner.Running.{version_for_next, HoldsRunning}
 use Rattle.path_service.specs.inner.Holding.{taken_before, AreLast, told_up, turn_of, run_of, machine_of, driver_of, HoldsStaged, HoldsBroken, HoldsDriver}
-use Rattle.path_service.proofs.Zips.{all_none, all_more, all_head, all_tail}
-use Rattle.path_service.proofs.HandLists.{no_posts, count_none}
+use Rattle.std.proofs.lemmas.List.Elements.{All-nil, All-cons, All-head, All-tail}
+use Rattle.path_service.proofs.HandLists.{no_posts}
+use Rattle.turn_core.proofs.PostCounts.{count_none}
 
 abbrev no_replies : List Reply
 no_replies = []
@@ -29,26 +30,26 @@ no_replies = []
 new_posted : (ports : List Port) → All IsNew ports → posted_in ports ≡ replicate (length ports) no_posts
 new_posted [] all = refl
 new_posted (p ∷ ports) all =
-    ap (λ (l : List Post). l ∷ posted_in ports) (all_head IsNew p ports all).taken
-    ∙ ap (λ (l : List (List Post)). no_posts ∷ l) (new_posted ports (all_tail IsNew p ports all))
+    ap (λ (l : List Post). l ∷ posted_in ports) (All-head IsNew p ports all).taken
+    ∙ ap (λ (l : List (List Post)). no_posts ∷ l) (new_posted ports (All-tail IsNew p ports all))
 
 new_told : (ports : List Port) → All IsNew ports → told_in ports ≡ replicate (length ports) 0
 new_told [] all = refl
 new_told (p ∷ ports) all =
-    ap (λ (n : ℕ). n ∷ told_in ports) (all_head IsNew p ports all).told
-    ∙ ap (λ (l : List ℕ). 0 ∷ l) (new_told ports (all_tail IsNew p ports all))
+    ap (λ (n : ℕ). n ∷ told_in ports) (All-head IsNew p ports all).told
+    ∙ ap (λ (l : List ℕ). 0 ∷ l) (new_told ports (All-tail IsNew p ports all))
 
 new_sent : (ports : List Port) → All IsNew ports → sent_in ports ≡ replicate (length ports) no_replies
 new_sent [] all = refl
 new_sent (p ∷ ports) all =
-    ap (λ (l : List Reply). l ∷ sent_in ports) (all_head IsNew p ports all).sent
-    ∙ ap (λ (l : List (List Reply)). no_replies ∷ l) (new_sent ports (all_tail IsNew p ports all))
+    ap (λ (l : List Reply). l ∷ sent_in ports) (All-head IsNew p ports all).sent
+    ∙ ap (λ (l : List (List Reply)). no_replies ∷ l) (new_sent ports (All-tail IsNew p ports all))
 
 new_room : (ports : List Port) → All IsNew ports → All IsInRoom ports
-new_room [] all = all_none IsInRoom
+new_room [] all = All-nil IsInRoom
 new_room (p ∷ ports) all =
-    let n : length p.posts.taken ≡ 0 = ap length (all_head IsNew p ports all).taken in
-    all_more IsInRoom p ports (omega (arith, n)) (new_room ports (all_tail IsNew p ports all))
+    let n : length p.posts.taken ≡ 0 = ap length (All-head IsNew p ports all).taken in
+    All-cons IsInRoom p ports (omega (arith, n)) (new_room ports (All-tail IsNew p ports all))
 
 none_before : (n : ℕ) → taken_before (replicate n no_posts) (replicate n no_posts) ≡ replicate n 0
 none_before zero = refl
@@ -115,7 +116,7 @@ driver_holds a made =
           (subst (IsOneThread a.map []) (sym made.replies) (record { replies = tt; numbers = tt }));
       running = subst (HoldsRunning a.version) (sym made.running) tt;
       broken = subst (HoldsBroken a.failed) (sym made.broken) tt;
-      staged = λ sound. subst (HoldsStaged (base_of a.version a.running)) (sym made.staged) tt;
+      staged = λ sound. subst (HoldsStaged (version_for_next a.version a.running)) (sym made.staged) tt;
       last = subst (λ (p : List (List Post)). AreLast p a.hands.items) (sym (posted_is a made))
           (subst (AreLast (replicate n no_posts)) (sym made.hands) (none_last n));
       few = omega (arith, ap post_count made.hands, count_none n);
@@ -143,8 +144,8 @@ ids_more n (q ∷ ports) p =
     ∙ ap (λ (k : ℕ). id_of n q ∷ ids_from (n + 1) ports ++ id_of k p ∷ []) (let e : (n + 1) + length ports ≡ n + suc (length ports) = omega arith in e)
 
 pub all_end : (ports : List Port) (p : Port) → All IsNew ports → IsNew p → All IsNew (ports ++ p ∷ [])
-all_end [] p all one = all_more IsNew p [] one (all_none IsNew)
-all_end (q ∷ ports) p all one = all_more IsNew q (ports ++ p ∷ []) (all_head IsNew q ports all) (all_end ports p (all_tail IsNew q ports all) one)
+all_end [] p all one = All-cons IsNew p [] one (All-nil IsNew)
+all_end (q ∷ ports) p all one = All-cons IsNew q (ports ++ p ∷ []) (All-head IsNew q ports all) (all_end ports p (All-tail IsNew q ports all) one)
 
 -- the lanes of one caller more
 pub record AreOpen (number : ℕ) (open_ports : List Port) (made : List CallerState) : Type 0 where

@@ -12,7 +12,7 @@ use Rattle.turn_core.specs.declared.replies.Reply.{Reply}
 use Rattle.turn_core.specs.Words.{Standing, MapState}
 use Rattle.turn_core.specs.ReadyTurns.{Ready}
 use Rattle.turn_core.specs.States.{State, list_of}
-use Rattle.turn_core.specs.Effects.{joined_up}
+use Rattle.turn_core.specs.Effects.{joined_up, Reaches}
 use Rattle.turn_core.specs.Facts.{Facts}
 use Rattle.turn_core.specs.Arrival.{post_events}
 use Rattle.turn_core.proofs.Reaching.{reach-append}
@@ -20,16 +20,18 @@ use Rattle.turn_core.proofs.CallerLists.{none_at}
 use Rattle.path_service.specs.declared.ports.Port.{Port}
 use Rattle.path_service.specs.declared.intakes.Intake.{Intake}
 use Rattle.path_service.specs.declared.drivers.Driver.TheInside.{Inside}
-use Rattle.path_service.specs.Services.{in_hand, post_count, with_machine}
-use Rattle.path_service.specs.Steps.{Reaches, staging, HasReceived, HasStaged}
+use Rattle.path_service.specs.Services.{in_hand, with_machine}
+use Rattle.turn_core.specs.Turns.{post_count}
+use Rattle.path_service.specs.Steps.{staging, HasReceived, HasStaged}
 use Rattle.path_service.specs.inner.Zips.{zipped, AllPaired}
 use Rattle.path_service.specs.inner.Ports.{gained, joins, posted_in, told_in, sent_in, ids_from, IsInRoom, PortHasLooked}
 use Rattle.path_service.specs.inner.Intakes.{Becomes, HasTakenIn}
-use Rattle.path_service.specs.inner.Running.{base_of}
+use Rattle.path_service.specs.inner.Running.{version_for_next}
 use Rattle.path_service.specs.inner.Holding.{AreLast, turn_of, run_of, state_with, machine_of, driver_of, HoldsStaged, HoldsDriver}
 use Rattle.path_service.proofs.PortLists.{posted_gained, told_gained, sent_gained, ids_gained, room_gained, looked_at, joins_are}
-use Rattle.path_service.proofs.HandLists.{last_joined, last_wide, hands_are, last_staged, none_counted, no_posts, count_none}
-use Rattle.path_service.proofs.RunStarts.{not_both}
+use Rattle.path_service.proofs.HandLists.{last_joined, last_wide, hands_are, last_staged, none_counted, no_posts}
+use Rattle.turn_core.proofs.PostCounts.{count_none}
+use Rattle.std.proofs.lemmas.Bool.{both_ways}
 use Rattle.path_service.proofs.HeldStates.{received, facts_after, staged_hands, staging_some, staging_none}
 
 -- the driver with what was taken in
@@ -38,7 +40,7 @@ taken_in a intake = record a { ports = intake.ports; hands = intake.hands; stage
 
 -- the base on which a turn is made ready, where that matters
 abbrev pub IsBase : Inside → Map → Standing → Type 0
-IsBase a m s = a.failed ≡ false → ((base_of a.version a.running).map ≡ m) × ((base_of a.version a.running).standing ≡ s)
+IsBase a m s = a.failed ≡ false → ((version_for_next a.version a.running).map ≡ m) × ((version_for_next a.version a.running).standing ≡ s)
 
 -- what the machine did, by what became of the hands
 abbrev pub Went : List ℕ → State → State → Result ℕ NoMemory → Type 0
@@ -117,7 +119,7 @@ pub record LeftBy (a : Inside) (intake : Intake) (count : Result ℕ NoMemory) :
   pub went : Went (told_in a.ports.items) (machine_of a) (machine_of (taken_in a intake)) count
   pub last : AreLast (posted_in intake.ports.items) intake.hands.items
   pub few : post_count intake.hands.items ≤ MAX_STAGED_POSTS
-  pub staged : a.failed ≡ false → HoldsStaged (base_of a.version a.running) intake.staged
+  pub staged : a.failed ≡ false → HoldsStaged (version_for_next a.version a.running) intake.staged
 
 few_kept : (a : Inside) (m : Map) (s : Standing) (intake : Intake) (k : Known a m s intake) → intake.hands.items ≡ zipped joins a.hands.items k.taken.got → post_count intake.hands.items ≤ MAX_STAGED_POSTS
 few_kept a m s intake k is = subst (λ (h : List (List Post)). post_count h ≤ MAX_STAGED_POSTS) (sym is) k.taken.few
@@ -134,7 +136,7 @@ looked_now a m s intake k count f less c =
     (looked_at a.ports.items k.taken.got c k.taken.wide (looked less))
 
 not_staged : (count : ℕ) (o : Option (List (List Post))) → o ≡ None → count ≡ 0 → IsSome o ↔ (0 < count)
-not_staged count None e zero_count = (λ x. absurd (not_both false x refl), λ less. absurd (omega (arith, zero_count, less)))
+not_staged count None e zero_count = (λ x. absurd (both_ways false refl x), λ less. absurd (omega (arith, zero_count, less)))
 not_staged count (Some turn) e zero_count = cc
 
 is_staged : (count : ℕ) (o : Option (List (List Post))) (turn : List (List Post)) → o ≡ Some turn → 0 < count → IsSome o ↔ (0 < count)
@@ -155,7 +157,7 @@ ends a m s intake k None (Err refused) e f becomes =
       };
       last = last_kept a m s intake k becomes;
       few = few_kept a m s intake k becomes;
-      staged = λ sound. no_turn (base_of a.version a.running) intake.staged e;
+      staged = λ sound. no_turn (version_for_next a.version a.running) intake.staged e;
     }
 ends a m s intake k None (Ok count) e f becomes =
     let none : turn_of intake.staged ≡ None = ap turn_of e in
@@ -182,7 +184,7 @@ ends a m s intake k None (Ok count) e f becomes =
       };
       last = last;
       few = few_kept a m s intake k becomes.0;
-      staged = λ sound. no_turn (base_of a.version a.running) intake.staged e;
+      staged = λ sound. no_turn (version_for_next a.version a.running) intake.staged e;
     }
 ends a m s intake k (Some ready) (Err refused) e f becomes = absurd becomes
 ends a m s intake k (Some ready) (Ok count) e f becomes =
@@ -224,7 +226,7 @@ ends a m s intake k (Some ready) (Ok count) e f becomes =
       };
       last = last;
       few = omega (arith, ap post_count empty, count_none (length got));
-      staged = λ sound. subst (HoldsStaged (base_of a.version a.running)) (sym e) (record {
+      staged = λ sound. subst (HoldsStaged (version_for_next a.version a.running)) (sym e) (record {
         map = ap (λ (r : Ready). r.map) is ∙ sym (k.base sound).0;
         before = ap (λ (r : Ready). r.before) is ∙ sym (k.base sound).1;
         few = subst (λ (r : Ready). post_count r.turn ≤ MAX_STAGED_POSTS) (sym is) k.taken.few;

@@ -1,17 +1,17 @@
 -- The ports of all callers, once posts were taken off their lanes or replies were sent.
 use Rattle.std.proofs.Common.{◌≡◌, ℕ, zero, suc, ◌+◌, ◌≤◌, List, [], ◌∷◌, ◌++◌, Some, Ok, Err, Result, All, length, slice_index, refl, sym, ap, ◌∙◌, arith, append-nil}
 use Rattle.std.specs.Prelude.{slice_get}
-use Rattle.std.proofs.lemmas.List.Sums.{sum_by-append}
 use Rattle.nav_types.specs.declared.sequences.NoMemory.{NoMemory}
 use Rattle.turn_core.specs.declared.posts.Post.{Post}
 use Rattle.turn_core.specs.declared.replies.Reply.{Reply}
 use Rattle.turn_core.specs.States.{list_of}
 use Rattle.turn_core.specs.Effects.{joined_up}
+use Rattle.turn_core.proofs.PostCounts.{count_more}
 use Rattle.path_service.specs.declared.ports.Port.{Port}
-use Rattle.path_service.specs.Services.{post_count}
 use Rattle.path_service.specs.inner.Zips.{zipped, AllPaired}
 use Rattle.path_service.specs.inner.Ports.{gained, sends, joins, posted_in, told_in, sent_in, ids_from, id_of, HasRoom, IsInRoom, PortHasLooked, Fills, FillAll}
-use Rattle.path_service.proofs.Zips.{paired_more, all_none, all_more, all_head, all_tail}
+use Rattle.path_service.proofs.Zips.{paired_more}
+use Rattle.std.proofs.lemmas.List.Elements.{All-nil, All-cons, All-head, All-tail}
 
 pub joined_none : {A : Type 0} (xs : List (List A)) → joined_up xs [] ≡ xs
 joined_none [] = refl
@@ -41,10 +41,10 @@ ids_gained number (p ∷ ports) [] = refl
 ids_gained number (p ∷ ports) (g ∷ got) = ap (λ (l : List _). id_of number p ∷ l) (ids_gained (number + 1) ports got)
 
 pub room_gained : (ports : List Port) (got : List (List Post)) → length got ≡ length ports → AllPaired HasRoom ports got → All IsInRoom (zipped gained ports got)
-room_gained [] [] e all = all_none IsInRoom
+room_gained [] [] e all = All-nil IsInRoom
 room_gained [] (g ∷ got) e all = absurd (omega (arith, e))
 room_gained (p ∷ ports) [] e all = absurd (omega (arith, e))
-room_gained (p ∷ ports) (g ∷ got) e all = all_more IsInRoom (gained p g) (zipped gained ports got) all.0 (room_gained ports got (omega (arith, e)) all.1)
+room_gained (p ∷ ports) (g ∷ got) e all = All-cons IsInRoom (gained p g) (zipped gained ports got) all.0 (room_gained ports got (omega (arith, e)) all.1)
 
 -- the posts of which each was told are taken
 pub looked_at : (ports : List Port) (got : List (List Post)) (c : ℕ) → length got ≡ length ports → AllPaired PortHasLooked ports got
@@ -88,12 +88,9 @@ pub room_sends : (ports : List Port) (parts : List (List Reply)) → All IsInRoo
 room_sends [] parts all = all
 room_sends (p ∷ ports) [] all = all
 room_sends (p ∷ ports) (r ∷ parts) all =
-    all_more IsInRoom (sends p r) (zipped sends ports parts) (all_head IsInRoom p ports all) (room_sends ports parts (all_tail IsInRoom p ports all))
+    All-cons IsInRoom (sends p r) (zipped sends ports parts) (All-head IsInRoom p ports all) (room_sends ports parts (All-tail IsInRoom p ports all))
 
 -- ---- one port more
-
-pub count_more : (got : List (List Post)) (g : List Post) → post_count (got ++ g ∷ []) ≡ post_count got + length g
-count_more got g = omega (arith, sum_by-append (λ (l : List Post). length l) got (g ∷ []))
 
 pub fill_more : (all : ℕ) (ports : List Port) (got : List (List Post)) (port : Port) (g : List Post) (room left : Result ℕ NoMemory) → slice_get ports (length got) ≡ Some port
     → FillAll all ports got room → Fills port.posts g room left → FillAll all ports (got ++ g ∷ []) left

@@ -13,8 +13,8 @@ use Rattle.turn_core.proofs.Settling.{as_many}
 use Rattle.turn_core.proofs.Arriving.{arrives}
 use Rattle.path_service.specs.Callers.{EndedState, ended_id, AreNumbered}
 use Rattle.path_service.specs.Services.{DriverState, in_hand}
-use Rattle.path_service.specs.Closings.{ClosedState, closed_by, HasLeft, PostedIsFound, IsClosedBy, posted_by, count_by, IsReached}
-use Rattle.path_service.proofs.Zips.{all_head, all_tail}
+use Rattle.path_service.specs.Closings.{ClosedState, closed_by, HasLeft, PostedIsFound, IsClosedBy, posted_by, count_by, IsReachedByMachine}
+use Rattle.std.proofs.lemmas.List.Elements.{All-head, All-tail}
 use Rattle.path_service.proofs.RunStarts.{sent_all}
 
 -- there is nothing at a place behind the last
@@ -46,12 +46,12 @@ first_at : (d : DriverState) (n : ℕ) (ended : List EndedState) → AreNumbered
     → (rest : List Post) × (of_caller (n + c) d.machine.done ++ rest ≡ list_of (map posted_by ended) c)
 first_at d n [] numbers all c less = absurd (omega (arith, less))
 first_at d n (x ∷ ended) numbers all zero less =
-    let found = all_head (PostedIsFound d) x ended all in
+    let found = All-head (PostedIsFound d) x ended all in
     let first = done_first d.machine x.id.number (list_of (in_hand d.machine) x.id.number) found.0 x.posted found.1.1 in
     let own : n + 0 ≡ x.id.number = omega (arith, numbers.0) in
     (first.0, ap (λ (k : ℕ). of_caller k d.machine.done ++ first.0) own ∙ first.1)
 first_at d n (x ∷ ended) numbers all (suc c) less =
-    let first = first_at d (n + 1) ended numbers.1 (all_tail (PostedIsFound d) x ended all) c (omega (arith, less)) in
+    let first = first_at d (n + 1) ended numbers.1 (All-tail (PostedIsFound d) x ended all) c (omega (arith, less)) in
     let next : n + suc c ≡ (n + 1) + c = omega arith in
     (first.0, ap (λ (k : ℕ). of_caller k d.machine.done ++ first.0) next ∙ first.1)
 
@@ -60,14 +60,14 @@ count_at : (d : DriverState) (n : ℕ) (ended : List EndedState) → AreNumbered
     → slice_index (map count_by ended) c ≤ length (list_of d.sent (n + c))
 count_at d n [] numbers all c = omega arith
 count_at d n (x ∷ ended) numbers all zero =
-    let left = (all_head HasLeft (closed_by d x) (map (closed_by d) ended) all).replies in
+    let left = (All-head HasLeft (closed_by d x) (map (closed_by d) ended) all).replies in
     let own : x.id.number ≡ n + 0 = omega (arith, numbers.0) in
     let sent : length (list_of d.sent x.id.number) ≡ length (list_of d.sent (n + 0)) = ap (λ (k : ℕ). length (list_of d.sent k)) own in
     omega (arith, sent, ap length left.1, length-append x.collected left.0)
 count_at d n (x ∷ ended) numbers all (suc c) =
     let next : (n + 1) + c ≡ n + suc c = omega arith in
     subst (λ (k : ℕ). slice_index (map count_by ended) c ≤ length (list_of d.sent k)) next
-    (count_at d (n + 1) ended numbers.1 (all_tail HasLeft (closed_by d x) (map (closed_by d) ended) all) c)
+    (count_at d (n + 1) ended numbers.1 (All-tail HasLeft (closed_by d x) (map (closed_by d) ended) all) c)
 
 can_arrive : (d : DriverState) (ended : List EndedState) (closed : ClosedState) → d.failed ≡ false → IsClosedBy d ended closed
     → CanArrive closed.map closed.journal (map posted_by ended) (map count_by ended)
@@ -102,6 +102,6 @@ can_arrive d ended closed sound k =
           omega (arith, counted, ap length sent, as_many closed.map bare closed.journal (replies_in closed.replies) c k.replies.replies);
     }
 
-pub reached : (d : DriverState) (ended : List EndedState) (closed : ClosedState) → d.failed ≡ false → IsClosedBy d ended closed → IsReached ended closed
+pub reached : (d : DriverState) (ended : List EndedState) (closed : ClosedState) → d.failed ≡ false → IsClosedBy d ended closed → IsReachedByMachine ended closed
 reached d ended closed sound k =
     arrives closed.map closed.journal (map posted_by ended) (map count_by ended) (replies_in closed.replies) (can_arrive d ended closed sound k) k.replies.replies

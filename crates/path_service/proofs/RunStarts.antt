@@ -1,37 +1,32 @@
 -- Drivers that start the staged turn.
-use Rattle.std.proofs.Common.{◌≡◌, ℕ, Bool, true, false, List, [], ◌++◌, Option, None, Some, refl, sym, ap, ◌∙◌, subst, inl, inr}
-use Rattle.grid_versions.specs.Maps.{Map}
+use Rattle.std.proofs.Common.{◌≡◌, ℕ, true, false, List, [], ◌++◌, Option, None, Some, refl, sym, ap, ◌∙◌, subst, inl, inr}
+use Rattle.std.proofs.lemmas.Bool.{both_ways}
 use Rattle.grid_versions.specs.Versions.{map_state}
 use Rattle.turn_core.specs.declared.events.Event.TheVariants.{Start}
 use Rattle.turn_core.specs.declared.posts.Post.{Post}
 use Rattle.turn_core.specs.declared.replies.TurnReplies.{TurnReplies}
 use Rattle.turn_core.specs.Solving.{AreAnswersTo}
-use Rattle.turn_core.specs.Words.{Standing, MapState, bare}
+use Rattle.turn_core.specs.Words.{MapState, bare}
 use Rattle.turn_core.specs.Turns.{after_turn, jobs, standing, of_caller, replies_in}
 use Rattle.turn_core.specs.ReadyTurns.{Ready}
 use Rattle.turn_core.specs.States.{State, list_of, stands_after_done}
-use Rattle.turn_core.specs.Table.{why_none_staged, why_running, last_turn, running_turn}
-use Rattle.turn_core.specs.Effects.{IsStep, begun, started}
+use Rattle.turn_core.specs.Effects.{IsStep, Reaches, begun}
 use Rattle.turn_core.specs.Facts.{Facts}
 use Rattle.turn_core.specs.Arrival.{answering, answered_run, in_run}
-use Rattle.turn_core.proofs.Reaching.{none_or, turn_answered}
+use Rattle.turn_core.proofs.Reaching.{start_step, turn_answered}
+use Rattle.turn_core.proofs.TurnByTurn.{same_version}
 use Rattle.turn_core.proofs.Keeping.{kept}
 use Rattle.path_service.specs.declared.runs.AnsweredRun.{AnsweredRun}
 use Rattle.path_service.specs.declared.drivers.Driver.TheInside.{Inside}
 use Rattle.path_service.specs.Services.{DriverState}
-use Rattle.path_service.specs.Steps.{Reaches}
 use Rattle.path_service.specs.Closings.{HasSent}
-use Rattle.path_service.specs.inner.Running.{base_of, HoldsRun}
+use Rattle.path_service.specs.inner.Running.{version_for_next, HoldsRun}
 use Rattle.path_service.specs.inner.Holding.{turn_of, run_of, machine_of, driver_of, HoldsReady, HoldsStaged, HoldsDriver}
 use Rattle.path_service.proofs.HeldStates.{facts_after}
 
-pub not_both : (b : Bool) → b ≡ true → b ≡ false → ⊥
-not_both true e f = cc
-not_both false e f = cc
-
 -- while a driver has not failed, it has sent all replies and no more
 pub none_more : (d : DriverState) (all : List TurnReplies) (sent : HasSent d all) → d.failed ≡ false → sent.more ≡ []
-none_more d all sent sound = elim sent.begins [ inl e ↦ e | inr x ↦ absurd (not_both d.failed x.0 sound) ]
+none_more d all sent sound = elim sent.begins [ inl e ↦ e | inr x ↦ absurd (both_ways d.failed sound x.0) ]
 
 pub sent_all : (d : DriverState) (all : List TurnReplies) → HasSent d all → d.failed ≡ false → (c : ℕ) → list_of d.sent c ≡ of_caller c (replies_in all) ++ []
 sent_all d all sent sound c = sent.sent c ∙ ap (λ (l : List (List _)). of_caller c (replies_in all) ++ list_of l c) (none_more d all sent sound)
@@ -41,21 +36,18 @@ no_run None None e = (refl, refl)
 no_run None (Some turn) e = cc
 no_run (Some run) b e = cc
 
-pub state_is : (state : MapState) (m : Map) (s : Standing) → state.map ≡ m → state.standing ≡ s → state ≡ map_state m s
-state_is state m s p q = λ i. record { map = p i; standing = q i }
-
 -- the version that is held is the one after the turns that are delivered
 pub version_is : (a : Inside) → HoldsDriver a → a.version ≡ map_state a.map (standing a.map bare a.journal.items)
-version_is a holds = state_is a.version a.map (standing a.map bare a.journal.items) holds.map holds.standing
+version_is a holds = same_version a.version a.map (standing a.map bare a.journal.items) holds.map holds.standing
 
 -- the staged turn, where there is one, is ready on that version
 pub ready_on : (a : Inside) (ready : Ready) → HoldsDriver a → a.failed ≡ false → a.staged ≡ Some ready → a.running ≡ None → HoldsReady a.version ready
 ready_on a ready holds sound is none =
     subst (HoldsStaged a.version) is
-    (subst (λ (o : Option AnsweredRun). HoldsStaged (base_of a.version o) a.staged) none (holds.staged sound))
+    (subst (λ (o : Option AnsweredRun). HoldsStaged (version_for_next a.version o) a.staged) none (holds.staged sound))
 
 run_held : (a : Inside) (ready : Ready) (run : AnsweredRun) → HoldsReady a.version ready → HoldsRun (map_state ready.map ready.before) run → HoldsRun a.version run
-run_held a ready run on held = subst (λ (v : MapState). HoldsRun v run) (sym (state_is a.version ready.map ready.before (sym on.map) (sym on.before))) held
+run_held a ready run on held = subst (λ (v : MapState). HoldsRun v run) (sym (same_version a.version ready.map ready.before (sym on.map) (sym on.before))) held
 
 -- the driver once the staged turn runs, with its answers
 pub run_starts : (a b : Inside) (ready : Ready) (run : AnsweredRun) → HoldsDriver a → a.failed ≡ false → a.staged ≡ Some ready → run_of a.running a.broken ≡ None → run.posts ≡ ready.turn
@@ -89,13 +81,6 @@ run_starts a b ready run holds sound is none posts held same =
     } in
     (way, subst HoldsDriver (sym same) held_now)
 
-start_made : (s : State) (turn : List (List Post)) → s.staged ≡ Some turn → s.running ≡ None → IsStep s Start None (in_run s (begun turn))
-start_made s turn e r = record {
-  enabled = none_or (why_none_staged (last_turn s) s.staged) (why_running (running_turn s) s.running)
-      (ap (why_none_staged (last_turn s)) e) (ap (why_running (running_turn s)) r);
-  effect = (refl, sym (ap (started s) e));
-}
-
 -- the driver once the staged turn is started, and has no answers
 pub run_breaks : (a b : Inside) (ready : Ready) (turn : List (List Post)) → HoldsDriver a → a.failed ≡ false → a.staged ≡ Some ready → run_of a.running a.broken ≡ None → turn ≡ ready.turn
     → b ≡ record a { staged = None; broken = Some turn; failed = true }
@@ -104,7 +89,7 @@ run_breaks a b ready turn holds sound is none posts same =
     let s : State = machine_of a in
     let free : a.running ≡ None = (no_run a.running a.broken none).0 in
     let staged : s.staged ≡ Some turn = ap turn_of is ∙ ap (λ (t : List (List Post)). Some t) (sym posts) in
-    let step : IsStep s Start None (in_run s (begun turn)) = start_made s turn staged none in
+    let step : IsStep s Start None (in_run s (begun turn)) = start_step s turn staged none in
     let c : Inside = record a { staged = None; broken = Some turn; failed = true } in
     let now : machine_of c ≡ in_run s (begun turn) = ap (λ (o : Option AnsweredRun). record s { staged = None; running = run_of o (Some turn) }) free in
     let held_now : HoldsDriver c = record {
@@ -114,7 +99,7 @@ run_breaks a b ready turn holds sound is none posts same =
       answered = holds.answered;
       running = holds.running;
       broken = refl;
-      staged = λ e. absurd (not_both true refl e);
+      staged = λ e. absurd (both_ways true e refl);
       last = holds.last;
       few = holds.few;
       room = holds.room;

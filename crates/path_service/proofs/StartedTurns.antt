@@ -19,9 +19,10 @@ use Rattle.path_service.specs.Services.{DriverState, with_machine}
 use Rattle.path_service.specs.Steps.{HasReceived, HasStaged, HasStarted, HasBrokenOff}
 use Rattle.path_service.specs.inner.Ports.{told_in}
 use Rattle.path_service.specs.inner.Intakes.{HasTakenIn}
-use Rattle.path_service.specs.inner.Running.{base_of, HoldsRun}
+use Rattle.path_service.specs.inner.Running.{version_for_next, HoldsRun}
 use Rattle.path_service.specs.inner.Holding.{turn_of, run_of, machine_of, driver_of, HoldsDriver}
-use Rattle.path_service.proofs.RunStarts.{not_both, run_starts, run_breaks}
+use Rattle.path_service.proofs.RunStarts.{run_starts, run_breaks}
+use Rattle.std.proofs.lemmas.Bool.{both_ways}
 use Rattle.path_service.proofs.NextTurns.{Known, Went, taken_in, leaves, same_rest}
 
 pub went_ok : (told : List ℕ) (old new : State) (r : Result ℕ NoMemory) → Went told old new r → IfOk r (HasStaged told old new)
@@ -42,7 +43,7 @@ taken_from m s ports own hands held intake p h taken =
 
 -- what is known of an intake where nothing is staged, by what the driver gave for it
 pub known_of : (a : Inside) (d : DriverState) (base : MapState) (ports : List Port) (hands : List (List Post)) (intake : Intake) → driver_of a ≡ d → d.machine.staged ≡ None → HoldsDriver a
-    → base.map ≡ (base_of a.version a.running).map → base.standing ≡ (base_of a.version a.running).standing → ports ≡ a.ports.items → hands ≡ a.hands.items
+    → base.map ≡ (version_for_next a.version a.running).map → base.standing ≡ (version_for_next a.version a.running).standing → ports ≡ a.ports.items → hands ≡ a.hands.items
     → HasTakenIn base.map base.standing ports hands intake → Known a base.map base.standing intake
 known_of a d base ports hands intake view none holds p q r s taken = record {
   holds = holds;
@@ -124,7 +125,7 @@ pub broken_known : (a : Inside) (ready : Ready) (turn : List (List Post)) (intak
 broken_known a ready turn intake k posts = record {
   holds = (run_breaks a (with_broken a turn) ready turn k.holds k.sound k.staged k.none posts refl).1.0;
   none = refl;
-  base = λ e. absurd (not_both true refl e);
+  base = λ e. absurd (both_ways true e refl);
   taken = k.taken;
 }
 

@@ -1,5 +1,5 @@
 -- Two lists, item by item.
-use Rattle.std.proofs.Common.{◌≡◌, ℕ, zero, suc, List, [], ◌∷◌, ◌++◌, Some, All, length, set, refl, sym, ap, ◌∙◌, subst, arith}
+use Rattle.std.proofs.Common.{◌≡◌, ℕ, zero, suc, List, [], ◌∷◌, ◌++◌, Some, length, set, refl, sym, ap, ◌∙◌, subst, arith}
 use Rattle.std.specs.Prelude.{slice_get}
 use Rattle.turn_core.specs.States.{list_of}
 use Rattle.path_service.specs.inner.Zips.{zipped, AllPaired}
@@ -58,18 +58,3 @@ paired_at P (y ∷ xs) (b ∷ bs) zero x e all is =
     let same : y ≡ x = cc in
     subst (λ (z : _). P z b) same all.0
 paired_at P (y ∷ xs) (b ∷ bs) (suc k) x e all is = paired_at P xs bs k x (omega (arith, e)) all.1 is
-
--- ---- what holds of each item of one list
-
-pub all_none : {A : Type 0} (P : A → Type 0) → All P []
-all_none P k d less = absurd (omega (arith, less))
-
-pub all_more : {A : Type 0} (P : A → Type 0) (x : A) (xs : List A) → P x → All P xs → All P (x ∷ xs)
-all_more P x xs one rest zero d less = one
-all_more P x xs one rest (suc k) d less = rest k d (omega (arith, less))
-
-pub all_head : {A : Type 0} (P : A → Type 0) (x : A) (xs : List A) → All P (x ∷ xs) → P x
-all_head P x xs all = all 0 x (omega arith)
-
-pub all_tail : {A : Type 0} (P : A → Type 0) (x : A) (xs : List A) → All P (x ∷ xs) → All P xs
-all_tail P x xs all k d less = all (suc k) d (omega (arith, less))

@@ -6,7 +6,7 @@ use Rattle.turn_core.specs.declared.replies.Reply.{Reply}
 use Rattle.turn_core.specs.declared.replies.TurnReplies.{TurnReplies}
 use Rattle.turn_core.specs.Turns.{of_caller, replies_in, IsOneThread}
 use Rattle.turn_core.specs.States.{State, opening, list_of}
-use Rattle.turn_core.specs.Effects.{IsRun}
+use Rattle.turn_core.specs.Effects.{IsMachineRun}
 use Rattle.turn_core.specs.Arrival.{arrival, HasArrived}
 use Rattle.turn_core.specs.Facts.{all_turns, HaveLists}
 use Rattle.request_lanes.specs.Ends.{Leaves}
@@ -72,8 +72,8 @@ count_by ended = length ended.collected
 
 -- The turn machine comes from its opening state to what a service left: its callers post what the callers posted, its
 -- turns are those of the journal, one after another, and each caller collects as many replies as that caller did.
-abbrev pub IsReached : List EndedState → ClosedState → Type 0
-IsReached ended closed =
+abbrev pub IsReachedByMachine : List EndedState → ClosedState → Type 0
+IsReachedByMachine ended closed =
     (handed : List (Option Reply)) × ((new : State)
-    × (IsRun (opening closed.map) (arrival closed.journal (map posted_by ended) (map count_by ended)) handed new
+    × (IsMachineRun (opening closed.map) (arrival closed.journal (map posted_by ended) (map count_by ended)) handed new
     × HasArrived closed.map new closed.journal (map posted_by ended) (map count_by ended) (replies_in closed.replies)))

@@ -1,5 +1,5 @@
 -- What a driver is seen as.
-use Rattle.std.specs.Prelude.{ℕ, Bool, false, List, [], ◌∷◌, drop, replicate, slice_index, slice_set, max, sum_by, length}
+use Rattle.std.specs.Prelude.{ℕ, Bool, false, List, [], ◌∷◌, drop, replicate, slice_index, slice_set, max}
 use Rattle.grid_versions.specs.Maps.{Map}
 use Rattle.turn_core.specs.declared.posts.Post.{Post}
 use Rattle.turn_core.specs.declared.replies.Reply.{Reply}
@@ -35,10 +35,6 @@ past_first (posts ∷ posted) numbers = drop (first numbers) posts ∷ past_firs
 -- the posts in hand: of each caller those that were taken off its lane and are in no turn
 abbrev pub in_hand : State → List (List Post)
 in_hand s = past_first s.posted s.taken
-
--- the number of posts in a turn
-abbrev pub post_count : List (List Post) → ℕ
-post_count turn = sum_by length turn
 
 -- the same driver with another state of its machine
 abbrev pub with_machine : DriverState → State → DriverState

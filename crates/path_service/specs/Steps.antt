@@ -8,15 +8,11 @@ use Rattle.turn_core.specs.declared.posts.Post.{Post}
 use Rattle.turn_core.specs.declared.replies.Answer.{Answer}
 use Rattle.turn_core.specs.declared.replies.Reply.{Reply}
 use Rattle.turn_core.specs.Words.{Standing}
-use Rattle.turn_core.specs.Turns.{after_turn, AreTurnReplies}
+use Rattle.turn_core.specs.Turns.{after_turn, AreTurnReplies, post_count}
 use Rattle.turn_core.specs.States.{State, Run, list_of, stands_after_done}
-use Rattle.turn_core.specs.Effects.{IsStep, IsRun, begun, joined_up}
+use Rattle.turn_core.specs.Effects.{IsStep, Reaches, begun, joined_up}
 use Rattle.turn_core.specs.Arrival.{post_events, answering, answered_run, in_run}
-use Rattle.path_service.specs.Services.{DriverState, in_hand, post_count}
-
--- the events lead from the one state to the other
-abbrev pub Reaches : State → List Event → State → Type 0
-Reaches old events new = (handed : List (Option Reply)) × IsRun old events handed new
+use Rattle.path_service.specs.Services.{DriverState, in_hand}
 
 -- the stage of a turn of so many posts: none where it has no post
 abbrev pub staging : ℕ → List (List Post) → List Event

@@ -16,7 +16,7 @@ use crate::callers::EndedCallers;
 use crate::closing::{Closed, close_all};
 use crate::intakes::{Intake, next_turn};
 use crate::ports::{Port, send_all};
-use crate::runs::{AnsweredRun, Beside, RunAndNext, base_of, both, run_beside};
+use crate::runs::{AnsweredRun, Beside, RunAndNext, both, run_beside, version_for_next};
 use grid_versions::{MapSpec, Version};
 use nav_types::{NoMemory, Sequence};
 use request_lanes::Notice;
@@ -173,7 +173,7 @@ impl Driver {
     {
         let ports = mem::replace(&mut self.ports, Vec::new(self.alloc));
         let hands = mem::replace(&mut self.hands, Vec::new(self.alloc));
-        let base = base_of(&self.version, &self.running);
+        let base = version_for_next(&self.version, &self.running);
         let intake = next_turn(rt, self.alloc, base, ports, hands);
         let Intake {
             ports,

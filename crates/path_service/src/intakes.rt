@@ -1,7 +1,7 @@
 //! The next turn, made of the posts in hand and of those on the lanes.
 ghost use Rattle.std.specs.Prelude.{◌≡◌, ◌≤◌, [], All, IfOk, IfErr, length, replicate};
 ghost use Rattle.nav_types.specs.declared.limits.TheConstants.{MAX_STAGED_POSTS as MOST};
-ghost use Rattle.path_service.specs.Services.{post_count};
+ghost use Rattle.turn_core.specs.Turns.{post_count};
 ghost use Rattle.path_service.specs.inner.Ports.{IsInRoom};
 ghost use Rattle.path_service.specs.inner.Intakes.{HasTakenIn};
 
@@ -11,7 +11,7 @@ use nav_types::limits::MAX_STAGED_POSTS;
 use nav_types::{NoMemory, Sequence};
 use std::alloc::Global;
 use std::sync::Wait;
-use turn_core::{Posts, ReadyTurn, empty_lists};
+use turn_core::{Posts, ReadyTurn, count_posts, empty_lists};
 
 /// What was made of the posts in hand and on the lanes: the turn that is ready, where there is one, and the number of its
 /// posts. Where there was no memory the posts are in hand.
@@ -76,18 +76,6 @@ pub(crate) fn next_turn(
             count: Err(NoMemory),
         },
     }
-}
-
-/// How many posts are in hand.
-fn count_posts(hands: &[Posts]) -> u64
-    requires { post_count hands.now ≤ MOST }
-    ensures { result ≡ post_count hands.now }
-{
-    let mut count = 0;
-    for hand in hands {
-        count += hand.len() as u64;
-    }
-    count
 }
 
 /// The turn of all posts in hand, ready on a version. Where there is no memory the posts come back.

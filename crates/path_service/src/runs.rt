@@ -4,12 +4,11 @@ ghost use denote.Param.Send.{IsSync};
 ghost use Rattle.nav_types.specs.declared.limits.TheConstants.{MAX_STAGED_POSTS as MOST};
 ghost use Rattle.grid_versions.specs.Versions.{map_state};
 ghost use Rattle.turn_core.specs.Solving.{AreAnswersTo};
-ghost use Rattle.turn_core.specs.Turns.{jobs};
+ghost use Rattle.turn_core.specs.Turns.{jobs, post_count};
 ghost use Rattle.turn_core.specs.ReadyTurns.{after_edits_of};
-ghost use Rattle.path_service.specs.Services.{post_count};
 ghost use Rattle.path_service.specs.inner.Ports.{IsInRoom};
 ghost use Rattle.path_service.specs.inner.Intakes.{HasTakenIn};
-ghost use Rattle.path_service.specs.inner.Running.{base_of, HoldsRun};
+ghost use Rattle.path_service.specs.inner.Running.{version_for_next, HoldsRun};
 
 use crate::intakes::{Intake, next_turn};
 use crate::ports::Port;
@@ -65,9 +64,12 @@ impl AnsweredRun {
 }
 
 /// The version on which the next turn stands: the one after the running turn, where there is one.
-pub(crate) fn base_of<'a>(version: &'a Version, running: &'a Option<AnsweredRun>) -> &'a Version
-    ensures map { result.now.map ≡ (base_of version.now running.now).map }
-    ensures standing { result.now.standing ≡ (base_of version.now running.now).standing }
+pub(crate) fn version_for_next<'a>(
+    version: &'a Version,
+    running: &'a Option<AnsweredRun>,
+) -> &'a Version
+    ensures map { result.now.map ≡ (version_for_next version.now running.now).map }
+    ensures standing { result.now.standing ≡ (version_for_next version.now running.now).standing }
 {
     match running {
         None => version,

@@ -9,11 +9,12 @@ use Rattle.turn_core.specs.declared.events.Event.TheVariants.{Post as Posting, S
 use Rattle.turn_core.specs.declared.posts.Post.{Post}
 use Rattle.turn_core.specs.declared.replies.Reply.{Reply}
 use Rattle.turn_core.specs.States.{State, Run}
-use Rattle.turn_core.specs.Effects.{IsStep, IsRun, joined_up, delivered}
+use Rattle.turn_core.specs.Effects.{IsStep, IsMachineRun, joined_up, delivered}
 use Rattle.turn_core.specs.Arrival.{posts_of, post_events, answered_run, in_run}
-use Rattle.path_service.specs.Services.{DriverState, in_hand, post_count, with_machine}
+use Rattle.path_service.specs.Services.{DriverState, in_hand, with_machine}
+use Rattle.turn_core.specs.Turns.{post_count}
 use Rattle.path_service.specs.Steps.{staging, HasStaged, HasStarted, HasDelivered}
-use Rattle.path_service.proofs.RunStarts.{not_both}
+use Rattle.std.proofs.lemmas.Bool.{both_ways}
 use Rattle.pathserve.specs.Serving.{HasPost}
 use Rattle.pathserve.specs.inner.Sessions.{Stages, HasComeTo}
 
@@ -48,7 +49,7 @@ kept_by_step old (Finish job) handed new takes step = absurd takes
 kept_by_step old Deliver handed new takes step = absurd takes
 kept_by_step old (Collect caller) handed new takes step = absurd takes
 
-kept_by_run : (old : State) (events : List Event) (handed : List (Option Reply)) (new : State) → AllTakeIn events → IsRun old events handed new → Keeps old new
+kept_by_run : (old : State) (events : List Event) (handed : List (Option Reply)) (new : State) → AllTakeIn events → IsMachineRun old events handed new → Keeps old new
 kept_by_run old [] [] new takes run = record { on_map = ap (λ (s : State). s.map) (sym run); done = ap (λ (s : State). s.done) (sym run) }
 kept_by_run old [] (h ∷ handed) new takes run = absurd run
 kept_by_run old (e ∷ events) [] new takes run = absurd run
@@ -85,7 +86,7 @@ kept_by_stage told old new count k =
 stages_so : (count : ℕ) (turn : List (List Post)) (o : Option (List (List Post))) → count ≡ post_count turn → count ≤ MAX_STAGED_POSTS → IsSome o ↔ (0 < count)
     → (0 < count → o ≡ Some turn) → Stages count o
 stages_so zero turn None e most some is = refl
-stages_so (suc n) turn None e most some is = absurd (not_both false (some.1 (omega arith)) refl)
+stages_so (suc n) turn None e most some is = absurd (both_ways false refl (some.1 (omega arith)))
 stages_so count turn (Some other) e most some is =
     let less : 0 < count = some.0 refl in
     subst (Stages count) (sym (is less)) (e, (less, most))

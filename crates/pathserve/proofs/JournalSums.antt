@@ -3,10 +3,9 @@ use Rattle.std.proofs.Common.{◌≡◌, ℕ, zero, suc, ◌+◌, ◌≤◌, Lis
 use Rattle.std.proofs.lemmas.List.Sums.{sum_by-cons}
 use Rattle.turn_core.specs.declared.posts.Post.{Post}
 use Rattle.turn_core.specs.States.{list_of}
-use Rattle.turn_core.specs.Turns.{of_caller}
+use Rattle.turn_core.specs.Turns.{of_caller, post_count}
 use Rattle.turn_core.specs.Effects.{first_list, joined_up}
 use Rattle.turn_core.proofs.CallerLists.{joined_up_at}
-use Rattle.path_service.specs.Services.{post_count}
 
 -- the posts of each caller in all turns
 abbrev pub joined_turns : List (List (List Post)) → List (List Post)

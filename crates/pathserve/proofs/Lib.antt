@@ -6,7 +6,6 @@ pub mod OneText
 pub mod Stops
 pub mod OneThread
 pub mod Passes
-pub mod FewJobs
 pub mod Drawing
 pub mod Naming
 pub mod MapClasses

@@ -1,5 +1,5 @@
 -- What a replay keeps from call to call, and what it answers, over a source that may tell its bytes and a sink that may keep them.
-use Rattle.std.proofs.Common.{◌≡◌, ◌≢◌, ℕ, ◌+◌, ◌≤◌, inl, inr, List, [], ◌∷◌, ◌++◌, take, Option, Some, None, Result, Ok, Err, refl, sym, ap, ◌∙◌, subst, append_assoc, append-nil, IsTrue, arith}
+use Rattle.std.proofs.Common.{◌≡◌, ◌≢◌, ℕ, ◌+◌, inl, inr, List, [], ◌∷◌, ◌++◌, take, Option, Some, None, Result, Ok, Err, refl, sym, ap, ◌∙◌, subst, append_assoc, append-nil, IsTrue}
 use Rattle.std.specs.Prelude.{IfSome, ⊤}
 use Rattle.std.specs.Io.KnownBytes.{Appends}
 use Rattle.std.proofs.KnownBytes.{Appends-nil, Appends-trans}
@@ -245,11 +245,6 @@ turn_refusal held new before now met a =
     (λ left after said. record { items = []; refused = said; no_turn = refl }) a
 
 -- ---- the status
-
--- a count that rose later rose since the beginning
-pub rose_since : (first before now : ℕ) → first ≤ before → Rose before now → Rose first now
-rose_since first before now later (inl higher) = inl (omega arith)
-rose_since first before now later (inr last) = inr last
 
 -- what the reader says of the stop
 ends_told : (start before now : Option (List ℕ)) (held : Held) (items : List Item) (Says : List ℕ → List ℕ → Type 0) (stop : Stop) (bytes : List ℕ)

@@ -3,7 +3,7 @@ use Rattle.std.proofs.Common.{◌≡◌, ◌≢◌, ℕ, List, [], ◌∷◌, �
 use Rattle.std.specs.Prelude.{All, IfSome}
 use Rattle.std.specs.List.{list_all}
 use Rattle.std.specs.Io.KnownBytes.{Appends}
-use Rattle.std.proofs.lemmas.Bool.{and_parts}
+use Rattle.std.proofs.lemmas.Bool.{and_parts, and_from}
 use Rattle.std.proofs.lemmas.List.Folds.{list_all-append}
 use Rattle.std.proofs.lemmas.List.Sums.{AllPass-from_list_all}
 use Rattle.io_edges.specs.Faults.{Rose}
@@ -19,8 +19,7 @@ use Rattle.script_text.specs.declared.faults.ScriptFault.TheVariants as fault
 use Rattle.script_text.specs.Canon.{is_post_of, HaveLines}
 use Rattle.script_text.specs.Script.{Item, map_after, turns_of, beginning, Stop, whole_input, too_long, bad_line, Ends, stuck_by, Walk, reading}
 use Rattle.script_text.specs.Reader.{Held, unread, IsWholeMap, MapTold, StopsAtFault, WhereTold, stuck_after}
-use Rattle.script_text.proofs.GrammarLines.{and_both}
-use Rattle.script_text.proofs.ReadCalls.{stuck_then}
+use Rattle.script_text.proofs.ReadCalls.{stuck_then, turns_of-append}
 use Rattle.script_text.proofs.ReadTold.{told-then, told-weaker}
 use Rattle.answer_text.specs.Answers.{bad_line_text}
 use Rattle.pathserve.specs.declared.status.Status.{Status}
@@ -34,7 +33,7 @@ use Rattle.pathserve.specs.inner.WholeScripts.{AllTold, IsTextOfSession, IsWhole
 use Rattle.pathserve.specs.inner.Writing.{WritesPiece, WritesSome, StopsWith, EndsWith, refused_status, status_after}
 use Rattle.pathserve.proofs.Progress.{going, walked_taken}
 use Rattle.pathserve.proofs.Replaying.{map_refusal, refused_by_fault, refused_no_read, refused_no_usage, stop_bad_line}
-use Rattle.pathserve.proofs.WholeReadings.{refuses_then, turns_of-append}
+use Rattle.pathserve.proofs.WholeReadings.{refuses_then}
 
 -- ---- the whole script
 
@@ -280,7 +279,7 @@ each_list : (passes : Post → Bool) (turn : List (List Post)) → ((caller : �
     → list_all (λ posts. list_all passes posts) turn ≡ true
 each_list passes [] each = refl
 each_list passes (posts ∷ turn) each =
-    and_both (list_all passes posts) (list_all (λ posts. list_all passes posts) turn) (each 0) (each_list passes turn (λ caller. each (suc caller)))
+    and_from (list_all passes posts) (list_all (λ posts. list_all passes posts) turn) (each 0) (each_list passes turn (λ caller. each (suc caller)))
 
 -- and all posts of a journal
 each_turn : (passes : Post → Bool) (journal : List (List (List Post))) → ((caller : ℕ) → list_all passes (of_caller caller journal) ≡ true)
@@ -290,7 +289,7 @@ each_turn passes (turn ∷ journal) each =
     let parts : (caller : ℕ) → (list_all passes (list_of turn caller) ≡ true) × (list_all passes (of_caller caller journal) ≡ true) = λ caller.
     and_parts (list_all passes (list_of turn caller)) (list_all passes (of_caller caller journal))
     (sym (list_all-append passes (list_of turn caller) (of_caller caller journal)) ∙ each caller) in
-    and_both (list_all (λ posts. list_all passes posts) turn) (list_all (λ turn. list_all (λ posts. list_all passes posts) turn) journal)
+    and_from (list_all (λ posts. list_all passes posts) turn) (list_all (λ turn. list_all (λ posts. list_all passes posts) turn) journal)
     (each_list passes turn (λ caller. (parts caller).0)) (each_turn passes journal (λ caller. (parts caller).1))
 
 one_list : (passes : Post → Bool) (lists : List (List Post)) (caller : ℕ) → list_all (λ posts. list_all passes posts) lists ≡ true

@@ -5,7 +5,7 @@ use Rattle.grid_versions.specs.Maps.{Map}
 use Rattle.turn_core.specs.declared.posts.Post.{Post}
 use Rattle.turn_core.specs.declared.replies.Reply.{Reply}
 use Rattle.turn_core.specs.Words.{bare}
-use Rattle.turn_core.specs.Turns.{of_caller, replies_in, IsOneThread}
+use Rattle.turn_core.specs.Turns.{of_caller, replies_in, IsOneThread, post_count}
 use Rattle.turn_core.specs.States.{State, opening, list_of}
 use Rattle.turn_core.specs.Facts.{Facts, HaveLists, running_turns, staged_turns, all_turns}
 use Rattle.turn_core.specs.Arrival.{arrival}
@@ -15,9 +15,9 @@ use Rattle.turn_core.proofs.Settling.{all_done, as_many}
 use Rattle.request_lanes.specs.Ends.{Closing}
 use Rattle.path_service.specs.declared.closing.ClosedCaller.{ClosedCaller}
 use Rattle.path_service.specs.Callers.{CallerId, EndedState, ended_id, AreNumbered}
-use Rattle.path_service.specs.Services.{DriverState, started_on, in_hand, post_count}
-use Rattle.path_service.specs.Closings.{ClosedState, closed_by, PostedIsFound, IsClosedBy, posted_by, count_by, IsReached}
-use Rattle.path_service.proofs.Zips.{all_head, all_tail}
+use Rattle.path_service.specs.Services.{DriverState, started_on, in_hand}
+use Rattle.path_service.specs.Closings.{ClosedState, closed_by, PostedIsFound, IsClosedBy, posted_by, count_by, IsReachedByMachine}
+use Rattle.std.proofs.lemmas.List.Elements.{All-head, All-tail}
 use Rattle.path_service.proofs.RunStarts.{sent_all}
 use Rattle.path_service.proofs.ReachedServices.{reached}
 use Rattle.pathserve.specs.Serving.{HasPost, IsJournalOf, all_taken, post_lane, sent_to}
@@ -54,7 +54,7 @@ posted_first (id ∷ ids) (ps ∷ lists) (x ∷ ended) zero all = (all.0.rest, a
 posted_first (id ∷ ids) (ps ∷ lists) (x ∷ ended) (suc c) all = posted_first ids lists ended c all.1
 
 -- its posts in the journal are the first of those
-journal_first : (ended : List EndedState) (closed : ClosedState) (c : ℕ) → IsReached ended closed
+journal_first : (ended : List EndedState) (closed : ClosedState) (c : ℕ) → IsReachedByMachine ended closed
     → (rest : List Post) × (of_caller c closed.journal ++ rest ≡ list_of (map posted_by ended) c)
 journal_first ended closed c k =
     let new : State = k.1.0 in
@@ -84,7 +84,7 @@ journal_whole : (m : Map) (start d : DriverState) (posts : List (List Post)) (en
     → of_caller c closed.journal ≡ list_of posts c
 journal_whole m start d posts ended closed k c =
     let served = k.driven.served in
-    let is_reached : IsReached ended closed = reached d ended closed served.now.sound k.closes in
+    let is_reached : IsReachedByMachine ended closed = reached d ended closed served.now.sound k.closes in
     let mine : (n : ℕ) → length (list_of (joined_turns closed.journal) n) ≤ length (list_of posts n) = λ n.
     let first = journal_first ended closed n is_reached in
     let own = posted_first start.callers posts ended n k.driven.callers in
@@ -160,13 +160,13 @@ lanes_whole d (id ∷ ids) (ps ∷ lists) n [] all numbers found own = absurd al
 lanes_whole d (id ∷ ids) (ps ∷ lists) n (x ∷ ended) all numbers found own =
     let here : x.id.number ≡ n + 0 = omega (arith, numbers.0) in
     let one : post_lane (closed_by d x) ≡ all_taken ps =
-    lane_whole d x ps all.0.rest all.0.first (all_head (PostedIsFound d) x ended found) (ap (λ (k : ℕ). of_caller k d.machine.done) here ∙ own 0) in
+    lane_whole d x ps all.0.rest all.0.first (All-head (PostedIsFound d) x ended found) (ap (λ (k : ℕ). of_caller k d.machine.done) here ∙ own 0) in
     let next : (c : ℕ) → of_caller ((n + 1) + c) d.machine.done ≡ list_of lists c = λ c.
     let there : (n + 1) + c ≡ n + suc c = omega arith in
     ap (λ (k : ℕ). of_caller k d.machine.done) there ∙ own (suc c) in
     ap (λ (l : Closing Post). l ∷ map post_lane (map (closed_by d) ended)) one
     ∙ ap (λ (l : List (Closing Post)). all_taken ps ∷ l)
-    (lanes_whole d ids lists (n + 1) ended all.1 numbers.1 (all_tail (PostedIsFound d) x ended found) next)
+    (lanes_whole d ids lists (n + 1) ended all.1 numbers.1 (All-tail (PostedIsFound d) x ended found) next)
 
 pub all_posted : (m : Map) (start d : DriverState) (posts : List (List Post)) (ended : List EndedState) (closed : ClosedState) → HasEnded m start d posts ended closed
     → map post_lane closed.callers ≡ map all_taken posts

@@ -12,9 +12,9 @@ use Rattle.nav_types.specs.declared.directions.Dir.{Dir}
 use Rattle.nav_types.specs.Directions.{step_cost}
 use Rattle.nav_types.specs.Walks.{IsWalk, walk_cost}
 use Rattle.nav_types.proofs.CellOrder.{same_cell}
+use Rattle.nav_types.proofs.Walking.{step_cost_most, step_cost_some}
 use Rattle.walks.specs.Chosen.{IsAnswer}
 use Rattle.walks.specs.Waypoints.{cell_after, is_corner, waypoints}
-use Rattle.walks.proofs.Sweeping.{step_cost_most, step_cost_some}
 use Rattle.walks.proofs.Tracing.{chosen_walk}
 
 -- ---- cells by their numbers in the largest map

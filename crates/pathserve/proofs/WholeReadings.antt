@@ -1,7 +1,7 @@
 -- A script that is read to its end, turn by turn.
 use Rattle.std.proofs.Common.{◌≡◌, ℕ, zero, suc, List, [], ◌∷◌, ◌++◌, replicate, Bool, true, Option, Some, None, Ok, Err, IsTrue, refl, sym, ap, ◌∙◌, append-nil}
 use Rattle.std.specs.List.{list_all}
-use Rattle.std.proofs.lemmas.Bool.{and_parts}
+use Rattle.std.proofs.lemmas.Bool.{and_parts, and_from}
 use Rattle.std.proofs.lemmas.List.Folds.{list_all-append}
 use Rattle.turn_core.specs.declared.posts.Post.{Post}
 use Rattle.turn_core.specs.Turns.{of_caller}
@@ -11,24 +11,14 @@ use Rattle.turn_core.proofs.CallerLists.{joined_up_at, none_at, of_caller_push}
 use Rattle.script_text.specs.declared.faults.ScriptFault.{ScriptFault}
 use Rattle.script_text.specs.declared.faults.ScriptFault.TheVariants as fault
 use Rattle.script_text.specs.declared.parts.Part.{Part}
-use Rattle.script_text.specs.declared.parts.Part.TheVariants.{BeforeMap, InBase, InTurns}
 use Rattle.script_text.specs.Canon.{is_post_of}
-use Rattle.script_text.specs.Script.{Item, begins, adds_base, ends_turn, bad_line, too_long, whole_input, turns_of}
-use Rattle.script_text.specs.Reader.{Held, GoesOn, Refuses, HaveLinesAt, TurnTold, WhereTold, callers_of, post_count, rules_at, stuck_after}
-use Rattle.script_text.proofs.GrammarLines.{and_both}
+use Rattle.script_text.specs.Script.{Item, ends_turn, bad_line, too_long, whole_input, turns_of}
+use Rattle.script_text.specs.Reader.{Held, GoesOn, Refuses, HaveLinesAt, TurnTold, WhereTold, rules_at, stuck_after}
 use Rattle.script_text.proofs.ReadNext.{goes_nowhere}
-use Rattle.script_text.proofs.ReadCalls.{fault_then, goes_then, stuck_then}
+use Rattle.script_text.proofs.ReadCalls.{fault_then, goes_then, stuck_then, turns_of-append}
 use Rattle.script_text.proofs.ReadTold.{told-same, told-then}
 use Rattle.pathserve.specs.inner.WholeScripts.{AllTold}
 use Rattle.pathserve.proofs.JoinedPosts.{joined_none}
-
--- ---- items and their turns
-
-pub turns_of-append : (items more : List Item) → turns_of (items ++ more) ≡ turns_of items ++ turns_of more
-turns_of-append [] more = refl
-turns_of-append (begins m ∷ items) more = turns_of-append items more
-turns_of-append (adds_base rects ∷ items) more = turns_of-append items more
-turns_of-append (ends_turn posts ∷ items) more = ap (λ (turns : List (List (List Post))). posts ∷ turns) (turns_of-append items more)
 
 -- ---- a refusal behind what went on
 
@@ -115,17 +105,6 @@ none_short first start = told-same start _ (λ bytes ended. record { items = [];
 
 -- ---- what the lists have
 
-pub same_callers : (part other : Part) → rules_at part ≡ rules_at other → callers_of part ≡ callers_of other
-same_callers BeforeMap BeforeMap same = refl
-same_callers BeforeMap (InBase rules) same = absurd cc
-same_callers BeforeMap (InTurns rules) same = absurd cc
-same_callers (InBase rules) BeforeMap same = absurd cc
-same_callers (InBase rules) (InBase other) same = cc
-same_callers (InBase rules) (InTurns other) same = cc
-same_callers (InTurns rules) BeforeMap same = absurd cc
-same_callers (InTurns rules) (InBase other) same = cc
-same_callers (InTurns rules) (InTurns other) same = cc
-
 -- posts that pass a test, behind others that do
 joined_pass : (passes : Post → Bool) (lists turn : List (List Post)) → list_all (λ posts. list_all passes posts) lists ≡ true
     → list_all (λ posts. list_all passes posts) turn ≡ true → list_all (λ posts. list_all passes posts) (joined_up lists turn) ≡ true
@@ -135,8 +114,8 @@ joined_pass passes (posts ∷ lists) [] own more =
 joined_pass passes (posts ∷ lists) (next ∷ turn) own more =
     let mine = and_parts (list_all passes posts) (list_all (λ posts. list_all passes posts) lists) own in
     let others = and_parts (list_all passes next) (list_all (λ posts. list_all passes posts) turn) more in
-    and_both (list_all passes (posts ++ next)) (list_all (λ posts. list_all passes posts) (joined_up lists turn))
-    (list_all-append passes posts next ∙ and_both (list_all passes posts) (list_all passes next) mine.0 others.0)
+    and_from (list_all passes (posts ++ next)) (list_all (λ posts. list_all passes posts) (joined_up lists turn))
+    (list_all-append passes posts next ∙ and_from (list_all passes posts) (list_all passes next) mine.0 others.0)
     (joined_pass passes lists turn mine.1 others.1)
 
 -- no caller has a post yet
@@ -153,10 +132,3 @@ pub lines_more : (part now : Part) (lists more turn : List (List Post)) → rule
 lines_more part now lists more turn same have next joined rules at =
     ap (λ (ls : List (List Post)). list_all (λ posts. list_all (is_post_of rules.version) posts) ls) joined
     ∙ joined_pass (is_post_of rules.version) lists turn (have rules at) (next rules (same ∙ at))
-
-pub count_none : (callers : ℕ) (lists : List (List Post)) → lists ≡ replicate callers [] → post_count lists ≡ 0
-count_none callers lists empty = ap post_count empty ∙ none callers
-  where
-    none : (callers : ℕ) → post_count (replicate callers []) ≡ 0
-    none zero = refl
-    none (suc callers) = none callers

@@ -209,23 +209,23 @@ draw_base_rect state =
     ) mask.state
 
 -- the class of a number: each keeps half a navcell more clear than the one before it
-abbrev pub class_of : ℕ → PassabilityClass
-class_of class = record { name = class_name class; clearance = pos (32768 * class) }
+abbrev pub made_class : ℕ → PassabilityClass
+made_class class = record { name = class_name class; clearance = pos (32768 * class) }
 
 -- the 8 classes, from `c0` without clearance on
 abbrev pub classes : List PassabilityClass
-classes = map class_of (0 ∷ 1 ∷ 2 ∷ 3 ∷ 4 ∷ 5 ∷ 6 ∷ 7 ∷ [])
+classes = map made_class (0 ∷ 1 ∷ 2 ∷ 3 ∷ 4 ∷ 5 ∷ 6 ∷ 7 ∷ [])
 
 -- the base rectangles are drawn first
 unfoldable pub base_drawn : ℕ → Draw (List (Rect × ℕ))
 base_drawn number = draw_each (λ n. draw_base_rect) 24 number
 
 -- 512 navcells are a side of a map
-abbrev pub is_side : IsSide 512
-is_side = record { some = leb-true 1 512 refl; few = leb-true 512 2048 refl }
+abbrev pub made_side : IsSide 512
+made_side = record { some = leb-true 1 512 refl; few = leb-true 512 2048 refl }
 
 abbrev pub map_size : Size
-map_size = record { w = 512; h = 512; wide = is_side; high = is_side }
+map_size = record { w = 512; h = 512; wide = made_side; high = made_side }
 
 -- the map that a number makes: 512 by 512 navcells, 16 callers, 8 classes and 24 base rectangles
 unfoldable pub made_map : ℕ → Map

@@ -4,11 +4,10 @@ use Rattle.grid_versions.specs.Maps.{Map}
 use Rattle.turn_core.specs.declared.posts.Post.{Post}
 use Rattle.turn_core.specs.declared.replies.Reply.{Reply}
 use Rattle.turn_core.specs.declared.replies.TurnReplies.{TurnReplies}
-use Rattle.turn_core.specs.Turns.{of_caller, IsOneThread}
+use Rattle.turn_core.specs.Turns.{of_caller, IsOneThread, post_count}
 use Rattle.turn_core.specs.Facts.{HaveLists}
 use Rattle.request_lanes.specs.Ends.{Closing}
 use Rattle.path_service.specs.declared.closing.ClosedCaller.{ClosedCaller}
-use Rattle.path_service.specs.Services.{post_count}
 use Rattle.script_text.specs.Lines.{full_lines}
 use Rattle.script_text.specs.Script.{Item, Place, beginning, Ends, at_place, stuck_by, whole_input, too_long, bad_line, arrived, map_after, turns_of, walk, reading}
 use Rattle.script_text.specs.ReadsBack.{canon_script}

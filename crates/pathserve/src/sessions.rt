@@ -3,10 +3,9 @@ ghost use Rattle.std.specs.Prelude.{ℕ, ◌≡◌, ◌<◌, ◌≤◌, ◌^◌,
 ghost use Rattle.nav_types.specs.declared.limits.TheConstants.{MAX_WORKERS};
 ghost use Rattle.turn_core.specs.Solving.{AreAnswersTo};
 ghost use Rattle.turn_core.specs.States.{list_of};
-ghost use Rattle.turn_core.specs.Turns.{of_caller, replies_in, IsOneThread};
+ghost use Rattle.turn_core.specs.Turns.{of_caller, replies_in, IsOneThread, post_count};
 ghost use Rattle.path_service.specs.Callers.{caller_id, ended_id};
 ghost use Rattle.path_service.specs.Closings.{IsClosedBy};
-ghost use Rattle.path_service.specs.Services.{post_count};
 ghost use Rattle.pathserve.specs.Serving.{IsJournalOf, all_taken, post_lane, sent_to};
 ghost use Rattle.pathserve.specs.inner.Sessions.{HasServed, IsAtStart, IsDriven};
 ghost use Rattle.pathserve.specs.inner.Works.{HasPostedNone};
@@ -22,7 +21,7 @@ use std::sync::Wait;
 use std::sync::atomic::{AtomicBool, Ordering};
 use std::thread;
 use std::thread::{Scope, Threads};
-use turn_core::{Answers, Jobs, RunBy, TurnPosts};
+use turn_core::{Answers, Jobs, RunBy, TurnPosts, count_posts};
 
 /// A service all of whose callers have ended.
 #[derive(Drop)]
@@ -152,20 +151,16 @@ fn run_beside<'s, E, R: Threads + Wait + Sync, G: Gate + Sync>(
     ensures { IfOk result (IsDriven driver.old driver.new posts.now) }
 {
     let works = begin_all(scope, rt, alloc, gate, short, callers, posts)?;
-    drive(rt, alloc, driver, count_posts(posts), workers, gate, short)?;
+    drive(
+        rt,
+        alloc,
+        driver,
+        count_posts(posts.as_slice()),
+        workers,
+        gate,
+        short,
+    )?;
     end_all(rt, alloc, works)
-}
-
-/// How many posts there are in all.
-fn count_posts(posts: &TurnPosts) -> u64
-    requires { post_count posts.now < 2 ^ 32 }
-    ensures { result ≡ post_count posts.now }
-{
-    let mut count = 0;
-    for list in posts.as_slice() {
-        count += list.len() as u64;
-    }
-    count
 }
 
 /// Has turns answered by so many workers, who pass the gate, until so many posts have their replies.

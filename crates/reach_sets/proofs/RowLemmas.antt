@@ -6,7 +6,7 @@ use Rattle.std.proofs.lemmas.List.Sums.{sum_by-cons, sum_by_more, sum_by_more_le
 use Rattle.std.proofs.lemmas.Bool.{cases_lt, cases_order, lt-ltb, le-ltb}
 use Rattle.reach_sets.specs.declared.regions.RegionId.{RegionId}
 use Rattle.reach_sets.specs.RegionOrder.{IsRegion, IsRegionBefore, place}
-use Rattle.reach_sets.specs.inner.RowStarts.{starts_from, steps_from, counts_of}
+use Rattle.reach_sets.specs.inner.RowStarts.{starts_from, steps_from, counts_between}
 
 -- the region at a place of the row whose chunks are numbered from `chunk`
 abbrev pub region_from : ℕ → List ℕ → ℕ → RegionId
@@ -30,15 +30,15 @@ steps_from-starts_from low from (x ∷ xs) =
     ap (λ ys. (from - low) ∷ ys) (steps_from-starts_from from (from + x) xs
     ∙ let e : (from + x) - from ≡ x = omega arith in ap (λ y. y ∷ xs) e)
 
-pub counts_of-starts_from : (from : ℕ) (xs : List ℕ) → counts_of (starts_from from xs) ≡ xs
-counts_of-starts_from from [] = refl
-counts_of-starts_from from (x ∷ xs) =
+pub counts_between-starts_from : (from : ℕ) (xs : List ℕ) → counts_between (starts_from from xs) ≡ xs
+counts_between-starts_from from [] = refl
+counts_between-starts_from from (x ∷ xs) =
     steps_from-starts_from from (from + x) xs
     ∙ let e : (from + x) - from ≡ x = omega arith in ap (λ y. y ∷ xs) e
 
-pub row_made : (starts regions : List ℕ) → starts ≡ starts_from 0 regions → sum regions < 2 ^ 32 → (counts_of starts ≡ regions) × ((starts ≡ starts_from 0 (counts_of starts)) × (sum (counts_of starts) < 2 ^ 32))
+pub row_made : (starts regions : List ℕ) → starts ≡ starts_from 0 regions → sum regions < 2 ^ 32 → (counts_between starts ≡ regions) × ((starts ≡ starts_from 0 (counts_between starts)) × (sum (counts_between starts) < 2 ^ 32))
 row_made starts regions made few =
-    let same : counts_of starts ≡ regions = ap counts_of made ∙ counts_of-starts_from 0 regions in
+    let same : counts_between starts ≡ regions = ap counts_between made ∙ counts_between-starts_from 0 regions in
     let P : List ℕ → Type 0 = λ xs. (starts ≡ starts_from 0 xs) × (sum xs < 2 ^ 32) in
     (same, subst P (sym same) (made, few))
 
@@ -53,7 +53,7 @@ row_end starts regions made =
           ∙ ap sum (take_all (length regions) regions (omega arith)),
     )
 
-pub row_of : (starts regions : List ℕ) → starts ≡ starts_from 0 (counts_of starts) → counts_of starts ≡ regions → starts ≡ starts_from 0 regions
+pub row_of : (starts regions : List ℕ) → starts ≡ starts_from 0 (counts_between starts) → counts_between starts ≡ regions → starts ≡ starts_from 0 regions
 row_of starts regions made seen = made ∙ ap (λ xs. starts_from 0 xs) seen
 
 pub place_inside : (regions : List ℕ) (id : RegionId) → IsRegion regions id → place regions id < sum regions

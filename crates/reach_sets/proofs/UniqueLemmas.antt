@@ -17,7 +17,8 @@ IsRegionBefore-asym a b ahead behind = elim ahead [
   | inr c ↦ elim behind [ inl d ↦ omega (arith, c.0) | inr d ↦ omega (arith, c.1, d.1) ]
 ]
 
-IsRegionBefore-cases : (a b : RegionId) → (a ≡ b) ⊎ (IsRegionBefore a b ⊎ IsRegionBefore b a)
+-- two regions are one, or one comes before the other
+pub IsRegionBefore-cases : (a b : RegionId) → (a ≡ b) ⊎ (IsRegionBefore a b ⊎ IsRegionBefore b a)
 IsRegionBefore-cases a b = elim (cases_order a.chunk b.chunk) [
   | inl chunk ↦ elim (cases_order a.region b.region) [
     | inl number ↦ inl (same_region a b chunk number)

@@ -16,14 +16,14 @@ pub struct Offsets {
 
 impl Model for Offsets {
     ghost use Rattle.std.specs.Prelude.{ℕ, List, ◌≡◌, ◌<◌, ◌^◌, sum};
-    ghost use Rattle.reach_sets.specs.inner.RowStarts.{starts_from, counts_of};
+    ghost use Rattle.reach_sets.specs.inner.RowStarts.{starts_from, counts_between};
 
     ghost Value = { List ℕ };
 
-    ghost view = { λ o. counts_of o.starts.items };
+    ghost view = { λ o. counts_between o.starts.items };
 
-    ghost invariant = { λ o. (o.starts.items ≡ starts_from 0 (counts_of o.starts.items))
-        × (sum (counts_of o.starts.items) < 2 ^ 32) };
+    ghost invariant = { λ o. (o.starts.items ≡ starts_from 0 (counts_between o.starts.items))
+        × (sum (counts_between o.starts.items) < 2 ^ 32) };
 }
 
 impl Offsets {

@@ -1,7 +1,7 @@
 -- The region edges of two neighbouring chunks are the pairs that meet along their border.
-use Rattle.std.proofs.Common.{ℕ, ◌≡◌, ◌≢◌, ◌<◌, ◌+◌, ◌-◌, ◌/◌, ◌==◌, ◌&&◌, ◌↔◌, Bool, List, IsTrue, refl, ap, inl, inr, sym, subst, ◌∙◌, arith}
+use Rattle.std.proofs.Common.{ℕ, ◌≡◌, ◌≢◌, ◌<◌, ◌+◌, ◌-◌, ◌/◌, ◌↔◌, Bool, List, IsTrue, refl, ap, inl, inr, sym, subst, ◌∙◌, arith}
 use Rattle.std.specs.List.{AllPairs, Contains}
-use Rattle.std.proofs.lemmas.Bool.{and_parts, eqb-true, cases_Bool}
+use Rattle.std.proofs.lemmas.Bool.{cases_Bool}
 use Rattle.nav_types.specs.declared.cells.Cell.{Cell}
 use Rattle.nav_types.specs.declared.cells.Chunk.{Chunk}
 use Rattle.nav_types.specs.declared.cells.Rect.{Rect}
@@ -14,6 +14,7 @@ use Rattle.nav_types.specs.Regions.{passes_in, HasRegion, IsBeside, IsEdge}
 use Rattle.nav_types.specs.Numbering.{number_of}
 use Rattle.chunk_regions.specs.Labelling.{Labelling, AreLabels, chunk_rect}
 use Rattle.nav_types.proofs.CellOrder.{same_cell}
+use Rattle.nav_types.proofs.Regions.{LiesIn, lies_in}
 use Rattle.chunk_regions.proofs.LabelLemmas.{in_rect}
 use Rattle.region_edges.specs.declared.neighbours.Side.{Side}
 use Rattle.region_edges.specs.declared.neighbours.Side.TheVariants.{East, North}
@@ -131,18 +132,6 @@ edge_from_meeting side here there next passes size own other near far meets =
       from_region = from_region;
       to_region = to_region;
     }
-
--- where a passable cell of a chunk lies
-record LiesIn (passes : Cell → Bool) (chunk : Chunk) (cell : Cell) : Type 0 where
-  column : cell.i / 96 ≡ chunk.ci
-  row : cell.j / 96 ≡ chunk.cj
-  passable : IsTrue (passes cell)
-
-lies_in : (passes : Cell → Bool) (chunk : Chunk) (cell : Cell) → IsTrue (passes_in passes chunk cell) → LiesIn passes chunk cell
-lies_in passes chunk cell all =
-    let parts = and_parts ((cell.i / 96 == chunk.ci) && (cell.j / 96 == chunk.cj)) (passes cell) all in
-    let place = and_parts (cell.i / 96 == chunk.ci) (cell.j / 96 == chunk.cj) parts.0 in
-    record { column = eqb-true (cell.i / 96) chunk.ci place.0; row = eqb-true (cell.j / 96) chunk.cj place.1; passable = parts.1 }
 
 -- a straight step into the chunk on that side goes one column east, or one row north
 abbrev GoesOn : Side → Cell → Cell → Type 0

@@ -1,27 +1,14 @@
 -- Each canonical line reads back as what it was written from.
 use Rattle.std.proofs.Common.{refl}
-use Rattle.std.specs.Prelude.{◌≡◌, ℕ, ◌<◌, ◌≤◌, ◌^◌, List, [], All, Some, IsTrue, codes}
-use Rattle.nav_types.specs.declared.cells.Rect.{Rect}
-use Rattle.nav_types.specs.declared.cells.Size.{Size}
-use Rattle.nav_types.specs.Cells.{IsRectInside}
-use Rattle.grid_versions.specs.Maps.{Map}
+use Rattle.std.specs.Prelude.{◌≡◌, ℕ, ◌<◌, ◌≤◌, ◌^◌, Some, IsTrue, codes}
 use Rattle.turn_core.specs.declared.posts.Post.{Post}
-use Rattle.script_text.specs.Forms.{map_of, base_of, post_of, end_of}
-use Rattle.script_text.specs.Canon.{whole_json, map_json, base_json, post_json, end_json, is_post_of}
-use Rattle.script_text.specs.ReadsBack.{IsMapValue, IsPostValue}
+use Rattle.script_text.specs.Forms.{post_of, end_of}
+use Rattle.script_text.specs.Canon.{whole_json, post_json, end_json, is_post_of}
+use Rattle.script_text.specs.ReadsBack.{IsPostValue}
 use Rattle.script_text.proofs.BackForms.{ReadsTo}
 use Rattle.script_text.proofs.BackTexts.{sorted, reads_sorted}
 use Rattle.script_text.proofs.BackPosts.{one_key, post_back}
-use Rattle.script_text.proofs.BackMaps.{map_back, base_back}
 use Rattle.script_text.proofs.GrammarLines.{end-from}
-
--- the map line reads back, with no base rectangle yet
-pub map_reads : (m : Map) → IsMapValue m → ReadsTo (map_json m) (λ d. map_of d ≡ Some (record m { base = [] }))
-map_reads m is = map_back m is
-
-pub base_reads : (size : Size) (rects : List (Rect × ℕ)) → All (λ (entry : Rect × ℕ). IsRectInside size entry.0) rects
-    → All (λ (entry : Rect × ℕ). entry.1 ≤ 65535) rects → ReadsTo (base_json rects) (λ d. base_of size d ≡ Some rects)
-base_reads size rects inside masks = base_back size rects inside masks
 
 pub post_reads : (version callers caller : ℕ) (post : Post) → callers ≤ 64 → caller < callers → IsPostValue post
     → IsTrue (is_post_of version post)

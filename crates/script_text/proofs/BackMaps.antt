@@ -3,7 +3,7 @@ use Rattle.std.proofs.Common.{◌≡◌, ℕ, ◌<◌, ◌≤◌, ◌^◌, ◌&&
 use Rattle.std.specs.Prelude.{All, codes}
 use Rattle.std.specs.Int.{w32}
 use Rattle.std.specs.List.{list_all, filter_map, cons_option}
-use Rattle.std.proofs.lemmas.Bool.{and_parts, leb-true}
+use Rattle.std.proofs.lemmas.Bool.{and_parts, leb-true, and_from}
 use Rattle.std.proofs.lemmas.List.{length-map}
 use Rattle.std.proofs.lemmas.List.Elements.{All-nil, All-cons}
 use Rattle.serde_json.specs.Data.{Data, object, no_members, member}
@@ -11,7 +11,8 @@ use Rattle.nav_types.specs.declared.cells.Rect.{Rect}
 use Rattle.nav_types.specs.declared.cells.Size.{Size}
 use Rattle.nav_types.specs.Cells.{IsRectInside}
 use Rattle.fixed_point.proofs.ReadsBack.{reads_back}
-use Rattle.class_config.specs.Forms.{some_if, is_class_name}
+use Rattle.fixed_point.specs.Text.{some_if}
+use Rattle.class_config.specs.Forms.{is_class_name}
 use Rattle.class_config.specs.Classes.{is_clearance, is_class, is_table, are_distinct, class_with, class_of, list_of, are_classes, classes_of}
 use Rattle.class_config.specs.declared.table.PassabilityClass.{PassabilityClass}
 use Rattle.grid_versions.specs.Maps.{Map}
@@ -22,8 +23,8 @@ use Rattle.script_text.specs.ReadsBack.{IsMapValue}
 use Rattle.script_text.proofs.BackForms.{ReadsTo}
 use Rattle.script_text.proofs.BackTexts.{IsSimple, sorted, text-fixed_text, text-name, reads_sorted}
 use Rattle.script_text.proofs.BackPosts.{one_key, simple_list, sorted_list, array_list}
-use Rattle.script_text.proofs.GrammarLines.{map-from, base-from, and_both}
-use Rattle.script_text.proofs.GrammarValues.{list_of-items_of}
+use Rattle.script_text.proofs.GrammarLines.{map-from, base-from}
+use Rattle.class_config.proofs.ClassLists.{list_of-items_of}
 
 -- ---- base lines
 
@@ -114,7 +115,7 @@ each_is_one : (classes : List PassabilityClass) → list_all is_class classes �
 each_is_one [] h = refl
 each_is_one (class ∷ classes) h =
     let s = and_parts (is_class class) (list_all is_class classes) h in
-    and_both (is_some (class_of (class_read class))) (list_all (λ d. is_some (class_of d)) (map class_read classes)) (ap is_some (class_back class s.0)) (each_is_one classes s.1)
+    and_from (is_some (class_of (class_read class))) (list_all (λ d. is_some (class_of d)) (map class_read classes)) (ap is_some (class_back class s.0)) (each_is_one classes s.1)
 
 each_class : (classes : List PassabilityClass) → is_table classes ≡ true → list_all is_class classes ≡ true
 each_class classes table =
@@ -129,8 +130,8 @@ are_classes-read classes table =
     let inner = and_parts few (list_all is_class classes) outer.0 in
     let every = list_all (λ d. is_some (class_of d)) items in
     let counted : (nat_le 1 (length items) && nat_le (length items) 16) ≡ true = ap (λ n. nat_le 1 n && nat_le n 16) (length-map classes class_read) ∙ inner.0 in
-    and_both (nat_le 1 (length items) && nat_le (length items) 16 && every) (are_distinct (filter_map class_of items))
-    (and_both (nat_le 1 (length items) && nat_le (length items) 16) every counted (each_is_one classes inner.1))
+    and_from (nat_le 1 (length items) && nat_le (length items) 16 && every) (are_distinct (filter_map class_of items))
+    (and_from (nat_le 1 (length items) && nat_le (length items) 16) every counted (each_is_one classes inner.1))
     (ap are_distinct (each_back classes inner.1) ∙ outer.1)
 
 classes_back : (classes : List PassabilityClass) → is_table classes ≡ true → classes_of (sorted (list_json (map class_json classes))) ≡ Some classes

@@ -2,8 +2,9 @@
 use Rattle.std.proofs.Common.{◌≡◌, ℕ, zero, suc, ◌+◌, ◌<◌, ◌≤◌, ◌==◌, List, [], ◌∷◌, ◌++◌, length, take, drop, map, flat_map, slice_set, All, IsTrue, Bool, true, false, Option, Some, None, refl, ap, sym, subst, ◌∙◌, arith, append_assoc, append-nil, length-append, length-drop, eq-eqb, take-append-drop}
 use Rattle.std.specs.List.{list_all}
 use Rattle.std.proofs.Math.Seq.{get_or-append_seam, set-append_seam}
-use Rattle.std.proofs.lemmas.Bool.{and_parts}
+use Rattle.std.proofs.lemmas.Bool.{and_parts, cond-true}
 use Rattle.std.proofs.lemmas.List.Elements.{All-head, All-tail, All-take, All-drop}
+use Rattle.script_text.proofs.ReadCalls.{map_after-append}
 use Rattle.serde_json.specs.Data.{Data}
 use Rattle.nav_types.specs.declared.cells.Rect.{Rect}
 use Rattle.nav_types.specs.declared.cells.Size.{Size}
@@ -17,13 +18,14 @@ use Rattle.script_text.specs.Grammar.{base_line as says_base, post_line as says_
 use Rattle.script_text.specs.declared.parts.Rules.{Rules}
 use Rattle.script_text.specs.declared.parts.Part.{Part}
 use Rattle.script_text.specs.declared.parts.Part.TheVariants.{BeforeMap, InBase, InTurns}
-use Rattle.script_text.specs.Script.{rules_of, Place, beginning, Item, begins, adds_base, ends_turn, whole_input, stuck, map_after_item, map_after, turns_of, no_posts, placed, map_line, with_post, end_line, turn_line, placed_in_turn, base_line, is_empty, finish, reading}
+use Rattle.script_text.specs.Script.{rules_of, Place, beginning, Item, begins, adds_base, ends_turn, whole_input, stuck, map_after, turns_of, no_posts, placed, map_line, with_post, end_line, turn_line, placed_in_turn, base_line, is_empty, finish, reading}
 use Rattle.script_text.specs.Reader.{stuck_after}
 use Rattle.script_text.specs.Canon.{line, map_json, base_json, pieces, canon_base, canon_map, post_json, canon_posts, canon_callers, end_json, canon_journal, is_post_of, HaveLines}
 use Rattle.script_text.specs.ReadsBack.{IsMapValue, IsPostValue, ArePostValues, AreTurns, canon_turns, canon_script, IsWithinLimits, ReadsAs}
-use Rattle.script_text.proofs.GrammarLines.{base-is, end-is, if_true}
+use Rattle.script_text.proofs.GrammarLines.{base-is, end-is}
 use Rattle.script_text.proofs.GrammarPosts.{post-is, one_line}
-use Rattle.script_text.proofs.BackLines.{map_reads, base_reads, post_reads, end_reads}
+use Rattle.script_text.proofs.BackLines.{post_reads, end_reads}
+use Rattle.script_text.proofs.BackMaps.{map_back, base_back}
 use Rattle.script_text.proofs.BackWalk.{Stage, place_at, after_items, FitsWithin, Goes, goes-nothing, goes-both, Gives, goes-line}
 
 -- ---- stages
@@ -93,7 +95,7 @@ bare_map m = record m { base = [] }
 goes-map_line : (m : Map) → IsMapValue m
     → Goes (line (map_json m)) first_stage (begins (bare_map m) ∷ []) (between m false 0)
 goes-map_line m is =
-    goes-line (map_json m) _ first_stage (between m false 0) (begins (bare_map m) ∷ []) (λ few. map_reads m is)
+    goes-line (map_json m) _ first_stage (between m false 0) (begins (bare_map m) ∷ []) (λ few. map_back m is)
     (omega arith) (λ d says bytes lines. ap (map_line (place_at bytes lines first_stage)) says)
 
 record IsPiece (size : Size) (rects : List (Rect × ℕ)) : Type 0 where
@@ -119,7 +121,7 @@ goes-base_line : (rules : Rules) (turns : ℕ) (posts : List (List Post)) (rects
 goes-base_line rules turns posts rects is =
     let here : Stage = stage rules false turns posts in
     goes-line (base_json rects) _ here here (adds_base rects ∷ [])
-    (λ few. base_reads rules.size rects is.inside is.masks) (omega arith)
+    (λ few. base_back rules.size rects is.inside is.masks) (omega arith)
     (λ d says bytes lines. ap (base_line (place_at bytes lines here) rules (Some d)) says)
 
 goes-pieces : (rules : Rules) (turns : ℕ) (posts : List (List Post)) (n size : ℕ) (rects : List (Rect × ℕ))
@@ -254,7 +256,7 @@ goes-end rules begun turns posts =
         in_turn rules begun turns posts d bytes lines (not_base-end rules.size d (turns + 1) says)
         ∙ ap (λ o. turn_line p rules o (end_of d))
         (not_post-end rules.version rules.callers rules.size d (turns + 1) says)
-        ∙ ap (end_line p rules) says ∙ if_true (turns + 1 == turns + 1) _ _ (eq-eqb (turns + 1) (turns + 1) refl)
+        ∙ ap (end_line p rules) says ∙ cond-true (turns + 1 == turns + 1) _ _ (eq-eqb (turns + 1) (turns + 1) refl)
 
 goes-turn : (m : Map) (begun : Bool) (turns : ℕ) (turn : List (List Post)) → IsMapValue m → length turn ≡ m.callers
     → HaveLines m.version turn → ArePostValues turn
@@ -292,11 +294,6 @@ reach_turns m begun done (turn ∷ turns) is are =
     record { begun_after = others.begun_after; done_after = others.done_after; goes = goes-both first others.goes }
 
 -- ---- what the items say
-
-map_after-append : (found : Option Map) (xs ys : List Item)
-    → map_after found (xs ++ ys) ≡ map_after (map_after found xs) ys
-map_after-append found [] ys = refl
-map_after-append found (x ∷ xs) ys = map_after-append (map_after_item found x) xs ys
 
 map_after-turns : (found : Option Map) (turns : List (List (List Post))) → map_after found (map ends_turn turns) ≡ found
 map_after-turns found [] = refl
@@ -356,7 +353,7 @@ empty-no_posts (suc callers) = empty-no_posts callers
 finish-whole : (m : Map) (begun : Bool) (turns bytes lines : ℕ)
     → finish (place_at bytes lines (between m begun turns)) ≡ stuck whole_input
 finish-whole m false turns bytes lines = refl
-finish-whole m true turns bytes lines = if_true (list_all is_empty (no_posts m.callers)) _ _ (empty-no_posts m.callers)
+finish-whole m true turns bytes lines = cond-true (list_all is_empty (no_posts m.callers)) _ _ (empty-no_posts m.callers)
 
 pub script-reads : (m : Map) (turns : List (List (List Post))) → IsMapValue m → AreTurns m turns
     → IsWithinLimits (canon_script m turns) → ReadsAs m turns (canon_script m turns)

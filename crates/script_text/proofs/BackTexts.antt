@@ -5,7 +5,7 @@ use Rattle.std.specs.Char.{is_ascii_digit, is_ascii_alphanumeric}
 use Rattle.std.specs.Int.{w32, is_negative}
 use Rattle.std.specs.List.{list_all}
 use Rattle.std.specs.Str.{all_ascii_digits}
-use Rattle.std.proofs.lemmas.Bool.{and_parts, leb-true}
+use Rattle.std.proofs.lemmas.Bool.{and_parts, leb-true, and_from}
 use Rattle.std.proofs.lemmas.Bool.Decides.{leb_tells, eqb_tells}
 use Rattle.std.proofs.lemmas.Fmt.{digits_decimal}
 use Rattle.std.proofs.lemmas.List.Elements.{All-nil, All-cons}
@@ -32,7 +32,6 @@ use Rattle.class_config.specs.Forms.{is_class_name}
 use Rattle.script_text.specs.inner.Plain.{is_plain}
 use Rattle.script_text.specs.Lines.{IsPlain}
 use Rattle.script_text.proofs.BackForms.{ReadsTo}
-use Rattle.script_text.proofs.GrammarLines.{and_both}
 use Rattle.script_text.proofs.CanonTexts.{plain-decimal, plain-fixed_text, plain-name, quoted-plain}
 
 -- ---- bytes
@@ -49,13 +48,13 @@ abbrev is_shown : ℕ → Bool
 is_shown byte = nat_le 32 byte && is_ascii byte
 
 all_both : (test : ℕ → Bool) (xs ys : List ℕ) → list_all test xs ≡ true → list_all test ys ≡ true → list_all test (xs ++ ys) ≡ true
-all_both test xs ys h k = list_all-append test xs ys ∙ and_both (list_all test xs) (list_all test ys) h k
+all_both test xs ys h k = list_all-append test xs ys ∙ and_from (list_all test xs) (list_all test ys) h k
 
 -- what passes one test passes another
 all_weaker : (p q : ℕ → Bool) → ((c : ℕ) → p c ≡ true → q c ≡ true) → (cs : List ℕ) → list_all p cs ≡ true → list_all q cs ≡ true
 all_weaker p q tells [] h = refl
 all_weaker p q tells (c ∷ cs) h =
-    let s = and_parts (p c) (list_all p cs) h in and_both (q c) (list_all q cs) (tells c s.0) (all_weaker p q tells cs s.1)
+    let s = and_parts (p c) (list_all p cs) h in and_from (q c) (list_all q cs) (tells c s.0) (all_weaker p q tells cs s.1)
 
 shown_text : (cs : List ℕ) → IsText cs → list_all is_shown cs ≡ true
 shown_text [] is = refl
@@ -63,7 +62,7 @@ shown_text (c ∷ cs) is =
     let p = and_parts (is_plain c) (list_all is_plain cs) is.0 in
     let a = and_parts (is_ascii c) (list_all is_ascii cs) is.1 in
     let low = and_parts (nat_le 32 c) _ (and_parts (nat_le 32 c && _) _ p.0).0 in
-    and_both (is_shown c) (list_all is_shown cs) (and_both (nat_le 32 c) (is_ascii c) low.0 a.0) (shown_text cs (p.1, a.1))
+    and_from (is_shown c) (list_all is_shown cs) (and_from (nat_le 32 c) (is_ascii c) low.0 a.0) (shown_text cs (p.1, a.1))
 
 -- ---- the strings and numbers of scripts
 
@@ -273,7 +272,7 @@ all_ascii : (cs : List ℕ) → list_all is_shown cs ≡ true → are_ascii cs �
 all_ascii [] h = refl
 all_ascii (c ∷ cs) h =
     let s = and_parts (is_shown c) (list_all is_shown cs) h in
-    and_both (nat_lt c 128) (are_ascii cs) (and_parts (nat_le 32 c) (is_ascii c) s.0).1 (all_ascii cs s.1)
+    and_from (nat_lt c 128) (are_ascii cs) (and_parts (nat_le 32 c) (is_ascii c) s.0).1 (all_ascii cs s.1)
 
 read_text : (d : Data) → IsSimple d 127 → read (compact_text d) ≡ Some (sorted d)
 read_text d is =

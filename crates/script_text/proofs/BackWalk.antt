@@ -1,7 +1,7 @@
 -- The reading of a text that goes on: what lines give in front of any rest, and where they lead.
-use Rattle.std.proofs.Common.{◌≡◌, ℕ, ◌+◌, ◌≤◌, ◌||◌, List, [], ◌∷◌, ◌++◌, length, All, Bool, false, cond, nat_lt, Some, refl, ap, sym, subst, ◌∙◌, arith, append_assoc, length-append}
-use Rattle.std.proofs.lemmas.Bool.Decides.{leb_tells}
+use Rattle.std.proofs.Common.{◌≡◌, ℕ, ◌+◌, ◌≤◌, List, [], ◌∷◌, ◌++◌, length, All, false, cond, nat_lt, Some, refl, ap, sym, subst, ◌∙◌, arith, append_assoc, length-append}
 use Rattle.std.proofs.lemmas.List.Elements.{All-head, All-tail}
+use Rattle.std.proofs.lemmas.Bool.{le-ltb, or_from}
 use Rattle.serde_json.specs.Data.{Data}
 use Rattle.serde_json.specs.Written.{compact_text}
 use Rattle.turn_core.specs.declared.posts.Post.{Post}
@@ -73,19 +73,13 @@ goes-both {a} {b} {s} {t} {u} {xs} {ys} first second = record { leads = both }
 
 -- ---- one line
 
-not_over : (limit n : ℕ) → n ≤ limit → nat_lt limit n ≡ false
-not_over limit n h = grind (arith, leb_tells)
-
-neither : (a b : Bool) → a ≡ false → b ≡ false → (a || b) ≡ false
-neither a b e f = cc
-
 accept-short : (size : ℕ) (text : List ℕ) (p : Place) (value : Data) → length text ≤ 8388608
     → p.bytes + size ≤ 4294967296 → reading_of text ≡ Some value
     → accept size text p ≡ placed (counted p size) (Some value)
 accept-short size text p value short few reads =
     let e : is_long p size text ≡ false =
-    neither (nat_lt 8388608 (length text)) (nat_lt 4294967296 (p.bytes + size))
-    (not_over 8388608 (length text) short) (not_over 4294967296 (p.bytes + size) few) in
+    or_from (nat_lt 8388608 (length text)) (nat_lt 4294967296 (p.bytes + size))
+    (le-ltb 8388608 (length text) short) (le-ltb 4294967296 (p.bytes + size) few) in
     ap (λ b. cond b (stuck too_long) (placed (counted p size) (reading_of text))) e ∙ ap (placed (counted p size)) reads
 
 -- what a line's reading gives at a stage, however many bytes and lines stand before it

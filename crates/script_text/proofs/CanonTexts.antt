@@ -10,7 +10,7 @@ use Rattle.std.specs.Fmt.{digits, digits_onto, digit_glyph}
 use Rattle.std.specs.Int.{is_negative}
 use Rattle.std.specs.List.{list_all}
 use Rattle.std.specs.Str.{all_ascii_digits}
-use Rattle.std.proofs.lemmas.Bool.{and_parts, ne_eqb, leb-true}
+use Rattle.std.proofs.lemmas.Bool.{and_parts, ne_eqb, leb-true, and_from, both_ways}
 use Rattle.std.proofs.lemmas.Bool.Decides.{leb_tells, eqb_tells}
 use Rattle.std.proofs.lemmas.List.Folds.{list_all-append}
 use Rattle.serde_json.specs.Data.{string}
@@ -27,14 +27,10 @@ use Rattle.script_text.specs.Canon.{class_json, line, base_json, pieces, canon_b
 
 -- ---- plain bytes
 
-and_both : (x y : Bool) → x ≡ true → y ≡ true → (x && y) ≡ true
-and_both true y h k = k
-and_both false y h k = absurd (cc)
-
 plain_if : (c : ℕ) → 32 ≤ c → (c ≡ 34 → ⊥) → (c ≡ 92 → ⊥) → is_plain c ≡ true
 plain_if c low quote slash =
-    and_both (nat_le 32 c && not (c == 34)) (not (c == 92))
-    (and_both (nat_le 32 c) (not (c == 34)) (le-leb 32 c low) (ap not (ne_eqb c 34 quote))) (ap not (ne_eqb c 92 slash))
+    and_from (nat_le 32 c && not (c == 34)) (not (c == 92))
+    (and_from (nat_le 32 c) (not (c == 34)) (le-leb 32 c low) (ap not (ne_eqb c 34 quote))) (ap not (ne_eqb c 92 slash))
 
 digit_range : (c : ℕ) → is_ascii_digit c ≡ true → (48 ≤ c) × (c ≤ 57)
 digit_range c h = let s = and_parts (nat_le 48 c) (nat_le c 57) h in (leb-true 48 c s.0, leb-true c 57 s.1)
@@ -45,7 +41,7 @@ plain_digit c h = let r = digit_range c h in plain_if c (omega (arith, r.0)) (λ
 plain_digits : (cs : List ℕ) → all_ascii_digits cs ≡ true → list_all is_plain cs ≡ true
 plain_digits [] h = refl
 plain_digits (c ∷ cs) h =
-    let s = and_parts (is_ascii_digit c) (all_ascii_digits cs) h in and_both (is_plain c) (list_all is_plain cs) (plain_digit c s.0) (plain_digits cs s.1)
+    let s = and_parts (is_ascii_digit c) (all_ascii_digits cs) h in and_from (is_plain c) (list_all is_plain cs) (plain_digit c s.0) (plain_digits cs s.1)
 
 plain_glyph : (d : ℕ) → d < 10 → is_plain (digit_glyph false d) ≡ true
 plain_glyph d small =
@@ -56,7 +52,7 @@ plain_onto : (k n : ℕ) (acc : List ℕ) → list_all is_plain acc ≡ true →
 plain_onto zero n acc h = h
 plain_onto (suc k) n acc h =
     let d = digit_glyph false (n % 10) in
-    let more : list_all is_plain (d ∷ acc) ≡ true = and_both (is_plain d) (list_all is_plain acc) (plain_glyph (n % 10) (omega arith)) h in
+    let more : list_all is_plain (d ∷ acc) ≡ true = and_from (is_plain d) (list_all is_plain acc) (plain_glyph (n % 10) (omega arith)) h in
     by_last (n / 10 == 0) (d ∷ acc) (digits_onto k 10 false (n / 10) (d ∷ acc)) more (plain_onto k (n / 10) (d ∷ acc) more)
   where
     by_last : (b : Bool) (xs ys : List ℕ) → list_all is_plain xs ≡ true → list_all is_plain ys ≡ true → list_all is_plain (cond b xs ys) ≡ true
@@ -68,7 +64,7 @@ unfolding digits
 plain-decimal n = plain_onto 64 n [] refl
 
 plain_both : (xs ys : List ℕ) → list_all is_plain xs ≡ true → list_all is_plain ys ≡ true → list_all is_plain (xs ++ ys) ≡ true
-plain_both xs ys h k = list_all-append is_plain xs ys ∙ and_both (list_all is_plain xs) (list_all is_plain ys) h k
+plain_both xs ys h k = list_all-append is_plain xs ys ∙ and_from (list_all is_plain xs) (list_all is_plain ys) h k
 
 plain_sign : (negative : Bool) → list_all is_plain (cond negative (45 ∷ []) []) ≡ true
 plain_sign true = refl
@@ -104,7 +100,7 @@ names_plain : (cs : List ℕ) → list_all (λ c. is_ascii_alphanumeric c || c =
 names_plain [] h = refl
 names_plain (c ∷ cs) h =
     let s = and_parts (is_ascii_alphanumeric c || c == 45 || c == 95) (list_all (λ d. is_ascii_alphanumeric d || d == 45 || d == 95) cs) h in
-    and_both (is_plain c) (list_all is_plain cs) (name_byte c s.0) (names_plain cs s.1)
+    and_from (is_plain c) (list_all is_plain cs) (name_byte c s.0) (names_plain cs s.1)
 
 pub plain-name : (name : List ℕ) → is_class_name name ≡ true → list_all is_plain name ≡ true
 plain-name name h =
@@ -263,17 +259,13 @@ base_step (rect ∷ rects) some =
     ap (λ ps. line (base_json (take 65536 (rect ∷ rects))) ++ flat_map (λ piece. line (base_json piece)) ps)
     (pieces-enough 65536 (omega arith) (length rects) (length others) others less (omega arith))
 
-not_empty : (b : Bool) → b ≡ true → b ≡ false → ⊥
-not_empty true e f = cc
-not_empty false e f = cc
-
 -- one base line more
 pub base-more : (rects piece others : List (Rect × ℕ)) (now based lined all : List ℕ) (n : ℕ) (empty : Bool) → empty ≡ (length rects == 0) → empty ≡ false → n ≡ min (length rects) 65536
     → piece ≡ take n rects → others ≡ drop n rects → based ≡ now ++ compact_text (base_json piece) → lined ≡ based ++ 10 ∷ []
     → now ++ canon_base rects ≡ all → lined ++ canon_base others ≡ all
 unfolding line
 base-more rects piece others now based lined all n empty tells full size front back first second so_far =
-    let some : rects ≡ [] → ⊥ = λ none. not_empty empty (tells ∙ ap (λ r. length r == 0) none) full in
+    let some : rects ≡ [] → ⊥ = λ none. both_ways empty full (tells ∙ ap (λ r. length r == 0) none) in
     let p : piece ≡ take 65536 rects = front ∙ ap (λ k. take k rects) size ∙ take_min rects 65536 in
     let q : others ≡ drop 65536 rects = back ∙ ap (λ k. drop k rects) size ∙ drop_min rects 65536 in
     let text = compact_text (base_json (take 65536 rects)) in

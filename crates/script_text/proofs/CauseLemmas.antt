@@ -3,13 +3,14 @@ use Rattle.std.proofs.Common.{◌≡◌, ◌↔◌, ℕ, ◌+◌, ◌&&◌, ◌|
 use Rattle.std.specs.Prelude.{codes, is_some, IsSome}
 use Rattle.std.specs.List.{list_all}
 use Rattle.std.specs.Option.{option_or}
-use Rattle.std.proofs.lemmas.Bool.{and_parts, leb-true}
+use Rattle.std.proofs.lemmas.Bool.{and_parts, leb-true, and_right, and_from, le-leb}
 use Rattle.std.proofs.lemmas.Bool.Decides.{Decides-eqb}
 use Rattle.serde_json.specs.Data.{Data}
 use Rattle.serde_json.specs.Find.{get}
 use Rattle.nav_types.specs.declared.cells.Rect.{Rect}
 use Rattle.nav_types.specs.declared.cells.Size.{Size}
-use Rattle.class_config.specs.Forms.{has_keys, some_if}
+use Rattle.fixed_point.specs.Text.{some_if}
+use Rattle.class_config.specs.Forms.{has_keys}
 use Rattle.class_config.specs.declared.table.PassabilityClass.{PassabilityClass}
 use Rattle.fixed_point.specs.declared.plane.Rectangle.{Rectangle}
 use Rattle.obstruction_shapes.specs.declared.shapes.Shape.{Shape}
@@ -30,8 +31,6 @@ use Rattle.script_text.specs.Values.{whole, whole_in, whole_below, obstruction_n
 use Rattle.script_text.specs.Forms.{map_by, map_of, each, entry_of, base_of, goal_of, add_keys, mask_of, shape_of, add_of, remove_of, move_of, path_of, region_of, edit_of, request_of, post_of, end_of}
 use Rattle.script_text.specs.Script.{Place, Item, Stop, Walk, whole_input, is_empty, finish_in, arrived, stuck, bad, bad_line, end_line, turn_line, base_line, map_line, placed_in}
 use Rattle.script_text.specs.Causes.{wants, is_right, first_wrong, map_fields, fields_of, cause_by, cause, end_cause}
-use Rattle.script_text.proofs.GrammarLines.{and_both}
-use Rattle.script_text.proofs.GrammarValues.{le_is}
 use Rattle.script_text.proofs.Members.{are_distinct, is_other, open_keys, has_keys-other}
 
 -- ---- truth values
@@ -125,7 +124,7 @@ same_number n turn = by_test (n == turn) refl (nat_le turn n && nat_le n turn) r
     by_test false is false e = refl
     by_test true is false e =
         let eq : n ≡ turn = (Decides-eqb n turn).0 is in
-        let more : (nat_le turn n && nat_le n turn) ≡ true = and_both (nat_le turn n) (nat_le n turn) (le_is turn n (omega (arith, eq))) (le_is n turn (omega (arith, eq))) in
+        let more : (nat_le turn n && nat_le n turn) ≡ true = and_from (nat_le turn n) (nat_le n turn) (le-leb turn n (omega (arith, eq))) (le-leb n turn (omega (arith, eq))) in
         absurd (cc)
     by_test false is true e =
         let parts = and_parts (nat_le turn n) (nat_le n turn) e in
@@ -246,10 +245,6 @@ apart : (keys others : List (List ℕ)) (key : List ℕ) (d : Data) → are_dist
     → is_other key others ≡ false → has_keys others d ≡ false
 apart keys others key d distinct has other there = let opened = open_keys keys d distinct has in has_keys-other keys others opened.values d key opened.is other there
 
-later : (b k : Bool) → k ≡ false → (b && k) ≡ false
-later true k e = e
-later false k e = refl
-
 -- a mask at the end is no other key
 short : (b : Bool) (key : List ℕ) → is_other key (codes "mask" ∷ []) ≡ true → is_other key (cond b (codes "mask" ∷ []) []) ≡ true
 short true key e = e
@@ -271,7 +266,7 @@ map_only version d has = record {
   has_unit = apart (codes "version" ∷ codes "size" ∷ codes "callers" ∷ codes "classes" ∷ []) (add_keys version (codes "unit")) (codes "unit") d refl has refl refl;
   has_square = apart (codes "version" ∷ codes "size" ∷ codes "callers" ∷ codes "classes" ∷ []) (add_keys version (codes "square")) (codes "square") d refl has refl refl;
   has_remove = apart (codes "version" ∷ codes "size" ∷ codes "callers" ∷ codes "classes" ∷ []) (codes "caller" ∷ codes "remove" ∷ []) (codes "remove") d refl has refl refl;
-  has_move = later (nat_le 3 version) (has_keys (codes "caller" ∷ codes "move" ∷ codes "to" ∷ []) d) (apart (codes "version" ∷ codes "size" ∷ codes "callers" ∷ codes "classes" ∷ []) (codes "caller" ∷ codes "move" ∷ codes "to" ∷ []) (codes "move") d refl has refl refl);
+  has_move = and_right (nat_le 3 version) (has_keys (codes "caller" ∷ codes "move" ∷ codes "to" ∷ []) d) (apart (codes "version" ∷ codes "size" ∷ codes "callers" ∷ codes "classes" ∷ []) (codes "caller" ∷ codes "move" ∷ codes "to" ∷ []) (codes "move") d refl has refl refl);
   has_path = apart (codes "version" ∷ codes "size" ∷ codes "callers" ∷ codes "classes" ∷ []) (codes "caller" ∷ codes "path" ∷ codes "from" ∷ codes "goal" ∷ []) (codes "path") d refl has refl refl;
   has_region = apart (codes "version" ∷ codes "size" ∷ codes "callers" ∷ codes "classes" ∷ []) (codes "caller" ∷ codes "region" ∷ codes "at" ∷ []) (codes "region") d refl has refl refl;
 }
@@ -284,7 +279,7 @@ base_only version d has = record {
   has_unit = apart (codes "base" ∷ []) (add_keys version (codes "unit")) (codes "unit") d refl has refl refl;
   has_square = apart (codes "base" ∷ []) (add_keys version (codes "square")) (codes "square") d refl has refl refl;
   has_remove = apart (codes "base" ∷ []) (codes "caller" ∷ codes "remove" ∷ []) (codes "remove") d refl has refl refl;
-  has_move = later (nat_le 3 version) (has_keys (codes "caller" ∷ codes "move" ∷ codes "to" ∷ []) d) (apart (codes "base" ∷ []) (codes "caller" ∷ codes "move" ∷ codes "to" ∷ []) (codes "move") d refl has refl refl);
+  has_move = and_right (nat_le 3 version) (has_keys (codes "caller" ∷ codes "move" ∷ codes "to" ∷ []) d) (apart (codes "base" ∷ []) (codes "caller" ∷ codes "move" ∷ codes "to" ∷ []) (codes "move") d refl has refl refl);
   has_path = apart (codes "base" ∷ []) (codes "caller" ∷ codes "path" ∷ codes "from" ∷ codes "goal" ∷ []) (codes "path") d refl has refl refl;
   has_region = apart (codes "base" ∷ []) (codes "caller" ∷ codes "region" ∷ codes "at" ∷ []) (codes "region") d refl has refl refl;
 }
@@ -297,7 +292,7 @@ end_only version d has = record {
   has_unit = apart (codes "end" ∷ []) (add_keys version (codes "unit")) (codes "unit") d refl has refl refl;
   has_square = apart (codes "end" ∷ []) (add_keys version (codes "square")) (codes "square") d refl has refl refl;
   has_remove = apart (codes "end" ∷ []) (codes "caller" ∷ codes "remove" ∷ []) (codes "remove") d refl has refl refl;
-  has_move = later (nat_le 3 version) (has_keys (codes "caller" ∷ codes "move" ∷ codes "to" ∷ []) d) (apart (codes "end" ∷ []) (codes "caller" ∷ codes "move" ∷ codes "to" ∷ []) (codes "move") d refl has refl refl);
+  has_move = and_right (nat_le 3 version) (has_keys (codes "caller" ∷ codes "move" ∷ codes "to" ∷ []) d) (apart (codes "end" ∷ []) (codes "caller" ∷ codes "move" ∷ codes "to" ∷ []) (codes "move") d refl has refl refl);
   has_path = apart (codes "end" ∷ []) (codes "caller" ∷ codes "path" ∷ codes "from" ∷ codes "goal" ∷ []) (codes "path") d refl has refl refl;
   has_region = apart (codes "end" ∷ []) (codes "caller" ∷ codes "region" ∷ codes "at" ∷ []) (codes "region") d refl has refl refl;
 }
@@ -310,7 +305,7 @@ unit_only version d has = record {
   has_unit = has;
   has_square = apart (add_keys version (codes "unit")) (add_keys version (codes "square")) (codes "square") d (unit_distinct (nat_le 2 version)) has (short (nat_le 2 version) (codes "square") refl) refl;
   has_remove = apart (add_keys version (codes "unit")) (codes "caller" ∷ codes "remove" ∷ []) (codes "remove") d (unit_distinct (nat_le 2 version)) has (short (nat_le 2 version) (codes "remove") refl) refl;
-  has_move = later (nat_le 3 version) (has_keys (codes "caller" ∷ codes "move" ∷ codes "to" ∷ []) d) (apart (add_keys version (codes "unit")) (codes "caller" ∷ codes "move" ∷ codes "to" ∷ []) (codes "move") d (unit_distinct (nat_le 2 version)) has (short (nat_le 2 version) (codes "move") refl) refl);
+  has_move = and_right (nat_le 3 version) (has_keys (codes "caller" ∷ codes "move" ∷ codes "to" ∷ []) d) (apart (add_keys version (codes "unit")) (codes "caller" ∷ codes "move" ∷ codes "to" ∷ []) (codes "move") d (unit_distinct (nat_le 2 version)) has (short (nat_le 2 version) (codes "move") refl) refl);
   has_path = apart (add_keys version (codes "unit")) (codes "caller" ∷ codes "path" ∷ codes "from" ∷ codes "goal" ∷ []) (codes "path") d (unit_distinct (nat_le 2 version)) has (short (nat_le 2 version) (codes "path") refl) refl;
   has_region = apart (add_keys version (codes "unit")) (codes "caller" ∷ codes "region" ∷ codes "at" ∷ []) (codes "region") d (unit_distinct (nat_le 2 version)) has (short (nat_le 2 version) (codes "region") refl) refl;
 }
@@ -323,7 +318,7 @@ square_only version d has = record {
   has_unit = apart (add_keys version (codes "square")) (add_keys version (codes "unit")) (codes "unit") d (square_distinct (nat_le 2 version)) has (short (nat_le 2 version) (codes "unit") refl) refl;
   has_square = has;
   has_remove = apart (add_keys version (codes "square")) (codes "caller" ∷ codes "remove" ∷ []) (codes "remove") d (square_distinct (nat_le 2 version)) has (short (nat_le 2 version) (codes "remove") refl) refl;
-  has_move = later (nat_le 3 version) (has_keys (codes "caller" ∷ codes "move" ∷ codes "to" ∷ []) d) (apart (add_keys version (codes "square")) (codes "caller" ∷ codes "move" ∷ codes "to" ∷ []) (codes "move") d (square_distinct (nat_le 2 version)) has (short (nat_le 2 version) (codes "move") refl) refl);
+  has_move = and_right (nat_le 3 version) (has_keys (codes "caller" ∷ codes "move" ∷ codes "to" ∷ []) d) (apart (add_keys version (codes "square")) (codes "caller" ∷ codes "move" ∷ codes "to" ∷ []) (codes "move") d (square_distinct (nat_le 2 version)) has (short (nat_le 2 version) (codes "move") refl) refl);
   has_path = apart (add_keys version (codes "square")) (codes "caller" ∷ codes "path" ∷ codes "from" ∷ codes "goal" ∷ []) (codes "path") d (square_distinct (nat_le 2 version)) has (short (nat_le 2 version) (codes "path") refl) refl;
   has_region = apart (add_keys version (codes "square")) (codes "caller" ∷ codes "region" ∷ codes "at" ∷ []) (codes "region") d (square_distinct (nat_le 2 version)) has (short (nat_le 2 version) (codes "region") refl) refl;
 }
@@ -336,7 +331,7 @@ remove_only version d has = record {
   has_unit = apart (codes "caller" ∷ codes "remove" ∷ []) (add_keys version (codes "unit")) (codes "unit") d refl has refl refl;
   has_square = apart (codes "caller" ∷ codes "remove" ∷ []) (add_keys version (codes "square")) (codes "square") d refl has refl refl;
   has_remove = has;
-  has_move = later (nat_le 3 version) (has_keys (codes "caller" ∷ codes "move" ∷ codes "to" ∷ []) d) (apart (codes "caller" ∷ codes "remove" ∷ []) (codes "caller" ∷ codes "move" ∷ codes "to" ∷ []) (codes "move") d refl has refl refl);
+  has_move = and_right (nat_le 3 version) (has_keys (codes "caller" ∷ codes "move" ∷ codes "to" ∷ []) d) (apart (codes "caller" ∷ codes "remove" ∷ []) (codes "caller" ∷ codes "move" ∷ codes "to" ∷ []) (codes "move") d refl has refl refl);
   has_path = apart (codes "caller" ∷ codes "remove" ∷ []) (codes "caller" ∷ codes "path" ∷ codes "from" ∷ codes "goal" ∷ []) (codes "path") d refl has refl refl;
   has_region = apart (codes "caller" ∷ codes "remove" ∷ []) (codes "caller" ∷ codes "region" ∷ codes "at" ∷ []) (codes "region") d refl has refl refl;
 }
@@ -362,7 +357,7 @@ path_only version d has = record {
   has_unit = apart (codes "caller" ∷ codes "path" ∷ codes "from" ∷ codes "goal" ∷ []) (add_keys version (codes "unit")) (codes "unit") d refl has refl refl;
   has_square = apart (codes "caller" ∷ codes "path" ∷ codes "from" ∷ codes "goal" ∷ []) (add_keys version (codes "square")) (codes "square") d refl has refl refl;
   has_remove = apart (codes "caller" ∷ codes "path" ∷ codes "from" ∷ codes "goal" ∷ []) (codes "caller" ∷ codes "remove" ∷ []) (codes "remove") d refl has refl refl;
-  has_move = later (nat_le 3 version) (has_keys (codes "caller" ∷ codes "move" ∷ codes "to" ∷ []) d) (apart (codes "caller" ∷ codes "path" ∷ codes "from" ∷ codes "goal" ∷ []) (codes "caller" ∷ codes "move" ∷ codes "to" ∷ []) (codes "move") d refl has refl refl);
+  has_move = and_right (nat_le 3 version) (has_keys (codes "caller" ∷ codes "move" ∷ codes "to" ∷ []) d) (apart (codes "caller" ∷ codes "path" ∷ codes "from" ∷ codes "goal" ∷ []) (codes "caller" ∷ codes "move" ∷ codes "to" ∷ []) (codes "move") d refl has refl refl);
   has_path = has;
   has_region = apart (codes "caller" ∷ codes "path" ∷ codes "from" ∷ codes "goal" ∷ []) (codes "caller" ∷ codes "region" ∷ codes "at" ∷ []) (codes "region") d refl has refl refl;
 }
@@ -375,7 +370,7 @@ region_only version d has = record {
   has_unit = apart (codes "caller" ∷ codes "region" ∷ codes "at" ∷ []) (add_keys version (codes "unit")) (codes "unit") d refl has refl refl;
   has_square = apart (codes "caller" ∷ codes "region" ∷ codes "at" ∷ []) (add_keys version (codes "square")) (codes "square") d refl has refl refl;
   has_remove = apart (codes "caller" ∷ codes "region" ∷ codes "at" ∷ []) (codes "caller" ∷ codes "remove" ∷ []) (codes "remove") d refl has refl refl;
-  has_move = later (nat_le 3 version) (has_keys (codes "caller" ∷ codes "move" ∷ codes "to" ∷ []) d) (apart (codes "caller" ∷ codes "region" ∷ codes "at" ∷ []) (codes "caller" ∷ codes "move" ∷ codes "to" ∷ []) (codes "move") d refl has refl refl);
+  has_move = and_right (nat_le 3 version) (has_keys (codes "caller" ∷ codes "move" ∷ codes "to" ∷ []) d) (apart (codes "caller" ∷ codes "region" ∷ codes "at" ∷ []) (codes "caller" ∷ codes "move" ∷ codes "to" ∷ []) (codes "move") d refl has refl refl);
   has_path = apart (codes "caller" ∷ codes "region" ∷ codes "at" ∷ []) (codes "caller" ∷ codes "path" ∷ codes "from" ∷ codes "goal" ∷ []) (codes "path") d refl has refl refl;
   has_region = has;
 }

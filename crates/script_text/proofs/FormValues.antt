@@ -1,23 +1,20 @@
 -- What the values in lines come down to.
-use Rattle.std.proofs.Common.{◌≡◌, ℕ, ◌==◌, List, [], ◌∷◌, length, map, false, Option, Some, None, option_map, refl, ap, sym, subst, ◌∙◌}
+use Rattle.std.proofs.Common.{◌≡◌, ℕ, ◌==◌, List, length, map, false, Option, Some, None, option_map, refl, ap, sym, ◌∙◌}
 use Rattle.std.specs.Prelude.{◌↔◌, IsSome, IfSome}
 use Rattle.std.specs.Option.{option_map_or}
-use Rattle.std.proofs.Math.Bridge.{le_prop}
 use Rattle.std.proofs.lemmas.List.{length-map}
+use Rattle.class_config.proofs.ClassLists.{list_of-items_of}
+use Rattle.nav_types.proofs.Sizes.{same_size}
 use Rattle.nav_types.specs.declared.cells.Size.{Size}
 use Rattle.nav_types.specs.Side.{IsSide}
 use Rattle.serde_json.specs.Data.{Data}
 use Rattle.serde_json.specs.Find.{as_array}
-use Rattle.serde_json.specs.View.{view, items_of, items_view}
+use Rattle.serde_json.specs.View.{view, items_view}
 use Rattle.serde_json.specs.declared.value.Value.{Value}
 use Rattle.class_config.specs.Classes.{list_of}
 use Rattle.script_text.specs.Values.{array_items, has_items, size_by}
 
 -- ---- arrays
-
-list_of-items_of : (ds : List Data) → list_of (items_of ds) ≡ ds
-list_of-items_of [] = refl
-list_of-items_of (d ∷ ds) = ap (λ rest. d ∷ rest) (list_of-items_of ds)
 
 -- the items of an array are the data of its values
 pub array_items-values : (d : Data) (values : List Value) → Some (items_view values) ≡ as_array d → Some (map view values) ≡ array_items d
@@ -32,25 +29,6 @@ has_items-values d values size count e is =
     ap (λ n. n == count) (is ∙ sym (length-map values view)) ∙ ap (λ found. option_map_or (λ items. length items == count) found false) e
 
 -- ---- sizes
-
-one_side : (side : ℕ) (a b : IsSide side) → a ≡ b
-one_side side = hlevel le_prop
-
-same_parts : (w h : ℕ) (a b : IsSide w) (c d : IsSide h)
-    → ◌≡◌ {A = Size} (record { w = w; h = h; wide = a; high = c }) (record { w = w; h = h; wide = b; high = d })
-same_parts w h a b c d =
-    let wides = λ (x : IsSide w). let s : Size = record { w = w; h = h; wide = x; high = c } in s in
-    let highs = λ (x : IsSide h). let s : Size = record { w = w; h = h; wide = b; high = x } in s in
-    ap wides (one_side w a b) ∙ ap highs (one_side h c d)
-
--- two sizes with the same sides are one
-pub same_size : (a b : Size) → a.w ≡ b.w → a.h ≡ b.h → a ≡ b
-same_size a b ew eh =
-    let Rows : ℕ → Type 0 = λ h. (high : IsSide h) → a ≡ record { w = a.w; h = h; wide = a.wide; high = high } in
-    let rows : Rows b.h = subst Rows eh (λ high. same_parts a.w a.h a.wide a.wide a.high high) in
-    let Columns : ℕ → Type 0 = λ w. (wide : IsSide w) → a ≡ record { w = w; h = b.h; wide = wide; high = b.high } in
-    let columns : Columns b.w = subst Columns ew (λ wide. rows b.high ∙ same_parts a.w b.h a.wide wide b.high b.high) in
-    columns b.wide
 
 pub size_by-is : (w h : ℕ) (wide : Dec (IsSide w)) (high : Dec (IsSide h)) (made : Option Size) → (IsSome made ↔ (IsSide w × IsSide h))
     → IfSome made (λ size. size.w ≡ w) → IfSome made (λ size. size.h ≡ h) → made ≡ size_by w h wide high

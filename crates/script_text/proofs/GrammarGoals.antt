@@ -2,7 +2,7 @@
 use Rattle.std.proofs.Common.{◌≡◌, inl, inr, ℕ, ◌&&◌, List, [], ◌∷◌, length, Bool, true, false, not, cond, Option, Some, None, option_map, option_and_then, ℤ, refl, ap, sym, subst, ◌∙◌, arith, nat_le}
 use Rattle.std.specs.Prelude.{codes}
 use Rattle.std.proofs.lemmas.Slice.Eq.{bytes_eq-Decides}
-use Rattle.std.proofs.lemmas.Bool.{and_parts, leb-true}
+use Rattle.std.proofs.lemmas.Bool.{and_parts, leb-true, cond-true, cond-false, and_from, le-leb}
 use Rattle.serde_json.specs.Data.{Data, array}
 use Rattle.serde_json.specs.Find.{at}
 use Rattle.serde_json.specs.View.{items_of}
@@ -14,9 +14,9 @@ use Rattle.goal_shapes.specs.declared.goals.GoalSpec.TheVariants.{Plain, Obstruc
 use Rattle.script_text.specs.Values.{obstruction_number, decimal, under, has_items, decimal_at, both, point_of, round_of, rectangle_of}
 use Rattle.script_text.specs.Forms.{plain_goal, grown_of, obstruction_goal, goal_of}
 use Rattle.script_text.specs.Grammar.{IsObject, IsDecimal, IsArray, HasDecimals, rectangle_decimals, IsPlainGoal, IsGrownGoal, IsGoal}
-use Rattle.script_text.proofs.GrammarValues.{map_some, if_some, under_some, under_is, le_is, number-is, number-from, decimal-is, decimal-from, array_items-is, items_there, two_there}
+use Rattle.script_text.proofs.GrammarValues.{map_some, if_some, under_some, under_is, number-is, number-from, decimal-is, decimal-from, array_items-is, items_there, two_there}
 use Rattle.script_text.proofs.Members.{is_other, open_one, has_keys-object, has_keys-other, stand-object}
-use Rattle.script_text.proofs.GrammarLines.{two_some, either_some, or_some, or_first, or_second, if_true, if_false, point-is, point-from, round-is, round-from, rectangle-is, rectangle-from, and_both}
+use Rattle.script_text.proofs.GrammarLines.{two_some, either_some, or_some, or_first, or_second, point-is, point-from, round-is, round-from, rectangle-is, rectangle-from}
 
 -- ---- goals
 
@@ -103,40 +103,40 @@ plain-is d g e = elim (either_some (has (codes "point") d) (points d) (from_circ
 plain-from : (d : Data) (g : Goal) → IsPlainGoal g d → plain_goal d ≡ Some g
 unfolding plain_goal
 plain-from d (Point x z) h =
-    if_true (has (codes "point") d) (points d) (from_circle d) (has_sole (codes "point") h.0 d h.1)
+    cond-true (has (codes "point") d) (points d) (from_circle d) (has_sole (codes "point") h.0 d h.1)
     ∙ ap (option_map (λ p. Point p.0 p.1)) (sole_is (codes "point") point_of d h.0 (x, z) h.1 (point-from h.0 x z h.2))
 plain-from d (Circle x z r) h =
-    if_false (has (codes "point") d) (points d) (from_circle d) (not_sole (codes "circle") (codes "point") h.0 d refl h.1)
-    ∙ if_true (has (codes "circle") d) (circles d) (from_not_circle d) (has_sole (codes "circle") h.0 d h.1)
+    cond-false (has (codes "point") d) (points d) (from_circle d) (not_sole (codes "circle") (codes "point") h.0 d refl h.1)
+    ∙ cond-true (has (codes "circle") d) (circles d) (from_not_circle d) (has_sole (codes "circle") h.0 d h.1)
     ∙ ap (option_map (λ c. Circle c.0 c.1 c.2)) (sole_is (codes "circle") round_of d h.0 (x, z, r) h.1 (round-from h.0 x z r h.2))
 plain-from d (NotCircle x z r) h =
-    if_false (has (codes "point") d) (points d) (from_circle d) (not_sole (codes "not-circle") (codes "point") h.0 d refl h.1)
-    ∙ if_false (has (codes "circle") d) (circles d) (from_not_circle d) (not_sole (codes "not-circle") (codes "circle") h.0 d refl h.1)
-    ∙ if_true (has (codes "not-circle") d) (not_circles d) (from_square d) (has_sole (codes "not-circle") h.0 d h.1)
+    cond-false (has (codes "point") d) (points d) (from_circle d) (not_sole (codes "not-circle") (codes "point") h.0 d refl h.1)
+    ∙ cond-false (has (codes "circle") d) (circles d) (from_not_circle d) (not_sole (codes "not-circle") (codes "circle") h.0 d refl h.1)
+    ∙ cond-true (has (codes "not-circle") d) (not_circles d) (from_square d) (has_sole (codes "not-circle") h.0 d h.1)
     ∙ ap (option_map (λ c. NotCircle c.0 c.1 c.2)) (sole_is (codes "not-circle") round_of d h.0 (x, z, r) h.1 (round-from h.0 x z r h.2))
 plain-from d (Square r) h =
-    if_false (has (codes "point") d) (points d) (from_circle d) (not_sole (codes "square") (codes "point") h.0 d refl h.1)
-    ∙ if_false (has (codes "circle") d) (circles d) (from_not_circle d) (not_sole (codes "square") (codes "circle") h.0 d refl h.1)
-    ∙ if_false (has (codes "not-circle") d) (not_circles d) (from_square d) (not_sole (codes "square") (codes "not-circle") h.0 d refl h.1)
-    ∙ if_true (has (codes "square") d) (squares d) (from_not_square d) (has_sole (codes "square") h.0 d h.1)
+    cond-false (has (codes "point") d) (points d) (from_circle d) (not_sole (codes "square") (codes "point") h.0 d refl h.1)
+    ∙ cond-false (has (codes "circle") d) (circles d) (from_not_circle d) (not_sole (codes "square") (codes "circle") h.0 d refl h.1)
+    ∙ cond-false (has (codes "not-circle") d) (not_circles d) (from_square d) (not_sole (codes "square") (codes "not-circle") h.0 d refl h.1)
+    ∙ cond-true (has (codes "square") d) (squares d) (from_not_square d) (has_sole (codes "square") h.0 d h.1)
     ∙ ap (option_map Square) (sole_is (codes "square") rectangle_of d h.0 r h.1 (rectangle-from h.0 r h.2))
 plain-from d (NotSquare r) h =
-    if_false (has (codes "point") d) (points d) (from_circle d) (not_sole (codes "not-square") (codes "point") h.0 d refl h.1)
-    ∙ if_false (has (codes "circle") d) (circles d) (from_not_circle d) (not_sole (codes "not-square") (codes "circle") h.0 d refl h.1)
-    ∙ if_false (has (codes "not-circle") d) (not_circles d) (from_square d) (not_sole (codes "not-square") (codes "not-circle") h.0 d refl h.1)
-    ∙ if_false (has (codes "square") d) (squares d) (from_not_square d) (not_sole (codes "not-square") (codes "square") h.0 d refl h.1)
-    ∙ if_true (has (codes "not-square") d) (not_squares d) None (has_sole (codes "not-square") h.0 d h.1)
+    cond-false (has (codes "point") d) (points d) (from_circle d) (not_sole (codes "not-square") (codes "point") h.0 d refl h.1)
+    ∙ cond-false (has (codes "circle") d) (circles d) (from_not_circle d) (not_sole (codes "not-square") (codes "circle") h.0 d refl h.1)
+    ∙ cond-false (has (codes "not-circle") d) (not_circles d) (from_square d) (not_sole (codes "not-square") (codes "not-circle") h.0 d refl h.1)
+    ∙ cond-false (has (codes "square") d) (squares d) (from_not_square d) (not_sole (codes "not-square") (codes "square") h.0 d refl h.1)
+    ∙ cond-true (has (codes "not-square") d) (not_squares d) None (has_sole (codes "not-square") h.0 d h.1)
     ∙ ap (option_map NotSquare) (sole_is (codes "not-square") rectangle_of d h.0 r h.1 (rectangle-from h.0 r h.2))
 
 -- an object of another key is no plain goal
 not_plain : (d v : Data) → IsObject (codes "obstruction" ∷ []) (v ∷ []) d → plain_goal d ≡ None
 unfolding plain_goal
 not_plain d v is =
-    if_false (has (codes "point") d) (points d) (from_circle d) (not_sole (codes "obstruction") (codes "point") v d refl is)
-    ∙ if_false (has (codes "circle") d) (circles d) (from_not_circle d) (not_sole (codes "obstruction") (codes "circle") v d refl is)
-    ∙ if_false (has (codes "not-circle") d) (not_circles d) (from_square d) (not_sole (codes "obstruction") (codes "not-circle") v d refl is)
-    ∙ if_false (has (codes "square") d) (squares d) (from_not_square d) (not_sole (codes "obstruction") (codes "square") v d refl is)
-    ∙ if_false (has (codes "not-square") d) (not_squares d) None (not_sole (codes "obstruction") (codes "not-square") v d refl is)
+    cond-false (has (codes "point") d) (points d) (from_circle d) (not_sole (codes "obstruction") (codes "point") v d refl is)
+    ∙ cond-false (has (codes "circle") d) (circles d) (from_not_circle d) (not_sole (codes "obstruction") (codes "circle") v d refl is)
+    ∙ cond-false (has (codes "not-circle") d) (not_circles d) (from_square d) (not_sole (codes "obstruction") (codes "not-circle") v d refl is)
+    ∙ cond-false (has (codes "square") d) (squares d) (from_not_square d) (not_sole (codes "obstruction") (codes "square") v d refl is)
+    ∙ cond-false (has (codes "not-square") d) (not_squares d) None (not_sole (codes "obstruction") (codes "not-square") v d refl is)
 
 two_items : (items : List Data) → length items ≡ 2 → (a : Data) × (b : Data) × (items ≡ a ∷ b ∷ [])
 two_items [] count = absurd (omega (arith, count))
@@ -178,10 +178,10 @@ grown-from : (version id : ℕ) (grow : ℤ) (d : Data) → IsGrownGoal version 
 unfolding obstruction_goal grown_of
 grown-from version id grow d is =
     let v = is.obstruction in let make = λ (parts : ℕ × ℤ). ByObstruction parts.0 parts.1 in
-    if_true (nat_le 3 version && has (codes "obstruction") d) (under grown_of (codes "obstruction") d) None
-    (and_both (nat_le 3 version) (has (codes "obstruction") d) (le_is 3 version is.newest) (has_sole (codes "obstruction") v d is.keys))
+    cond-true (nat_le 3 version && has (codes "obstruction") d) (under grown_of (codes "obstruction") d) None
+    (and_from (nat_le 3 version) (has (codes "obstruction") d) (le-leb 3 version is.newest) (has_sole (codes "obstruction") v d is.keys))
     ∙ sole_is (codes "obstruction") grown_of d v (ByObstruction id grow) is.keys
-    (if_true (has_items 2 v) (option_map make (grown_parts v)) None (two_there v is.number is.distance is.items)
+    (cond-true (has_items 2 v) (option_map make (grown_parts v)) None (two_there v is.number is.distance is.items)
     ∙ ap (λ w. option_map make (grown_parts w)) is.items
     ∙ ap (λ o. option_map make (both o (decimal is.distance))) (number-from is.number id is.says_number)
     ∙ ap (λ o. option_map make (both (Some id) o)) (decimal-from is.distance grow is.says_distance))

@@ -2,14 +2,15 @@
 use Rattle.std.proofs.Common.{◌≡◌, ◌⊎◌, inl, inr, ℕ, ◌≤◌, ◌&&◌, List, [], ◌∷◌, Bool, true, false, cond, Option, Some, None, option_and_then, ℤ, refl, ap, sym, subst, ◌∙◌, nat_le, nat_lt}
 use Rattle.std.specs.Prelude.{codes}
 use Rattle.std.specs.Option.{option_or}
-use Rattle.std.proofs.lemmas.Bool.{and_parts, leb-true}
+use Rattle.std.proofs.lemmas.Bool.{and_parts, leb-true, cond-true, and_from, le-leb}
 use Rattle.std.proofs.lemmas.Bool.Decides.{Decides-ltb}
 use Rattle.serde_json.specs.Data.{Data}
 use Rattle.nav_types.specs.declared.cells.Rect.{Rect}
 use Rattle.nav_types.specs.declared.cells.Size.{Size}
 use Rattle.nav_types.specs.Cells.{IsRectInside}
 use Rattle.nav_types.specs.Side.{IsSide}
-use Rattle.class_config.specs.Forms.{has_keys, some_if}
+use Rattle.fixed_point.specs.Text.{some_if}
+use Rattle.class_config.specs.Forms.{has_keys}
 use Rattle.class_config.specs.Classes.{classes_of}
 use Rattle.class_config.specs.declared.table.PassabilityClass.{PassabilityClass}
 use Rattle.grid_versions.specs.Maps.{Map, map_of as map_with}
@@ -17,8 +18,8 @@ use Rattle.fixed_point.specs.declared.plane.Rectangle.{Rectangle}
 use Rattle.script_text.specs.Values.{whole, whole_in, decimal, under, array_items, has_items, whole_at, decimal_at, both, all_three, point_of, round_of, rectangle_with, rectangle_of, is_side, size_by, size_with, size_of}
 use Rattle.script_text.specs.Forms.{map_by, map_of, entry_by, entry_of, each, base_of, end_of}
 use Rattle.script_text.specs.Grammar.{IsWholeNumber, IsDecimal, IsArray, rectangle_decimals, IsMapLine, IsEntry, IsBaseLine, IsEndLine}
-use Rattle.script_text.proofs.FormValues.{same_size}
-use Rattle.script_text.proofs.GrammarValues.{then_some, both_some, if_some, some_if-some, under_some, under_is, le_is, whole-is, whole-from, whole_in-is, whole_in-from, decimal-is, decimal-from, array_items-is, array_items-from, array-is, array-from, has_items-from, each-is, each-from}
+use Rattle.nav_types.proofs.Sizes.{same_size}
+use Rattle.script_text.proofs.GrammarValues.{then_some, both_some, if_some, some_if-some, under_some, under_is, whole-is, whole-from, whole_in-is, whole_in-from, decimal-is, decimal-from, array_items-is, array_items-from, array-is, array-from, has_items-from, each-is, each-from}
 use Rattle.script_text.proofs.Members.{open_one, open_four, has_keys-object, stand-object}
 
 -- ---- options
@@ -50,12 +51,6 @@ or_first o p y e = ap (λ q. option_or q p) e
 pub or_second : {A : Type 0} (o p : Option A) (y : A) → o ≡ None → p ≡ Some y → option_or o p ≡ Some y
 or_second o p y none e = ap (λ q. option_or q p) none ∙ e
 
-pub if_true : {A : Type 0} (b : Bool) (x y : A) → b ≡ true → cond b x y ≡ x
-if_true b x y e = ap (λ t. cond t x y) e
-
-pub if_false : {A : Type 0} (b : Bool) (x y : A) → b ≡ false → cond b x y ≡ y
-if_false b x y e = ap (λ t. cond t x y) e
-
 -- ---- arrays of decimals
 
 pub point-is : (d : Data) (p : ℤ × ℤ) → point_of d ≡ Some p → IsArray IsDecimal (p.0 ∷ p.1 ∷ []) d
@@ -69,7 +64,7 @@ pub point-from : (d : Data) (x z : ℤ) → IsArray IsDecimal (x ∷ z ∷ []) d
 unfolding point_of
 point-from d x z is =
     let parts = array-from decimal IsDecimal decimal-from (x ∷ z ∷ []) d is in
-    if_true (has_items 2 d) (both (decimal_at 0 d) (decimal_at 1 d)) None (has_items-from IsDecimal (x ∷ z ∷ []) d is)
+    cond-true (has_items 2 d) (both (decimal_at 0 d) (decimal_at 1 d)) None (has_items-from IsDecimal (x ∷ z ∷ []) d is)
     ∙ ap (λ o. both o (decimal_at 1 d)) parts.0 ∙ ap (λ o. both (Some x) o) parts.1.0
 
 pub round-is : (d : Data) (p : ℤ × ℤ × ℤ) → round_of d ≡ Some p → IsArray IsDecimal (p.0 ∷ p.1 ∷ p.2 ∷ []) d
@@ -83,7 +78,7 @@ pub round-from : (d : Data) (x z r : ℤ) → IsArray IsDecimal (x ∷ z ∷ r �
 unfolding round_of
 round-from d x z r is =
     let parts = array-from decimal IsDecimal decimal-from (x ∷ z ∷ r ∷ []) d is in
-    if_true (has_items 3 d) (all_three (decimal_at 0 d) (decimal_at 1 d) (decimal_at 2 d)) None (has_items-from IsDecimal (x ∷ z ∷ r ∷ []) d is)
+    cond-true (has_items 3 d) (all_three (decimal_at 0 d) (decimal_at 1 d) (decimal_at 2 d)) None (has_items-from IsDecimal (x ∷ z ∷ r ∷ []) d is)
     ∙ ap (λ o. all_three o (decimal_at 1 d) (decimal_at 2 d)) parts.0 ∙ ap (λ o. all_three (Some x) o (decimal_at 2 d)) parts.1.0
     ∙ ap (λ o. all_three (Some x) (Some z) o) parts.1.1.0
 
@@ -113,7 +108,7 @@ pub rectangle-from : (d : Data) (r : Rectangle) → IsArray IsDecimal (rectangle
 unfolding rectangle_of
 rectangle-from d r is =
     let p = array-from decimal IsDecimal decimal-from (rectangle_decimals r) d is in
-    if_true (has_items 6 d) (rectangle_with (decimal_at 0 d) (decimal_at 1 d) (decimal_at 2 d) (decimal_at 3 d) (decimal_at 4 d) (decimal_at 5 d)) None
+    cond-true (has_items 6 d) (rectangle_with (decimal_at 0 d) (decimal_at 1 d) (decimal_at 2 d) (decimal_at 3 d) (decimal_at 4 d) (decimal_at 5 d)) None
     (has_items-from IsDecimal (rectangle_decimals r) d is)
     ∙ ap (λ o. rectangle_with o (decimal_at 1 d) (decimal_at 2 d) (decimal_at 3 d) (decimal_at 4 d) (decimal_at 5 d)) p.0
     ∙ ap (λ o. rectangle_with (Some r.x) o (decimal_at 2 d) (decimal_at 3 d) (decimal_at 4 d) (decimal_at 5 d)) p.1.0
@@ -135,7 +130,7 @@ pub end-from : (d : Data) (turn : ℕ) → IsEndLine turn d → end_of d ≡ Som
 unfolding end_of
 end-from d turn line =
     let at = stand-object (codes "end" ∷ []) (line.0 ∷ []) d refl line.1 in
-    if_true (has_keys (codes "end" ∷ []) d) (under whole (codes "end") d) None (has_keys-object (codes "end" ∷ []) (line.0 ∷ []) d refl line.1)
+    cond-true (has_keys (codes "end" ∷ []) d) (under whole (codes "end") d) None (has_keys-object (codes "end" ∷ []) (line.0 ∷ []) d refl line.1)
     ∙ under_is whole (codes "end") d line.0 turn at.0 (whole-from line.0 turn line.2)
 
 -- ---- base lines
@@ -175,10 +170,6 @@ entry-is size d entry e =
       mask = p.6;
     }
 
-pub and_both : (x y : Bool) → x ≡ true → y ≡ true → (x && y) ≡ true
-and_both true y h k = k
-and_both false y h k = absurd (cc)
-
 entry-from : (size : Size) (d : Data) (entry : Rect × ℕ) → IsEntry size entry d → entry_of size d ≡ Some entry
 unfolding entry_of
 entry-from size d entry is =
@@ -187,12 +178,12 @@ entry-from size d entry is =
     let p = array-from whole IsWholeNumber whole-from values d is.says in
     let inside = is.inside in
     let test : (nat_le i0 i1 && nat_lt i1 size.w && nat_le j0 j1 && nat_lt j1 size.h && nat_le mask 65535) ≡ true =
-    and_both (nat_le i0 i1 && nat_lt i1 size.w && nat_le j0 j1 && nat_lt j1 size.h) (nat_le mask 65535)
-    (and_both (nat_le i0 i1 && nat_lt i1 size.w && nat_le j0 j1) (nat_lt j1 size.h)
-    (and_both (nat_le i0 i1 && nat_lt i1 size.w) (nat_le j0 j1)
-    (and_both (nat_le i0 i1) (nat_lt i1 size.w) (le_is i0 i1 inside.columns) ((Decides-ltb i1 size.w).1 inside.last_column)) (le_is j0 j1 inside.rows))
-    ((Decides-ltb j1 size.h).1 inside.last_row)) (le_is mask 65535 is.mask) in
-    if_true (has_items 5 d) (entry_by size (whole_at 0 d) (whole_at 1 d) (whole_at 2 d) (whole_at 3 d) (whole_at 4 d)) None (has_items-from IsWholeNumber values d is.says)
+    and_from (nat_le i0 i1 && nat_lt i1 size.w && nat_le j0 j1 && nat_lt j1 size.h) (nat_le mask 65535)
+    (and_from (nat_le i0 i1 && nat_lt i1 size.w && nat_le j0 j1) (nat_lt j1 size.h)
+    (and_from (nat_le i0 i1 && nat_lt i1 size.w) (nat_le j0 j1)
+    (and_from (nat_le i0 i1) (nat_lt i1 size.w) (le-leb i0 i1 inside.columns) ((Decides-ltb i1 size.w).1 inside.last_column)) (le-leb j0 j1 inside.rows))
+    ((Decides-ltb j1 size.h).1 inside.last_row)) (le-leb mask 65535 is.mask) in
+    cond-true (has_items 5 d) (entry_by size (whole_at 0 d) (whole_at 1 d) (whole_at 2 d) (whole_at 3 d) (whole_at 4 d)) None (has_items-from IsWholeNumber values d is.says)
     ∙ ap (λ o. entry_by size o (whole_at 1 d) (whole_at 2 d) (whole_at 3 d) (whole_at 4 d)) p.0
     ∙ ap (λ o. entry_by size (Some i0) o (whole_at 2 d) (whole_at 3 d) (whole_at 4 d)) p.1.0
     ∙ ap (λ o. entry_by size (Some i0) (Some j0) o (whole_at 3 d) (whole_at 4 d)) p.1.1.0
@@ -219,7 +210,7 @@ pub base-from : (size : Size) (d : Data) (rects : List (Rect × ℕ)) → IsBase
 unfolding base_of
 base-from size d rects line =
     let at = stand-object (codes "base" ∷ []) (line.0 ∷ []) d refl line.1 in let is = line.2 in
-    if_true (has_keys (codes "base" ∷ []) d) (option_and_then (each (entry_of size)) (under array_items (codes "base") d)) None
+    cond-true (has_keys (codes "base" ∷ []) d) (option_and_then (each (entry_of size)) (under array_items (codes "base") d)) None
     (has_keys-object (codes "base" ∷ []) (line.0 ∷ []) d refl line.1)
     ∙ ap (option_and_then (each (entry_of size))) (under_is array_items (codes "base") d line.0 is.0 at.0 (array_items-from line.0 is.0 is.1))
     ∙ each-from (entry_of size) (IsEntry size) (entry-from size) rects is.0 is.2
@@ -251,7 +242,7 @@ unfolding size_of size_with
 size-from d size is =
     let parts = array-from whole IsWholeNumber whole-from (size.w ∷ size.h ∷ []) d is in
     let with = λ (sides : ℕ × ℕ). size_with sides.0 sides.1 in
-    if_true (has_items 2 d) (option_and_then with (both (whole_at 0 d) (whole_at 1 d))) None (has_items-from IsWholeNumber (size.w ∷ size.h ∷ []) d is)
+    cond-true (has_items 2 d) (option_and_then with (both (whole_at 0 d) (whole_at 1 d))) None (has_items-from IsWholeNumber (size.w ∷ size.h ∷ []) d is)
     ∙ ap (λ o. option_and_then with (both o (whole_at 1 d))) parts.0 ∙ ap (λ o. option_and_then with (both (Some size.w) o)) parts.1.0
     ∙ size_by-self size (is_side size.w) (is_side size.h)
 
@@ -305,7 +296,7 @@ map-from d m l =
     let s = under_is size_of (codes "size") d l.size m.size at.1.0 (size-from l.size m.size l.says_size) in
     let c = under_is (whole_in 1 64) (codes "callers") d l.callers m.callers at.1.1.0 (whole_in-from 1 64 l.callers m.callers l.says_callers l.some l.few) in
     let k = under_is classes_of (codes "classes") d l.classes m.classes at.1.1.1.0 l.says_classes in
-    if_true (has_keys map_keys d) (map_by version size callers classes) None
+    cond-true (has_keys map_keys d) (map_by version size callers classes) None
     (has_keys-object map_keys (l.version ∷ l.size ∷ l.callers ∷ l.classes ∷ []) d refl l.keys)
     ∙ ap (λ o. map_by o size callers classes) v ∙ ap (λ o. map_by (Some m.version) o callers classes) s
     ∙ ap (λ o. map_by (Some m.version) (Some m.size) o classes) c ∙ ap (λ o. map_by (Some m.version) (Some m.size) (Some m.callers) o) k

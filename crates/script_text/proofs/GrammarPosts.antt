@@ -1,9 +1,8 @@
 -- The post lines of the grammar are those that the forms give, and no value is a line of two forms.
-use Rattle.std.proofs.Common.{◌≡◌, inl, inr, ℕ, ◌<◌, ◌&&◌, List, [], ◌∷◌, Bool, true, false, not, cond, Option, Some, None, option_map, option_and_then, ℤ, refl, ap, sym, subst, ◌∙◌, arith, nat_le}
+use Rattle.std.proofs.Common.{◌≡◌, inl, inr, ℕ, ◌&&◌, List, [], ◌∷◌, Bool, true, false, not, cond, Option, Some, None, option_map, option_and_then, ℤ, refl, ap, sym, subst, ◌∙◌, arith, nat_le}
 use Rattle.std.specs.Prelude.{codes, bytes_eq}
 use Rattle.std.specs.Option.{option_or}
-use Rattle.std.proofs.lemmas.Bool.{and_parts, leb-true}
-use Rattle.std.proofs.lemmas.Bool.Decides.{leb_tells}
+use Rattle.std.proofs.lemmas.Bool.{and_parts, leb-true, cond-true, cond-false, and_from, leb-false, lt-leb, le-leb}
 use Rattle.serde_json.specs.Data.{Data}
 use Rattle.serde_json.specs.Find.{get}
 use Rattle.nav_types.specs.declared.cells.Size.{Size}
@@ -22,18 +21,12 @@ use Rattle.script_text.specs.declared.forms.CallerPost.{CallerPost}
 use Rattle.script_text.specs.Values.{whole_in, whole_below, obstruction_number, class_name, under, both, all_three, point_of, round_of, rectangle_of}
 use Rattle.script_text.specs.Forms.{map_of, base_of, goal_of, add_keys, mask_of, shape_of, add_of, remove_of, move_of, path_of, region_of, edit_of, request_of, post_of, end_of}
 use Rattle.script_text.specs.Grammar.{IsObject, IsNumber, HasAddKeys, IsCaller, IsPostLine, Line, map_line, base_line, post_line, end_line, IsLine}
-use Rattle.script_text.proofs.GrammarValues.{map_some, if_some, under_some, under_is, le_is, whole_in-is, whole_in-from, caller-is, caller-from, number-is, number-from, name-is, name-from}
+use Rattle.script_text.proofs.GrammarValues.{map_some, if_some, under_some, under_is, whole_in-is, whole_in-from, caller-is, caller-from, number-is, number-from, name-is, name-from}
 use Rattle.script_text.proofs.Members.{are_distinct, is_other, lacks, open_two, open_three, open_four, has_keys-object, has_keys-other, stand-object, get-object-none}
-use Rattle.script_text.proofs.GrammarLines.{map_keys, map-from, base-from, end-from, all_three_some, two_some, either_some, or_some, or_first, or_second, if_true, if_false, point-is, point-from, round-is, round-from, rectangle-is, rectangle-from, and_both}
+use Rattle.script_text.proofs.GrammarLines.{map_keys, map-from, base-from, end-from, all_three_some, two_some, either_some, or_some, or_first, or_second, point-is, point-from, round-is, round-from, rectangle-is, rectangle-from}
 use Rattle.script_text.proofs.GrammarGoals.{goal-is, goal-from}
 
 -- ---- add lines
-
-not_le : (a b : ℕ) → nat_le a b ≡ false → b < a
-not_le a b e = elim (leb_tells a b) [ inl h ↦ (let t = h.0 in absurd (cc)) | inr h ↦ h.1 ]
-
-le_not : (a b : ℕ) → b < a → nat_le a b ≡ false
-le_not a b less = elim (leb_tells a b) [ inl h ↦ absurd (omega (arith, less, h.1)) | inr h ↦ h.0 ]
 
 abbrev short_keys : List ℕ → List (List ℕ)
 short_keys key = codes "caller" ∷ codes "add" ∷ key ∷ []
@@ -77,7 +70,7 @@ add_parts version callers caller id mask key d short long has said number masked
           c = o.v;
           add = o.w;
           shape = o.x;
-          keys = inl (not_le 2 version old, (cc), o.is);
+          keys = inl (leb-false 2 version old, (cc), o.is);
           says_caller = caller-is callers o.v caller (under_some (whole_below callers) (codes "caller") d o.v caller o.first said);
           says_number = number-is o.w id (under_some obstruction_number (codes "add") d o.w id o.second number);
           at = o.third;
@@ -97,31 +90,31 @@ shorter other key apart =
     let a = and_parts (not (bytes_eq other (codes "caller"))) (is_other other (codes "add" ∷ key ∷ codes "mask" ∷ [])) apart in
     let b = and_parts (not (bytes_eq other (codes "add"))) (is_other other (key ∷ codes "mask" ∷ [])) a.1 in
     let c = and_parts (not (bytes_eq other key)) (is_other other (codes "mask" ∷ [])) b.1 in
-    and_both (not (bytes_eq other (codes "caller"))) (is_other other (codes "add" ∷ key ∷ [])) a.0
-    (and_both (not (bytes_eq other (codes "add"))) (is_other other (key ∷ [])) b.0 (and_both (not (bytes_eq other key)) true c.0 refl))
+    and_from (not (bytes_eq other (codes "caller"))) (is_other other (codes "add" ∷ key ∷ [])) a.0
+    (and_from (not (bytes_eq other (codes "add"))) (is_other other (key ∷ [])) b.0 (and_from (not (bytes_eq other key)) true c.0 refl))
 
 add_found : (version mask : ℕ) (key : List ℕ) (c add shape d : Data) → are_distinct (short_keys key) ≡ true → are_distinct (long_keys key) ≡ true
     → HasAddKeys version mask key c add shape d → AddFound version mask key c add shape d
 unfolding mask_of
 add_found version mask key c add shape d short long (inl h) =
     let values = c ∷ add ∷ shape ∷ [] in let at = stand-object (short_keys key) values d short h.2 in
-    let old : nat_le 2 version ≡ false = le_not 2 version h.0 in record {
+    let old : nat_le 2 version ≡ false = lt-leb 2 version h.0 in record {
       has = ap (λ b. has_keys (codes "caller" ∷ codes "add" ∷ key ∷ cond b (codes "mask" ∷ []) []) d) old ∙ has_keys-object (short_keys key) values d short h.2;
       first = at.0;
       second = at.1.0;
       third = at.1.1.0;
-      bits = if_false (nat_le 2 version) (under (whole_in 0 65535) (codes "mask") d) (Some 65535) old ∙ ap Some (sym h.1);
+      bits = cond-false (nat_le 2 version) (under (whole_in 0 65535) (codes "mask") d) (Some 65535) old ∙ ap Some (sym h.1);
       no_more = λ other apart. get-object-none (short_keys key) values d other h.2 (shorter other key apart);
     }
 add_found version mask key c add shape d short long (inr h) =
     let bits = h.1 in
     let values = c ∷ add ∷ shape ∷ bits.0 ∷ [] in let at = stand-object (long_keys key) values d long bits.1 in
-    let new : nat_le 2 version ≡ true = le_is 2 version h.0 in record {
+    let new : nat_le 2 version ≡ true = le-leb 2 version h.0 in record {
       has = ap (λ b. has_keys (codes "caller" ∷ codes "add" ∷ key ∷ cond b (codes "mask" ∷ []) []) d) new ∙ has_keys-object (long_keys key) values d long bits.1;
       first = at.0;
       second = at.1.0;
       third = at.1.1.0;
-      bits = if_true (nat_le 2 version) (under (whole_in 0 65535) (codes "mask") d) (Some 65535) new
+      bits = cond-true (nat_le 2 version) (under (whole_in 0 65535) (codes "mask") d) (Some 65535) new
           ∙ under_is (whole_in 0 65535) (codes "mask") d bits.0 mask at.1.1.1.0 (whole_in-from 0 65535 bits.0 mask bits.2 (omega arith) bits.3);
       no_more = λ other apart. get-object-none (long_keys key) values d other bits.1 apart;
     }
@@ -194,14 +187,14 @@ add-from : (version callers caller id mask : ℕ) (shape : Shape) (d : Data)
 unfolding add_of shape_of edit_of
 add-from version callers caller id mask (UnitShape x z half) d h =
     let f = add_found version mask (codes "unit") h.0 h.1 h.2 d refl refl h.3 in
-    let shape = if_true (has_keys (add_keys version (codes "unit")) d) (units d) (rectangles version d) f.has
+    let shape = cond-true (has_keys (add_keys version (codes "unit")) d) (units d) (rectangles version d) f.has
     ∙ ap (option_map (λ u. UnitShape u.0 u.1 u.2)) (under_is round_of (codes "unit") d h.2 (x, z, half) f.third (round-from h.2 x z half h.6)) in
     added version callers caller id mask (UnitShape x z half) d h.0 h.1 f.first f.second h.4 h.5 shape f.bits
 add-from version callers caller id mask (SquareShape r) d h =
     let f = add_found version mask (codes "square") h.0 h.1 h.2 d refl refl h.3 in
     let no_unit : has_keys (add_keys version (codes "unit")) d ≡ false = lacks (add_keys version (codes "unit")) (codes "unit") d (f.no_more (codes "unit") refl) refl in
-    let shape = if_false (has_keys (add_keys version (codes "unit")) d) (units d) (rectangles version d) no_unit
-    ∙ if_true (has_keys (add_keys version (codes "square")) d) (option_map SquareShape (under rectangle_of (codes "square") d)) None f.has
+    let shape = cond-false (has_keys (add_keys version (codes "unit")) d) (units d) (rectangles version d) no_unit
+    ∙ cond-true (has_keys (add_keys version (codes "square")) d) (option_map SquareShape (under rectangle_of (codes "square") d)) None f.has
     ∙ ap (option_map SquareShape) (under_is rectangle_of (codes "square") d h.2 r f.third (rectangle-from h.2 r h.6)) in
     added version callers caller id mask (SquareShape r) d h.0 h.1 f.first f.second h.4 h.5 shape f.bits
 
@@ -312,13 +305,13 @@ region-is version callers caller d post said e =
 no_remove : (keys : List (List ℕ)) (vs : List Data) (d : Data) → IsObject keys vs d → is_other (codes "remove") keys ≡ true → remove_of d ≡ None
 unfolding remove_of
 no_remove keys vs d is apart =
-    if_false (has_keys remove_keys d) (option_map Remove (under obstruction_number (codes "remove") d)) None (has_keys-other keys remove_keys vs d (codes "remove") is apart refl)
+    cond-false (has_keys remove_keys d) (option_map Remove (under obstruction_number (codes "remove") d)) None (has_keys-other keys remove_keys vs d (codes "remove") is apart refl)
 
 no_move : (version : ℕ) (keys : List (List ℕ)) (vs : List Data) (d : Data) → IsObject keys vs d → is_other (codes "move") keys ≡ true → move_of version d ≡ None
 unfolding move_of
 no_move version keys vs d is apart =
     let make = λ (parts : ℕ × (ℤ × ℤ)). Move parts.0 parts.1.0 parts.1.1 in
-    if_false (nat_le 3 version && has_keys move_keys d) (option_map make (both (under obstruction_number (codes "move") d) (under point_of (codes "to") d))) None
+    cond-false (nat_le 3 version && has_keys move_keys d) (option_map make (both (under obstruction_number (codes "move") d) (under point_of (codes "to") d))) None
     (never (nat_le 3 version) (has_keys move_keys d) (has_keys-other keys move_keys vs d (codes "move") is apart refl))
   where
     never : (a b : Bool) → b ≡ false → (a && b) ≡ false
@@ -329,7 +322,7 @@ no_path : (version : ℕ) (keys : List (List ℕ)) (vs : List Data) (d : Data) �
 unfolding path_of
 no_path version keys vs d is apart =
     let make = λ (parts : List ℕ × (ℤ × ℤ) × GoalSpec). Path parts.0 parts.1.0 parts.1.1 parts.2 in
-    if_false (has_keys path_keys d)
+    cond-false (has_keys path_keys d)
     (option_map make (all_three (under class_name (codes "path") d) (under point_of (codes "from") d) (under (goal_of version) (codes "goal") d))) None
     (has_keys-other keys path_keys vs d (codes "path") is apart refl)
 
@@ -342,7 +335,7 @@ remove-from version callers caller id d h =
     let values = h.0 ∷ h.1 ∷ [] in
     let at = stand-object remove_keys values d refl h.2 in
     let made : remove_of d ≡ Some (Remove id) =
-    if_true (has_keys remove_keys d) (option_map Remove (under obstruction_number (codes "remove") d)) None (has_keys-object remove_keys values d refl h.2)
+    cond-true (has_keys remove_keys d) (option_map Remove (under obstruction_number (codes "remove") d)) None (has_keys-object remove_keys values d refl h.2)
     ∙ ap (option_map Remove) (under_is obstruction_number (codes "remove") d h.1 id at.1.0 (number-from h.1 id h.4)) in (
       under_is (whole_below callers) (codes "caller") d h.0 caller at.0 (caller-from callers h.0 caller h.3),
       or_first (option_map Edits (edit_of version d)) (option_map Asks (request_of version d)) (Edits (Remove id))
@@ -358,8 +351,8 @@ move-from version callers caller id x z d h =
     let values = h.0 ∷ h.1 ∷ h.2 ∷ [] in
     let at = stand-object move_keys values d refl h.3 in
     let made : move_of version d ≡ Some (Move id x z) =
-    if_true (nat_le 3 version && has_keys move_keys d) (option_map make (both number to)) None
-    (and_both (nat_le 3 version) (has_keys move_keys d) (le_is 3 version h.7) (has_keys-object move_keys values d refl h.3))
+    cond-true (nat_le 3 version && has_keys move_keys d) (option_map make (both number to)) None
+    (and_from (nat_le 3 version) (has_keys move_keys d) (le-leb 3 version h.7) (has_keys-object move_keys values d refl h.3))
     ∙ ap (λ o. option_map make (both o to)) (under_is obstruction_number (codes "move") d h.1 id at.1.0 (number-from h.1 id h.5))
     ∙ ap (λ o. option_map make (both (Some id) o)) (under_is point_of (codes "to") d h.2 (x, z) at.1.1.0 (point-from h.2 x z h.6)) in (
       under_is (whole_below callers) (codes "caller") d h.0 caller at.0 (caller-from callers h.0 caller h.4),
@@ -384,7 +377,7 @@ path-from version callers caller class x z goal d h =
     let values = h.0 ∷ h.1 ∷ h.2 ∷ h.3 ∷ [] in
     let at = stand-object path_keys values d refl h.4 in
     let made : path_of version d ≡ Some (Path class x z goal) =
-    if_true (has_keys path_keys d) (option_map make (all_three name from to)) None (has_keys-object path_keys values d refl h.4)
+    cond-true (has_keys path_keys d) (option_map make (all_three name from to)) None (has_keys-object path_keys values d refl h.4)
     ∙ ap (λ o. option_map make (all_three o from to)) (under_is class_name (codes "path") d h.1 class at.1.0 (name-from h.1 class h.6))
     ∙ ap (λ o. option_map make (all_three (Some class) o to)) (under_is point_of (codes "from") d h.2 (x, z) at.1.1.0 (point-from h.2 x z h.7))
     ∙ ap (λ o. option_map make (all_three (Some class) (Some (x, z)) o)) (under_is (goal_of version) (codes "goal") d h.3 goal at.1.1.1.0 (goal-from version h.3 goal h.8)) in (
@@ -402,7 +395,7 @@ region-from version callers caller class x z d h =
     let values = h.0 ∷ h.1 ∷ h.2 ∷ [] in
     let at = stand-object region_keys values d refl h.3 in
     let made : region_of d ≡ Some (Region class x z) =
-    if_true (has_keys region_keys d) (option_map make (both name place)) None (has_keys-object region_keys values d refl h.3)
+    cond-true (has_keys region_keys d) (option_map make (both name place)) None (has_keys-object region_keys values d refl h.3)
     ∙ ap (λ o. option_map make (both o place)) (under_is class_name (codes "region") d h.1 class at.1.0 (name-from h.1 class h.5))
     ∙ ap (λ o. option_map make (both (Some class) o)) (under_is point_of (codes "at") d h.2 (x, z) at.1.1.0 (point-from h.2 x z h.6)) in (
       under_is (whole_below callers) (codes "caller") d h.0 caller at.0 (caller-from callers h.0 caller h.4),

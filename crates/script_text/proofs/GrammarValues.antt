@@ -2,12 +2,14 @@
 use Rattle.std.proofs.Common.{◌≡◌, ℕ, suc, ◌≤◌, ◌==◌, ◌&&◌, List, [], ◌∷◌, length, Bool, true, false, cond, Option, Some, None, option_map, option_and_then, ℤ, refl, ap, sym, subst, ◌∙◌, arith, nat_le, nat_lt, eq-eqb}
 use Rattle.std.specs.Prelude.{⊤}
 use Rattle.std.specs.Option.{option_map_or}
-use Rattle.std.proofs.lemmas.Bool.{and_parts, leb-true}
+use Rattle.std.proofs.lemmas.Bool.{and_parts, leb-true, and_from, le-leb}
 use Rattle.std.proofs.lemmas.Bool.Decides.{Decides-eqb, Decides-ltb}
+use Rattle.class_config.proofs.ClassLists.{list_of-items_of}
 use Rattle.serde_json.specs.Data.{Data, null, boolean, number, unsigned, negative, float, string, array, object, Items, no_items, item}
 use Rattle.serde_json.specs.Find.{get, at}
 use Rattle.serde_json.specs.View.{items_of}
-use Rattle.class_config.specs.Forms.{some_if, is_class_name}
+use Rattle.fixed_point.specs.Text.{some_if}
+use Rattle.class_config.specs.Forms.{is_class_name}
 use Rattle.class_config.specs.Classes.{list_of}
 use Rattle.script_text.specs.Values.{whole, whole_in, whole_below, obstruction_number, decimal, class_name, under, array_items, has_items, both}
 use Rattle.script_text.specs.Forms.{each}
@@ -45,13 +47,6 @@ under_some f key d v y there e = sym (ap (option_and_then f) there) ∙ e
 pub under_is : {T : Type 0} (f : Data → Option T) (key : List ℕ) (d v : Data) (y : T) → get key d ≡ Some v → f v ≡ Some y → under f key d ≡ Some y
 under_is f key d v y there e = ap (option_and_then f) there ∙ e
 
-and_both : (x y : Bool) → x ≡ true → y ≡ true → (x && y) ≡ true
-and_both true y h k = k
-and_both false y h k = absurd (cc)
-
-pub le_is : (a b : ℕ) → a ≤ b → nat_le a b ≡ true
-le_is a b h = grind (arith, leb-true)
-
 -- ---- single values
 
 pub whole-is : (d : Data) (n : ℕ) → whole d ≡ Some n → IsWholeNumber n d
@@ -79,7 +74,7 @@ pub whole_in-from : (least most : ℕ) (d : Data) (n : ℕ) → IsWholeNumber n 
 unfolding whole_in
 whole_in-from least most d n e low high =
     ap (λ o. option_and_then (λ m. some_if (nat_le least m && nat_le m most) m) o) (whole-from d n e)
-    ∙ ap (λ b. some_if b n) (and_both (nat_le least n) (nat_le n most) (le_is least n low) (le_is n most high))
+    ∙ ap (λ b. some_if b n) (and_from (nat_le least n) (nat_le n most) (le-leb least n low) (le-leb n most high))
 
 pub caller-is : (callers : ℕ) (d : Data) (n : ℕ) → whole_below callers d ≡ Some n → IsCaller callers n d
 unfolding whole_below
@@ -131,10 +126,6 @@ name-from d name is = ap class_name is.0 ∙ ap (λ b. some_if b name) is.1
 items_of-list_of : (ds : Items) → items_of (list_of ds) ≡ ds
 items_of-list_of no_items = refl
 items_of-list_of (item d ds) = ap (item d) (items_of-list_of ds)
-
-pub list_of-items_of : (ds : List Data) → list_of (items_of ds) ≡ ds
-list_of-items_of [] = refl
-list_of-items_of (d ∷ ds) = ap (λ rest. d ∷ rest) (list_of-items_of ds)
 
 pub array_items-is : (d : Data) (items : List Data) → array_items d ≡ Some items → d ≡ array (items_of items)
 unfolding array_items

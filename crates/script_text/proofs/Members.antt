@@ -7,7 +7,7 @@ use Rattle.std.specs.declared.cmp.Ordering.TheVariants.{Less, Equal, Greater}
 use Rattle.std.specs.Ordering.{nat_cmp, match_ordering}
 use Rattle.std.specs.Cmp.{Equal-is}
 use Rattle.std.specs.Cmp.Lexicographic.{slice_cmp}
-use Rattle.std.proofs.lemmas.Bool.{and_parts}
+use Rattle.std.proofs.lemmas.Bool.{and_parts, and_from, or_right}
 use Rattle.std.proofs.lemmas.Bool.Decides.{Decides-eqb}
 use Rattle.std.proofs.lemmas.Map.Lookups.{exact_bytes}
 use Rattle.std.proofs.lemmas.Map.Text.{is_eq-slice_cmp}
@@ -51,10 +51,6 @@ eq_other key other differ = by_test (bytes_eq key other) (bytes_eq-Decides key o
 
 eq_same : (key : List ℕ) → bytes_eq key key ≡ true
 eq_same key = (bytes_eq-Decides key key).1 refl
-
-both_true : (a b : Bool) → a ≡ true → b ≡ true → (a && b) ≡ true
-both_true true b e f = f
-both_true false b e f = absurd (cc)
 
 -- ---- how often a key stands
 
@@ -165,18 +161,14 @@ keep-less : (P : List ℕ → Bool) (before after : Members) (other : List ℕ) 
 keep-less P no_members after other d all = (and_parts (P other) (list_all P (keys_of after)) all).1
 keep-less P (member k e ms) after other d all =
     let parts = and_parts (P k) (list_all P (keys_of (joined ms (member other d after)))) all in
-    both_true (P k) (list_all P (keys_of (joined ms after))) parts.0 (keep-less P ms after other d parts.1)
+    and_from (P k) (list_all P (keys_of (joined ms after))) parts.0 (keep-less P ms after other d parts.1)
 
 keep-more : (P : List ℕ → Bool) (before after : Members) (other : List ℕ) (d : Data) → P other ≡ true → list_all P (keys_of (joined before after)) ≡ true
     → list_all P (keys_of (joined before (member other d after))) ≡ true
-keep-more P no_members after other d here all = both_true (P other) (list_all P (keys_of after)) here all
+keep-more P no_members after other d here all = and_from (P other) (list_all P (keys_of after)) here all
 keep-more P (member k e ms) after other d here all =
     let parts = and_parts (P k) (list_all P (keys_of (joined ms after))) all in
-    both_true (P k) (list_all P (keys_of (joined ms (member other d after)))) parts.0 (keep-more P ms after other d here parts.1)
-
-or_either : (a b : Bool) → b ≡ true → (a || b) ≡ true
-or_either true b e = refl
-or_either false b e = e
+    and_from (P k) (list_all P (keys_of (joined ms (member other d after)))) parts.0 (keep-more P ms after other d here parts.1)
 
 or_rest : (a b : Bool) → a ≡ false → (a || b) ≡ true → b ≡ true
 or_rest true b e f = absurd (cc)
@@ -189,8 +181,8 @@ asked-wider : (key : List ℕ) (keys : List (List ℕ)) (ms : Members) → are_a
 asked-wider key keys no_members all = refl
 asked-wider key keys (member k d ms) all =
     let parts = and_parts (list_any (bytes_eq k) keys) (are_asked keys ms) all in
-    both_true (bytes_eq k key || list_any (bytes_eq k) keys) (are_asked (key ∷ keys) ms)
-    (or_either (bytes_eq k key) (list_any (bytes_eq k) keys) parts.0) (asked-wider key keys ms parts.1)
+    and_from (bytes_eq k key || list_any (bytes_eq k) keys) (are_asked (key ∷ keys) ms)
+    (or_right (bytes_eq k key) (list_any (bytes_eq k) keys) parts.0) (asked-wider key keys ms parts.1)
 
 asked-less : (key : List ℕ) (keys : List (List ℕ)) (ms : Members) → count_of key ms ≡ 0 → are_asked (key ∷ keys) ms ≡ true → are_asked keys ms ≡ true
 asked-less key keys no_members none all = refl
@@ -200,7 +192,7 @@ asked-less key keys (member k d ms) none all =
     (λ same. let one : count_of key (member k d ms) ≡ 1 + count_of key ms = count-same key k d ms ((bytes_eq-Decides key k).1 same) in absurd (omega (arith, one, none)))
     (λ differ. let apart : bytes_eq k key ≡ false = eq_other k key (λ e. differ (sym e)) in
     let rest : count_of key ms ≡ 0 = sym (count-apart key k d ms (eq_other key k differ)) ∙ none in
-    both_true (list_any (bytes_eq k) keys) (are_asked keys ms) (or_rest (bytes_eq k key) (list_any (bytes_eq k) keys) apart parts.0) (asked-less key keys ms rest parts.1))
+    and_from (list_any (bytes_eq k) keys) (are_asked keys ms) (or_rest (bytes_eq k key) (list_any (bytes_eq k) keys) apart parts.0) (asked-less key keys ms rest parts.1))
 
 -- ---- from the members to what is found
 
@@ -246,7 +238,7 @@ members-once (key ∷ keys) (d ∷ ds) ms distinct are =
     let one : count_of key ms ≡ 1 = ap (count_of key) are.2 ∙ count-here are.0 are.1 key d ∙ ap (λ n. 1 + n) none in
     let Once : Members → Type 0 = λ m. list_all (λ k. count_of k m == 1) keys ≡ true in
     let others : Once ms = subst Once (sym are.2) (once-same keys are.0 are.1 key d parts.0 ∙ members-once keys ds rest parts.1 are.3) in
-    both_true (count_of key ms == 1) (list_all (λ k. count_of k ms == 1) keys) (eq-eqb (count_of key ms) 1 one) others
+    and_from (count_of key ms == 1) (list_all (λ k. count_of k ms == 1) keys) (eq-eqb (count_of key ms) 1 one) others
 
 -- ---- from what is found to the members
 
@@ -349,7 +341,7 @@ open_keys keys (object ms) distinct has =
 pub has_keys-object : (keys : List (List ℕ)) (vs : List Data) (d : Data) → are_distinct keys ≡ true → IsObject keys vs d → has_keys keys d ≡ true
 has_keys-object keys vs d distinct o =
     ap (has_keys keys) o.is
-    ∙ both_true (are_asked keys o.members) (list_all (λ key. count_of key o.members == 1) keys) (members-asked keys vs o.members o.are)
+    ∙ and_from (are_asked keys o.members) (list_all (λ key. count_of key o.members == 1) keys) (members-asked keys vs o.members o.are)
     (members-once keys vs o.members distinct o.are)
 
 pub stand-object : (keys : List (List ℕ)) (vs : List Data) (d : Data) → are_distinct keys ≡ true → IsObject keys vs d → Stand keys vs d

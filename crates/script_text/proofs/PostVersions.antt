@@ -1,7 +1,7 @@
 -- The posts of a turn have lines in the version of their script.
 use Rattle.std.proofs.Common.{◌≡◌, inl, inr, ℕ, zero, suc, ◌+◌, ◌==◌, ◌||◌, List, [], ◌∷◌, ◌++◌, length, get_or, nat_le, Bool, true, false, cond, Option, Some, None, Ok, option_and_then, refl, ap, sym, subst, ◌∙◌, arith, eq-eqb}
 use Rattle.std.specs.List.{list_all}
-use Rattle.std.proofs.lemmas.Bool.{and_parts, or_left, or_right, false≢true}
+use Rattle.std.proofs.lemmas.Bool.{and_parts, or_left, or_right, false≢true, and_from, le-leb}
 use Rattle.std.proofs.lemmas.List.Elements.{All-set}
 use Rattle.std.proofs.lemmas.List.Folds.{list_all-append}
 use Rattle.std.proofs.lemmas.List.Sums.{AllPass-from_list_all, list_all-from_AllPass, sum_by-cons}
@@ -22,26 +22,25 @@ use Rattle.script_text.specs.Forms.{base_of, post_of, end_of}
 use Rattle.script_text.specs.Grammar.{IsGoal, HasAddKeys, IsPostLine, shape_key}
 use Rattle.script_text.specs.Script.{Place, Item, Ends, at_place, stuck_by, ends_turn, too_long, Walk, arrived, stuck, reading_of, counted, bad, no_posts, with_post, end_line, turn_line, placed_in_turn, base_line, placed_in, placed, is_long, accept}
 use Rattle.script_text.specs.Canon.{is_goal_of, is_post_of, HaveLines}
-use Rattle.script_text.specs.Reader.{HaveLinesAt, post_count, rules_at}
+use Rattle.script_text.specs.Reader.{HaveLinesAt, rules_at}
+use Rattle.turn_core.specs.Turns.{post_count}
 use Rattle.script_text.specs.inner.Judging.{GivesTurn}
-use Rattle.script_text.proofs.GrammarValues.{le_is}
-use Rattle.script_text.proofs.GrammarLines.{and_both}
 use Rattle.script_text.proofs.GrammarPosts.{post-is}
 
 -- ---- the post of a line
 
 has_goal : (version : ℕ) (goal : GoalSpec) (d : Data) → IsGoal version goal d → is_goal_of version goal ≡ true
 has_goal version (Plain goal) d says = refl
-has_goal version (ByObstruction id grow) d says = le_is 3 version says.newest
+has_goal version (ByObstruction id grow) d says = le-leb 3 version says.newest
 
 has_mask : (version mask : ℕ) (key : List ℕ) (c add shape d : Data) → HasAddKeys version mask key c add shape d → (nat_le 2 version || mask == 65535) ≡ true
 has_mask version mask key c add shape d (inl h) = or_right (nat_le 2 version) (mask == 65535) (eq-eqb mask 65535 h.1)
-has_mask version mask key c add shape d (inr h) = or_left (nat_le 2 version) (mask == 65535) (le_is 2 version h.0)
+has_mask version mask key c add shape d (inr h) = or_left (nat_le 2 version) (mask == 65535) (le-leb 2 version h.0)
 
 has_line : (version callers caller : ℕ) (post : Post) (d : Data) → IsPostLine version callers caller post d → is_post_of version post ≡ true
 has_line version callers caller (Edits (Add id o)) d (c, add, shape, keys, who, number, decimals) = has_mask version o.mask (shape_key o.shape) c add shape d keys
 has_line version callers caller (Edits (Remove id)) d says = refl
-has_line version callers caller (Edits (Move id x z)) d (c, move, to, keys, who, number, at, newest) = le_is 3 version newest
+has_line version callers caller (Edits (Move id x z)) d (c, move, to, keys, who, number, at, newest) = le-leb 3 version newest
 has_line version callers caller (Asks (Path class x z goal)) d (c, path, from, to, keys, who, name, at, is) = has_goal version goal to is
 has_line version callers caller (Asks (Region class x z)) d says = refl
 
@@ -66,7 +65,7 @@ with_has version turn said all is =
     let own : List Post = list_of turn said.caller in
     let more : have version (own ++ said.post ∷ []) ≡ true =
     list_all-append (is_post_of version) own (said.post ∷ [])
-    ∙ and_both (have version own) (have version (said.post ∷ [])) (of_one version turn said.caller all) (and_both (is_post_of version said.post) true is refl) in
+    ∙ and_from (have version own) (have version (said.post ∷ [])) (of_one version turn said.caller all) (and_from (is_post_of version said.post) true is refl) in
     list_all-from_AllPass (have version) (with_post turn said)
     (All-set (λ posts. have version posts ≡ true) turn said.caller (own ++ said.post ∷ []) more (AllPass-from_list_all (have version) turn all))
 

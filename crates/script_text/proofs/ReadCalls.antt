@@ -13,14 +13,15 @@ use Rattle.script_text.specs.declared.parts.Rules.{Rules}
 use Rattle.script_text.specs.declared.parts.Part.{Part}
 use Rattle.script_text.specs.declared.parts.Part.TheVariants.{BeforeMap, InBase, InTurns}
 use Rattle.script_text.specs.Script.{Place, beginning, Item, begins, adds_base, ends_turn, Stop, whole_input, too_long, arrived, stuck, chain, map_after, map_after_item, turns_of, counted, accept, walk, finish, reading}
-use Rattle.script_text.specs.Reader.{Held, UsesLines, GoesOn, StopsAtFault, Refuses, GivesMap, MapAnswers, MapTold, TurnTold, stuck_after, callers_of, post_count, rules_at, WhereTold}
+use Rattle.script_text.specs.Reader.{Held, UsesLines, GoesOn, StopsAtFault, Refuses, GivesMap, MapAnswers, MapTold, TurnTold, stuck_after, WhereTold}
+use Rattle.turn_core.specs.Turns.{post_count}
 use Rattle.script_text.specs.inner.Taking.{Taken, HeldLine, newline_of, HasEnd, IsWholeLine, IsUsedUp, TakesNext, NextAnswer, NextTold}
 use Rattle.script_text.specs.inner.Judging.{IsBadAt, IsStuckBy, BeginsMap, UsesBase, KeepsLine, TakesBase, AddsToMap, BaseAnswers, BaseTold, IsInTurns, IsBetweenTurns, IsNoBaseAt, IsNoBaseLine, IsNoBaseNext, after_line, held_at}
 use Rattle.script_text.specs.Forms.{base_of}
 use Rattle.script_text.proofs.ReadSize.{reading_of-nil}
 use Rattle.script_text.proofs.ReadTold.{told-same, told-weaker, told-then}
 use Rattle.script_text.proofs.ReadWalk.{walk-append}
-use Rattle.script_text.proofs.ReadNext.{not_ended, goes_nowhere, goes_next, goes_line, refuses_line, refuses_next, reading-used_up, stops_at_end, stops_line, stuck_line}
+use Rattle.script_text.proofs.ReadNext.{not_ended, goes_nowhere, goes_next, goes_line, refuses_line, refuses_next, reading-used_up, stops_at_end, stops_line, stuck_line, took_more}
 
 -- ---- items
 
@@ -28,7 +29,7 @@ pub map_after-append : (found : Option Map) (xs ys : List Item) → map_after fo
 map_after-append found [] ys = refl
 map_after-append found (x ∷ xs) ys = map_after-append (map_after_item found x) xs ys
 
-turns_of-append : (xs ys : List Item) → turns_of (xs ++ ys) ≡ turns_of xs ++ turns_of ys
+pub turns_of-append : (xs ys : List Item) → turns_of (xs ++ ys) ≡ turns_of xs ++ turns_of ys
 turns_of-append [] ys = refl
 turns_of-append (begins m ∷ xs) ys = turns_of-append xs ys
 turns_of-append (adds_base rects ∷ xs) ys = turns_of-append xs ys
@@ -54,13 +55,10 @@ uses_then a b c taken more xs ys u v = record {
   walked = walk-append u.lines v.lines a.place ∙ ap (λ w. chain w (λ q. walk v.lines q)) u.walked ∙ ap (λ w. chain (arrived xs b.place) (λ q. w)) v.walked;
 }
 
-took_then : (x y z taken more : List ℕ) → x ≡ taken ++ y → y ≡ more ++ z → x ≡ (taken ++ more) ++ z
-took_then x y z taken more first next = first ∙ ap (λ l. taken ++ l) next ∙ sym (append_assoc taken more z)
-
 pub goes_then : (a b c : Held) (x y z : List ℕ) (xs ys : List Item) → (IsTrue b.ended → IsTrue c.ended) → GoesOn a b x y xs → GoesOn b c y z ys → GoesOn a c x z (xs ++ ys)
 goes_then a b c x y z xs ys stays g h = record {
   taken = g.taken ++ h.taken;
-  took = took_then x y z g.taken h.taken g.took h.took;
+  took = took_more x y z g.taken h.taken g.took h.took;
   same = g.same ∙ ap (λ w. chain (arrived xs b.place) (λ q. w)) h.same
       ∙ ap (λ items. record { items = items; ends = (reading (c.bytes ++ z) c.place).ends }) (sym (append_assoc xs ys (reading (c.bytes ++ z) c.place).items));
   cause = g.cause ∙ h.cause;
@@ -75,7 +73,7 @@ pub fault_then : (a b c : Held) (x y z : List ℕ) (xs ys : List Item) → (IsTr
 fault_then a b c x y z xs ys stays g s = record {
   going = not_ended a.ended b.ended stays s.going;
   taken = g.taken ++ s.taken;
-  took = took_then x y z g.taken s.taken g.took s.took;
+  took = took_more x y z g.taken s.taken g.took s.took;
   used = uses_then a b c g.taken s.taken xs ys (g.used s.going) s.used;
   no_line = s.no_line;
 }
@@ -290,17 +288,6 @@ turn_missing old p h now room fault a b c stays u e told next = told-then a b c 
     end_refused old p now x z fault u e (goes_next old p h now x y z [] stays (t end) (n (t end).at_end))) told next
 
 -- ---- what holds of any source
-
-pub callers_of-same : (p q : Part) → rules_at p ≡ rules_at q → callers_of p ≡ callers_of q
-callers_of-same BeforeMap BeforeMap e = refl
-callers_of-same BeforeMap (InBase r) e = absurd cc
-callers_of-same BeforeMap (InTurns r) e = absurd cc
-callers_of-same (InBase s) BeforeMap e = absurd cc
-callers_of-same (InBase s) (InBase r) e = cc
-callers_of-same (InBase s) (InTurns r) e = cc
-callers_of-same (InTurns s) BeforeMap e = absurd cc
-callers_of-same (InTurns s) (InBase r) e = cc
-callers_of-same (InTurns s) (InTurns r) e = cc
 
 some_end : (line_end : Option LineEnd) (rest : Taken) → HasEnd line_end rest → IsSome line_end
 some_end None rest ends = absurd ends

@@ -81,7 +81,7 @@ same_more : (old : Held) (p : Place) (h now : HeldLine) (x y z : List ℕ) (item
     → reading (old.bytes ++ x) old.place ≡ chain (arrived items p) (reading (bytes_of now ++ z))
 same_more old p h now x y z items g t = g.same ∙ ap (λ l. chain (arrived items p) (reading l)) (bytes_more h now y z t)
 
-took_more : (x y z taken more : List ℕ) → x ≡ taken ++ y → y ≡ more ++ z → x ≡ (taken ++ more) ++ z
+pub took_more : (x y z taken more : List ℕ) → x ≡ taken ++ y → y ≡ more ++ z → x ≡ (taken ++ more) ++ z
 took_more x y z taken more first next = first ∙ ap (λ l. taken ++ l) next ∙ sym (append_assoc taken more z)
 
 -- the next line was found

@@ -1,7 +1,7 @@
 -- The walk over the lines of an input, and the reading of the whole.
-use Rattle.std.proofs.Common.{◌≡◌, ◌≢◌, ℕ, ◌+◌, ◌<◌, ◌≤◌, ◌⊎◌, ◌||◌, List, [], ◌∷◌, ◌++◌, length, Bool, true, false, cond, nat_lt, Some, None, refl, ap, sym, inl, inr, ◌∙◌, arith, append_assoc, length-append}
+use Rattle.std.proofs.Common.{◌≡◌, ◌≢◌, ℕ, ◌+◌, ◌<◌, ◌≤◌, ◌⊎◌, List, [], ◌∷◌, ◌++◌, length, Bool, true, false, cond, nat_lt, Some, None, refl, ap, sym, inl, inr, ◌∙◌, arith, append_assoc, length-append}
 use Rattle.std.specs.Str.{IsUtf8, is_utf8}
-use Rattle.std.proofs.lemmas.Bool.{lt-ltb}
+use Rattle.std.proofs.lemmas.Bool.{lt-ltb, or_left, or_right}
 use Rattle.std.proofs.lemmas.List.{append-nil}
 use Rattle.std.proofs.lemmas.List.Elements.{All-append}
 use Rattle.std.proofs.lemmas.Str.{IsUtf8-from_is_utf8, is_utf8-from_IsUtf8}
@@ -87,14 +87,6 @@ reading-tail line p plain =
     ∙ ap (λ tail. chain (walk [] p) (last_line tail)) (tail_of-plain line plain)
 
 -- ---- lines that are too long
-
-or_left : (a b : Bool) → a ≡ true → (a || b) ≡ true
-or_left true b e = refl
-or_left false b e = cc
-
-or_right : (a b : Bool) → b ≡ true → (a || b) ≡ true
-or_right true b e = refl
-or_right false b e = e
 
 pub accept-long : (size : ℕ) (line : List ℕ) (p : Place) → (8388608 < length line) ⊎ (4294967296 < p.bytes + size) → accept size line p ≡ stuck too_long
 accept-long size line p h =

@@ -1,8 +1,8 @@
 -- Where a wrong value is told, it is wrong.
-use Rattle.std.proofs.Common.{◌≡◌, inl, inr, ℕ, ◌&&◌, ◌||◌, List, [], ◌∷◌, Bool, true, false, cond, Option, Some, None, option_map, option_and_then, refl, ap, sym, subst, ◌∙◌, nat_le, nat_lt}
+use Rattle.std.proofs.Common.{◌≡◌, inl, inr, ℕ, ◌||◌, List, [], ◌∷◌, Bool, true, false, cond, Option, Some, None, option_map, option_and_then, refl, ap, sym, subst, ◌∙◌, nat_le, nat_lt}
 use Rattle.std.specs.Prelude.{codes, is_some}
 use Rattle.std.specs.Option.{option_or}
-use Rattle.std.proofs.lemmas.Bool.{ltb-false}
+use Rattle.std.proofs.lemmas.Bool.{ltb-false, le-leb, and_from}
 use Rattle.serde_json.specs.Data.{Data}
 use Rattle.serde_json.specs.Find.{get}
 use Rattle.class_config.specs.Forms.{has_keys}
@@ -20,7 +20,6 @@ use Rattle.script_text.specs.declared.causes.wrong_values.Field.{Field}
 use Rattle.script_text.specs.Values.{under}
 use Rattle.script_text.specs.Forms.{plain_goal, obstruction_goal, goal_of}
 use Rattle.script_text.specs.Causes.{key_text, is_wanted, is_right, first_wrong, map_fields, fields_of, wrong_goal, wrong_by, wrong_value, form_of, first_version, is_map, is_base, form_cause, other_version, no_form_cause, version_of, cause_by, cause, IsWrongIn}
-use Rattle.script_text.proofs.GrammarValues.{le_is}
 
 -- what a cause says of a value: only of a wrong one it says something here
 abbrev IsTrueOf : Data → Cause → Type 0
@@ -59,11 +58,7 @@ off true o p lacks e = absurd (cc)
 off false o p lacks e = e
 
 third : (version : ℕ) → nat_lt version 3 ≡ false → nat_le 3 version ≡ true
-third version e = le_is 3 version (ltb-false version 3 e)
-
-and_is : (a b : Bool) → a ≡ true → b ≡ true → (a && b) ≡ true
-and_is true b e f = f
-and_is false b e f = absurd (cc)
+third version e = le-leb 3 version (ltb-false version 3 e)
 
 goal_true : (version : ℕ) (f : Field) (d g : Data) (outer : List ℕ) → get outer d ≡ Some g → IsWrongIn f.key f.wanted d → is_some (goal_of version g) ≡ false
     → IsTrueOf d (wrong_goal version f g)
@@ -83,7 +78,7 @@ goal_true version f d g outer at whole none =
     by_test d (has_keys (codes "not-square" ∷ []) g) _ _ (λ has. inner key.NotSquare SixDecimals (map_none _ _ (on _ _ _ has after_e)))
     (λ h. by_test d (has_keys (codes "obstruction" ∷ []) g) _ _
     (λ has. by_test d (nat_lt version 3) _ _ (λ early. λ k w no_wrong. absurd (cc))
-    (λ late. inner key.Obstruction NumberAndDecimal (on _ _ _ (and_is (nat_le 3 version) (has_keys (codes "obstruction" ∷ []) g) (third version late) has) parts.1)))
+    (λ late. inner key.Obstruction NumberAndDecimal (on _ _ _ (and_from (nat_le 3 version) (has_keys (codes "obstruction" ∷ []) g) (third version late) has) parts.1)))
     (λ other. told d f.key f.wanted whole))))))
 
 -- ---- fields

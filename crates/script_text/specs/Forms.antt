@@ -6,7 +6,8 @@ use Rattle.serde_json.specs.Data.{Data}
 use Rattle.serde_json.specs.Find.{at}
 use Rattle.nav_types.specs.declared.cells.Rect.{Rect}
 use Rattle.nav_types.specs.declared.cells.Size.{Size}
-use Rattle.class_config.specs.Forms.{has_keys, some_if}
+use Rattle.fixed_point.specs.Text.{some_if}
+use Rattle.class_config.specs.Forms.{has_keys}
 use Rattle.class_config.specs.Classes.{classes_of}
 use Rattle.class_config.specs.declared.table.PassabilityClass.{PassabilityClass}
 use Rattle.obstruction_shapes.specs.declared.shapes.Shape.{Shape}

@@ -1,5 +1,6 @@
 -- What a reader holds, and how its calls go through an input.
-use Rattle.std.specs.Prelude.{ℕ, ◌≡◌, ◌≢◌, ◌≤◌, ◌⊎◌, List, [], ◌∷◌, ◌++◌, length, sum_by, Bool, true, false, All, IsFalse, IsTrue, IsSome, Option, Some, None, Result, Ok, Err, ⊤}
+use Rattle.std.specs.Prelude.{ℕ, ◌≡◌, ◌≢◌, ◌≤◌, ◌⊎◌, List, [], ◌∷◌, ◌++◌, length, Bool, true, false, All, IsFalse, IsTrue, IsSome, Option, Some, None, Result, Ok, Err, ⊤}
+use Rattle.script_text.specs.declared.intake.TheConstants.{READ_SIZE}
 use Rattle.script_text.specs.declared.faults.ScriptFault.{ScriptFault}
 use Rattle.script_text.specs.declared.faults.ScriptFault.TheVariants.{BadLine, TooLong, ReadFault, NoMemory}
 use Rattle.grid_versions.specs.Maps.{Map}
@@ -45,10 +46,6 @@ callers_of (InTurns rules) = rules.callers
 -- the version of the script has a line for each of a turn's posts
 abbrev pub HaveLinesAt : Part → List (List Post) → Type 0
 HaveLinesAt part turn = (rules : Rules) → rules_at part ≡ Some rules → HaveLines rules.version turn
-
--- how many posts a turn has, over all callers
-abbrev pub post_count : List (List Post) → ℕ
-post_count posts = sum_by length posts
 
 -- the whole lines that are held end a turn, or stop the input
 abbrev pub HoldsTurn : Held → Type 0
@@ -153,7 +150,7 @@ pub record ReadsForTurn (old : Held) (before after : List ℕ) : Type 0 where
   pub earlier : List ℕ
   pub piece : List ℕ
   pub took : before ≡ earlier ++ (piece ++ after)
-  pub few : length piece ≤ 65536
+  pub few : length piece ≤ READ_SIZE
   pub place : Place
   pub no_turn : walk (full_lines (old.bytes ++ earlier)) old.place ≡ arrived [] place
 

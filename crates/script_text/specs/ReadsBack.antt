@@ -2,6 +2,7 @@
 use Rattle.std.specs.Prelude.{ℕ, ◌≡◌, ◌+◌, ◌≤◌, List, [], ◌∷◌, ◌++◌, length, All, IsTrue, ℤ, Some, None, FitsSigned}
 use Rattle.std.specs.Int.{w32}
 use Rattle.nav_types.specs.declared.cells.Rect.{Rect}
+use Rattle.nav_types.specs.declared.limits.TheConstants.{MAX_INPUT_BYTES, MAX_LINE_BYTES}
 use Rattle.class_config.specs.Forms.{is_class_name}
 use Rattle.class_config.specs.Classes.{is_table}
 use Rattle.goal_shapes.specs.declared.goals.Goal.{Goal}
@@ -74,8 +75,8 @@ canon_script m turns = canon_map m ++ canon_turns m 1 turns
 
 -- no line is longer than a line may be, and the text is not longer than an input may be
 pub record IsWithinLimits (text : List ℕ) : Type 0 where
-  pub lines : All (λ line. length line ≤ 8388608) (full_lines text)
-  pub whole : length text ≤ 4294967296
+  pub lines : All (λ line. length line ≤ MAX_LINE_BYTES) (full_lines text)
+  pub whole : length text ≤ MAX_INPUT_BYTES
 
 -- the text is a whole input, and gives this map and these turns
 pub record ReadsAs (m : Map) (turns : List (List (List Post))) (text : List ℕ) : Type 0 where

@@ -5,6 +5,7 @@ use Rattle.std.specs.Str.{is_utf8}
 use Rattle.serde_json.specs.Data.{Data}
 use Rattle.serde_json.specs.Read.{read}
 use Rattle.nav_types.specs.declared.cells.Rect.{Rect}
+use Rattle.nav_types.specs.declared.limits.TheConstants.{MAX_INPUT_BYTES, MAX_LINE_BYTES}
 use Rattle.grid_versions.specs.Maps.{Map, with_base}
 use Rattle.turn_core.specs.declared.posts.Post.{Post}
 use Rattle.turn_core.specs.States.{list_of}
@@ -144,7 +145,7 @@ placed p d = placed_in p.part p d
 
 -- the line is longer than a line may be, or the input with it than an input may be
 abbrev pub is_long : Place → ℕ → List ℕ → Bool
-is_long p size line = nat_lt 8388608 (length line) || nat_lt 4294967296 (p.bytes + size)
+is_long p size line = nat_lt MAX_LINE_BYTES (length line) || nat_lt MAX_INPUT_BYTES (p.bytes + size)
 
 -- what a line of so many bytes, with its newline where it has one, gives in its place
 abbrev pub accept : ℕ → List ℕ → Place → Walk

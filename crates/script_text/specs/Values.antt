@@ -7,8 +7,8 @@ use Rattle.serde_json.specs.Data.{Data}
 use Rattle.serde_json.specs.Find.{get, at, as_number, as_u64, as_str, as_array}
 use Rattle.nav_types.specs.declared.cells.Size.{Size}
 use Rattle.nav_types.specs.Side.{IsSide}
-use Rattle.fixed_point.specs.Text.{fixed_value}
-use Rattle.class_config.specs.Forms.{some_if, is_class_name}
+use Rattle.fixed_point.specs.Text.{fixed_value, some_if}
+use Rattle.class_config.specs.Forms.{is_class_name}
 use Rattle.class_config.specs.Classes.{list_of}
 use Rattle.fixed_point.specs.declared.plane.Rectangle.{Rectangle}
 

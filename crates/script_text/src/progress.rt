@@ -46,7 +46,8 @@ impl Model for Progress {
 impl Progress {
     ghost use Rattle.script_text.specs.Script.{beginning, rules_of, accept, counted, end_line, finish, is_long};
     ghost use Rattle.script_text.specs.Script.{map_line, placed_in_turn, with_post};
-    ghost use Rattle.script_text.specs.Reader.{callers_of, post_count, rules_at};
+    ghost use Rattle.script_text.specs.Reader.{callers_of, rules_at};
+    ghost use Rattle.turn_core.specs.Turns.{post_count};
     ghost use Rattle.script_text.specs.Causes.{cause, end_cause};
     ghost use Rattle.script_text.specs.inner.Judging.{AddsBase, BeginsMap, CountsPosts, GivesTurn, IsBadAt, IsBase};
     ghost use Rattle.script_text.specs.inner.Judging.{IsInTurns, IsInsideAt, IsNoBaseAt, IsObject, Stops};

@@ -15,7 +15,7 @@ use Rattle.turn_core.specs.Words.{Standing, bare, edited}
 use Rattle.turn_core.specs.Turns.{after, after_turn, requests, jobs, of_caller, AreReplies, AreTurnReplies, OneThread}
 use Rattle.turn_core.specs.States.{State, opening, list_of, stands_after_done}
 use Rattle.turn_core.specs.Table.{why_no_caller, why_collected}
-use Rattle.turn_core.specs.Effects.{joined_up, IsStep, IsRun}
+use Rattle.turn_core.specs.Effects.{joined_up, IsStep, IsMachineRun, Reaches}
 use Rattle.turn_core.specs.Facts.{HaveLists, Facts}
 use Rattle.turn_core.specs.Arrival.{post_events, answering, whole_turn, turn_events, collect_events, arrival, CanStage, answered_run, in_stage, in_run, at_end, CanArrive, HasArrived}
 use Rattle.turn_core.proofs.CallerLists.{of_caller_push}
@@ -23,7 +23,8 @@ use Rattle.turn_core.proofs.Threads.{one_thread_lem, standing_more}
 use Rattle.turn_core.proofs.Keeping.{opened, kept_run_of}
 use Rattle.turn_core.proofs.OneRun.{one_state}
 use Rattle.turn_core.proofs.Settling.{as_many, taken_done, all_done}
-use Rattle.turn_core.proofs.Reaching.{Reaches, reach-append, reach_none, reach_step, none_or, none_unless, less_is, all_post, stage_step, turn_answered, deliver_step}
+use Rattle.turn_core.proofs.Reaching.{reach-append, reach_none, reach_step, none_or, none_unless, all_post, stage_step, turn_answered, deliver_step}
+use Rattle.std.proofs.lemmas.Bool.{lt-ltb}
 
 -- A turn
 
@@ -132,8 +133,8 @@ caller_collects t front got back c (suc n) here less few =
     sym (ap (λ (j : ℕ). set old c (j + 1)) at ∙ set_at front got back (got + 1) c here) in
     let step : IsStep (with_collected t old) (Collect c) (slice_get replies (slice_index old c)) (with_collected t more) = record {
       enabled = none_or (why_no_caller t.map.callers c) (why_collected (slice_index old c) (length replies))
-          (none_unless (nat_lt c t.map.callers) (Callers t.map.callers) (less_is c t.map.callers less))
-          (none_unless (nat_lt (slice_index old c) (length replies)) (Collected (slice_index old c)) (less_is (slice_index old c) (length replies) (omega (arith, at))));
+          (none_unless (nat_lt c t.map.callers) (Callers t.map.callers) (lt-ltb c t.map.callers less))
+          (none_unless (nat_lt (slice_index old c) (length replies)) (Collected (slice_index old c)) (lt-ltb (slice_index old c) (length replies) (omega (arith, at))));
       effect = (refl, ap (with_collected t) same);
     } in
     reach_step (with_collected t old) (Collect c) (slice_get replies (slice_index old c)) (with_collected t more) (replicate n (Collect c)) (with_collected t (front ++ (got + suc n) ∷ back)) step
@@ -167,7 +168,7 @@ joined_none (suc n) (ps ∷ pss) e = ap (λ (l : List (List Post)). ps ∷ l) (j
 
 abbrev Arrives : Map → List (List (List Post)) → List (List Post) → List ℕ → List (List (List Reply)) → Type 0
 Arrives m journal pss counts all =
-    (handed : List (Option Reply)) × ((new : State) × (IsRun (opening m) (arrival journal pss counts) handed new × HasArrived m new journal pss counts all))
+    (handed : List (Option Reply)) × ((new : State) × (IsMachineRun (opening m) (arrival journal pss counts) handed new × HasArrived m new journal pss counts all))
 
 pub arrives : (m : Map) (journal : List (List (List Post))) (pss : List (List Post)) (counts : List ℕ) (all : List (List (List Reply)))
     → CanArrive m journal pss counts → OneThread m bare journal all → Arrives m journal pss counts all
@@ -218,7 +219,7 @@ arrives m journal pss counts all can x =
     )
 
 pub arrives_alone : (m : Map) (journal : List (List (List Post))) (pss : List (List Post)) (counts : List ℕ) (all : List (List (List Reply))) (handed : List (Option Reply)) (new : State)
-    → CanArrive m journal pss counts → OneThread m bare journal all → IsRun (opening m) (arrival journal pss counts) handed new → HasArrived m new journal pss counts all
+    → CanArrive m journal pss counts → OneThread m bare journal all → IsMachineRun (opening m) (arrival journal pss counts) handed new → HasArrived m new journal pss counts all
 arrives_alone m journal pss counts all handed new can x run =
     let there = arrives m journal pss counts all can x in
     subst (λ (z : State). HasArrived m z journal pss counts all)

@@ -2,7 +2,7 @@
 use Rattle.std.proofs.Common.{◌≡◌, ℕ, ◌+◌, ◌<◌, ◌≤◌, Bool, true, false, List, [], ◌∷◌, ◌++◌, Option, None, Some, length, map, take, drop, set, slice_index, refl, sym, ap, ◌∙◌, subst, inl, inr, arith, append-nil, length-append, length-set}
 use Rattle.std.specs.Prelude.{nat_lt, nat_le}
 use Rattle.std.proofs.lemmas.List.{get_or-set_other, take-append-le, length-map, length-replicate}
-use Rattle.std.proofs.lemmas.Bool.Decides.{nat_tests}
+use Rattle.std.proofs.lemmas.Bool.{ltb-true}
 use Rattle.grid_versions.specs.Maps.{Map}
 use Rattle.turn_core.specs.declared.events.Event.{Event}
 use Rattle.turn_core.specs.declared.events.Event.TheVariants.{Post as Posting, Stage, Start, Claim, Finish, Deliver, Collect}
@@ -14,7 +14,7 @@ use Rattle.turn_core.specs.Words.{Standing, bare}
 use Rattle.turn_core.specs.Turns.{after_turn, jobs, of_caller}
 use Rattle.turn_core.specs.States.{State, Run, opening, list_of, stands_after_done, stands_in_run}
 use Rattle.turn_core.specs.Table.{unless, or_else, why_no_caller, why_staged, why_none_staged, why_running, why_no_claim, why_no_finish, why_unanswered, why_no_delivery, last_turn, running_turn}
-use Rattle.turn_core.specs.Effects.{next_posts, added_up, known, given_turn, posted, staged, started, claimed, finished, delivered, collected, AnswersJob, IsStep, IsRun}
+use Rattle.turn_core.specs.Effects.{next_posts, added_up, known, given_turn, posted, staged, started, claimed, finished, delivered, collected, AnswersJob, IsStep, IsMachineRun}
 use Rattle.turn_core.specs.Facts.{running_turns, staged_turns, all_turns, HaveLists, IsRunning, WhileRunning, Facts}
 use Rattle.turn_core.proofs.CallerLists.{next_posts_at, length-next_posts, added_up_at, length-added_up, joined_up_at, length-joined_up, lengths_at, none_at, zeros_at, pushed_at, raised_at, of_caller_push, take_further, length_further}
 use Rattle.turn_core.proofs.Threads.{thread_more}
@@ -33,9 +33,6 @@ second_none (Some why) b e = cc
 pub unless_none : (b : Bool) (why : Why) → unless b why ≡ None → b ≡ true
 unless_none true why e = refl
 unless_none false why e = cc
-
-pub is_less : (m n : ℕ) → nat_lt m n ≡ true → m < n
-is_less m n e = grind (arith, nat_tests)
 
 pub lists-append : (n : ℕ) (xs ys : List (List (List Post))) → HaveLists n xs → HaveLists n ys → HaveLists n (xs ++ ys)
 lists-append n [] ys x y = y
@@ -167,7 +164,7 @@ pub kept_claim : (s : State) (o : Option Run) (last : ℕ) → s.running ≡ o �
 kept_claim s None last e why f = f
 kept_claim s (Some run) last e why f =
     let held : IsRunning s.map (stands_after_done s) run = running_is s run e f in
-    let less : run.claimed < length (jobs run.turn) = is_less run.claimed (length (jobs run.turn)) (unless_none (nat_lt run.claimed (length (jobs run.turn))) _ why) in
+    let less : run.claimed < length (jobs run.turn) = ltb-true run.claimed (length (jobs run.turn)) (unless_none (nat_lt run.claimed (length (jobs run.turn))) _ why) in
     kept_run s run (record run { claimed = run.claimed + 1 }) e refl (record {
       answers = held.answers;
       claimed = omega arith;
@@ -179,7 +176,7 @@ pub kept_finish : (s : State) (o : Option Run) (job last : ℕ) (r : Answer) →
 kept_finish s None job last r e why x f = f
 kept_finish s (Some run) job last r e why x f =
     let held : IsRunning s.map (stands_after_done s) run = running_is s run e f in
-    let less : job < run.claimed = is_less job run.claimed (unless_none (nat_lt job run.claimed) _ (first_none (unless (nat_lt job run.claimed) _) _ why)) in
+    let less : job < run.claimed = ltb-true job run.claimed (unless_none (nat_lt job run.claimed) _ (first_none (unless (nat_lt job run.claimed) _) _ why)) in
     kept_run s run (record run { answers = set run.answers job (Some r) }) e refl (record {
       answers = answers_set s.map (stands_in_run s run) (jobs run.turn) run.answers job x.0 r held.answers x.1.0 x.1.1;
       claimed = held.claimed;
@@ -261,7 +258,7 @@ kept old (Finish job) handed new f step =
 kept old Deliver handed new f step = subst Facts (sym step.effect.1) (kept_deliver old old.running (last_turn old) refl step.enabled f)
 kept old (Collect c) handed new f step =
     subst Facts (sym step.effect.1) (kept_collect old c
-    (is_less (slice_index old.collected c) (length (list_of old.replies c)) (unless_none (nat_lt (slice_index old.collected c) (length (list_of old.replies c))) _ (second_none (why_no_caller old.map.callers c) _ step.enabled))) f)
+    (ltb-true (slice_index old.collected c) (length (list_of old.replies c)) (unless_none (nat_lt (slice_index old.collected c) (length (list_of old.replies c))) _ (second_none (why_no_caller old.map.callers c) _ step.enabled))) f)
 
 -- the facts hold at the opening
 pub opened : (m : Map) → Facts (opening m)
@@ -281,7 +278,7 @@ opened m = record {
 }
 
 -- a run keeps the facts
-pub kept_run_of : (old : State) (events : List Event) (handed : List (Option Reply)) (new : State) → Facts old → IsRun old events handed new → Facts new
+pub kept_run_of : (old : State) (events : List Event) (handed : List (Option Reply)) (new : State) → Facts old → IsMachineRun old events handed new → Facts new
 kept_run_of old [] [] new f run = subst Facts run f
 kept_run_of old [] (h ∷ handed) new f run = absurd run
 kept_run_of old (e ∷ events) [] new f run = absurd run

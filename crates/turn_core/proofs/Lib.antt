@@ -20,3 +20,4 @@ pub mod Reaching
 pub mod Arriving
 pub mod MachineSteps
 pub mod HeldCounts
+pub mod PostCounts

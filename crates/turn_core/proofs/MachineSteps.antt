@@ -31,7 +31,7 @@ use Rattle.turn_core.specs.Table.{last_turn}
 use Rattle.turn_core.specs.Effects.{joined_up, known, given_turn, started, claimed, finished, delivered, collected}
 use Rattle.turn_core.specs.Effects.{AnswersJob, IsStep, IsCollect}
 use Rattle.turn_core.specs.Facts.{WhileRunning, Facts}
-use Rattle.turn_core.specs.inner.Runs.{run_of, option_run_of, option_posts_of, base_of, IsReadyOn, posts_in, gathered}
+use Rattle.turn_core.specs.inner.Runs.{run_of, option_run_of, option_posts_of, version_for_next, IsReadyOn, posts_in, gathered}
 use Rattle.turn_core.specs.inner.Runs.{replies_to, with_claim, IsHeldOn, HasUnclaimed, HasJob, HasPlace, AnswersAfter}
 use Rattle.turn_core.specs.inner.Runs.{AnswersHeld, PutsIn, PutsAnswer, HaveCome}
 use Rattle.turn_core.specs.inner.Machines.{state_of, HoldsRun, HoldsStaged, HoldsState}
@@ -39,7 +39,8 @@ use Rattle.turn_core.proofs.CallerLists.{none_at}
 use Rattle.turn_core.proofs.Threads.{standing_more, one_turn}
 use Rattle.turn_core.proofs.Answering.{length_answers, solves_known, given_turn_are}
 use Rattle.turn_core.proofs.TurnByTurn.{answers_moved}
-use Rattle.turn_core.proofs.Keeping.{first_none, second_none, unless_none, is_less}
+use Rattle.turn_core.proofs.Keeping.{first_none, second_none, unless_none}
+use Rattle.std.proofs.lemmas.Bool.{ltb-true}
 use Rattle.turn_core.proofs.DeliveredReplies.{gathered_at, gathered_push}
 
 pub same_state : (s t : State) → s.map ≡ t.map → s.posted ≡ t.posted → s.taken ≡ t.taken → s.staged ≡ t.staged → s.running ≡ t.running → s.done ≡ t.done → s.replies ≡ t.replies → s.collected ≡ t.collected → s ≡ t
@@ -54,7 +55,7 @@ caller_replies n ds c = gathered_at (replicate n []) ds c ∙ ap (λ (l : List R
 pub unclaimed_held : (last : ℕ) (o : Option RunningTurn) → why_no_claim last (option_run_of o) ≡ None → HasUnclaimed o
 unclaimed_held last None why = tt
 unclaimed_held last (Some run) why =
-    is_less run.claimed (length (jobs run.ready.turn)) (unless_none (nat_lt run.claimed (length (jobs run.ready.turn))) _ why)
+    ltb-true run.claimed (length (jobs run.ready.turn)) (unless_none (nat_lt run.claimed (length (jobs run.ready.turn))) _ why)
 
 pub claim_holds : (version : MapState) (o : Option RunningTurn) → HoldsRun version o → HoldsRun version (with_claim o)
 claim_holds version None held = tt
@@ -64,7 +65,7 @@ pub claimed_is : (a : Inside) (o : Option RunningTurn) → a.running ≡ o → s
 claimed_is a None e = ap (λ (o : Option RunningTurn). state_of (record a { running = o })) (sym e)
 claimed_is a (Some run) e = refl
 
-pub claim_stays : (version : MapState) (o : Option RunningTurn) → base_of version (with_claim o) ≡ base_of version o
+pub claim_stays : (version : MapState) (o : Option RunningTurn) → version_for_next version (with_claim o) ≡ version_for_next version o
 claim_stays version None = refl
 claim_stays version (Some run) = refl
 
@@ -83,14 +84,14 @@ pub job_held : (last job : ℕ) (version : MapState) (o : Option RunningTurn) �
     → why_no_finish job last (option_run_of o) ≡ None → HasJob o job
 job_held last job version None f why = cc
 job_held last job version (Some run) f why =
-    let less : job < run.claimed = is_less job run.claimed (unless_none (nat_lt job run.claimed) _ (first_none (unless (nat_lt job run.claimed) _) _ why)) in
+    let less : job < run.claimed = ltb-true job run.claimed (unless_none (nat_lt job run.claimed) _ (first_none (unless (nat_lt job run.claimed) _) _ why)) in
     omega (arith, f.claimed)
 
 pub place_held : (last job : ℕ) (version : MapState) (o : Option RunningTurn) → WhileRunning version.map version.standing (option_run_of o)
     → why_no_finish job last (option_run_of o) ≡ None → HasPlace o job
 place_held last job version None f why = cc
 place_held last job version (Some run) f why =
-    let less : job < run.claimed = is_less job run.claimed (unless_none (nat_lt job run.claimed) _ (first_none (unless (nat_lt job run.claimed) _) _ why)) in
+    let less : job < run.claimed = ltb-true job run.claimed (unless_none (nat_lt job run.claimed) _ (first_none (unless (nat_lt job run.claimed) _) _ why)) in
     omega (arith, f.claimed, length_answers version.map (after_turn version.map version.standing run.ready.turn) (jobs run.ready.turn) run.answers.items f.answers)
 
 pub put_holds : (version : MapState) (old new : Option RunningTurn) (job : ℕ) (answer : Answer) → PutsAnswer old new job answer → HoldsRun version old → HoldsRun version new
@@ -101,7 +102,7 @@ put_holds version (Some old) (Some new) job answer puts held = record {
   before = ap (λ (r : Ready). r.before) puts.ready ∙ held.before;
 }
 
-put_stays : (version : MapState) (old new : Option RunningTurn) (job : ℕ) (answer : Answer) → PutsAnswer old new job answer → base_of version new ≡ base_of version old
+put_stays : (version : MapState) (old new : Option RunningTurn) (job : ℕ) (answer : Answer) → PutsAnswer old new job answer → version_for_next version new ≡ version_for_next version old
 put_stays version None new job answer puts = absurd puts
 put_stays version (Some old) None job answer puts = absurd puts
 put_stays version (Some old) (Some new) job answer puts = ap (λ (r : Ready). map_state r.map (after_edits_of r)) puts.ready
@@ -164,13 +165,13 @@ pub started_holds : (a : Inside) (ready : RunningTurn) → HoldsState a → a.st
     → HaveCome b.delivered.items b.collected.items b.places.items → HoldsState b
 started_holds a ready holds is none b version delivered running staged come =
     let ready_on : IsReadyOn a.version ready =
-    subst (λ (o : Option RunningTurn). HoldsStaged (base_of a.version o) (Some ready)) none (subst (HoldsStaged (base_of a.version a.running)) is holds.staged) in
+    subst (λ (o : Option RunningTurn). HoldsStaged (version_for_next a.version o) (Some ready)) none (subst (HoldsStaged (version_for_next a.version a.running)) is holds.staged) in
     record {
       standing = ap (λ (v : MapState). v.standing) version ∙ holds.standing
           ∙ ap (λ (v : MapState). standing v.map bare (posts_in a.delivered.items)) (sym version)
           ∙ ap (λ (d : _). standing b.version.map bare (posts_in d.items)) (sym delivered);
       running = subst (HoldsRun b.version) (sym running) (subst (λ (v : MapState). IsHeldOn v ready) (sym version) ready_on.held_on);
-      staged = subst (HoldsStaged (base_of b.version b.running)) (sym staged) tt;
+      staged = subst (HoldsStaged (version_for_next b.version b.running)) (sym staged) tt;
       come = come;
     }
 
@@ -179,7 +180,7 @@ pub started_is : (a b : Inside) (ready : RunningTurn) → HoldsState a → a.sta
     → state_of b ≡ started (state_of a) (state_of a).staged
 started_is a b ready holds is none version posted taken staged running delivered collected =
     let ready_on : IsReadyOn a.version ready =
-    subst (λ (o : Option RunningTurn). HoldsStaged (base_of a.version o) (Some ready)) none (subst (HoldsStaged (base_of a.version a.running)) is holds.staged) in
+    subst (λ (o : Option RunningTurn). HoldsStaged (version_for_next a.version o) (Some ready)) none (subst (HoldsStaged (version_for_next a.version a.running)) is holds.staged) in
     same_state (state_of b) (started (state_of a) (Some ready.ready.turn))
     (ap (λ (v : MapState). v.map) version) (ap (λ (v : _). v.items) posted) (ap (λ (v : _). v.items) taken) (ap option_posts_of staged)
     (ap option_run_of running ∙ ap (λ (r : Run). Some r) ready_on.begins)
@@ -265,12 +266,12 @@ pub reply_left : (s : State) (c : ℕ) → or_else (why_no_caller s.map.callers 
 reply_left s c why none =
     let k : ℕ = slice_index s.collected c in
     let replies : List Reply = list_of s.replies c in
-    let less : k < length replies = is_less k (length replies) (unless_none (nat_lt k (length replies)) _ (second_none (why_no_caller s.map.callers c) _ why)) in
+    let less : k < length replies = ltb-true k (length replies) (unless_none (nat_lt k (length replies)) _ (second_none (why_no_caller s.map.callers c) _ why)) in
     let found = slice_get-get_or replies k (Answered Nowhere) less in
     cc
 
 pub caller_is : (s : State) (c : ℕ) (rest : Option Why) → or_else (why_no_caller s.map.callers c) rest ≡ None → c < s.map.callers
-caller_is s c rest why = is_less c s.map.callers (unless_none (nat_lt c s.map.callers) _ (first_none (why_no_caller s.map.callers c) rest why))
+caller_is s c rest why = ltb-true c s.map.callers (unless_none (nat_lt c s.map.callers) _ (first_none (why_no_caller s.map.callers c) rest why))
 
 -- a caller who can collect has a place
 pub place_within : (a : Inside) (c i : ℕ) → HoldsState a → Facts (state_of a) → why_not (state_of a) (Collect c) ≡ None → i ≡ c
@@ -300,5 +301,5 @@ handed_is old Deliver handed new step = (none_handed handed step.effect.0, λ x.
 handed_is old (Collect c) handed new step =
     let k : ℕ = slice_index old.collected c in
     let replies : List Reply = list_of old.replies c in
-    let less : k < length replies = is_less k (length replies) (unless_none (nat_lt k (length replies)) _ (second_none (why_no_caller old.map.callers c) _ step.enabled)) in
+    let less : k < length replies = ltb-true k (length replies) (unless_none (nat_lt k (length replies)) _ (second_none (why_no_caller old.map.callers c) _ step.enabled)) in
     (λ x. tt, λ x. some_handed handed (slice_index_or replies k (Answered Nowhere)) (step.effect.0 ∙ slice_get-get_or replies k (Answered Nowhere) less))

@@ -1,14 +1,10 @@
 -- A request has one answer on a map with what stands on it.
 use Rattle.std.proofs.Common.{◌≡◌, ℕ, Bool, true, false, ℤ, List, Option, None, Some, Ok, Err, sym, ap, ◌∙◌, subst, inl, inr}
 use Rattle.std.specs.Prelude.{Result}
+use Rattle.nav_types.proofs.Regions.{one_region, one_area}
 use Rattle.nav_types.specs.declared.cells.Cell.{Cell}
-use Rattle.nav_types.specs.declared.cells.Chunk.{Chunk}
-use Rattle.nav_types.specs.Cells.{chunk_of, IsBefore}
-use Rattle.nav_types.specs.Walks.{Joined}
-use Rattle.nav_types.specs.Regions.{passes_in, InOneRegion, IsAreaBefore, HasRegion, HasArea}
-use Rattle.nav_types.proofs.CellOrder.{IsBefore-asym, IsBefore-cases, IsAreaBefore-asym, IsAreaBefore-cases}
-use Rattle.nav_types.proofs.Walking.{Joined-sym, Joined-trans, JoinedStraight-sym, JoinedStraight-trans}
-use Rattle.nav_types.proofs.FirstCells.{HasNumber-unique}
+use Rattle.nav_types.specs.Cells.{chunk_of}
+use Rattle.nav_types.specs.Regions.{HasRegion, HasArea}
 use Rattle.goal_shapes.specs.declared.goals.Goal.{Goal}
 use Rattle.goal_reach.specs.declared.targets.Target.{Target}
 use Rattle.goal_reach.specs.Targets.{AreTargets, hit_by}
@@ -29,15 +25,6 @@ use Rattle.turn_core.specs.Words.{Standing}
 use Rattle.turn_core.specs.NamedGoals.{class_named, is_on_map, goal_found}
 use Rattle.turn_core.specs.Solving.{IsImpassable, is_near, IsPathAnswer, IsPathTo, IsPathFound, IsRegionAnswer, IsRegionAt, IsAnswerAt, IsAnswerTo, AreAnswersTo}
 use Rattle.turn_core.proofs.Itemwise.{IsItemwise, itemwise_unique}
-
-one_region : (passes : Cell → Bool) (chunk : Chunk) (cell : Cell) (m n : ℕ) → HasRegion passes chunk cell m → HasRegion passes chunk cell n → m ≡ n
-one_region passes chunk cell m n one two =
-    let P = passes_in passes chunk in
-    HasNumber-unique P (InOneRegion passes chunk) IsBefore (JoinedStraight-sym P) (JoinedStraight-trans P) IsBefore-asym IsBefore-cases cell m n one two
-
-one_area : (passes : Cell → Bool) (cell : Cell) (m n : ℕ) → HasArea passes cell m → HasArea passes cell n → m ≡ n
-one_area passes cell m n one two =
-    HasNumber-unique passes (Joined passes) IsAreaBefore (Joined-sym passes) (Joined-trans passes) IsAreaBefore-asym IsAreaBefore-cases cell m n one two
 
 -- ---- paths
 

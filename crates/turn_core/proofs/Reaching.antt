@@ -2,7 +2,7 @@
 use Rattle.std.proofs.Common.{◌≡◌, ℕ, zero, suc, ◌+◌, ◌-◌, ◌<◌, ◌≤◌, Bool, true, List, [], ◌∷◌, ◌++◌, Option, None, Some, length, map, take, drop, set, replicate, slice_index, slice_index_or, refl, sym, ap, ◌∙◌, subst, arith, append_assoc, append-nil, length-append, length-take-le, eq-eqb}
 use Rattle.std.specs.Prelude.{nat_lt, nat_le, slice_get, ◌==◌}
 use Rattle.std.proofs.lemmas.List.{get_or_at, set_at, map_push, length-map, take_at, drop_at, ext_get_or}
-use Rattle.std.proofs.lemmas.Bool.Decides.{nat_tests}
+use Rattle.std.proofs.lemmas.Bool.{lt-ltb, le-leb}
 use Rattle.grid_versions.specs.Maps.{Map}
 use Rattle.turn_core.specs.declared.events.Event.{Event}
 use Rattle.turn_core.specs.declared.events.Event.TheVariants.{Post as Posting, Stage, Start, Claim, Finish, Deliver}
@@ -17,20 +17,16 @@ use Rattle.turn_core.specs.Words.{Standing}
 use Rattle.turn_core.specs.Turns.{after_turn, jobs, of_caller, AreTurnReplies}
 use Rattle.turn_core.specs.States.{State, Run, list_of, stands_after_done}
 use Rattle.turn_core.specs.Table.{first, unless, or_else, why_not_each, why_staged, why_few, why_none_staged, why_running, why_answered, why_unanswered, why_no_delivery, last_turn, running_turn}
-use Rattle.turn_core.specs.Effects.{next_posts, added_up, joined_up, begun, known, given_turn, started, delivered, IsStep, IsRun}
+use Rattle.turn_core.specs.Effects.{next_posts, added_up, joined_up, begun, known, given_turn, started, delivered, IsStep, IsMachineRun, Reaches}
 use Rattle.turn_core.specs.Facts.{all_turns, Facts}
 use Rattle.turn_core.specs.Arrival.{posts_of, post_events, finishes, answering, CanStage, answered_run, in_stage, in_run, at_end}
 use Rattle.turn_core.proofs.CallerLists.{first_at, rest_at, next_posts_at, length-next_posts, lengths_at}
 use Rattle.turn_core.proofs.Threads.{one_turn}
 use Rattle.turn_core.proofs.Answering.{given_turn_are}
 
--- the events lead from the one state to the other
-abbrev pub Reaches : State → List Event → State → Type 0
-Reaches s es t = (handed : List (Option Reply)) × IsRun s es handed t
-
 -- one run after another
-pub run-append : (s : State) (es : List Event) (hs : List (Option Reply)) (t : State) (fs : List Event) (gs : List (Option Reply)) (u : State) → IsRun s es hs t → IsRun t fs gs u → IsRun s (es ++ fs) (hs ++ gs) u
-run-append s [] [] t fs gs u x y = subst (λ (z : State). IsRun z fs gs u) (sym x) y
+pub run-append : (s : State) (es : List Event) (hs : List (Option Reply)) (t : State) (fs : List Event) (gs : List (Option Reply)) (u : State) → IsMachineRun s es hs t → IsMachineRun t fs gs u → IsMachineRun s (es ++ fs) (hs ++ gs) u
+run-append s [] [] t fs gs u x y = subst (λ (z : State). IsMachineRun z fs gs u) (sym x) y
 run-append s [] (h ∷ hs) t fs gs u x y = absurd x
 run-append s (e ∷ es) [] t fs gs u x y = absurd x
 run-append s (e ∷ es) (h ∷ hs) t fs gs u x y = (x.0, (x.1.0, run-append x.0 es hs t fs gs u x.1.1 y))
@@ -51,12 +47,6 @@ none_or (Some why) b e f = e
 pub none_unless : (b : Bool) (why : Why) → b ≡ true → unless b why ≡ None
 none_unless b why e = ap (λ (z : Bool). unless z why) e
 
-pub less_is : (m n : ℕ) → m < n → nat_lt m n ≡ true
-less_is m n h = grind (arith, nat_tests)
-
-pub most_is : (m n : ℕ) → m ≤ n → nat_le m n ≡ true
-most_is m n h = grind (arith, nat_tests)
-
 -- ---- posts
 
 abbrev with_posted : State → List (List Post) → State
@@ -71,7 +61,7 @@ caller_posts s front got back c (p ∷ ps) here less =
     let same : more ≡ set old c (list_of old c ++ p ∷ []) =
     sym (ap (λ (l : List Post). set old c (l ++ p ∷ [])) (get_or_at front got back [] c here) ∙ set_at front got back (got ++ p ∷ []) c here) in
     let step : IsStep (with_posted s old) (Posting c p) None (with_posted s more) = record {
-      enabled = none_unless (nat_lt c s.map.callers) (Callers s.map.callers) (less_is c s.map.callers less);
+      enabled = none_unless (nat_lt c s.map.callers) (Callers s.map.callers) (lt-ltb c s.map.callers less);
       effect = (refl, ap (with_posted s) same);
     } in
     let rest : Reaches (with_posted s more) (posts_of c ps) (with_posted s (front ++ ((got ++ p ∷ []) ++ ps) ∷ back)) = caller_posts s front (got ++ p ∷ []) back c ps here less in
@@ -102,7 +92,7 @@ few_none k [] ts ks h = refl
 few_none k (ps ∷ pss) ts ks h =
     let few : first ks ≤ length ps - first ts = omega (arith, h 0, first_at ks, first_at ts) in
     none_or (unless (nat_le (first ks) (length ps - first ts)) (Posted k (length ps - first ts))) (why_few (k + 1) pss (drop 1 ts) (drop 1 ks))
-    (none_unless (nat_le (first ks) (length ps - first ts)) (Posted k (length ps - first ts)) (most_is (first ks) (length ps - first ts) few))
+    (none_unless (nat_le (first ks) (length ps - first ts)) (Posted k (length ps - first ts)) (le-leb (first ks) (length ps - first ts) few))
     (few_none (k + 1) pss (drop 1 ts) (drop 1 ks) (λ c. omega (arith, h (suc c), rest_at ks c 0, rest_at ts c 0)))
 
 cut_out : {A : Type 0} (d t rest : List A) → take (length t) (drop (length d) ((d ++ t) ++ rest)) ≡ t
@@ -143,7 +133,7 @@ stage_step s turn f e wide next = record {
 
 -- ---- the jobs of a turn
 
-start_step : (s : State) (turn : List (List Post)) → s.staged ≡ Some turn → s.running ≡ None → IsStep s Start None (in_run s (begun turn))
+pub start_step : (s : State) (turn : List (List Post)) → s.staged ≡ Some turn → s.running ≡ None → IsStep s Start None (in_run s (begun turn))
 start_step s turn e r = record {
   enabled = none_or (why_none_staged (last_turn s) s.staged) (why_running (running_turn s) s.running)
       (ap (why_none_staged (last_turn s)) e) (ap (why_running (running_turn s)) r);
@@ -158,7 +148,7 @@ claims : (s : State) (turn : List (List Post)) (answers : List (Option Answer)) 
 claims s turn answers k zero e = reach_none _ _ (ap (λ (j : ℕ). in_run s (run_at turn j answers)) (let f : k ≡ k + 0 = omega arith in f))
 claims s turn answers k (suc n) e =
     let step : IsStep (in_run s (run_at turn k answers)) Claim None (in_run s (run_at turn (k + 1) answers)) = record {
-      enabled = none_unless (nat_lt k (length (jobs turn))) (AllClaimed (length (jobs turn))) (less_is k (length (jobs turn)) (omega arith));
+      enabled = none_unless (nat_lt k (length (jobs turn))) (AllClaimed (length (jobs turn))) (lt-ltb k (length (jobs turn)) (omega arith));
       effect = (refl, refl);
     } in
     reach_step (in_run s (run_at turn k answers)) Claim None (in_run s (run_at turn (k + 1) answers)) (replicate n Claim) (in_run s (run_at turn (k + suc n) answers)) step
@@ -206,7 +196,7 @@ finish_all s turn n front (r ∷ rest) k here all x =
     ∙ sym (set_at told None (unknown (length rest)) (Some r) k place) in
     let step : IsStep (in_run s (run_at turn n old)) (Finish k) None (in_run s (run_at turn n new)) = record {
       enabled = none_or (unless (nat_lt k n) (Claimed n)) (why_answered k (slice_index_or old k None))
-          (none_unless (nat_lt k n) (Claimed n) (less_is k n within))
+          (none_unless (nat_lt k n) (Claimed n) (lt-ltb k n within))
           (ap (why_answered k) (get_or_at told None (unknown (length rest)) None k place));
       effect = (refl, (r, ((at.0, (subst (λ (j : ℕ). slice_get (jobs turn) j ≡ Some at.0) here at.1.0, at.1.1)), ap (λ (l : List (Option Answer)). in_run s (run_at turn n l)) same)));
     } in
@@ -253,7 +243,7 @@ deliver_step s turn rs rss e x y =
     record {
       enabled = ap (why_no_delivery (last_turn s)) e
           ∙ none_or (unless (nat_le n n) (Unclaimed n)) (why_unanswered 0 (map some_answer rs))
-          (none_unless (nat_le n n) (Unclaimed n) (most_is n n (omega arith)))
+          (none_unless (nat_le n n) (Unclaimed n) (le-leb n n (omega arith)))
           (all_answered 0 rs);
       effect = (refl, ap (at_end s turn) (sym same) ∙ sym (ap (delivered s) e));
     }

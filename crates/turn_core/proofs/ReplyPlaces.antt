@@ -8,16 +8,12 @@ use Rattle.std.proofs.lemmas.List.{get_or-set_other, length-set}
 use Rattle.std.proofs.lemmas.Bool.{cases_eq}
 use Rattle.std.proofs.lemmas.Grind.{flat_map-append}
 use Rattle.std.proofs.lemmas.Option.{slice_get_past, slice_get_read}
+use Rattle.nav_types.proofs.Items.{slice_get-before}
 use Rattle.turn_core.specs.declared.machines.delivered.DeliveredTurn.{DeliveredTurn}
 use Rattle.turn_core.specs.declared.machines.delivered.ReplyPlace.{ReplyPlace}
 use Rattle.turn_core.specs.declared.replies.Reply.{Reply}
 use Rattle.turn_core.specs.States.{list_of}
 use Rattle.turn_core.specs.inner.Runs.{replies_to, beginning, HasCome, HaveCome}
-
-get_front : {A : Type 0} (xs ys : List A) (k : ℕ) → k < length xs → slice_get (xs ++ ys) k ≡ slice_get xs k
-get_front [] ys k h = absurd (omega (arith, h))
-get_front (x ∷ xs) ys zero h = refl
-get_front (x ∷ xs) ys (suc k) h = get_front xs ys k (omega (arith, h))
 
 get_back : {A : Type 0} (xs ys : List A) (k : ℕ) → length xs ≤ k → slice_get (xs ++ ys) k ≡ slice_get ys (k - length xs)
 get_back [] ys k h = ap (slice_get ys) (let e : k ≡ k - 0 = omega arith in e)
@@ -49,7 +45,7 @@ next_is c ds n at d rs x lt is own within read come =
     let rest : List Reply = replies_to c (drop (at.turn + 1) ds) in
     let k : ℕ = at.place in
     sym (slice_get_read rs (length rs) k x refl within read)
-    ∙ sym (get_front rs rest k within)
+    ∙ sym (slice_get-before rs rest k within)
     ∙ ap (λ (l : List Reply). slice_get (l ++ rest) k) own
     ∙ ap (slice_get (list_of d.replies c ++ rest)) (let count : n ≡ length first + k = come.replies in let e : k ≡ n - length first = omega (arith, count) in e)
     ∙ sym (get_back first (list_of d.replies c ++ rest) n (let count : n ≡ length first + k = come.replies in omega (arith, count)))

@@ -10,12 +10,9 @@ use Rattle.grid_versions.specs.Passing.{passable_at}
 use Rattle.nav_types.proofs.Counting.{Counts-unique}
 use Rattle.turn_core.specs.declared.posts.Post.{Post}
 use Rattle.turn_core.specs.declared.posts.Post.TheVariants.{Edit as Editing, Ask as Asking}
-use Rattle.turn_core.specs.declared.posts.Request.{Request}
-use Rattle.turn_core.specs.declared.replies.Answer.{Answer}
 use Rattle.turn_core.specs.declared.replies.Reply.{Reply}
 use Rattle.turn_core.specs.declared.replies.Reply.TheVariants.{Answer as Answered}
 use Rattle.turn_core.specs.declared.replies.TurnReplies.{TurnReplies}
-use Rattle.turn_core.specs.Solving.{IsAnswerTo}
 use Rattle.turn_core.specs.Words.{Standing, bare, edited, TellsNumbers}
 use Rattle.turn_core.proofs.OneAnswer.{one_answer_to}
 use Rattle.turn_core.specs.Turns.{after, after_turn, standing, Gets, AreReplies, AreTurnReplies, OneThread, TellNumbers, IsTurnTold, replies_in, IsOneThread}
@@ -23,12 +20,9 @@ use Rattle.turn_core.specs.Turns.{after, after_turn, standing, Gets, AreReplies,
 pub same_cons : {A : Type 0} (x y : A) (xs ys : List A) → x ≡ y → xs ≡ ys → x ∷ xs ≡ y ∷ ys
 same_cons x y xs ys p q = cc
 
-pub one_answer_lem : (m : Map) (s : Standing) (q : Request) (a b : Answer) → IsAnswerTo m s q a → IsAnswerTo m s q b → a ≡ b
-one_answer_lem m s q a b x y = one_answer_to m s q a b x y
-
 one_reply : (m : Map) (final s : Standing) (p : Post) (a b : Reply) → Gets m final s p a → Gets m final s p b → a ≡ b
 one_reply m final s (Editing e) a b x y = x ∙ sym y
-one_reply m final s (Asking q) a b x y = x.1.0 ∙ ap Answered (one_answer_lem m final q x.0 y.0 x.1.1 y.1.1) ∙ sym y.1.0
+one_reply m final s (Asking q) a b x y = x.1.0 ∙ ap Answered (one_answer_to m final q x.0 y.0 x.1.1 y.1.1) ∙ sym y.1.0
 
 one_list : (m : Map) (final s : Standing) (ps : List Post) (a b : List Reply) → AreReplies m final s ps a → AreReplies m final s ps b → a ≡ b
 one_list m final s [] [] [] x y = refl

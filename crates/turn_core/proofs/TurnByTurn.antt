@@ -59,8 +59,8 @@ answers_moved state m s asked requests answers p q r are =
 
 -- ---- the replies to a turn
 
-same_state : (state : MapState) (m : Map) (s : Standing) → state.map ≡ m → state.standing ≡ s → state ≡ map_state m s
-same_state state m s p q = λ i. record { map = p i; standing = q i }
+pub same_version : (state : MapState) (m : Map) (s : Standing) → state.map ≡ m → state.standing ≡ s → state ≡ map_state m s
+same_version state m s p q = λ i. record { map = p i; standing = q i }
 
 -- the numbers of a turn
 pub numbers_told : (m : Map) (s : Standing) (turn : List (List Post)) (before after : MapState) (told : TurnReplies)
@@ -70,8 +70,8 @@ pub numbers_told : (m : Map) (s : Standing) (turn : List (List Post)) (before af
     → TellsNumbers m s (after_turn m s turn) told
 unfolding TellsNumbers
 numbers_told m s turn before after told bm bs am al tallies relabelled =
-    let was = same_state before m s bm bs in
-    let now = same_state after m (after_turn m s turn) am al in (
+    let was = same_version before m s bm bs in
+    let now = same_version after m (after_turn m s turn) am al in (
       subst (λ (v : MapState). HasTallies (length v.map.classes) (passes_of v) told.tallies.regions told.tallies.edges told.tallies.areas) now tallies,
       subst (λ (v : MapState). HasRelabelled (length v.map.classes) (passes_of v) (passes_of (map_state m (after_turn m s turn))) told.relabelled) was
           (subst (λ (v : MapState). HasRelabelled (length before.map.classes) (passes_of before) (passes_of v) told.relabelled) now relabelled),
@@ -88,7 +88,7 @@ numbers_more m s [] turn (t ∷ all) told x y = absurd x
 numbers_more m s (first ∷ journal) turn [] told x y = absurd x
 numbers_more m s (first ∷ journal) turn (t ∷ all) told x y = (x.0, numbers_more m (after_turn m s first) journal turn all told x.1 y)
 
-replies_end : (all : List TurnReplies) (told : TurnReplies) → replies_in (all ++ told ∷ []) ≡ replies_in all ++ told.replies ∷ []
+pub replies_end : (all : List TurnReplies) (told : TurnReplies) → replies_in (all ++ told ∷ []) ≡ replies_in all ++ told.replies ∷ []
 replies_end [] told = refl
 replies_end (t ∷ all) told = ap (λ (l : List (List (List Reply))). t.replies ∷ l) (replies_end all told)
 
@@ -115,7 +115,7 @@ turn_answered : (m : Map) (journal : List (List (List Post))) (turn : List (List
     → HasAnswered m journal before all → after.map ≡ before.map → after.standing ≡ after_turn before.map before.standing turn → IsTurnTold before.map before.standing turn told
     → HasAnswered m (journal ++ turn ∷ []) after (all ++ told ∷ [])
 turn_answered m journal turn before after all told has p q is =
-    let was = same_state before m (standing m bare journal) has.ground_map has.stands in
+    let was = same_version before m (standing m bare journal) has.ground_map has.stands in
     record {
       ground_map = p ∙ has.ground_map;
       stands = q ∙ ap (λ (v : MapState). after_turn v.map v.standing turn) was ∙ sym (standing_more m bare journal turn);

@@ -128,11 +128,15 @@ pub record IsStep (old : State) (event : Event) (handed : Option Reply) (new : S
   pub effect : Effect old event handed new
 
 -- the machine makes a step for each of the events, one after another, and hands out these replies
-abbrev pub IsRun : State → List Event → List (Option Reply) → State → Type 0
-IsRun old [] [] new = old ≡ new
-IsRun old [] (handed ∷ rest) new = ⊥
-IsRun old (event ∷ events) [] new = ⊥
-IsRun old (event ∷ events) (handed ∷ rest) new = (mid : State) × (IsStep old event handed mid × IsRun mid events rest new)
+abbrev pub IsMachineRun : State → List Event → List (Option Reply) → State → Type 0
+IsMachineRun old [] [] new = old ≡ new
+IsMachineRun old [] (handed ∷ rest) new = ⊥
+IsMachineRun old (event ∷ events) [] new = ⊥
+IsMachineRun old (event ∷ events) (handed ∷ rest) new = (mid : State) × (IsStep old event handed mid × IsMachineRun mid events rest new)
+
+-- the events lead from the one state to the other
+abbrev pub Reaches : State → List Event → State → Type 0
+Reaches old events new = (handed : List (Option Reply)) × IsMachineRun old events handed new
 
 -- the event is one that hands out a reply
 abbrev pub IsCollect : Event → Type 0

@@ -1,5 +1,5 @@
 -- Turns: what stands after posts, the requests of a turn, and the replies that one thread gives.
-use Rattle.std.specs.Prelude.{ℕ, ◌≡◌, List, [], ◌∷◌, map, filter_map, flat_map, slice_index_or}
+use Rattle.std.specs.Prelude.{ℕ, ◌≡◌, List, [], ◌∷◌, length, map, filter_map, flat_map, slice_index_or, sum_by}
 use Rattle.grid_versions.specs.Maps.{Map}
 use Rattle.grid_versions.specs.Editing.{edit_reply}
 use Rattle.turn_core.specs.declared.posts.Post.{Post}
@@ -34,6 +34,10 @@ requests posts = filter_map request_of posts
 -- the jobs of a turn: its requests caller by caller, in the order of the posts. A job's number is its place
 abbrev pub jobs : List (List Post) → List Request
 jobs turn = flat_map requests turn
+
+-- how many posts a turn has, over all callers
+abbrev pub post_count : List (List Post) → ℕ
+post_count turn = sum_by length turn
 
 -- Where `s` stands before a post and `final` after the edits of its turn, the post gets the reply: an edit gets its
 -- own, and a request its answer on what stands in the end.

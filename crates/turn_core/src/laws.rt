@@ -13,7 +13,7 @@ ghost use Rattle.turn_core.specs.Words.{Standing, bare};
 ghost use Rattle.turn_core.specs.Turns.{after_turn, jobs, standing, AreTurnReplies, IsTurnTold, OneThread, IsOneThread};
 ghost use Rattle.turn_core.specs.Turns.{of_caller};
 ghost use Rattle.turn_core.specs.States.{State, opening, list_of, stands_after_done};
-ghost use Rattle.turn_core.specs.Effects.{IsStep, IsRun, joined_up};
+ghost use Rattle.turn_core.specs.Effects.{IsStep, IsMachineRun, joined_up};
 ghost use Rattle.turn_core.specs.Facts.{Facts};
 ghost use Rattle.turn_core.specs.Arrival.{post_events, answering, arrival, CanStage, answered_run, in_stage, in_run};
 ghost use Rattle.turn_core.specs.Arrival.{at_end, CanArrive, HasArrived};
@@ -77,20 +77,20 @@ pub fn facts_are_kept()
 /// A law: the facts hold after each run from a state in which they hold.
 pub fn facts_hold_after_runs()
     ensures { (old : State) (events : List Event) (handed : List (Option Reply)) (new : State)
-        → Facts old → IsRun old events handed new → Facts new }
+        → Facts old → IsMachineRun old events handed new → Facts new }
 {}
 
 /// A law: a run and one from the state that it leaves are one run.
 pub fn runs_join()
     ensures { (old : State) (events : List Event) (handed : List (Option Reply)) (mid : State) (more : List Event) (rest : List (Option Reply))
         (new : State)
-        → IsRun old events handed mid → IsRun mid more rest new → IsRun old (events ++ more) (handed ++ rest) new }
+        → IsMachineRun old events handed mid → IsMachineRun mid more rest new → IsMachineRun old (events ++ more) (handed ++ rest) new }
 {}
 
 /// A law: each caller can post its list, caller by caller, and then has it behind what it posted before.
 pub fn lists_are_posted()
     ensures { (s : State) (posted : List (List Post)) → length s.posted ≡ s.map.callers → length posted ≡ s.map.callers
-        → (handed : List (Option Reply)) × IsRun s (post_events 0 posted) handed
+        → (handed : List (Option Reply)) × IsMachineRun s (post_events 0 posted) handed
         (record s { posted = joined_up s.posted posted }) }
 {}
 
@@ -107,7 +107,7 @@ pub fn posted_turns_are_staged()
 pub fn staged_turns_are_answered()
     ensures { (s : State) (turn : List (List Post)) (answers : List Answer) → s.staged ≡ Some turn → s.running ≡ None
         → AreAnswersTo s.map (after_turn s.map (stands_after_done s) turn) (jobs turn) answers
-        → (handed : List (Option Reply)) × IsRun s (answering turn) handed (in_run s (answered_run turn answers)) }
+        → (handed : List (Option Reply)) × IsMachineRun s (answering turn) handed (in_run s (answered_run turn answers)) }
 {}
 
 /// A law: a running turn whose jobs are answered can be delivered, with the replies of one thread to it.
@@ -122,9 +122,9 @@ pub fn answered_turns_are_delivered()
 /// A law: events lead to one state, and hand out the same replies.
 pub fn one_run()
     ensures replies { (old : State) (events : List Event) (a b : List (Option Reply)) (s t : State)
-        → IsRun old events a s → IsRun old events b t → a ≡ b }
+        → IsMachineRun old events a s → IsMachineRun old events b t → a ≡ b }
     ensures state { (old : State) (events : List Event) (a b : List (Option Reply)) (s t : State)
-        → IsRun old events a s → IsRun old events b t → s ≡ t }
+        → IsMachineRun old events a s → IsMachineRun old events b t → s ≡ t }
 {}
 
 /// A law: the machine can come to each journal that one thread answers. Where each caller's posts in the
@@ -135,12 +135,12 @@ pub fn each_journal_is_reached()
         (all : List (List (List Reply)))
         → CanArrive m journal posted counts → OneThread m bare journal all
         → (handed : List (Option Reply)) × ((new : State)
-        × (IsRun (opening m) (arrival journal posted counts) handed new × HasArrived m new journal posted counts all)) }
+        × (IsMachineRun (opening m) (arrival journal posted counts) handed new × HasArrived m new journal posted counts all)) }
     ensures each { (m : Map) (journal : List (List (List Post))) (posted : List (List Post)) (counts : List ℕ)
         (all : List (List (List Reply)))
         (handed : List (Option Reply)) (new : State)
         → CanArrive m journal posted counts → OneThread m bare journal all
-        → IsRun (opening m) (arrival journal posted counts) handed new → HasArrived m new journal posted counts all }
+        → IsMachineRun (opening m) (arrival journal posted counts) handed new → HasArrived m new journal posted counts all }
 {}
 
 /// A law: where nothing is staged or running and all posts are taken, each post has exactly one reply.

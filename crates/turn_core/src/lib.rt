@@ -24,7 +24,9 @@ pub use cores::Core;
 pub use events::{Event, StepRefusal, Takes, Why};
 pub use journals::{answer_turn, one_thread};
 pub use named_goals::goal_of;
-pub use posts::{Jobs, Journal, Post, Posts, Request, TurnPosts, empty_lists, push_post};
+pub use posts::{
+    Jobs, Journal, Post, Posts, Request, TurnPosts, count_posts, empty_lists, push_post,
+};
 pub use ready_turns::{AnsweredTurn, ReadyTurn};
 pub use replies::{
     AllReplies, Answer, Answers, CallerReplies, OpenedNumbers, PathAnswer, RegionAnswer, Replies,

@@ -202,7 +202,7 @@ impl Machine {
             self.taken.as_slice(),
             takes.as_slice(),
         )?;
-        let base = running::base_of(&self.version, &self.running);
+        let base = running::version_for_next(&self.version, &self.running);
         let ready = running::begun(self.alloc, base, turn)?;
         self.taken = taken;
         self.staged = Some(ready);

@@ -1,7 +1,8 @@
 //! Posts, the requests among them, and lists of them.
-ghost use Rattle.std.specs.Prelude.{◌≡◌, ◌<◌, [], ◌∷◌, ◌++◌, IfOk, OnOk, OnErr, length, replicate, slice_set};
+ghost use Rattle.std.specs.Prelude.{◌≡◌, ◌<◌, ◌^◌, [], ◌∷◌, ◌++◌, IfOk, OnOk, OnErr, length, replicate, slice_set};
 ghost use Rattle.turn_core.specs.Words.{request_of, edit_of};
 ghost use Rattle.turn_core.specs.States.{list_of};
+ghost use Rattle.turn_core.specs.Turns.{post_count};
 
 use crate::copying::Copied;
 use class_config::ClassName;
@@ -124,6 +125,18 @@ pub fn empty_lists(alloc: Global, callers: usize) -> Result<Vec<Posts>, NoMemory
         posted.push(Sequence::new(alloc))?;
     }
     Ok(posted)
+}
+
+/// How many posts a turn has, over all callers.
+pub fn count_posts(turn: &[Posts]) -> u64
+    requires { post_count turn.now < 2 ^ 64 }
+    ensures { result ≡ post_count turn.now }
+{
+    let mut count = 0;
+    for posts in turn {
+        count += posts.len() as u64;
+    }
+    count
 }
 
 /// Appends a post to those of a caller.

@@ -1,6 +1,7 @@
 -- There is one chosen walk into a cell, and so one answer to a search.
 use Rattle.std.proofs.Common.{◌≡◌, ℕ, ◌≤◌, inl, inr, List, [], ◌∷◌, Bool, Option, Some, None, refl, sym, subst, ap, ◌∙◌, arith, reverse}
 use Rattle.std.proofs.lemmas.List.{reverse-reverse}
+use Rattle.std.proofs.lemmas.Option.{same_Some}
 use Rattle.nav_types.specs.declared.cells.Cell.{Cell}
 use Rattle.nav_types.specs.declared.directions.Dir.{Dir}
 use Rattle.nav_types.specs.Directions.{Leads}
@@ -18,12 +19,9 @@ one_first Within (first ∷ rest) d e (inl p) (inr q) = absurd (q.0 p.0)
 one_first Within (first ∷ rest) d e (inr p) (inl q) = absurd (p.0 q.0)
 one_first Within (first ∷ rest) d e (inr p) (inr q) = one_first Within rest d e p.1 q.1
 
-pub some_same : (d e : Dir) → Some d ≡ Some e → d ≡ e
-some_same d e p = cc
-
 -- the picked direction is one
 one_picked : (Within : Dir → Type 0) (next : Option Dir) (d e : Dir) → IsPicked Within next d → IsPicked Within next e → d ≡ e
-one_picked Within next d e (inl p) (inl q) = some_same d e (sym p.1 ∙ q.1)
+one_picked Within next d e (inl p) (inl q) = same_Some d e (sym p.1 ∙ q.1)
 one_picked Within next d e (inl p) (inr q) = absurd (q.0 p.0)
 one_picked Within next d e (inr p) (inl q) = absurd (p.0 q.0)
 one_picked Within next d e (inr p) (inr q) = one_first Within preference d e p.1 q.1

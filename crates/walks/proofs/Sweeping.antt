@@ -13,29 +13,9 @@ use Rattle.nav_types.specs.Cells.{IsInside}
 use Rattle.nav_types.specs.Directions.{step_cost}
 use Rattle.nav_types.specs.Walks.{Step, IsWalk, walk_cost}
 use Rattle.nav_types.specs.Places.{place_of, cell_of}
-use Rattle.walks.specs.inner.Tables.{entry, unreached, CoversMap, IsSoundTable, IsSoundForSome, IsSettledAlong, IsSettledAt, IsSettled, Relaxes, HasDistances}
+use Rattle.walks.specs.inner.Tables.{entry, unreached, CoversMap, IsSoundTable, IsSoundForSome, IsSettledAlong, IsSettledAt, IsSettled, Lowers, HasDistances}
 use Rattle.nav_types.proofs.CellPlaces.{place_of-lt, place_of-inj, cell_of-place_of}
-use Rattle.nav_types.proofs.Walking.{IsWalk-push, walk_cost-push, leads_to_same}
-
-pub step_cost_most : (dir : Dir) → step_cost dir ≤ 92682
-step_cost_most N = omega arith
-step_cost_most E = omega arith
-step_cost_most S = omega arith
-step_cost_most W = omega arith
-step_cost_most NE = omega arith
-step_cost_most SE = omega arith
-step_cost_most SW = omega arith
-step_cost_most NW = omega arith
-
-pub step_cost_some : (dir : Dir) → 0 < step_cost dir
-step_cost_some N = omega arith
-step_cost_some E = omega arith
-step_cost_some S = omega arith
-step_cost_some W = omega arith
-step_cost_some NE = omega arith
-step_cost_some SE = omega arith
-step_cost_some SW = omega arith
-step_cost_some NW = omega arith
+use Rattle.nav_types.proofs.Walking.{IsWalk-push, walk_cost-push, leads_to_same, step_cost_most, step_cost_some}
 
 pub few_cells : (size : Size) → size.w * size.h ≤ 4194304
 few_cells size =
@@ -180,7 +160,7 @@ sound_lowered passes start size costs cell next dir cost low sound =
 pub relaxes_along : (passes : Cell → Bool) (size : Size) (costs news : List ℕ) (cell next : Cell) (dir : Dir) (cost : ℕ) (fell : Bool)
     → CoversMap size costs → IsInside size cell → IsInside size next → Step passes dir cell next → cost ≡ entry size costs cell + step_cost dir
     → fell ≡ ltb cost (entry size costs next) → news ≡ cond fell (set costs (place_of size next) cost) costs
-    → Relaxes passes size (IsSettledAlong passes size cell dir) costs news fell
+    → Lowers passes size (IsSettledAlong passes size cell dir) costs news fell
 relaxes_along passes size costs news cell next dir cost true covers in_cell in_next step is tested lowered =
     let low : IsLowered passes size costs cell next dir cost = record { in_cell = in_cell; in_next = in_next; step = step; is = is; less = ltb-true cost (entry size costs next) (sym tested) } in
     let within : place_of size next < length costs = omega (arith, place_of-lt size next in_next, covers) in
@@ -202,7 +182,7 @@ relaxes_along passes size costs news cell next dir cost false covers in_cell in_
           subst P (sym kept) (subst Q (leads_to_same dir cell next other step.leads taken.leads) (omega arith));
     }
 
-pub relaxes_none : (passes : Cell → Bool) (size : Size) (Settled : List ℕ → Type 0) (costs : List ℕ) → Settled costs → Relaxes passes size Settled costs costs false
+pub relaxes_none : (passes : Cell → Bool) (size : Size) (Settled : List ℕ → Type 0) (costs : List ℕ) → Settled costs → Lowers passes size Settled costs costs false
 relaxes_none passes size Settled costs settled = record {
   sound = λ start sound. sound;
   less = λ e. absurd (both_ways false refl e);
@@ -212,8 +192,8 @@ relaxes_none passes size Settled costs settled = record {
 
 -- one round more of a loop
 pub relaxes_more : (passes : Cell → Bool) (size : Size) (Settled : ℕ → List ℕ → Type 0) (i : ℕ) (a b c : List ℕ) (f g : Bool)
-    → Relaxes passes size (λ table. (k : ℕ) → k < i → Settled k table) a b f → Relaxes passes size (Settled i) b c g
-    → Relaxes passes size (λ table. (k : ℕ) → k < i + 1 → Settled k table) a c (f || g)
+    → Lowers passes size (λ table. (k : ℕ) → k < i → Settled k table) a b f → Lowers passes size (Settled i) b c g
+    → Lowers passes size (λ table. (k : ℕ) → k < i + 1 → Settled k table) a c (f || g)
 relaxes_more passes size Settled i a b c f g old new = record {
   sound = λ start sound. new.sound start (old.sound start sound);
   less = λ e. elim (cases_Bool f) [
@@ -234,7 +214,7 @@ relaxes_more passes size Settled i a b c f g old new = record {
 }
 
 pub relaxes_as : (passes : Cell → Bool) (size : Size) (Settled Wanted : List ℕ → Type 0) (a b : List ℕ) (f : Bool)
-    → ((table : List ℕ) → Settled table → Wanted table) → Relaxes passes size Settled a b f → Relaxes passes size Wanted a b f
+    → ((table : List ℕ) → Settled table → Wanted table) → Lowers passes size Settled a b f → Lowers passes size Wanted a b f
 relaxes_as passes size Settled Wanted a b f turn relaxes = record {
   sound = relaxes.sound;
   less = relaxes.less;
@@ -242,7 +222,7 @@ relaxes_as passes size Settled Wanted a b f turn relaxes = record {
   settled = λ e. turn b (relaxes.settled e);
 }
 
-pub table_kept : (passes : Cell → Bool) (size : Size) (Settled : List ℕ → Type 0) (a b : List ℕ) (f : Bool) → Relaxes passes size Settled a b f → IsSoundForSome passes size a → IsSoundForSome passes size b
+pub table_kept : (passes : Cell → Bool) (size : Size) (Settled : List ℕ → Type 0) (a b : List ℕ) (f : Bool) → Lowers passes size Settled a b f → IsSoundForSome passes size a → IsSoundForSome passes size b
 table_kept passes size Settled a b f relaxes table = (table.0, relaxes.sound table.0 table.1)
 
 pub settled_throughout : (passes : Cell → Bool) (size : Size) (costs : List ℕ) (forward : Bool) (count passed : ℕ) → count ≡ size.w * size.h → count ≤ passed

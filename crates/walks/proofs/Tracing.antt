@@ -15,8 +15,7 @@ use Rattle.nav_types.specs.Walks.{CanReach}
 use Rattle.nav_types.specs.Places.{place_of, cell_of}
 use Rattle.walks.specs.inner.Tables.{entry, unreached, HasDistances, IsReachedCell, Arrives}
 use Rattle.nav_types.proofs.CellPlaces.{place_of-lt, place_of-cell_of, cell_of-place_of, cell_of-inside, not_after}
-use Rattle.nav_types.proofs.Walking.{IsWalk-push, walk_cost-push, IsWalk-passes, IsDistance-unique, leads_from_same, Leads-from_opposite, Step-opposite, Step-from_opposite}
-use Rattle.walks.proofs.Sweeping.{step_cost_some}
+use Rattle.nav_types.proofs.Walking.{IsWalk-push, walk_cost-push, IsWalk-passes, IsDistance-unique, leads_from_same, Leads-from_opposite, Step-opposite, Step-from_opposite, step_cost_some}
 
 -- the least cost of a hit cell among the first places, and the first place that has it
 pub record IsNearest (costs : List ℕ) (hit : ℕ → Bool) (count least best : ℕ) : Type 0 where
@@ -222,13 +221,13 @@ pub chosen_cost : (passes : Cell → Bool) (start end : Cell) (dirs : List Dir) 
 chosen_cost passes start end dirs cost chosen distance =
     ap walk_cost (sym (reverse-reverse dirs)) ∙ chosen_back_cost passes start (reverse dirs) None end cost chosen distance
 
--- the walk stays in the largest map
-
-in_grid : (size : Size) (cell : Cell) → IsInside size cell → IsInGrid cell
+-- cells of a map lie in the largest map
+pub in_grid : (size : Size) (cell : Cell) → IsInside size cell → IsInGrid cell
 in_grid size cell inside =
     let wide = size.wide in let high = size.high in
     (omega (arith, inside.column, wide.few), omega (arith, inside.row, high.few))
 
+-- the walk stays in the largest map
 pub stays_in_grid : (passes : Cell → Bool) (size : Size) → ((cell : Cell) → IsTrue (passes cell) → IsInside size cell) → (dirs : List Dir) (from to : Cell) → IsTrue (passes from) → IsWalk passes from dirs to → StaysInGrid from dirs
 stays_in_grid passes size within [] from to passing walk = in_grid size from (within from passing)
 stays_in_grid passes size within (dir ∷ dirs) from to passing walk =

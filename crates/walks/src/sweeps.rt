@@ -4,7 +4,7 @@ ghost use Rattle.std.specs.Prelude.{Bool, ◌≡◌, ◌-◌, ◌<◌, slice_set
 ghost use Rattle.nav_types.specs.declared.cells.Cell.{Cell};
 ghost use Rattle.nav_types.specs.Cells.{IsInside};
 ghost use Rattle.nav_types.specs.Places.{place_of};
-ghost use Rattle.walks.specs.inner.Tables.{entry, CoversMap, IsSoundTable, IsSoundForSome, IsSettledAlong, IsSettledAt, IsSettled, Relaxes, HasDistances};
+ghost use Rattle.walks.specs.inner.Tables.{entry, CoversMap, IsSoundTable, IsSoundForSome, IsSettledAlong, IsSettledAt, IsSettled, Lowers, HasDistances};
 
 use crate::places::{cell_at_place, cell_count, place};
 use nav_types::{Cell, Class, Dir, NoMemory, View, step};
@@ -55,7 +55,7 @@ fn relax_along<V: View>(view: &V, class: Class, costs: &mut Vec<u64>, cell: Cell
     requires class { class < V.class_count view.now }
     requires inside { IsInside (V.extent view.now) cell }
     requires table { IsSoundForSome (V.passes view.now class) (V.extent view.now) costs.old.items }
-    ensures { Relaxes (V.passes view.now class) (V.extent view.now)
+    ensures { Lowers (V.passes view.now class) (V.extent view.now)
         (IsSettledAlong (V.passes view.now class) (V.extent view.now) cell dir) costs.old.items costs.new.items result }
 {
     let Some(next) = step(view, class, cell, dir) else {
@@ -70,7 +70,7 @@ fn relax<V: View>(view: &V, class: Class, costs: &mut Vec<u64>, cell: Cell) -> b
     requires class { class < V.class_count view.now }
     requires inside { IsInside (V.extent view.now) cell }
     requires table { IsSoundForSome (V.passes view.now class) (V.extent view.now) costs.old.items }
-    ensures { Relaxes (V.passes view.now class) (V.extent view.now)
+    ensures { Lowers (V.passes view.now class) (V.extent view.now)
         (IsSettledAt (V.passes view.now class) (V.extent view.now) cell) costs.old.items costs.new.items result }
 {
     let mut fell = false;
@@ -84,7 +84,7 @@ fn relax<V: View>(view: &V, class: Class, costs: &mut Vec<u64>, cell: Cell) -> b
 fn sweep<V: View>(view: &V, class: Class, costs: &mut Vec<u64>, forward: bool) -> bool
     requires class { class < V.class_count view.now }
     requires table { IsSoundForSome (V.passes view.now class) (V.extent view.now) costs.old.items }
-    ensures { Relaxes (V.passes view.now class) (V.extent view.now)
+    ensures { Lowers (V.passes view.now class) (V.extent view.now)
         (IsSettled (V.passes view.now class) (V.extent view.now)) costs.old.items costs.new.items result }
 {
     let count = cell_count(view);

@@ -49,7 +49,7 @@ pub record AreBounded (regions : List ℕ) (firsts : List Cell) : Type 0 where
   pub within : (k : ℕ) → k < length regions → (1 ≤ slice_index regions k) × (slice_index regions k ≤ length firsts)
 
 -- the number is 1 plus the place of a first cell that the cell is joined to, and that does not come after it
-pub record IsPlaced (passes : Cell → Bool) (firsts : List Cell) (cell : Cell) (number : ℕ) : Type 0 where
+pub record IsNumberAmong (passes : Cell → Bool) (firsts : List Cell) (cell : Cell) (number : ℕ) : Type 0 where
   pub place : ℕ
   pub first : Cell
   pub found : slice_get firsts place ≡ Some first
@@ -62,7 +62,7 @@ pub record IsPlaced (passes : Cell → Bool) (firsts : List Cell) (cell : Cell) 
 pub record AreGroups (passes : Cell → Bool) (chunk : Chunk) (runs : Runs) (regions : List ℕ) (firsts : List Cell)
     : Type 0 where
   pub placed : (place : Place) (cell : Cell) → HasCell chunk runs place cell → place.at < length regions
-      → IsPlaced passes firsts cell (slice_index regions place.at)
+      → IsNumberAmong passes firsts cell (slice_index regions place.at)
   pub first_numbers : (k : ℕ) (first : Cell) → slice_get firsts k ≡ Some first
       → (place : Place) × (HasCell chunk runs place first × ((place.at < length regions) × (slice_index regions place.at ≡ k + 1)))
   pub rising : AllPairs IsBefore firsts

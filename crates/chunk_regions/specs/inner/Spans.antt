@@ -75,15 +75,15 @@ pub record IsCut (passes : Cell → Bool) (chunk : Chunk) (runs : Runs) : Type 0
   pub passing : (place : Place) (cell : Cell) → HasCell chunk runs place cell → IsTrue (passes cell)
 
 -- whether there is a span that holds the column
-abbrev pub holds : Option Span → ℕ → Bool
-holds None column = false
-holds (Some span) column = nat_le span.first column && nat_le column span.last
+abbrev pub span_has : Option Span → ℕ → Bool
+span_has None column = false
+span_has (Some span) column = nat_le span.first column && nat_le column span.last
 
 -- the region of the first of so many spans from place k on that holds the column, 0 where none does
 abbrev pub region_from : Runs → List ℕ → ℕ → ℕ → ℕ → ℕ
 region_from runs regions column zero k = 0
 region_from runs regions column (suc count) k =
-    if holds (slice_get runs.spans k) column then slice_index regions k else region_from runs regions column count
+    if span_has (slice_get runs.spans k) column then slice_index regions k else region_from runs regions column count
     (k + 1)
 
 -- the region of the span that holds a column of a row, 0 where none does

@@ -74,7 +74,7 @@ AreSameIn before lines rect from to = (n i : ℕ) → from ≤ n → n < to → 
     → bit_in (line_at before n) i ≡ bit_in (line_at lines n) i
 
 -- place i of line n lies in a word that the rectangle meets, or that meets a place beside it
-pub record IsNear (rect : Rect) (n i : ℕ) : Type 0 where
+pub record IsInTouchedWord (rect : Rect) (n i : ℕ) : Type 0 where
   pub south : rect.j0 ≤ n + 1
   pub north : n ≤ rect.j1 + 1
   pub west : (rect.i0 - 1) / 64 ≤ i / 64
@@ -106,7 +106,7 @@ AreStops way count lines stops = AreStopsWhere (λ n i. ⊤) way lines count (co
 
 -- the place is near none of the rectangles
 abbrev pub IsFarFrom : List Rect → ℕ → ℕ → Type 0
-IsFarFrom rects n i = All (λ rect. IsNear rect n i → ⊥) rects
+IsFarFrom rects n i = All (λ rect. IsInTouchedWord rect n i → ⊥) rects
 
 -- the stops before some places changed, all of them in these rectangles
 abbrev pub AreStopsBefore : Way → List Rect → ℕ → LineTable → LineTable → Type 0

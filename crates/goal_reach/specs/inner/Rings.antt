@@ -11,8 +11,8 @@ abbrev pub rect_of : Cell → Rect
 rect_of cell = record { i0 = cell.i; j0 = cell.j; i1 = cell.i; j1 = cell.j }
 
 -- the rectangle of a whole map
-abbrev pub whole : Size → Rect
-whole size = record { i0 = 0; j0 = 0; i1 = size.w - 1; j1 = size.h - 1 }
+abbrev pub whole_map : Size → Rect
+whole_map size = record { i0 = 0; j0 = 0; i1 = size.w - 1; j1 = size.h - 1 }
 
 -- the rectangle with so many columns and rows more on each side
 abbrev pub widened : ℕ → Rect → Rect
@@ -23,7 +23,7 @@ abbrev pub clipped : Size → Rect → Rect
 clipped size rect = record { i0 = rect.i0; j0 = rect.j0; i1 = min rect.i1 (size.w - 1); j1 = min rect.j1 (size.h - 1) }
 
 -- the first rectangle holds the second
-pub record Holds (outer inner : Rect) : Type 0 where
+pub record Encloses (outer inner : Rect) : Type 0 where
   pub west : outer.i0 ≤ inner.i0
   pub east : inner.i1 ≤ outer.i1
   pub south : outer.j0 ≤ inner.j0

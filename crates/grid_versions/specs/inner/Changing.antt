@@ -9,8 +9,8 @@ use Rattle.region_edges.specs.Edges.{PassesInside}
 use Rattle.grid_versions.specs.inner.Tallying.{AreMarks}
 
 -- each cell of the chunk is passable in both maps or in neither
-abbrev pub AgreeIn : (Cell → Bool) → (Cell → Bool) → Chunk → Type 0
-AgreeIn before now chunk = (cell : Cell) → chunk_of cell ≡ chunk → before cell ≡ now cell
+abbrev pub AgreeInChunk : (Cell → Bool) → (Cell → Bool) → Chunk → Type 0
+AgreeInChunk before now chunk = (cell : Cell) → chunk_of cell ≡ chunk → before cell ≡ now cell
 
 -- the bits of the class, one a chunk, are set exactly where the chunk differs between the two maps
 pub record AreChanges (before now : Cell → Bool) (size : Size) (class : ℕ) (bits : List ℕ) : Type 0 where

@@ -53,7 +53,7 @@ pub record AreReachersBefore (map : Map) (now : Standing) (all : List (List ℕ)
   pub named : NameChanges map earlier now rects ids
 
 -- one of the rectangles is of the number and holds the cell
-pub record IsReached (reachers : List Reacher) (id : ℕ) (cell : Cell) : Type 0 where
+pub record IsReachNoted (reachers : List Reacher) (id : ℕ) (cell : Cell) : Type 0 where
   pub reacher : Reacher
   pub listed : Contains reachers reacher
   pub of : reacher.id ≡ id
@@ -63,7 +63,7 @@ pub record IsReached (reachers : List Reacher) (id : ℕ) (cell : Cell) : Type 0
 abbrev pub HoldReached : Map → Standing → List Reacher → ℕ → Type 0
 HoldReached map standing reachers id = (obstruction : Obstruction) → fin_map.get standing id ≡ Some obstruction
     → (k : ℕ) (cell : Cell) → IsInside map.size cell → IsTrue (blocks_class obstruction map.classes k cell)
-    → IsReached reachers id cell
+    → IsReachNoted reachers id cell
 
 -- the lists of all chunks under some earlier obstructions, with the rectangles and the numbers of what has changed since
 pub record AreReachersSince (map : Map) (now : Standing) (all : List (List ℕ)) (rects : List Rect) (ids : List ℕ)

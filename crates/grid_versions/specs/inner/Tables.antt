@@ -27,12 +27,12 @@ pub record Tables : Type 0 where
   pub areas : AreaNumbers
 
 -- the number of regions of each chunk
-abbrev pub counts_of : List Labelling → List ℕ
-counts_of labels = map (λ one. length one.firsts) labels
+abbrev pub label_counts : List Labelling → List ℕ
+label_counts labels = map (λ one. length one.firsts) labels
 
 -- the same, of the tables of a class
 abbrev pub region_counts : Tables → List ℕ
-region_counts tables = counts_of tables.labels
+region_counts tables = label_counts tables.labels
 
 -- the number of regions of all chunks
 abbrev pub region_total : Tables → ℕ
@@ -43,7 +43,7 @@ abbrev pub edge_total : Tables → ℕ
 edge_total tables = sum_by length tables.east + sum_by length tables.north
 
 -- an edge leads from region a to region b, whose chunks are named by their places
-pub record AreTouching (passes : Cell → Bool) (size : Size) (a b : RegionId) : Type 0 where
+pub record HaveEdge (passes : Cell → Bool) (size : Size) (a b : RegionId) : Type 0 where
   pub here : Chunk
   pub there : Chunk
   pub next : IsNextChunk here there
@@ -53,8 +53,8 @@ pub record AreTouching (passes : Cell → Bool) (size : Size) (a b : RegionId) :
 
 -- the links are exactly the region edges of the map
 pub record AreLinks (passes : Cell → Bool) (size : Size) (links : List (RegionId × RegionId)) : Type 0 where
-  pub each : (a b : RegionId) → Contains links (a, b) → AreTouching passes size a b
-  pub all : (a b : RegionId) → AreTouching passes size a b → Contains links (a, b)
+  pub each : (a b : RegionId) → Contains links (a, b) → HaveEdge passes size a b
+  pub all : (a b : RegionId) → HaveEdge passes size a b → Contains links (a, b)
 
 -- the labels of all chunks of a map, in order
 abbrev pub AreAllLabels : (Cell → Bool) → Size → List Labelling → Type 0

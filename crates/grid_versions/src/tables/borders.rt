@@ -5,7 +5,7 @@ ghost use Rattle.reach_sets.specs.declared.regions.RegionId.{RegionId};
 ghost use Rattle.region_edges.specs.Edges.{AreEdges, PassesInside};
 ghost use Rattle.grid_versions.specs.Chunks.{chunk_count};
 ghost use Rattle.grid_versions.specs.inner.ChunkLists.{chunk_numbered, neighbour_on, IsRemadeAt};
-ghost use Rattle.grid_versions.specs.inner.Changing.{AreChanges, AgreeIn};
+ghost use Rattle.grid_versions.specs.inner.Changing.{AreChanges, AgreeInChunk};
 ghost use Rattle.grid_versions.specs.inner.Tables.{AreAllLabels, AreAllEdges};
 ghost use Rattle.grid_versions.specs.inner.Building.{IsLaidOut, IsSideLink, link_between};
 
@@ -73,7 +73,7 @@ fn is_touched(size: Size, changed: &[u16], class: Class, place: u32, side: Side)
     requires within { place < chunk_count size }
     requires each { length changed.now ≡ chunk_count size }
     ensures { IsFalse result → (old now : Cell → Bool) → AreChanges old now size class changed.now
-        → AgreeIn old now (chunk_numbered size place) × AgreeIn old now (neighbour_on side (chunk_numbered size place)) }
+        → AgreeInChunk old now (chunk_numbered size place) × AgreeInChunk old now (neighbour_on side (chunk_numbered size place)) }
 {
     if is_marked(changed, place, class) {
         return true;

@@ -5,7 +5,7 @@ ghost use Rattle.chunk_regions.specs.Labelling.{Labelling, AreLabels};
 ghost use Rattle.grid_versions.specs.Chunks.{chunk_count};
 ghost use Rattle.grid_versions.specs.inner.ChunkLists.{chunk_numbered, IsRemadeAt};
 ghost use Rattle.grid_versions.specs.inner.Changing.{AreChanges};
-ghost use Rattle.grid_versions.specs.inner.Tables.{AreAllLabels, counts_of};
+ghost use Rattle.grid_versions.specs.inner.Tables.{AreAllLabels, label_counts};
 
 use crate::chunk_bits::BitView;
 use crate::chunks;
@@ -76,7 +76,7 @@ fn relabel_at<V: BitView, L: Ledger>(
         → AreLabels old (V.extent view.now) (chunk_numbered (V.extent view.now) place) item)) }
     ensures labels { OnOk result (IsRemadeAt place (AreLabels (V.passes view.now class) (V.extent view.now)
         (chunk_numbered (V.extent view.now) place)) labels.old labels.new) }
-    ensures count { IfOk result (λ stays. IsTrue stays → counts_of labels.new ≡ counts_of labels.old) }
+    ensures count { IfOk result (λ stays. IsTrue stays → label_counts labels.new ≡ label_counts labels.old) }
     ensures most { (mark : Bool) → slice_get (map (has_class class) changed.now) place ≡ Some mark
         → ticks.new ≤ ticks.old + cond mark 1 0 }
 {
@@ -103,7 +103,7 @@ fn relabel<V: BitView, L: Ledger>(
     requires before { (old : Cell → Bool) × (AreAllLabels old (V.extent view.now) labels.old
         × AreChanges old (V.passes view.now class) (V.extent view.now) class changed.now) }
     ensures labels { OnOk result (AreAllLabels (V.passes view.now class) (V.extent view.now) labels.new) }
-    ensures counts { IfOk result (λ stay. IsTrue stay → counts_of labels.new ≡ counts_of labels.old) }
+    ensures counts { IfOk result (λ stay. IsTrue stay → label_counts labels.new ≡ label_counts labels.old) }
     ensures most { ticks.new ≤ ticks.old + count_by (has_class class) changed.now }
 {
     let count = chunks::count(view.size());
@@ -129,7 +129,7 @@ pub fn next_labels<V: BitView, L: Ledger>(
     requires before { (old : Cell → Bool) × (AreAllLabels old (V.extent view.now) before.now
         × AreChanges old (V.passes view.now class) (V.extent view.now) class changed.now) }
     ensures labels { IfOk result (λ made. AreAllLabels (V.passes view.now class) (V.extent view.now) made.0) }
-    ensures counts { IfOk result (λ made. IsTrue made.1 → counts_of made.0 ≡ counts_of before.now) }
+    ensures counts { IfOk result (λ made. IsTrue made.1 → label_counts made.0 ≡ label_counts before.now) }
     ensures most { ticks.new ≤ ticks.old + count_by (has_class class) changed.now }
 {
     let mut labels = before.share(alloc)?;

@@ -36,7 +36,7 @@ abbrev pub LacksState : List Node → JumpState → Type 0
 LacksState nodes state = (number : ℕ) → HasState nodes state number → ⊥
 
 -- `after` is one more than the number of the last node of the slot before the number `bound`; 0 for none
-pub record IsLast (Slot : Cell → ℕ) (nodes : List Node) (slot bound after : ℕ) : Type 0 where
+pub record IsLastInSlot (Slot : Cell → ℕ) (nodes : List Node) (slot bound after : ℕ) : Type 0 where
   pub within : after ≤ bound
   pub here : (number : ℕ) (node : Node) → number + 1 ≡ after → slice_get nodes number ≡ Some node
       → Slot node.state.cell ≡ slot
@@ -47,12 +47,12 @@ pub record IsLast (Slot : Cell → ℕ) (nodes : List Node) (slot bound after : 
 pub record AreLinked (Slot : Cell → ℕ) (nodes : List Node) (links : List ℕ) : Type 0 where
   pub long : length links ≡ length nodes
   pub each : (number : ℕ) (node : Node) → slice_get nodes number ≡ Some node
-      → IsLast Slot nodes (Slot node.state.cell) number (slice_index links number)
+      → IsLastInSlot Slot nodes (Slot node.state.cell) number (slice_index links number)
 
 -- each cell leads to the last node of its slot, and that to the one before it, and so on
-pub record AreChained (Slot Head : Cell → ℕ) (nodes : List Node) (links : List ℕ) : Type 0 where
+pub record AreSlotChains (Slot Head : Cell → ℕ) (nodes : List Node) (links : List ℕ) : Type 0 where
   pub linked : AreLinked Slot nodes links
-  pub heads : (cell : Cell) → IsLast Slot nodes (Slot cell) (length nodes) (Head cell)
+  pub heads : (cell : Cell) → IsLastInSlot Slot nodes (Slot cell) (length nodes) (Head cell)
 
 -- a node with the state, if there is one, is `after` or linked from there
 pub record IsSought (Slot : Cell → ℕ) (nodes : List Node) (state : JumpState) (after : ℕ) : Type 0 where

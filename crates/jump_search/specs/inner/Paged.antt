@@ -3,8 +3,8 @@ use Rattle.std.specs.Prelude.{ℕ, ◌≡◌, ◌≢◌, ◌+◌, ◌*◌, ◌/�
 use Rattle.nav_types.specs.declared.cells.Cell.{Cell}
 
 -- the place of the cell's page: pages that lie 512 cells apart share theirs
-unfoldable pub place_of : Cell → ℕ
-place_of cell = cell.j / 16 % 32 * 32 + cell.i / 16 % 32
+unfoldable pub page_place : Cell → ℕ
+page_place cell = cell.j / 16 % 32 * 32 + cell.i / 16 % 32
 
 -- where the cell stands on its page
 unfoldable pub spot_of : Cell → ℕ
@@ -12,15 +12,15 @@ spot_of cell = cell.j % 16 * 16 + cell.i % 16
 
 -- where the cell stands, page by page
 unfoldable pub slot_of : Cell → ℕ
-slot_of cell = place_of cell * 256 + spot_of cell
+slot_of cell = page_place cell * 256 + spot_of cell
 
 -- the number at a spot of the page of a place
-abbrev pub number_at : List ℕ → List ℕ → ℕ → ℕ → ℕ
-number_at table numbers place spot = slice_index numbers (slice_index table place * 256 + spot)
+abbrev pub number_on_page : List ℕ → List ℕ → ℕ → ℕ → ℕ
+number_on_page table numbers place spot = slice_index numbers (slice_index table place * 256 + spot)
 
 -- the number of the cell
-unfoldable pub number_of : List ℕ → List ℕ → Cell → ℕ
-number_of table numbers cell = number_at table numbers (place_of cell) (spot_of cell)
+unfoldable pub cell_number : List ℕ → List ℕ → Cell → ℕ
+cell_number table numbers cell = number_on_page table numbers (page_place cell) (spot_of cell)
 
 -- Each place has a page, and no two share one, but for the first page, which is of zeros.
 pub record ArePages (table numbers : List ℕ) : Type 0 where

@@ -21,12 +21,12 @@ IsKeptRun None kept run = kept ≡ run
 IsKeptRun (Some dir) kept run = (IsTrue (is_straight dir) × (run ≤ kept)) ⊎ (IsFalse (is_straight dir) × (kept ≤ run))
 
 -- jumps from the start lead to the node's state and cost what it says
-abbrev pub IsReached : (Cell → Bool) → (Cell → Bool) → Cell → Node → Type 0
-IsReached passes hit start node = (before : List JumpState)
+abbrev pub IsMetByJumps : (Cell → Bool) → (Cell → Bool) → Cell → Node → Type 0
+IsMetByJumps passes hit start node = (before : List JumpState)
     × (AreJumps passes hit start before node.state × (jumps_cost before node.state ≡ node.cost))
 
 -- the last jump to the node comes from an opened node
-pub record HasParent (passes hit : Cell → Bool) (nodes : List Node) (node : Node) : Type 0 where
+pub record HasOpenedParent (passes hit : Cell → Bool) (nodes : List Node) (node : Node) : Type 0 where
   pub place : ℕ
   pub parent : Node
   pub known : slice_get nodes place ≡ Some parent
@@ -59,9 +59,9 @@ pub record AreMet (passes hit : Cell → Bool) (start : Cell) (nodes : List Node
   pub first : (node : Node) × ((slice_get nodes 0 ≡ Some node) × ((node.state ≡ start_state start) × (node.cost ≡ 0)))
   pub once : (p q : ℕ) (a b : Node) → slice_get nodes p ≡ Some a → slice_get nodes q ≡ Some b → a.state ≡ b.state
       → p ≡ q
-  pub reached : (place : ℕ) (node : Node) → slice_get nodes place ≡ Some node → IsReached passes hit start node
+  pub reached : (place : ℕ) (node : Node) → slice_get nodes place ≡ Some node → IsMetByJumps passes hit start node
   pub parents : (place : ℕ) (node : Node) → slice_get nodes place ≡ Some node → 0 < place
-      → HasParent passes hit nodes node
+      → HasOpenedParent passes hit nodes node
 
 -- each jump from the node has been followed: noted, or left
 abbrev pub IsFollowedFrom : Bool → (Cell → Bool) → (Cell → Bool) → List Node → Node → Type 0

@@ -57,13 +57,13 @@ pub record IsTraced (passes hit : Cell → Bool) (start : Cell) (nodes : List No
       → IsChosenBack passes start None (back ++ rest) end) → ⊥) → ⊥
 
 -- a hit cell that passes lies in the rectangle
-abbrev pub IsNear : (Cell → Bool) → (Cell → Bool) → Rect → Type 0
-IsNear passes hit rect = (cell : Cell) → IsTrue (passes cell) → IsTrue (hit cell) → octile_to rect cell ≡ 0
+abbrev pub HitsLieIn : (Cell → Bool) → (Cell → Bool) → Rect → Type 0
+HitsLieIn passes hit rect = (cell : Cell) → IsTrue (passes cell) → IsTrue (hit cell) → octile_to rect cell ≡ 0
 
 -- Nodes over which the chosen walk to the end can be traced back: those of a search that has ended there.
 pub record IsTraceable (all : Bool) (passes hit : Cell → Bool) (start : Cell) (rect : Rect) (end : Cell) (bound : ℕ)
     (nodes : List Node) : Type 0 where
   pub searched : IsSearched all passes hit start rect end bound nodes
   pub passing : IsTrue (passes start)
-  pub near : IsNear passes hit rect
+  pub near : HitsLieIn passes hit rect
   pub grid : (cell : Cell) → IsTrue (passes cell) → IsInGrid cell

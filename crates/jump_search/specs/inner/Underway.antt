@@ -14,7 +14,7 @@ use Rattle.jump_search.specs.declared.searching.Best.{Best}
 use Rattle.jump_search.specs.declared.states.JumpState.{JumpState}
 use Rattle.jump_search.specs.JumpStates.{IsJump, octile_between, octile_to}
 use Rattle.jump_search.specs.inner.Numbered.{HasCheaper}
-use Rattle.jump_search.specs.inner.Searched.{IsLastRun, IsKeptRun, HasParent, IsRelaxed, IsNoted, IsDearer, AreMet}
+use Rattle.jump_search.specs.inner.Searched.{IsLastRun, IsKeptRun, HasOpenedParent, IsRelaxed, IsNoted, IsDearer, AreMet}
 use Rattle.jump_search.specs.inner.Searched.{IsFollowedFrom, IsSearched}
 
 -- what jumps by the node to the rectangle cost at least
@@ -94,7 +94,7 @@ pub record Relaxes (rect : Rect) (node : Node) (old new : List Node) (before aft
   pub relaxed : IsRelaxed new node.state node.cost node.run
   pub going : (all : Bool) (passes hit : Cell → Bool) (start : Cell) (floor most : ℕ)
       → IsGoing all passes hit start rect floor most old before
-      → floor ≤ estimate_of rect node → node.cost ≤ most → HasParent passes hit old node
+      → floor ≤ estimate_of rect node → node.cost ≤ most → HasOpenedParent passes hit old node
       → IsGoing all passes hit start rect floor most new after
 
 -- Noting a jump that leads to a node, or leaving it, where a node of its cell costs less and the search is not for all.
@@ -145,9 +145,9 @@ NoneHit hit nodes = (number : ℕ) (node : Node) → slice_get nodes number ≡ 
     → IsTrue (hit node.state.cell) → ⊥
 
 -- the best hit so far, at a cost that estimates have not passed
-abbrev pub IsBest : (Cell → Bool) → List Node → ℕ → Option Best → Type 0
-IsBest hit nodes floor None = NoneHit hit nodes
-IsBest hit nodes floor (Some best) = IsBestHit hit nodes best × (floor ≤ best.cost)
+abbrev pub IsBestSoFar : (Cell → Bool) → List Node → ℕ → Option Best → Type 0
+IsBestSoFar hit nodes floor None = NoneHit hit nodes
+IsBestSoFar hit nodes floor (Some best) = IsBestHit hit nodes best × (floor ≤ best.cost)
 
 -- A search that goes on.
 pub record IsUnderway (all : Bool) (passes hit : Cell → Bool) (start : Cell) (rect : Rect) (floor : ℕ)
@@ -157,7 +157,7 @@ pub record IsUnderway (all : Bool) (passes hit : Cell → Bool) (start : Cell) (
   pub queued : IsQueued all rect floor nodes queue
   pub followed : (number : ℕ) (node : Node) → slice_get nodes number ≡ Some node → IsTrue node.opened
       → IsFollowedFrom all passes hit nodes node
-  pub hits : IsBest hit nodes floor best
+  pub hits : IsBestSoFar hit nodes floor best
   pub costs : (number : ℕ) (node : Node) → slice_get nodes number ≡ Some node
       → node.cost + 189812736 * map.len queue ≤ 189812736 * length nodes
   pub few : length nodes ≤ 4294967296

@@ -6,7 +6,7 @@ use Rattle.turn_core.specs.declared.posts.Post.{Post}
 use Rattle.turn_core.specs.declared.replies.Reply.{Reply}
 use Rattle.turn_core.specs.declared.replies.TurnReplies.{TurnReplies}
 use Rattle.turn_core.specs.Words.{MapState, bare}
-use Rattle.turn_core.specs.Turns.{standing, IsOneThread}
+use Rattle.turn_core.specs.Turns.{standing, IsOneThread, post_count}
 use Rattle.turn_core.specs.ReadyTurns.{Ready}
 use Rattle.turn_core.specs.States.{State, Run}
 use Rattle.turn_core.specs.Effects.{begun, first_list, joined_up}
@@ -14,10 +14,10 @@ use Rattle.turn_core.specs.Facts.{Facts}
 use Rattle.turn_core.specs.Arrival.{answered_run}
 use Rattle.path_service.specs.declared.runs.AnsweredRun.{AnsweredRun}
 use Rattle.path_service.specs.declared.drivers.Driver.TheInside.{Inside}
-use Rattle.path_service.specs.Services.{DriverState, post_count}
+use Rattle.path_service.specs.Services.{DriverState}
 use Rattle.path_service.specs.Closings.{HasSent}
 use Rattle.path_service.specs.inner.Ports.{posted_in, told_in, sent_in, ids_from, IsInRoom}
-use Rattle.path_service.specs.inner.Running.{base_of, HoldsRunning}
+use Rattle.path_service.specs.inner.Running.{version_for_next, HoldsRunning}
 
 -- how many of each list are before those in hand
 abbrev pub taken_before : List (List Post) → List (List Post) → List ℕ
@@ -97,7 +97,7 @@ pub record HoldsDriver (a : Inside) : Type 0 where
   pub answered : IsOneThread a.map a.journal.items a.replies.items
   pub running : HoldsRunning a.version a.running
   pub broken : HoldsBroken a.failed a.broken
-  pub staged : a.failed ≡ false → HoldsStaged (base_of a.version a.running) a.staged
+  pub staged : a.failed ≡ false → HoldsStaged (version_for_next a.version a.running) a.staged
   pub last : AreLast (posted_in a.ports.items) a.hands.items
   pub few : post_count a.hands.items ≤ MAX_STAGED_POSTS
   pub room : All IsInRoom a.ports.items

@@ -7,7 +7,7 @@ use Rattle.turn_core.specs.declared.replies.Reply.{Reply}
 use Rattle.turn_core.specs.States.{list_of}
 use Rattle.path_service.specs.declared.ports.Port.{Port}
 use Rattle.path_service.specs.Callers.{CallerId}
-use Rattle.path_service.specs.Services.{post_count}
+use Rattle.turn_core.specs.Turns.{post_count}
 use Rattle.path_service.specs.inner.Zips.{zipped, AllPaired}
 
 -- posts were taken off the lane

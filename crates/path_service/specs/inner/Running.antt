@@ -17,6 +17,6 @@ HoldsRunning version None = Unit {0}
 HoldsRunning version (Some run) = HoldsRun version run
 
 -- the version on which the next turn stands: the one after the running turn, where there is one
-abbrev pub base_of : MapState → Option AnsweredRun → MapState
-base_of version None = version
-base_of version (Some run) = run.after
+abbrev pub version_for_next : MapState → Option AnsweredRun → MapState
+version_for_next version None = version
+version_for_next version (Some run) = run.after

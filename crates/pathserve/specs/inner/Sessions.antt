@@ -3,7 +3,8 @@ use Rattle.std.specs.Prelude.{ℕ, ◌≡◌, ◌≤◌, ◌<◌, false, List, A
 use Rattle.nav_types.specs.declared.limits.TheConstants.{MAX_STAGED_POSTS}
 use Rattle.turn_core.specs.declared.posts.Post.{Post}
 use Rattle.path_service.specs.Callers.{EndedState}
-use Rattle.path_service.specs.Services.{DriverState, started_on, post_count}
+use Rattle.path_service.specs.Services.{DriverState, started_on}
+use Rattle.turn_core.specs.Turns.{post_count}
 use Rattle.pathserve.specs.Serving.{HasPost}
 use Rattle.pathserve.specs.inner.Works.{HaveAllPosted}
 

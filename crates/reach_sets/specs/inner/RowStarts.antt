@@ -12,6 +12,6 @@ steps_from from [] = []
 steps_from from (x ∷ xs) = (x - from) ∷ steps_from x xs
 
 -- the numbers of regions of the chunks whose regions begin, and end, at these places
-abbrev pub counts_of : List ℕ → List ℕ
-counts_of [] = []
-counts_of (x ∷ xs) = steps_from x xs
+abbrev pub counts_between : List ℕ → List ℕ
+counts_between [] = []
+counts_between (x ∷ xs) = steps_from x xs

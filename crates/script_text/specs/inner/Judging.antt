@@ -5,6 +5,7 @@ use Rattle.script_text.specs.declared.faults.ScriptFault.TheVariants.{BadLine, T
 use Rattle.nav_types.specs.declared.cells.Rect.{Rect}
 use Rattle.nav_types.specs.declared.cells.Size.{Size}
 use Rattle.nav_types.specs.Cells.{IsRectInside}
+use Rattle.nav_types.specs.declared.limits.TheConstants.{MAX_INPUT_BYTES}
 use Rattle.serde_json.specs.Data.{Data, null, boolean, number, string, array, object}
 use Rattle.grid_versions.specs.Maps.{Map, with_base}
 use Rattle.turn_core.specs.declared.posts.Post.{Post}
@@ -12,7 +13,8 @@ use Rattle.script_text.specs.Forms.{base_of}
 use Rattle.script_text.specs.declared.parts.Part.{Part}
 use Rattle.script_text.specs.declared.parts.Part.TheVariants.{BeforeMap, InBase, InTurns}
 use Rattle.script_text.specs.Script.{Place, Item, Walk, begins, adds_base, ends_turn, whole_input, too_long, bad_line, arrived, stuck, map_after, turns_of, reading_of, is_long, accept}
-use Rattle.script_text.specs.Reader.{Held, GoesOn, RefusesMap, callers_of, post_count, WhereTold}
+use Rattle.script_text.specs.Reader.{Held, GoesOn, RefusesMap, callers_of, WhereTold}
+use Rattle.turn_core.specs.Turns.{post_count}
 use Rattle.script_text.specs.Lines.{IsPlain}
 use Rattle.script_text.specs.inner.Taking.{HeldLine, HasEnd, bytes_of}
 
@@ -36,7 +38,7 @@ IsInsideAt (InTurns rules) rects = ⊥
 
 -- the counts of a place keep within the input's limit, and there is one list of posts for each caller
 pub record IsReadTo (p : Place) : Type 0 where
-  pub few_bytes : p.bytes ≤ 4294967296
+  pub few_bytes : p.bytes ≤ MAX_INPUT_BYTES
   pub few_lines : p.lines ≤ p.bytes
   pub few_turns : p.turns ≤ p.lines
   pub lists : length p.posts ≡ callers_of p.part

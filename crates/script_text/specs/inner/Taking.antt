@@ -1,7 +1,9 @@
 -- How the bytes of a source are taken, line by line.
-use Rattle.std.specs.Prelude.{ℕ, ◌≡◌, ◌≢◌, ◌<◌, ◌≤◌, ◌⊎◌, List, [], ◌∷◌, ◌++◌, length, Bool, true, false, IsFalse, IsSome, IsTrue, Option, Some, None, Result, Ok, Err, ⊤}
+use Rattle.std.specs.Prelude.{ℕ, ◌≡◌, ◌≢◌, ◌+◌, ◌<◌, ◌≤◌, ◌⊎◌, List, [], ◌∷◌, ◌++◌, length, Bool, true, false, IsFalse, IsSome, IsTrue, Option, Some, None, Result, Ok, Err, ⊤}
+use Rattle.nav_types.specs.declared.limits.TheConstants.{MAX_LINE_BYTES}
 use Rattle.script_text.specs.declared.faults.ScriptFault.{ScriptFault}
 use Rattle.script_text.specs.declared.faults.ScriptFault.TheVariants.{BadLine, TooLong, ReadFault, NoMemory}
+use Rattle.script_text.specs.declared.intake.TheConstants.{READ_SIZE}
 use Rattle.script_text.specs.declared.intake.LineEnd.{LineEnd}
 use Rattle.script_text.specs.declared.intake.LineEnd.TheVariants.{Newline, Input}
 use Rattle.script_text.specs.Lines.{IsPlain, full_lines}
@@ -38,7 +40,7 @@ pub record ReadsForLine (held : List ℕ) (ended : Bool) (before after : List �
   pub earlier : List ℕ
   pub piece : List ℕ
   pub took : before ≡ earlier ++ (piece ++ after)
-  pub few : length piece ≤ 65536
+  pub few : length piece ≤ READ_SIZE
   pub going : IsFalse ended
   pub plain : IsPlain (held ++ earlier)
 
@@ -101,7 +103,7 @@ pub record TakesPart (old new : Taken) (before after line : List ℕ) : Type 0 w
 -- the beginning of a line was taken that is longer than a line may be, or than the room that the input has left
 pub record PassesLimit (old new : Taken) (line : List ℕ) (room : ℕ) (before after : List ℕ) : Type 0 where
   pub part : TakesPart old new before after line
-  pub long : (8388608 < length line) ⊎ (room < length line)
+  pub long : (MAX_LINE_BYTES < length line) ⊎ (room < length line)
 
 -- a read failed after the beginning of a line
 pub record FailsInLine (old new : Taken) (line before after : List ℕ) : Type 0 where
@@ -154,8 +156,8 @@ bytes_of h = h.line ++ (newline_of h.line_end ++ h.rest.bytes)
 -- that ended with the input
 pub record IsHeldLine (h : HeldLine) : Type 0 where
   pub plain : IsPlain h.line
-  pub few : length (bytes_of h) ≤ 8454144
-  pub behind : length h.rest.bytes ≤ 65536
+  pub few : length (bytes_of h) ≤ MAX_LINE_BYTES + READ_SIZE
+  pub behind : length h.rest.bytes ≤ READ_SIZE
   pub at_end : h.line_end ≡ Some Input → (h.rest.bytes ≡ []) × IsTrue h.rest.ended
 
 -- a line ends at its newline, or with the input
@@ -194,7 +196,7 @@ pub record TakesNext (old new : HeldLine) (before after : List ℕ) : Type 0 whe
 
 -- the beginning of a line is longer than a line may be, or than the room that the input has left
 abbrev pub IsPastLimit : HeldLine → ℕ → Type 0
-IsPastLimit h room = (8388608 < length h.line) ⊎ (room < length h.line)
+IsPastLimit h room = (MAX_LINE_BYTES < length h.line) ⊎ (room < length h.line)
 
 -- a read failed before the end of the input was met, and what is held is the beginning of a line
 pub record BreaksOff (old new : HeldLine) : Type 0 where

@@ -135,6 +135,5 @@ fn push_entry(text: &mut Bytes, rect: Rect, mask: u16) -> Result<(), NoMemory>
         Piece::Whole(u64::from(mask)),
         Piece::Bytes(b"]"),
     ];
-    push_pieces(text, &pieces)?;
-    Ok(())
+    push_pieces(text, &pieces)
 }

@@ -145,8 +145,7 @@ fn push_mask(text: &mut Bytes, version: u8, mask: u16) -> Result<(), NoMemory>
         Piece::Whole(u64::from(mask)),
         Piece::Bytes(b"}"),
     ];
-    push_pieces(text, &pieces)?;
-    Ok(())
+    push_pieces(text, &pieces)
 }
 
 /// Appends the text of a remove line.
@@ -343,6 +342,5 @@ pub(crate) fn push_end(text: &mut Bytes, turn: u64) -> Result<(), NoMemory>
         Piece::Whole(turn),
         Piece::Bytes(b"}"),
     ];
-    push_pieces(text, &pieces)?;
-    Ok(())
+    push_pieces(text, &pieces)
 }

@@ -5,7 +5,7 @@ use Rattle.turn_core.specs.declared.machines.Machine.TheInside.{Inside}
 use Rattle.turn_core.specs.Words.{MapState, bare}
 use Rattle.turn_core.specs.Turns.{standing}
 use Rattle.turn_core.specs.States.{State}
-use Rattle.turn_core.specs.inner.Runs.{option_run_of, option_posts_of, base_of, posts_in, gathered, IsHeldOn, IsReadyOn}
+use Rattle.turn_core.specs.inner.Runs.{option_run_of, option_posts_of, version_for_next, posts_in, gathered, IsHeldOn, IsReadyOn}
 use Rattle.turn_core.specs.inner.Runs.{HaveCome}
 
 -- the state that the machine stands for
@@ -36,5 +36,5 @@ HoldsStaged version (Some held) = IsReadyOn version held
 pub record HoldsState (a : Inside) : Type 0 where
   pub standing : a.version.standing ≡ standing a.version.map bare (posts_in a.delivered.items)
   pub running : HoldsRun a.version a.running
-  pub staged : HoldsStaged (base_of a.version a.running) a.staged
+  pub staged : HoldsStaged (version_for_next a.version a.running) a.staged
   pub come : HaveCome a.delivered.items a.collected.items a.places.items

@@ -32,9 +32,9 @@ option_posts_of None = None
 option_posts_of (Some held) = Some held.ready.turn
 
 -- the version on which the next turn stands: that of the running turn, where there is one
-abbrev pub base_of : MapState → Option RunningTurn → MapState
-base_of version None = version
-base_of version (Some held) = map_state held.ready.map (after_edits_of held.ready)
+abbrev pub version_for_next : MapState → Option RunningTurn → MapState
+version_for_next version None = version
+version_for_next version (Some held) = map_state held.ready.map (after_edits_of held.ready)
 
 -- the posts of a caller in the turn that is held, where there is one
 abbrev pub posts_held : Option RunningTurn → ℕ → List Post

@@ -4,7 +4,7 @@ ghost use Rattle.std.specs.Prelude.{vec_capacity};
 ghost use Rattle.turn_core.specs.Turns.{jobs};
 ghost use Rattle.turn_core.specs.Table.{why_unanswered};
 ghost use Rattle.turn_core.specs.Effects.{begun, known};
-ghost use Rattle.turn_core.specs.inner.Runs.{run_of, base_of, posts_held, answers_held, with_claim, IsHeldOn, HasUnclaimed};
+ghost use Rattle.turn_core.specs.inner.Runs.{run_of, version_for_next, posts_held, answers_held, with_claim, IsHeldOn, HasUnclaimed};
 ghost use Rattle.turn_core.specs.inner.Runs.{HasJob, HasPlace, AnswersHeld, PutsAnswer};
 
 use crate::posts::TurnPosts;
@@ -43,9 +43,12 @@ pub(crate) fn begun(
 }
 
 /// The version on which the next turn stands.
-pub(crate) fn base_of<'a>(version: &'a Version, running: &'a Option<RunningTurn>) -> &'a Version
-    ensures map { result.now.map ≡ (base_of version.now running.now).map }
-    ensures standing { result.now.standing ≡ (base_of version.now running.now).standing }
+pub(crate) fn version_for_next<'a>(
+    version: &'a Version,
+    running: &'a Option<RunningTurn>,
+) -> &'a Version
+    ensures map { result.now.map ≡ (version_for_next version.now running.now).map }
+    ensures standing { result.now.standing ≡ (version_for_next version.now running.now).standing }
 {
     match running {
         None => version,

@@ -49,7 +49,7 @@ abbrev pub IsSettled : (Cell → Bool) → Size → List ℕ → Type 0
 IsSettled passes size costs = (cell : Cell) → IsInside size cell → IsSettledAt passes size cell costs
 
 -- costs fell, or the table stays and is settled there; a sound table stays sound
-pub record Relaxes (passes : Cell → Bool) (size : Size) (Settled : List ℕ → Type 0) (old new : List ℕ)
+pub record Lowers (passes : Cell → Bool) (size : Size) (Settled : List ℕ → Type 0) (old new : List ℕ)
     (fell : Bool) : Type 0 where
   pub sound : (start : Cell) → IsSoundTable passes start size old → IsSoundTable passes start size new
   pub less : fell ≡ true → sum new < sum old

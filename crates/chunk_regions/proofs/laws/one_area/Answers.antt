@@ -1,11 +1,5 @@
-use Rattle.nav_types.specs.Walks.{Joined}
-use Rattle.nav_types.specs.Regions.{IsAreaBefore}
-use Rattle.nav_types.proofs.CellOrder.{IsAreaBefore-asym, IsAreaBefore-cases}
-use Rattle.nav_types.proofs.Walking.{Joined-sym, Joined-trans}
-use Rattle.nav_types.proofs.FirstCells.{HasNumber-unique}
+use Rattle.nav_types.proofs.Regions.{one_area}
 use Rattle.chunk_regions.proofs.laws.one_area.Goals as goal
 
 pub returns : goal.returns
-returns c = λ passes cell m n one two.
-    HasNumber-unique passes (Joined passes) IsAreaBefore (Joined-sym passes) (Joined-trans passes)
-    IsAreaBefore-asym IsAreaBefore-cases cell m n one two
+returns c = one_area

@@ -1,9 +1,10 @@
 use Rattle.std.proofs.Common.{◌↔◌, IsTrue, inl, inr, sym, subst}
+use Rattle.std.proofs.lemmas.Bool.{cases_Bool}
 use Rattle.nav_types.specs.declared.cells.Size.{Size}
 use Rattle.jump_scan.specs.Stops.{HasStraightStop}
 use Rattle.class_planes.specs.Planes.{is_passable}
 use Rattle.class_planes.specs.inner.Runs.{Far, RunsFar, cell_along}
-use Rattle.class_planes.proofs.StopLemmas.{either_way, stop_hit, stop_none, stop_somewhere}
+use Rattle.class_planes.proofs.StopLemmas.{stop_hit, stop_none, stop_somewhere}
 use Rattle.class_planes.proofs.plane_scans.has_scanned_stop.Goals as goal
 
 pub returns-then-forced : goal.returns-then-forced
@@ -29,7 +30,7 @@ returns-else-forced g c =
       (λ is.
           let found = c.has_hit.ensures.hits is in
           (cell_along c.args.dir c.args.cell found.0, stop_hit passes (hit c.size.result) c.args.dir c.args.cell far found.0 runs found.1)),
-      (λ has. elim (either_way c.has_hit.result) [
+      (λ has. elim (cases_Bool c.has_hit.result) [
         | inl is ↦ is
         | inr misses ↦ absurd (stop_none passes (hit c.size.result) c.args.dir c.args.cell far runs (c.has_hit.ensures.misses misses)
             c.if-forced.false has.0 has.1)

@@ -3,7 +3,7 @@ use Rattle.std.specs.Prelude.{All}
 use Rattle.std.proofs.lemmas.Bool.{eqb-true}
 use Rattle.nav_types.specs.declared.cells.Rect.{Rect}
 use Rattle.nav_types.specs.Cells.{IsRectInside}
-use Rattle.class_planes.specs.Planes.{PlaneCells, IsPlane, IsOutside, is_passable}
+use Rattle.class_planes.specs.Planes.{PlaneCells, IsPlaneOf, IsOutside, is_passable}
 use Rattle.class_planes.proofs.plane_sets.updated_plane.Goals as goal
 
 pub returns-then-is_empty : goal.returns-then-is_empty
@@ -12,7 +12,7 @@ returns-then-is_empty g c =
     let none : c.in_ok-rects.rects.len ≡ 0 =
     eqb-true c.in_ok-rects.rects.len 0 (sym c.is_empty.ensures ∙ c.if-is_empty.true) in
     let before = c.requires.before in
-    subst (IsPlane (g.V.View.extent c.args.view.now) (g.V.View.passes c.args.view.now c.args.class))
+    subst (IsPlaneOf (g.V.View.extent c.args.view.now) (g.V.View.passes c.args.view.now c.args.class))
     (sym c.in_ok-try_clone.ensures) (record {
       extent = before.extent;
       cells = λ p cell. before.same cell (c.in_ok-rects.ensures.kept cell (λ k d below. absurd (omega (arith, none)))) p;

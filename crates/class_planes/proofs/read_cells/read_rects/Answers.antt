@@ -5,9 +5,9 @@ use Rattle.std.proofs.lemmas.List.{take_all, with_items_is}
 use Rattle.std.proofs.lemmas.List.Elements.{All-more, All-push}
 use Rattle.nav_types.specs.declared.cells.Rect.{Rect}
 use Rattle.nav_types.specs.Cells.{IsInRect}
+use Rattle.nav_types.proofs.Items.{all_front, all_last}
 use Rattle.class_planes.specs.Planes.{IsOutside}
 use Rattle.class_planes.specs.inner.Reading.{ReadCells, AreRead, IsUnread}
-use Rattle.class_planes.proofs.UpdateLemmas.{all_front, all_last}
 use Rattle.class_planes.proofs.read_cells.read_rects.Goals as goal
 
 pub loop-rect-preserved : goal.loop-rect-preserved

@@ -1,16 +1,18 @@
 use Rattle.clearance_raster.proofs.BlockedColumns.{if_none_then}
-use Rattle.clearance_raster.proofs.Reaching.{near_rises, near_where_blocked, if_some_then}
+use Rattle.clearance_raster.proofs.Reaching.{near_where_blocked}
 use Rattle.clearance_raster.proofs.reaches.reach_of.Goals as goal
+use Rattle.obstruction_shapes.proofs.Near.{IsNear-rises}
+use Rattle.std.proofs.lemmas.Option.{IfSome_then}
 
 pub returns-clause-none_near : goal.returns-clause-none_near
 returns-clause-none_near c =
     let most = c.in_ok-greatest.ensures.greatest.most in
     if_none_then c.reach_rect.result c.reach_rect.ensures.none_near (λ none other is cell inside near.
-    none cell inside (near_rises c.args.obstruction.now.shape other c.in_ok-greatest.greatest cell (most is.class other is.in_mask is.of_class) near))
+    none cell inside (IsNear-rises c.args.obstruction.now.shape other c.in_ok-greatest.greatest cell (most is.class other is.in_mask is.of_class) near))
 
 pub returns-clause-blocked : goal.returns-clause-blocked
 returns-clause-blocked c =
-    if_some_then c.reach_rect.result c.reach_rect.ensures.near (λ rect near k cell inside blocks.
+    IfSome_then c.reach_rect.result c.reach_rect.ensures.near (λ rect near k cell inside blocks.
     (near cell inside).1 (near_where_blocked c.args.obstruction.now c.args.classes.now c.in_ok-greatest.greatest k cell c.requires.unit_vector
     c.in_ok-greatest.ensures.greatest blocks))
 

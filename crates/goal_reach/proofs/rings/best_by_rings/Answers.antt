@@ -3,7 +3,7 @@ use Rattle.nav_types.specs.declared.cells.Cell.{Cell}
 use Rattle.nav_types.specs.declared.cells.Rect.{Rect}
 use Rattle.nav_types.specs.declared.cells.Size.{Size}
 use Rattle.nav_types.specs.Cells.{IsInside, IsInRect}
-use Rattle.goal_reach.specs.inner.Rings.{clipped, widened, Holds}
+use Rattle.goal_reach.specs.inner.Rings.{clipped, widened, Encloses}
 use Rattle.goal_reach.proofs.Ringing.{wider_holds, ring_adds, all_of_map, none_beyond}
 use Rattle.goal_reach.proofs.rings.best_by_rings.Goals as goal
 use Rattle.goal_reach.proofs.rings.best_by_rings.Goals.{then-is_whole-via-then-is_whole, then-is_whole-via-else-is_whole+then-is_below}
@@ -27,8 +27,8 @@ returns-then-is_whole g c =
 pub best_on_ring-requires-clause-holds : goal.best_on_ring-requires-clause-holds
 best_on_ring-requires-clause-holds g c =
     let size = c.size-size.result in let core = c.core-core.result in let ring = c.loop-ring.ring in
-    let P : Rect → Type 0 = λ outer. Holds outer c.widened-inner.result in
-    let Q : Rect → Type 0 = λ it. Holds (clipped size (widened (ring + 1) core)) it in
+    let P : Rect → Type 0 = λ outer. Encloses outer c.widened-inner.result in
+    let Q : Rect → Type 0 = λ it. Encloses (clipped size (widened (ring + 1) core)) it in
     subst P (sym c.widened-outer.ensures.value) (subst Q (sym c.widened-inner.ensures.value) (wider_holds size core ring))
 
 pub loop-ring-preserved : goal.loop-ring-preserved

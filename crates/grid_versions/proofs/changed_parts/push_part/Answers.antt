@@ -4,10 +4,11 @@ use Rattle.std.proofs.lemmas.Bool.{cases_Bool}
 use Rattle.std.proofs.lemmas.List.Elements.{All-push}
 use Rattle.nav_types.specs.Cells.{IsInRect, IsRectInside}
 use Rattle.nav_types.specs.Numbering.{number_of}
+use Rattle.nav_types.proofs.Items.{all_front, all_last}
 use Rattle.lane_rows.specs.Rows.{has_class}
 use Rattle.class_planes.specs.declared.changed_parts.ChangedPart.{ChangedPart}
 use Rattle.class_planes.specs.Planes.{IsKept}
-use Rattle.grid_versions.proofs.PlanePartLemmas.{all_front, all_last, no_class, one_number, part_in_map}
+use Rattle.grid_versions.proofs.PlanePartLemmas.{no_class, one_number, part_in_map}
 use Rattle.grid_versions.proofs.changed_parts.push_part.Goals as goal
 
 pub returns-then-classes-eq0-clause-held : goal.returns-then-classes-eq0-clause-held

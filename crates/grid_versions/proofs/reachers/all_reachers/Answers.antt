@@ -9,7 +9,7 @@ use Rattle.chunk_regions.specs.Labelling.{chunk_rect}
 use Rattle.grid_versions.specs.declared.reachers.Reacher.{Reacher}
 use Rattle.grid_versions.specs.Chunks.{chunk_count}
 use Rattle.grid_versions.specs.inner.ChunkLists.{chunk_numbered, AreOfChunks}
-use Rattle.grid_versions.specs.inner.Reachers.{HoldReachers, HoldChunkReachers, IsReached}
+use Rattle.grid_versions.specs.inner.Reachers.{HoldReachers, HoldChunkReachers, IsReachNoted}
 use Rattle.grid_versions.proofs.ChunkLemmas.{AreOfChunks-push}
 use Rattle.grid_versions.proofs.reachers.all_reachers.Goals as goal
 
@@ -28,7 +28,7 @@ loop-place-preserved c =
       all = λ id o stands k cell here blocks.
           let has = subst (λ (ids : List ℕ). Contains ids id) (sym c.as_slice.ensures) (c.in_ok-ids.ensures id o stands) in
           let reached = c.in_ok-reachers.ensures id has o stands k cell (inside_map map.size rect cell inside here) blocks in
-          c.in_ok-made.ensures id cell (subst (λ (all : List Reacher). IsReached all id cell) (sym c.deref.ensures.value)
+          c.in_ok-made.ensures id cell (subst (λ (all : List Reacher). IsReachNoted all id cell) (sym c.deref.ensures.value)
           reached) here;
     } in
     subst (λ (all : List (List ℕ)). AreOfChunks size (place + 1) (HoldChunkReachers map now) all) (sym c.in_ok-push.ensures.ok)

@@ -1,5 +1,5 @@
 use Rattle.std.proofs.Common.{Ok, refl, ap, ◌∙◌}
-use Rattle.path_service.specs.Services.{post_count}
+use Rattle.turn_core.specs.Turns.{post_count}
 use Rattle.path_service.proofs.IntakeEnds.{looked_of, ends_short, ends_empty, ends_ready}
 use Rattle.path_service.proofs.intakes.next_turn.Goals as goal
 

@@ -8,10 +8,11 @@ use Rattle.script_text.specs.declared.faults.ScriptFault.{ScriptFault}
 use Rattle.script_text.specs.Reader.{unread}
 use Rattle.pathserve.specs.Output.{Said, IsTurnText, unsaid, with_turn}
 use Rattle.pathserve.proofs.Progress.{going}
-use Rattle.pathserve.proofs.Replaying.{Stands, stands_unread, stands_map, stands_turn, told_turn, told_done, told_no_memory, tells_nothing, told_fault, map_refusal, turn_refusal, stop_done, stop_fault, stop_refused, refused_no_usage, refused_no_read, refused_by_fault, rose_since, why_told}
+use Rattle.pathserve.proofs.Replaying.{Stands, stands_unread, stands_map, stands_turn, told_turn, told_done, told_no_memory, tells_nothing, told_fault, map_refusal, turn_refusal, stop_done, stop_fault, stop_refused, refused_no_usage, refused_no_read, refused_by_fault, why_told}
+use Rattle.script_text.proofs.ReadTold.{rose-later}
 use Rattle.io_edges.proofs.Passed.{given_none, given_more, taken_none, taken_more}
 use Rattle.pathserve.proofs.Passes.{stands_given, stands_taken, some_taken, stop_taken}
-use Rattle.pathserve.proofs.FewJobs.{few_jobs}
+use Rattle.turn_core.proofs.PostCounts.{few_jobs}
 use Rattle.pathserve.proofs.replay.run_report.Goals as goal
 
 -- ---- the jobs of a turn are fewer than the bytes of its posts
@@ -103,7 +104,7 @@ returns-in-Err-tell_turn-clause-stop g c = λ bytes left.
     let Refused : WriteRefusal → Result (Unit {0}) WriteRefusal = λ refused. Err refused in
     rw c.status_of.ensures
     (stop_refused _ _ _ _ _ c.in-Err-tell_turn.refusal
-    (λ is. rose_since _ _ _ c.turns.invariant.writes (c.in-Err-tell_turn.ensures.fault (ap Refused is))))
+    (λ is. rose-later _ _ _ c.turns.invariant.writes (c.in-Err-tell_turn.ensures.fault (ap Refused is))))
 
 pub turns-preserved : goal.turns-preserved
 turns-preserved g c =
@@ -146,8 +147,8 @@ pub returns-in-Err-next_turn-clause-stop : goal.returns-in-Err-next_turn-clause-
 returns-in-Err-next_turn-clause-stop g c =
     stop_fault c.args.report _ _ _ _ _ _ _ _ _ _ _ _ _ _ _ c.turns.invariant.stands
     (turn_refusal c.turns.reader c.next_turn.new.self _ _ c.in-Err-next_turn.fault c.in-Err-next_turn.ensures.told) c.stop_at-in-Err-next_turn.ensures.stops
-    (λ is. rose_since _ _ _ c.turns.invariant.reads (c.in-Err-next_turn.ensures.fault (ap (λ (f : ScriptFault). let r : Result (Option (List (List Post))) ScriptFault = Err f in r) is)))
-    (λ is. rose_since _ _ _ c.turns.invariant.writes (c.stop_at-in-Err-next_turn.ensures.write is))
+    (λ is. rose-later _ _ _ c.turns.invariant.reads (c.in-Err-next_turn.ensures.fault (ap (λ (f : ScriptFault). let r : Result (Option (List (List Post))) ScriptFault = Err f in r) is)))
+    (λ is. rose-later _ _ _ c.turns.invariant.writes (c.stop_at-in-Err-next_turn.ensures.write is))
 
 -- ---- a refused write
 
@@ -161,7 +162,7 @@ pub returns-in-Err-tell_turn-clause-write : goal.returns-in-Err-tell_turn-clause
 returns-in-Err-tell_turn-clause-write g c = λ is.
     let Refused : WriteRefusal → Result (Unit {0}) WriteRefusal = λ refused. Err refused in
     let failed = refused_by_fault c.in-Err-tell_turn.refusal (sym c.status_of.ensures ∙ is) in
-    rose_since _ _ _ c.turns.invariant.writes (c.in-Err-tell_turn.ensures.fault (ap Refused failed))
+    rose-later _ _ _ c.turns.invariant.writes (c.in-Err-tell_turn.ensures.fault (ap Refused failed))
 
 -- ---- why a line is bad
 

@@ -7,12 +7,15 @@ use Rattle.turn_core.specs.declared.posts.Post.{Post}
 use Rattle.turn_core.specs.Effects.{joined_up}
 use Rattle.script_text.specs.declared.faults.ScriptFault.{ScriptFault}
 use Rattle.script_text.specs.declared.faults.ScriptFault.TheVariants as fault
-use Rattle.script_text.specs.Reader.{callers_of, post_count}
+use Rattle.script_text.specs.Reader.{callers_of}
+use Rattle.turn_core.specs.Turns.{post_count}
 use Rattle.script_text.specs.declared.parts.Rules.{Rules}
 use Rattle.pathserve.proofs.JoinedPosts.{length-joined}
 use Rattle.pathserve.proofs.JournalSums.{count_joined}
-use Rattle.pathserve.proofs.Replaying.{rose_since}
-use Rattle.pathserve.proofs.WholeReadings.{all_read, all_refused, all_short, count_none, lines_more, lines_none, read_none, read_turn, same_callers}
+use Rattle.script_text.proofs.ReadTold.{rose-later}
+use Rattle.pathserve.proofs.WholeReadings.{all_read, all_refused, all_short, lines_more, lines_none, read_none, read_turn}
+use Rattle.turn_core.proofs.PostCounts.{count_none}
+use Rattle.script_text.proofs.ReadAnswers.{same_callers}
 use Rattle.pathserve.proofs.serving.read_posts.Goals as goal
 
 pub turns-init : goal.turns-init
@@ -26,8 +29,8 @@ turns-init g c =
       going = c.requires.going;
       rules = refl;
       wide = ap length empty ∙ (length-replicate c.from.result _ ∙ same);
-      count = omega (arith, count_none _ lists empty);
-      fits = omega (arith, count_none _ lists empty);
+      count = omega (arith, ap post_count empty, count_none c.from.result);
+      fits = omega (arith, ap post_count empty, count_none c.from.result);
       lines = lines_none c.args.reader.now.place.part _ lists empty;
       stays = λ ended. ended;
       later = omega arith;
@@ -61,7 +64,7 @@ returns-in_err-turn-clause-fault g c =
     rw (p.1, p.2)
     (λ is.
     let same : c.in_err-turn.field-0.0 ≡ fault.ReadFault = cc in
-    rose_since _ _ _ c.turns.invariant.later
+    rose-later _ _ _ c.turns.invariant.later
     (c.in_err-turn.ensures.fault (ap (λ (f : ScriptFault). let r : Result (Option (List (List Post))) ScriptFault = Err f in r) same)))
 
 -- ---- a turn came

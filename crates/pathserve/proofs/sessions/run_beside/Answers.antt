@@ -1,6 +1,7 @@
-use Rattle.std.proofs.Common.{List, subst}
+use Rattle.std.proofs.Common.{List, subst, ap, ◌∙◌}
 use Rattle.std.proofs.lemmas.Result.{IfOk-weaker}
 use Rattle.turn_core.specs.declared.posts.Post.{Post}
+use Rattle.turn_core.specs.Turns.{post_count}
 use Rattle.path_service.specs.Callers.{CallerId}
 use Rattle.pathserve.specs.inner.Begun.{BeginAll}
 use Rattle.pathserve.specs.inner.Sessions.{IsDriven}
@@ -15,6 +16,6 @@ returns g c =
     IfOk-weaker c.end_all.result (λ ended. (ids : List CallerId) (lists : List (List Post)) → BeginAll ids lists works → HaveAllPosted ids lists ended)
     (IsDriven start c.drive.new.driver posts)
     (λ ended have. record {
-      served = rw c.count_posts.ensures at c.in_ok-drive.ensures;
+      served = rw (c.count_posts.ensures ∙ ap post_count c.as_slice.ensures) at c.in_ok-drive.ensures;
       callers = have start.callers posts (subst (λ (ids : List CallerId). BeginAll ids posts works) c.requires.callers c.in_ok-works.ensures);
     }) c.end_all.ensures

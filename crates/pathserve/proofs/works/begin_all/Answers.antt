@@ -3,7 +3,7 @@ use Rattle.std.specs.Vec.Iter.{into_iter_items, into_iter_len}
 use Rattle.std.proofs.lemmas.List.{nil_from_length, drop_all, drop_more}
 use Rattle.turn_core.specs.declared.posts.Post.{Post}
 use Rattle.path_service.specs.Callers.{caller_id}
-use Rattle.path_service.proofs.Zips.{all_head, all_tail}
+use Rattle.std.proofs.lemmas.List.Elements.{All-head, All-tail}
 use Rattle.pathserve.specs.inner.Works.{HasPostedNone, IsShort}
 use Rattle.pathserve.specs.inner.Begun.{BeginAll}
 use Rattle.pathserve.proofs.BegunWorks.{begun_none, begun_more, begun_all}
@@ -34,7 +34,7 @@ begin-requires g c =
     let item = c.list-item.result in
     let caller = c.in-Some.caller in
     let same = c.as_slice-list-items.ensures in
-    let first : HasPostedNone caller = all_head HasPostedNone caller (into_iter_items c.next.new.self) (subst (All HasPostedNone) c.in-Some.ensures.items c.loop-list.invariant.first) in
+    let first : HasPostedNone caller = All-head HasPostedNone caller (into_iter_items c.next.new.self) (subst (All HasPostedNone) c.in-Some.ensures.items c.loop-list.invariant.first) in
     let at : item ≡ get_or c.args.posts.now i item = c.list-item.is ∙ ap (λ (l : List (List Post)). get_or l i item) same in
     let room : IsShort item = subst IsShort (sym at) (c.requires.room i item (omega (arith, c.loop-list-test.true, ap length same))) in
     (c.type_bounds.sync-R, (c.type_bounds.sync-G, (first, room)))
@@ -53,7 +53,7 @@ loop-list-preserved g c =
     record {
       begun = begun_more c.args.callers (into_iter_items c.loop-list.callers) next lists (drop i lists) (drop (i + 1) lists) c.loop-list.works.items c.push.new.self.items
           caller item c.begin.result callers left c.in_ok-push.ensures.items c.begin.ensures before.begun;
-      first = all_tail HasPostedNone caller next (subst (All HasPostedNone) callers before.first);
+      first = All-tail HasPostedNone caller next (subst (All HasPostedNone) callers before.first);
       wide = omega (arith, before.wide, ap length callers);
       left = omega (arith, before.left, ap length callers, c.in-Some.ensures.cases.1);
     }

@@ -2,7 +2,7 @@ use Rattle.std.proofs.Common.{◌≡◌, ◌∙◌, ℕ, ◌+◌, Bool, Option, 
 use Rattle.std.proofs.lemmas.Result.{err_from_is_err_and}
 use Rattle.io_edges.proofs.Passed.{given_none, given_more}
 use Rattle.script_text.specs.Script.{rules_of}
-use Rattle.script_text.specs.Reader.{post_count}
+use Rattle.turn_core.specs.Turns.{post_count}
 use Rattle.script_text.specs.inner.Taking.{Taken, FindsLine, NextTold}
 use Rattle.script_text.specs.inner.Judging.{TakesBase, held_at}
 use Rattle.script_text.proofs.ReadCalls.{adds_nowhere, adds_line, adds_end, adds_kept, adds_refused, adds_fault, used_up_ready, no_base_ready, whole_between}

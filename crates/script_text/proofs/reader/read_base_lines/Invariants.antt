@@ -3,7 +3,7 @@ use Rattle.std.proofs.Common.{◌≡◌, ◌≤◌, ◌-◌, [], None, IsTrue}
 use Rattle.io_edges.specs.Passing.{HasGiven}
 use Rattle.script_text.specs.declared.parts.Part.TheVariants.{InBase}
 use Rattle.script_text.specs.Script.{rules_of}
-use Rattle.script_text.specs.Reader.{post_count}
+use Rattle.turn_core.specs.Turns.{post_count}
 use Rattle.script_text.specs.inner.Judging.{held_at}
 use Rattle.script_text.proofs.ReadCalls.{AddsTold}
 use Rattle.script_text.proofs.reader.read_base_lines.Given as goal

@@ -1,7 +1,7 @@
 use Rattle.std.proofs.Common.{ℕ, ◌-◌, List, cond, ap, ◌∙◌, subst, arith}
 use Rattle.nav_types.specs.declared.cells.Cell.{Cell}
 use Rattle.nav_types.specs.Places.{cell_of}
-use Rattle.walks.specs.inner.Tables.{IsSettledAt, IsSettled, Relaxes}
+use Rattle.walks.specs.inner.Tables.{IsSettledAt, IsSettled, Lowers}
 use Rattle.walks.proofs.Sweeping.{relaxes_none, relaxes_more, relaxes_as, table_kept, settled_throughout}
 use Rattle.walks.proofs.sweeps.sweep.Goals as goal
 
@@ -16,7 +16,7 @@ loop-passed-preserved g c =
     let passes = g.V.View.passes c.args.view.now c.args.class in
     let size = g.V.View.extent c.args.view.now in
     let Settled : ℕ → List ℕ → Type 0 = λ k table. IsSettledAt passes size (cell_of size (cond c.args.forward k (c.cell_count-count.result - 1 - k))) table in
-    let P = λ (cell : Cell). Relaxes passes size (IsSettledAt passes size cell) c.loop-passed.costs.items c.relax-fell.new.costs.items c.relax-fell.result in
+    let P = λ (cell : Cell). Lowers passes size (IsSettledAt passes size cell) c.loop-passed.costs.items c.relax-fell.new.costs.items c.relax-fell.result in
     let here = c.cell_at_place.ensures.value ∙ ap (cell_of size) c.place_after-place.ensures.place in
     relaxes_more passes size Settled c.loop-passed.passed _ _ _ c.loop-passed.fell c.relax-fell.result c.loop-passed.invariant (subst P here c.relax-fell.ensures)
 

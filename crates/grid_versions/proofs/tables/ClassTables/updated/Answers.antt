@@ -5,7 +5,7 @@ use Rattle.nav_types.specs.declared.cells.Cell.{Cell}
 use Rattle.nav_types.specs.declared.cells.Size.{Size}
 use Rattle.chunk_regions.specs.Labelling.{Labelling}
 use Rattle.region_edges.specs.declared.neighbours.Side.TheVariants.{East, North}
-use Rattle.grid_versions.specs.inner.Tables.{Tables, AreTables, AreAllLabels, AreAllEdges, counts_of, region_counts}
+use Rattle.grid_versions.specs.inner.Tables.{Tables, AreTables, AreAllLabels, AreAllEdges, label_counts, region_counts}
 use Rattle.grid_versions.specs.inner.Building.{AreSides, IsLaidOut}
 use Rattle.grid_versions.specs.inner.Changing.{AreChanges}
 use Rattle.grid_versions.proofs.BuildLemmas.{laid_out}
@@ -39,7 +39,7 @@ module _ (old now : Cell → Bool) (size extent : Size) (class : ℕ) (bits : Li
         }
 
     -- where nothing joins otherwise, the areas are those of before
-    kept_here : counts_of labels ≡ region_counts before → east ≡ before.east → north ≡ before.north
+    kept_here : label_counts labels ≡ region_counts before → east ≡ before.east → north ≡ before.north
         → AreTables now extent (record { labels = labels; east = east; north = north; areas = before.areas })
     kept_here counts east_stays north_stays =
         let after : Tables = record { labels = labels; east = east; north = north; areas = before.areas } in

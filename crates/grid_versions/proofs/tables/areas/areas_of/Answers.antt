@@ -5,17 +5,17 @@ use Rattle.chunk_regions.specs.Labelling.{Labelling}
 use Rattle.reach_sets.specs.declared.regions.RegionId.{RegionId}
 use Rattle.reach_sets.specs.RegionOrder.{IsRegion}
 use Rattle.reach_sets.specs.AreaNumbers.{AreaNumbers, AreAreas}
-use Rattle.grid_versions.specs.inner.Tables.{counts_of}
+use Rattle.grid_versions.specs.inner.Tables.{label_counts}
 use Rattle.grid_versions.proofs.BuildLemmas.{links_are, links_exist, regions_few, tables_few}
 use Rattle.grid_versions.proofs.tables.areas.areas_of.Goals as goal
 
-exist_here : (counts : List ℕ) (labels : List Labelling) (links : List (RegionId × RegionId)) → counts ≡ counts_of labels
-    → All (λ link. IsRegion (counts_of labels) link.0 × IsRegion (counts_of labels) link.1) links → All (λ link. IsRegion counts link.0 × IsRegion counts link.1) links
+exist_here : (counts : List ℕ) (labels : List Labelling) (links : List (RegionId × RegionId)) → counts ≡ label_counts labels
+    → All (λ link. IsRegion (label_counts labels) link.0 × IsRegion (label_counts labels) link.1) links → All (λ link. IsRegion counts link.0 × IsRegion counts link.1) links
 exist_here counts labels links same exist =
     subst (λ (xs : List ℕ). All (λ (link : RegionId × RegionId). IsRegion xs link.0 × IsRegion xs link.1) links) (sym same) exist
 
 -- no chunk has more regions than cells
-most_here : (counts : List ℕ) (labels : List Labelling) → counts ≡ counts_of labels → All (λ count. count ≤ 9216) counts → All (λ count. count ≤ 9216) (counts_of labels)
+most_here : (counts : List ℕ) (labels : List Labelling) → counts ≡ label_counts labels → All (λ count. count ≤ 9216) counts → All (λ count. count ≤ 9216) (label_counts labels)
 most_here counts labels same most = subst (λ (xs : List ℕ). All (λ count. count ≤ 9216) xs) same most
 
 pub all_links-requires-clause-east : goal.all_links-requires-clause-east
@@ -58,6 +58,6 @@ returns-clause-areas c = λ passes sides.
       north_are = sides.north_are;
       links = links;
       links_are = links_are passes c.args.size c.args.east.now c.args.north.now links sides.inside sides.east_are sides.north_are c.in_ok-links.ensures;
-      areas_are = subst (λ (table : AreaNumbers). AreAreas (counts_of labels) links table) (sym c.in_ok-new.ensures.ok)
+      areas_are = subst (λ (table : AreaNumbers). AreAreas (label_counts labels) links table) (sym c.in_ok-new.ensures.ok)
           (subst (λ (counts : List ℕ). AreAreas counts links c.in_ok-table.table) (c.as_slice.ensures.value ∙ c.in_ok-counts.ensures.value) c.in_ok-table.ensures.areas);
     }

@@ -1,6 +1,6 @@
 use Rattle.std.proofs.Common.{List, ◌∙◌, ap, sym, subst}
 use Rattle.chunk_regions.specs.Labelling.{Labelling}
-use Rattle.grid_versions.specs.inner.Tables.{AreAllLabels, counts_of}
+use Rattle.grid_versions.specs.inner.Tables.{AreAllLabels, label_counts}
 use Rattle.grid_versions.proofs.tables.labelling.next_labels.Goals as goal
 
 pub relabel-requires-clause-before : goal.relabel-requires-clause-before
@@ -16,4 +16,4 @@ relabel-requires-clause-before g c =
 
 pub returns-clause-counts : goal.returns-clause-counts
 returns-clause-counts g c = λ all_stay.
-    c.in_ok-stay.ensures.counts all_stay ∙ ap (λ (all : List Labelling). counts_of all) c.in_ok-labels.ensures
+    c.in_ok-stay.ensures.counts all_stay ∙ ap (λ (all : List Labelling). label_counts all) c.in_ok-labels.ensures

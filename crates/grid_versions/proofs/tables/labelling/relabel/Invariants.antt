@@ -5,7 +5,7 @@ use Rattle.lane_rows.specs.Rows.{has_class}
 use Rattle.chunk_regions.specs.Labelling.{Labelling, AreLabels}
 use Rattle.grid_versions.specs.Chunks.{chunk_count}
 use Rattle.grid_versions.specs.inner.ChunkLists.{chunk_numbered}
-use Rattle.grid_versions.specs.inner.Tables.{AreAllLabels, counts_of}
+use Rattle.grid_versions.specs.inner.Tables.{AreAllLabels, label_counts}
 use Rattle.grid_versions.proofs.RemakeLemmas.{AreRemade}
 use Rattle.grid_versions.proofs.tables.labelling.relabel.Given as goal
 
@@ -18,6 +18,6 @@ invariant-loop-place g l = record {
       AreLabels (g.V.View.passes l.view l.class) (g.V.View.extent l.view) (chunk_numbered (g.V.View.extent l.view) k) one)
       (λ (k : ℕ) (one : Labelling). AreLabels old (g.V.View.extent l.view) (chunk_numbered (g.V.View.extent l.view) k) one)
       l.place l.labels;
-  counts : IsTrue l.stay → counts_of l.labels ≡ counts_of l.initial.labels;
+  counts : IsTrue l.stay → label_counts l.labels ≡ label_counts l.initial.labels;
   ticked : l.ticks ≤ l.initial.ticks + count_by (has_class l.class) (take l.place l.changed);
 }

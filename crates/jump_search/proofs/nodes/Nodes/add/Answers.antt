@@ -1,7 +1,7 @@
 use Rattle.std.proofs.Common.{rules, ℕ, ◌≡◌, ◌+◌, ◌++◌, ◌∷◌, [], length, ap, sym, subst, ◌∙◌, List, arith}
 use Rattle.jump_search.specs.declared.nodes.Node.{Node}
-use Rattle.jump_search.specs.inner.Numbered.{AreChained}
-use Rattle.jump_search.specs.inner.Paged.{slot_of, number_of}
+use Rattle.jump_search.specs.inner.Numbered.{AreSlotChains}
+use Rattle.jump_search.specs.inner.Paged.{slot_of, cell_number}
 use Rattle.jump_search.proofs.Numbering.{chained_more}
 use Rattle.jump_search.proofs.nodes.Nodes.add.Goals as goal
 
@@ -11,8 +11,8 @@ invariant_of-self-2 c =
     let node = c.args.node in
     let table = inside.pages.table.items in
     let made = c.replace.new.self.table.items in
-    let Head = number_of table inside.pages.numbers.items in
-    let New = number_of made c.replace.new.self.numbers.items in
+    let Head = cell_number table inside.pages.numbers.items in
+    let New = cell_number made c.replace.new.self.numbers.items in
     let list = c.push_reserved-2.new.self.items in
     let links = c.push_reserved.new.self.items in
     let set = c.in_ok-before.ensures.set in
@@ -26,6 +26,6 @@ invariant_of-self-2 c =
     ∙ ap (λ (n : ℕ). inside.links.items ++ n ∷ []) c.in_ok-before.ensures.before in
     let chained = chained_more slot_of Head New inside.list.items inside.links.items node c.in-Some.after c.self.invariant
     after set.here set.apart in
-    let one = subst (λ (l : List Node). AreChained slot_of New l (inside.links.items ++ Head node.state.cell ∷ []))
+    let one = subst (λ (l : List Node). AreSlotChains slot_of New l (inside.links.items ++ Head node.state.cell ∷ []))
     (sym items) chained in
-    subst (λ (l : List ℕ). AreChained slot_of New list l) (sym linked) one
+    subst (λ (l : List ℕ). AreSlotChains slot_of New list l) (sym linked) one

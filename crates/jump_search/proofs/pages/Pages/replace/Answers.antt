@@ -1,6 +1,6 @@
 use Rattle.std.proofs.Common.{ℕ, ◌+◌, ◌*◌, ◌<◌, get_or, set, sym, subst, ◌∙◌}
 use Rattle.std.proofs.lemmas.List.{get_or_read}
-use Rattle.jump_search.specs.inner.Paged.{number_of, IsSet}
+use Rattle.jump_search.specs.inner.Paged.{cell_number, IsSet}
 use Rattle.jump_search.proofs.Paging.{page_within, number_before, set_is}
 use Rattle.jump_search.proofs.pages.Pages.replace.Goals as goal
 
@@ -28,8 +28,8 @@ returns-clause-set c =
     let spot = c.spot in
     let some : 0 < get_or made.table.items place.result 0 =
     subst (λ (n : ℕ). 0 < n) page.ensures.page page.ensures.some in
-    subst (λ (n : ℕ). IsSet c.args.cell c.args.number (number_of table numbers)
-    (number_of made.table.items (set made.numbers.items (n * 256 + spot.result) c.args.number)))
+    subst (λ (n : ℕ). IsSet c.args.cell c.args.number (cell_number table numbers)
+    (cell_number made.table.items (set made.numbers.items (n * 256 + spot.result) c.args.number)))
     (sym page.ensures.page)
     (set_is table numbers made.table.items made.numbers.items c.args.cell place.result spot.result c.args.number
     made.paged page.ensures.same place.ensures.place spot.ensures.spot some)

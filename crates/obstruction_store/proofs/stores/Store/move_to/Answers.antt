@@ -1,4 +1,5 @@
 use Rattle.std.proofs.Common.{◌≡◌, Some, IsSomeAnd, refl, ap, sym, subst, ◌∙◌}
+use Rattle.std.proofs.lemmas.Option.{none-some}
 use Rattle.std.specs.BTreeMap as tree
 use Rattle.std.specs.FinMap as map
 use Rattle.std.specs.Ordering.{nat_cmp}
@@ -9,7 +10,7 @@ use Rattle.slab.specs.Slab.{with_value}
 use Rattle.slab.proofs.SlabLemmas.{Updates-with_value}
 use Rattle.obstruction_store.specs.Standing.{with_placed}
 use Rattle.obstruction_store.proofs.Holding.{stands_at, none_stands, held-write}
-use Rattle.obstruction_store.proofs.Refusing.{value_not_none, none_holds, holds_at}
+use Rattle.obstruction_store.proofs.Refusing.{none_holds, holds_at}
 use Rattle.obstruction_store.proofs.stores.Store.move_to.Goals as goal
 
 -- where the number has no key
@@ -33,7 +34,7 @@ stands_unfit c = let at = c.self.inside in
 
 pub returns-in_default-check-clause-unknown : goal.returns-in_default-check-clause-unknown
 returns-in_default-check-clause-unknown c =
-    (λ other. absurd (cc), λ none. absurd (value_not_none _ _ (stands_unfit c) none))
+    (λ other. absurd (cc), λ none. absurd (none-some _ (sym none ∙ stands_unfit c)))
 
 pub returns-in_default-check-clause-bad_shape : goal.returns-in_default-check-clause-bad_shape
 returns-in_default-check-clause-bad_shape c = (
@@ -76,7 +77,7 @@ pub returns-clause-fits : goal.returns-clause-fits
 returns-clause-fits c = subst (λ o. IsSomeAnd o (λ (o : Obstruction). FitsMap c.args.size (moved_to o.shape c.args.x c.args.z))) (sym (stands c)) (moved_fits c)
 
 pub returns-clause-unknown : goal.returns-clause-unknown
-returns-clause-unknown c = (λ other. absurd (cc), λ none. absurd (value_not_none _ _ (stands c) none))
+returns-clause-unknown c = (λ other. absurd (cc), λ none. absurd (none-some _ (sym none ∙ stands c)))
 
 pub returns-clause-bad_shape : goal.returns-clause-bad_shape
 returns-clause-bad_shape c = (

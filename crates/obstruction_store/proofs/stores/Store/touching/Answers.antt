@@ -1,7 +1,7 @@
 use Rattle.std.proofs.Common.{◌≡◌, sym, subst, ◌∙◌}
 use Rattle.std.specs.FinMap as map
 use Rattle.obstruction_store.proofs.TouchingNumbers.{FitEach, FitEach-entries, PicksSoFar, PicksSoFar-first, PicksSoFar-touches, PicksSoFar-far, AreTouching-picked}
-use Rattle.obstruction_store.proofs.Refusing.{one_answer}
+use Rattle.std.proofs.lemmas.Bool.{both_ways}
 use Rattle.obstruction_store.proofs.stores.Store.touching.Goals as goal
 
 pub loop-id-init : goal.loop-id-init
@@ -21,7 +21,7 @@ loop-id-preserved c = record {
   fit = (subst (FitEach c.args.size) c.in-Some.ensures.steps c.loop-id.invariant.fit).1;
   so_far = PicksSoFar-far c.args.size c.args.rect c.args.clearance c.args.self.now c.loop-id.ids (c.in-Some.id, c.in-Some.obstruction.now)
       c.loop-id.id-iterator c.next.new.self c.in-Some.ensures.steps
-      (λ touches. one_answer c.touches.result (c.touches.ensures.1 touches) c.if-touches.false) c.loop-id.invariant.so_far;
+      (λ touches. both_ways c.touches.result c.if-touches.false (c.touches.ensures.1 touches)) c.loop-id.invariant.so_far;
 }
 
 pub loop-id-preserved-in-Continue-1 : goal.loop-id-preserved-in-Continue-1

@@ -1,12 +1,12 @@
 use Rattle.std.proofs.Common.{◌≡◌, ◌≤◌, ◌<◌, ◌^◌, ◌∙◌, List, All, None, false, length, sym, ap, subst, vec_items, arith}
 use Rattle.nav_types.specs.declared.limits.TheConstants.{MAX_STAGED_POSTS}
 use Rattle.turn_core.specs.declared.posts.Post.{Post}
-use Rattle.turn_core.specs.Turns.{jobs}
+use Rattle.turn_core.specs.Turns.{jobs, post_count}
 use Rattle.turn_core.specs.ReadyTurns.{Ready, after_edits_of}
-use Rattle.path_service.specs.Services.{DriverState, post_count}
+use Rattle.path_service.specs.Services.{DriverState}
 use Rattle.path_service.specs.inner.Holding.{run_of}
 use Rattle.path_service.specs.inner.Ports.{IsInRoom}
-use Rattle.path_service.proofs.HandLists.{jobs_few}
+use Rattle.turn_core.proofs.PostCounts.{few_jobs}
 use Rattle.path_service.proofs.RunStarts.{no_run, ready_on}
 use Rattle.path_service.proofs.NextTurns.{holds_taken, wide_hands}
 use Rattle.path_service.proofs.StartedTurns.{with_run, with_broken, begins_of, started_known, has_started, started_rest, broken_known, has_broken_off, broken_rest}
@@ -22,7 +22,7 @@ run_beside-answers-requires g c =
     let hands : c.replace-hands.result.items ≡ a.hands.items = ap vec_items c.replace-hands.ensures.value in
     let on = ready_on a ready c.self.invariant sound (sym c.in-Some.ensures.value) (no_run a.running a.broken none).0 in
     let few : post_count ready.turn ≤ MAX_STAGED_POSTS = on.few in
-    let asked : length (jobs ready.turn) < 2 ^ 32 = omega (arith, few, jobs_few ready.turn) in
+    let asked : length (jobs ready.turn) < 2 ^ 32 = omega (arith, few, few_jobs ready.turn) in
     let wide : length c.replace-hands.result.items ≡ length c.replace-ports.result.items = ap length hands ∙ wide_hands a c.self.invariant ∙ sym (ap length ports) in
     let room : All IsInRoom c.replace-ports.result.items = subst (All IsInRoom) (sym ports) c.self.invariant.room in
     let held : post_count c.replace-hands.result.items ≤ MAX_STAGED_POSTS = subst (λ (h : List (List Post)). post_count h ≤ MAX_STAGED_POSTS) (sym hands) c.self.invariant.few in

@@ -4,4 +4,4 @@ use Rattle.script_text.proofs.canon.posts.push_end.Goals as goal
 
 pub returns : goal.returns
 unfolding serde_json_on_literals end_json
-returns c = c.in_ok-push_pieces.ensures.text
+returns c = c.push_pieces.ensures.text

@@ -13,7 +13,7 @@ use Rattle.turn_core.specs.States.{State}
 use Rattle.turn_core.specs.Table.{why_not}
 use Rattle.turn_core.specs.Effects.{delivered}
 use Rattle.turn_core.specs.Facts.{Facts}
-use Rattle.turn_core.specs.inner.Runs.{base_of, answers_held}
+use Rattle.turn_core.specs.inner.Runs.{version_for_next, answers_held}
 use Rattle.turn_core.specs.inner.Machines.{HoldsRun, HoldsStaged}
 use Rattle.turn_core.proofs.MachineSteps.{answers_given, delivered_holds, delivered_is, version_is}
 use Rattle.turn_core.proofs.ReplyPlaces.{come_still}
@@ -47,9 +47,9 @@ invariant_of-self-2 c =
       standing = delivered_holds a run after c.push_turn.new.delivered.items turn c.self.invariant (subst (HoldsRun a.version) is c.self.invariant.running)
           told.map told.standing pushed told.posts;
       running = subst (HoldsRun after) (sym c.in-Some.ensures.after) tt;
-      staged = subst (λ (o : Option RunningTurn). HoldsStaged (base_of after o) a.staged) (sym c.in-Some.ensures.after)
+      staged = subst (λ (o : Option RunningTurn). HoldsStaged (version_for_next after o) a.staged) (sym c.in-Some.ensures.after)
           (subst (λ (v : MapState). HoldsStaged v a.staged) (sym (version_is after run.ready told.map told.standing))
-          (subst (λ (o : Option RunningTurn). HoldsStaged (base_of a.version o) a.staged) is c.self.invariant.staged));
+          (subst (λ (o : Option RunningTurn). HoldsStaged (version_for_next a.version o) a.staged) is c.self.invariant.staged));
       come = come_still a.delivered.items c.push_turn.new.delivered.items turn a.collected.items a.places.items pushed c.self.invariant.come;
     }
 
