@@ -65,9 +65,11 @@ def remove(number):
     return f'{{"caller":0,"remove":{number}}}'
 
 
-def path(start, goal):
+def path(start, goal, radius=None):
+    """A path to a point, or to a circle round it."""
     (a, b), (c, d) = start, goal
-    return f'{{"caller":0,"path":"c0","from":["{a}.5","{b}.5"],"goal":{{"point":["{c}.5","{d}.5"]}}}}'
+    aim = f'"point":["{c}.5","{d}.5"]' if radius is None else f'"circle":["{c}.5","{d}.5","{radius}"]'
+    return f'{{"caller":0,"path":"c0","from":["{a}.5","{b}.5"],"goal":{{{aim}}}}}'
 
 
 def bases(blocked):
@@ -183,13 +185,13 @@ def basics(bench):
 
 
 def near(bench):
-    print("near: to a goal, and from a start, in the middle of a blocked square so far from its rim, less the same to and from the rim")
+    print("near: to a goal, to a circle of half that radius, and from a start, in the middle of a blocked square so far from its rim, less the same to and from the rim")
     for far in (2, 8, 32, 128):
         low, high = 256 - far, 255 + far
         script = [map_line(512), f'{{"base":[[{low},{low},{high},{high},1]]}}']
         bare, corner, middle, rim = bench.count([*script, end(1)]), (0, 0), (256, 255), (256, low - 1)
-        cost = lambda start, goal: bench.count([*script, path(start, goal), end(1)]) - bare
-        told(f"{far}", cost(corner, middle) - cost(corner, rim), cost(middle, corner) - cost(rim, corner))
+        cost = lambda *walk: bench.count([*script, path(*walk), end(1)]) - bare
+        told(f"{far}", cost(corner, middle) - cost(corner, rim), cost(corner, middle, far // 2) - cost(corner, rim), cost(middle, corner) - cost(rim, corner))
 
 
 def growth(bench):

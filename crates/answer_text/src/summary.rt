@@ -2,7 +2,7 @@
 ghost use Rattle.std.specs.Prelude.{◌≡◌, ◌++◌, List, IfOk, OnOk};
 ghost use Rattle.turn_core.specs.declared.replies.Reply.{Reply};
 ghost use Rattle.answer_text.specs.inner.Counting.{counts_of};
-ghost use Rattle.answer_text.specs.Summaries.{summary_text, totals_line, last_line, last_tallies, all_replies, HasFewReplies, HasCountableCosts, HasCountableWaypoints};
+ghost use Rattle.answer_text.specs.Summaries.{summary_text, totals_line, last_line, last_tallies, HasFewReplies, HasCountableCosts, HasCountableWaypoints};
 
 use crate::counting::ReplyCounts;
 use crate::pieces::write_after;

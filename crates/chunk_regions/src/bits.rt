@@ -26,7 +26,7 @@ impl Model for ChunkBits {
 }
 
 impl ChunkBits {
-    ghost use Rattle.std.specs.Prelude.{replicate, slice_set, length};
+    ghost use Rattle.std.specs.Prelude.{replicate, slice_set};
 
     /// The bits of a chunk without a passable cell.
     pub fn new() -> ChunkBits

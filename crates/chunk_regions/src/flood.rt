@@ -12,14 +12,14 @@ use nav_types::{Cell, Chunk, NoMemory};
 use std::alloc::Global;
 
 /// A span of a chunk: its row, and its place among the spans of all rows.
-#[derive(Debug, Clone, Copy)]
+#[derive(Clone, Copy)]
 pub struct Place {
     pub row: u16,
     pub at: u16,
 }
 
 /// The regions of the spans, and the first cells of all regions in order.
-#[derive(Debug, Drop)]
+#[derive(Drop)]
 pub struct Numbered {
     pub regions: Vec<u16>,
     pub firsts: Vec<Cell>,

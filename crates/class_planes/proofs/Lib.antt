@@ -17,3 +17,4 @@ mod StopChangeLemmas
 mod StepLemmas
 mod StopTableLemmas
 mod TightLemmas
+mod FreePlaces

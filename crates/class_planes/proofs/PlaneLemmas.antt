@@ -1,5 +1,5 @@
 -- The cells of a plane, and the bits of its lines.
-use Rattle.std.proofs.Common.{◌≡◌, ℕ, ◌∷◌, ◌++◌, length, length-append, option_map, IfSome, ◌+◌, ◌-◌, ◌*◌, ◌/◌, ◌%◌, ◌<◌, Bool, true, false, ◌&&◌, IsTrue, eqb, ltb, ◌≤◌, inl, inr, List, [], get_or, Option, Some, None, IsSome, is_some, refl, sym, ap, ◌∙◌, subst, arith}
+use Rattle.std.proofs.Common.{◌≡◌, ℕ, ◌∷◌, ◌++◌, length, length-append, option_map, IfSome, ◌+◌, ◌*◌, ◌/◌, ◌%◌, ◌<◌, Bool, true, false, ◌&&◌, IsTrue, eqb, ltb, ◌≤◌, inl, inr, List, [], get_or, Option, Some, None, IsSome, is_some, refl, sym, ap, ◌∙◌, subst, arith}
 use Rattle.std.proofs.lemmas.Bool.{false≢true, ltb-true, lt-ltb, cases_lt}
 use Rattle.std.proofs.lemmas.List.{get_or_past, get_or_append_left, get_or_at}
 use Rattle.std.proofs.lemmas.Nat.Bits.{bit_at_ones}
@@ -15,7 +15,6 @@ use Rattle.class_planes.specs.Planes.{PlaneCells, is_passable, AreFreeBits, IsPl
 use Rattle.class_planes.specs.declared.changed_parts.ChangedPart.{ChangedPart}
 use Rattle.class_planes.specs.inner.Changes.{IsPlaneBefore}
 use Rattle.lane_rows.specs.Rows.{one_if}
-use Rattle.class_planes.specs.inner.Runs.{LaneWords, AreLanesOf, bit_in}
 use Rattle.class_planes.specs.inner.Lines.{LineTable, RowTable, line_at, line_in, free_at, free_cell, plane_of, AreLines, AreRows}
 
 -- two tests of the same two sides
@@ -66,21 +65,6 @@ line_free free count words n table are below =
     subst (λ m. AreFreeBits (free m) (line_at table n)) there
     (subst (λ w. AreFreeBits (free (32 * (n / 32) + n % 32)) (line_in w band (n % 32))) (sym are.wide)
     ((are.each (n / 32) below).each (n % 32) (omega arith)))
-
--- a line and those beside it
-pub lanes_free : (free same : ℕ → ℕ → Bool) (count words n : ℕ) (table : LineTable) (lanes : LaneWords)
-    → AreLines free count words table → ((m i : ℕ) → free m i ≡ same m i) → 0 < n → n + 1 < 32 * count
-    → lanes.mid ≡ line_at table n → lanes.left ≡ line_at table (n + 1) → lanes.right ≡ line_at table (n - 1)
-    → AreLanesOf same n lanes
-lanes_free free same count words n table lanes are alike low high mid left right =
-    let bit = λ (line : List ℕ) (m i : ℕ) (is : line ≡ line_at table m) (below : m / 32 < count).
-    ap (λ xs. bit_in xs i) is ∙ line_free free count words m table are below i ∙ ap one_if (alike m i) in
-    record {
-      mid = λ i. bit lanes.mid n i mid (omega (arith, high));
-      left = λ i. bit lanes.left (n + 1) i left (omega (arith, high));
-      right = λ i. bit lanes.right (n - 1) i right (omega (arith, high, low))
-          ∙ ap (λ b. one_if (b && same (n - 1) i)) (sym (lt-ltb 0 n low));
-    }
 
 pub at_free : (free : ℕ → ℕ → Bool) (count words n i : ℕ) (table : LineTable) → AreLines free count words table
     → n / 32 < count → free_at table n i ≡ free n i

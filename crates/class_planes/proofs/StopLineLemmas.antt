@@ -282,6 +282,23 @@ past_columns : (table : RowTable) (i j : ℕ) → table.size.w ≤ i → free_ce
 past_columns table i j past =
     first_false (ltb i table.size.w) (ltb j table.size.h) (free_at table.rows j i) (le-ltb i table.size.w past)
 
+-- ---- a line of a plane, with the lines beside it
+
+pub row_lanes : (table : RowTable) (plane : PlaneCells) (j : ℕ) → plane_of table ≡ plane → AreRows table → j < table.size.h
+    → AreLanesOf (λ j i. is_passable plane (cell_at i j)) j (lanes_of table.rows table.size.h j)
+row_lanes table plane j same are line =
+    lanes_are (λ j i. free_cell table (cell_at i j)) (λ j i. is_passable plane (cell_at i j)) table.size.h
+    (table.size.w / 64 + 1) j table.rows are (λ j i. free_passable table plane same (cell_at i j)) line
+    (λ i. past_rows table i table.size.h (omega arith))
+
+pub column_lanes : (table : RowTable) (plane : PlaneCells) (columns : LineTable) (i : ℕ) → plane_of table ≡ plane
+    → AreColumns table columns → i < table.size.w
+    → AreLanesOf (λ i j. is_passable plane (cell_at i j)) i (lanes_of columns table.size.w i)
+column_lanes table plane columns i same are line =
+    lanes_are (λ i j. free_cell table (cell_at i j)) (λ i j. is_passable plane (cell_at i j)) table.size.w
+    (table.size.h / 64 + 1) i columns are (λ i j. free_passable table plane same (cell_at i j)) line
+    (λ j. past_columns table table.size.w j (omega arith))
+
 -- ---- the four directions
 
 pub inside_of : (table : RowTable) (plane : PlaneCells) (cell : Cell) → plane_of table ≡ plane

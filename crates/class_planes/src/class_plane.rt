@@ -1,19 +1,21 @@
 //! The plane of one class.
-ghost use Rattle.std.specs.Prelude.{◌≡◌, ◌<◌, ◌≤◌, ◌/◌, ◌%◌, ◌+◌, All, length, IfOk, IsTrue};
+ghost use Rattle.std.specs.Prelude.{◌≡◌, ◌<◌, ◌≤◌, ◌/◌, ◌+◌, All, length, IfOk, IsTrue};
 ghost use Rattle.nav_types.specs.declared.cells.Cell.{Cell};
 ghost use Rattle.nav_types.specs.Cells.{IsInside, IsRectInside, cell_at};
 ghost use Rattle.nav_types.specs.Directions.{is_straight};
+ghost use Rattle.nav_types.specs.Lines.{IsFirstFree};
 ghost use Rattle.nav_types.specs.declared.directions.Dir.TheVariants as Dir;
 ghost use Rattle.class_planes.specs.Planes.{AreFreeBits, IsOutside, is_passable};
 ghost use Rattle.class_planes.specs.inner.Lines.{AreRows, plane_of};
 ghost use Rattle.class_planes.specs.inner.Reading.{AreRead, IsUnread};
 ghost use Rattle.class_planes.specs.inner.Runs.{AreLanesOf, TellsStop};
 
+use crate::free_places::first_free;
 use crate::lines::Lines;
 use crate::read_cells::ReadRect;
 use crate::rows::lines_of;
 use crate::stop_table::StopTable;
-use crate::stops::{stops_of, turned, updated_stops};
+use crate::stops::{lanes_at, stops_of, turned, updated_stops};
 use crate::turned::{columns_of, updated_columns};
 use crate::updates::updated_lines;
 use crate::word_scans::Lanes;
@@ -156,28 +158,42 @@ impl ClassPlane {
         self.columns.line(i)
     }
 
-    /// Row `j` with the rows beside it, where all three are in one band.
+    /// The column of the first passable cell of the row, from this cell to the east; the width of the map where there is
+    /// none. It looks at 64 cells at a time.
+    pub fn next_free_east(&self, cell: Cell) -> u16
+        requires { IsInside self.now.size cell }
+        ensures { IsFirstFree (λ i. is_passable self.now (cell_at i cell.j)) cell.i self.now.size.w result }
+    {
+        first_free(self.row_words(cell.j), cell.i, self.size.w)
+    }
+
+    /// The row of the first passable cell of the column, from this cell to the north; the height of the map where there
+    /// is none. It looks at 64 cells at a time.
+    pub fn next_free_north(&self, cell: Cell) -> u16
+        requires { IsInside self.now.size cell }
+        ensures { IsFirstFree (λ j. is_passable self.now (cell_at cell.i j)) cell.j self.now.size.h result }
+    {
+        first_free(self.column_words(cell.i), cell.j, self.size.h)
+    }
+
+    /// Row `j` with the rows beside it.
     #[inline(always)]
-    pub(crate) fn inner_rows(&self, j: u16) -> Lanes<'_>
-        requires row { j < self.now.size.h }
-        requires low { 0 < j % 32 }
-        requires high { j % 32 < 31 }
+    pub(crate) fn rows_at(&self, j: u16) -> Lanes<'_>
+        requires { j < self.now.size.h }
         ensures words { length result.mid ≡ self.now.size.w / 64 + 1 }
         ensures bits { AreLanesOf (λ j i. is_passable self.now (cell_at i j)) j result }
     {
-        self.rows.inner_lanes(j)
+        lanes_at(&self.rows, self.size.h, j)
     }
 
-    /// Column `i` with the columns beside it, where all three are in one band.
+    /// Column `i` with the columns beside it.
     #[inline(always)]
-    pub(crate) fn inner_columns(&self, i: u16) -> Lanes<'_>
-        requires column { i < self.now.size.w }
-        requires low { 0 < i % 32 }
-        requires high { i % 32 < 31 }
+    pub(crate) fn columns_at(&self, i: u16) -> Lanes<'_>
+        requires { i < self.now.size.w }
         ensures words { length result.mid ≡ self.now.size.h / 64 + 1 }
         ensures bits { AreLanesOf (λ i j. is_passable self.now (cell_at i j)) i result }
     {
-        self.columns.inner_lanes(i)
+        lanes_at(&self.columns, self.size.w, i)
     }
 
     /// Whether a cell of the map is passable.

@@ -1,5 +1,5 @@
 //! Set bits of a word that are spread over the free places beside them.
-ghost use Rattle.std.specs.Prelude.{◌≡◌, ◌<◌, ◌≤◌, ◌+◌, ℕ, max, min};
+ghost use Rattle.std.specs.Prelude.{◌≡◌, ◌<◌, ◌+◌, ℕ, max, min};
 ghost use Rattle.std.specs.Int.{bit_at};
 
 /// Some places of a word, and those over which they may spread.

@@ -5,6 +5,7 @@
 mod changed_parts;
 mod class_plane;
 mod fills;
+mod free_places;
 mod lines;
 mod plane_runs;
 mod plane_scans;

@@ -95,8 +95,8 @@ impl Lines {
         requires long { length (slice_index_or self.now.bands (n / 32) []) ≡ 32 * self.now.words }
         ensures { result.now ≡ line_at self.now n }
     {
-        let band = &self.bands[usize::from(n) / 32].words;
-        let start = usize::from(n) % 32 * self.words;
+        let band = self.band(n / 32);
+        let start = usize::from(n % 32) * self.words;
         &band[start..start + self.words]
     }
 
@@ -112,8 +112,7 @@ impl Lines {
         ensures left { result.left ≡ line_at self.now (n + 1) }
         ensures right { result.right ≡ line_at self.now (n - 1) }
     {
-        let band = &self.bands[usize::from(n) / 32].words;
-        lanes_in(band.as_slice(), self.words, usize::from(n) % 32)
+        lanes_in(self.band(n / 32), self.words, usize::from(n % 32))
     }
 
     /// Whether place `i` of line `n` is passable.

@@ -1,5 +1,5 @@
 //! Runs over the plane of one class.
-ghost use Rattle.std.specs.Prelude.{◌≡◌, ◌<◌, ◌≤◌, ◌+◌, ◌-◌, ◌/◌, ◌%◌, ◌==◌, ◌&&◌, ◌↔◌, ◌⊎◌, ℕ, IsTrue, IsFalse, IfSome, IfNone, length};
+ghost use Rattle.std.specs.Prelude.{◌≡◌, ◌<◌, ◌≤◌, ◌+◌, ◌-◌, ◌/◌, ◌==◌, ◌&&◌, ◌↔◌, ◌⊎◌, ℕ, IsTrue, IsFalse, IfSome, IfNone, length};
 ghost use Rattle.nav_types.specs.declared.cells.Cell.{Cell};
 ghost use Rattle.nav_types.specs.declared.directions.Dir.TheVariants as Dir;
 ghost use Rattle.nav_types.specs.Cells.{IsInside, IsInRect, cell_at};
@@ -8,49 +8,12 @@ ghost use Rattle.nav_types.specs.Frames.{IsFrame};
 ghost use Rattle.nav_types.specs.Walks.{Step};
 ghost use Rattle.jump_scan.specs.Stops.{HaltsDiagonal, IsStraightStop, HasStraightStop, IsDiagonalStop};
 ghost use Rattle.class_planes.specs.Planes.{AreFreeBits, is_passable};
-ghost use Rattle.class_planes.specs.inner.Runs.{AreLanesOf, Far, bit_in, cell_along, RunsFar, IsFirstHit, HasRoom, HoldsSteps};
+ghost use Rattle.class_planes.specs.inner.Runs.{Far, bit_in, cell_along, RunsFar, IsFirstHit, HasRoom, HoldsSteps};
 
 use crate::class_plane::ClassPlane;
-use crate::lines::is_inner;
-use crate::word_scans::{Lanes, Reach, is_set};
+use crate::word_scans::{Reach, is_set};
 use nav_types::{Aim, Cell, Dir, Rect, Size};
 use std::marker::Model;
-
-/// The row `j` with the rows beside it.
-#[inline(always)]
-fn rows_at(plane: &ClassPlane, j: u16) -> Lanes<'_>
-    requires { j < plane.now.size.h }
-    ensures words { length result.mid ≡ plane.now.size.w / 64 + 1 }
-    ensures bits { AreLanesOf (λ j i. is_passable plane.now (cell_at i j)) j result }
-{
-    if is_inner(j) {
-        return plane.inner_rows(j);
-    }
-    let before = if j == 0 { plane.size().h } else { j - 1 };
-    Lanes {
-        mid: plane.row_words(j),
-        left: plane.row_words(j + 1),
-        right: plane.row_words(before),
-    }
-}
-
-/// The column `i` with the columns beside it.
-#[inline(always)]
-fn columns_at(plane: &ClassPlane, i: u16) -> Lanes<'_>
-    requires { i < plane.now.size.w }
-    ensures words { length result.mid ≡ plane.now.size.h / 64 + 1 }
-    ensures bits { AreLanesOf (λ i j. is_passable plane.now (cell_at i j)) i result }
-{
-    if is_inner(i) {
-        return plane.inner_columns(i);
-    }
-    let before = if i == 0 { plane.size().w } else { i - 1 };
-    Lanes {
-        mid: plane.column_words(i),
-        left: plane.column_words(i + 1),
-        right: plane.column_words(before),
-    }
-}
 
 /// How far the run to the north goes.
 #[inline(always)]
@@ -58,7 +21,7 @@ fn reach_north(plane: &ClassPlane, from: Cell) -> Reach
     requires { IsTrue (is_passable plane.now from) }
     ensures { RunsFar (is_passable plane.now) Dir.N from result }
 {
-    columns_at(plane, from.i).reach_up(from.j)
+    plane.columns_at(from.i).reach_up(from.j)
 }
 
 /// How far the run to the east goes.
@@ -67,7 +30,7 @@ fn reach_east(plane: &ClassPlane, from: Cell) -> Reach
     requires { IsTrue (is_passable plane.now from) }
     ensures { RunsFar (is_passable plane.now) Dir.E from result }
 {
-    rows_at(plane, from.j).reach_up(from.i)
+    plane.rows_at(from.j).reach_up(from.i)
 }
 
 /// How far the run to the south goes.
@@ -76,7 +39,7 @@ fn reach_south(plane: &ClassPlane, from: Cell) -> Reach
     requires { IsTrue (is_passable plane.now from) }
     ensures { RunsFar (is_passable plane.now) Dir.S from result }
 {
-    columns_at(plane, from.i).reach_down(from.j)
+    plane.columns_at(from.i).reach_down(from.j)
 }
 
 /// How far the run to the west goes.
@@ -85,7 +48,7 @@ fn reach_west(plane: &ClassPlane, from: Cell) -> Reach
     requires { IsTrue (is_passable plane.now from) }
     ensures { RunsFar (is_passable plane.now) Dir.W from result }
 {
-    rows_at(plane, from.j).reach_down(from.i)
+    plane.rows_at(from.j).reach_down(from.i)
 }
 
 /// How far the straight run from the cell goes.

@@ -1,5 +1,5 @@
 //! The stops of the runs up and down the lines of a map, in bands that several tables may share.
-ghost use Rattle.std.specs.Prelude.{ℕ, false, ◌≡◌, ◌<◌, ◌≤◌, ◌*◌, ◌/◌, ◌%◌, ◌==◌, [], length, slice_index_or, IfOk, OnOk};
+ghost use Rattle.std.specs.Prelude.{false, ◌≡◌, ◌<◌, ◌≤◌, ◌*◌, ◌/◌, ◌%◌, ◌==◌, [], length, slice_index_or, IfOk, OnOk};
 ghost use Rattle.class_planes.specs.inner.Lines.{AreLines, free_at, line_in};
 ghost use Rattle.class_planes.specs.inner.StopLines.{no_bands, with_band};
 ghost use Rattle.class_planes.specs.inner.Runs.{bit_in};

@@ -224,7 +224,8 @@ fn renew_line(lines: &Lines, count: u16, way: Way, rect: Rect, n: u16, stops: &m
 }
 
 /// Line `n` of the first `count` lines, with the lines beside it.
-fn lanes_at(lines: &Lines, count: u16, n: u16) -> Lanes<'_>
+#[inline(always)]
+pub fn lanes_at(lines: &Lines, count: u16, n: u16) -> Lanes<'_>
     requires lines { AreMapLines count lines.now }
     requires line { n < count }
     ensures { result ≡ lanes_of lines.now count n }

@@ -1,7 +1,5 @@
 //! Rectangles without those of their first and last lines that have not changed.
-ghost use Rattle.std.specs.Prelude.{ℕ, ◌≡◌, ◌<◌, ◌≤◌, ◌+◌, All, IfOk, IsTrue};
-ghost use Rattle.class_planes.specs.inner.Lines.{line_at};
-ghost use Rattle.class_planes.specs.inner.Runs.{bit_in};
+ghost use Rattle.std.specs.Prelude.{◌≡◌, ◌<◌, ◌≤◌, ◌+◌, All, IfOk, IsTrue};
 ghost use Rattle.class_planes.specs.inner.StopLines.{AreAlike, AreSameIn, AreSameOutside, IsRectOf};
 
 use crate::lines::Lines;

@@ -110,7 +110,7 @@ pub fn moved_down(line: &[u64], w: usize) -> u64
 }
 
 /// The bits after bit `k`, moved down to the lowest place.
-fn bits_after(word: u64, k: u16) -> u64
+pub fn bits_after(word: u64, k: u16) -> u64
     requires { k < 64 }
     ensures { (m : ℕ) → bit_at result m ≡ bit_at word (k + 1 + m) }
 {
@@ -314,7 +314,7 @@ impl<'a> Lanes<'a> {
 }
 
 /// The place of the lowest set bit.
-fn lowest(word: u64) -> u16
+pub fn lowest(word: u64) -> u16
     requires { 0 < word }
     ensures small { result < 64 }
     ensures set { bit_at word result ≡ 1 }

@@ -1,5 +1,5 @@
 //! The run of cells that a shape blocks in one row.
-ghost use Rattle.std.specs.Prelude.{◌≡◌, ◌≤◌, ◌<◌, ◌↔◌, ℕ, IfSome, IfNone, IsTrue, IsFalse};
+ghost use Rattle.std.specs.Prelude.{◌≤◌, ◌<◌, ◌↔◌, ℕ, IfSome, IfNone, IsTrue, IsFalse};
 ghost use Rattle.nav_types.specs.Cells.{cell_at};
 ghost use Rattle.obstruction_shapes.specs.Shapes.{HasUnitVector};
 ghost use Rattle.obstruction_shapes.specs.Blocking.{blocked};

@@ -4,7 +4,7 @@
 //! lies from -2147483648 to 2147483647. Nothing here takes memory.
 #![tactic(auto)]
 
-ghost use Rattle.std.specs.Prelude.{◌≡◌, ℕ, ◌≤◌, ℤ, ◌+ℤ◌, ◌-ℤ◌, ◌*ℤ◌, ◌≤ℤ◌, ◌<ℤ◌, pos, FitsSigned, SomeIff};
+ghost use Rattle.std.specs.Prelude.{◌≡◌, ◌≤◌, ℤ, ◌+ℤ◌, ◌-ℤ◌, ◌*ℤ◌, ◌≤ℤ◌, ◌<ℤ◌, pos, FitsSigned, SomeIff};
 ghost use Rattle.std.specs.Int.{w32};
 ghost use Rattle.fixed_point.specs.Raw.{floor_of, centre_of};
 

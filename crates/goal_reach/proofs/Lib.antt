@@ -6,3 +6,5 @@ pub mod Turned
 pub mod Beyond
 pub mod Starting
 pub mod Targeting
+pub mod Running
+pub mod GoalRows

@@ -6,6 +6,7 @@ use Rattle.nav_types.specs.declared.cells.Cell.{Cell}
 use Rattle.nav_types.specs.declared.cells.Rect.{Rect}
 use Rattle.nav_types.specs.declared.cells.Size.{Size}
 use Rattle.nav_types.specs.Cells.{IsInside, IsInRect}
+use Rattle.goal_reach.specs.declared.axes.Axis.TheVariants.{Row, Column}
 use Rattle.goal_reach.specs.declared.rings.Block.{Block}
 use Rattle.goal_reach.specs.inner.Rings.{whole_map, widened, clipped, Encloses, IsOnRing, IsInBlock}
 use Rattle.goal_reach.specs.declared.choices.Ranked.{Ranked}
@@ -31,16 +32,16 @@ in_rect_or_not rect cell = elim (cases_lt cell.i rect.i0) [
 -- ---- the sides of a ring
 
 abbrev pub south_side : Rect → Rect → Block
-south_side inner outer = record { west = outer.i0; east = outer.i1 + 1; south = outer.j0; north = inner.j0 }
+south_side inner outer = record { axis = Row; first_line = outer.j0; past_line = inner.j0; from = outer.i0; end = outer.i1 + 1 }
 
 abbrev pub north_side : Rect → Rect → Block
-north_side inner outer = record { west = outer.i0; east = outer.i1 + 1; south = inner.j1 + 1; north = outer.j1 + 1 }
+north_side inner outer = record { axis = Row; first_line = inner.j1 + 1; past_line = outer.j1 + 1; from = outer.i0; end = outer.i1 + 1 }
 
 abbrev pub west_side : Rect → Rect → Block
-west_side inner outer = record { west = outer.i0; east = inner.i0; south = inner.j0; north = inner.j1 + 1 }
+west_side inner outer = record { axis = Column; first_line = outer.i0; past_line = inner.i0; from = inner.j0; end = inner.j1 + 1 }
 
 abbrev pub east_side : Rect → Rect → Block
-east_side inner outer = record { west = inner.i1 + 1; east = outer.i1 + 1; south = inner.j0; north = inner.j1 + 1 }
+east_side inner outer = record { axis = Column; first_line = inner.i1 + 1; past_line = outer.i1 + 1; from = inner.j0; end = inner.j1 + 1 }
 
 abbrev pub IsOnSides : Rect → Rect → Cell → Type 0
 IsOnSides inner outer cell =
@@ -52,13 +53,13 @@ pub ring_sides : (inner outer : Rect) (cell : Cell) → IsOnRing inner outer cel
 ring_sides inner outer cell (h, off) =
     let west = h.west in let east = h.east in let south = h.south in let north = h.north in
     elim (cases_lt cell.j inner.j0) [
-      | inl below ↦ inl (inl (record { west = west; east = omega arith; south = south; north = below }))
+      | inl below ↦ inl (inl (record { first_line = south; past_line = below; from = west; end = omega arith }))
       | inr from ↦ elim (cases_lt inner.j1 cell.j) [
-        | inl above ↦ inl (inr (record { west = west; east = omega arith; south = omega arith; north = omega arith }))
+        | inl above ↦ inl (inr (record { first_line = omega arith; past_line = omega arith; from = west; end = omega arith }))
         | inr to ↦ elim (cases_lt cell.i inner.i0) [
-          | inl before ↦ inr (inl (record { west = west; east = before; south = from; north = omega arith }))
+          | inl before ↦ inr (inl (record { first_line = west; past_line = before; from = from; end = omega arith }))
           | inr begun ↦ elim (cases_lt inner.i1 cell.i) [
-            | inl past ↦ inr (inr (record { west = omega arith; east = omega arith; south = from; north = omega arith }))
+            | inl past ↦ inr (inr (record { first_line = omega arith; past_line = omega arith; from = from; end = omega arith }))
             | inr inside ↦ absurd (off (record { west = begun; east = inside; south = from; north = to }))
           ]
         ]
@@ -69,19 +70,19 @@ ring_sides inner outer cell (h, off) =
 pub sides_ring : (inner outer : Rect) → Encloses outer inner → inner.i0 ≤ inner.i1 → inner.j0 ≤ inner.j1
     → (cell : Cell) → IsOnSides inner outer cell → IsOnRing inner outer cell
 sides_ring inner outer holds columns rows cell (inl (inl h)) =
-    let west = h.west in let east = h.east in let south = h.south in let north = h.north in
+    let west = h.from in let east = h.end in let south = h.first_line in let north = h.past_line in
     let a = holds.west in let b = holds.east in let c = holds.south in let d = holds.north in
     (record { west = west; east = omega arith; south = south; north = omega arith }, (λ off. (let e = off.south in omega arith)))
 sides_ring inner outer holds columns rows cell (inl (inr h)) =
-    let west = h.west in let east = h.east in let south = h.south in let north = h.north in
+    let west = h.from in let east = h.end in let south = h.first_line in let north = h.past_line in
     let a = holds.west in let b = holds.east in let c = holds.south in let d = holds.north in
     (record { west = west; east = omega arith; south = omega arith; north = omega arith }, (λ off. (let e = off.north in omega arith)))
 sides_ring inner outer holds columns rows cell (inr (inl h)) =
-    let west = h.west in let east = h.east in let south = h.south in let north = h.north in
+    let west = h.first_line in let east = h.past_line in let south = h.from in let north = h.end in
     let a = holds.west in let b = holds.east in let c = holds.south in let d = holds.north in
     (record { west = west; east = omega arith; south = omega arith; north = omega arith }, (λ off. (let e = off.west in omega arith)))
 sides_ring inner outer holds columns rows cell (inr (inr h)) =
-    let west = h.west in let east = h.east in let south = h.south in let north = h.north in
+    let west = h.first_line in let east = h.past_line in let south = h.from in let north = h.end in
     let a = holds.west in let b = holds.east in let c = holds.south in let d = holds.north in
     (record { west = omega arith; east = omega arith; south = omega arith; north = omega arith }, (λ off. (let e = off.east in omega arith)))
 
@@ -164,7 +165,3 @@ none_beyond rank Offered size core rings least best within beyond (found, (is, l
       | inl old ↦ inl old
       | inr off ↦ (let at_least = beyond cell (within cell offered) off in inr (omega arith))
     ]))
-
--- a block with its first rows
-abbrev pub up_to_row : Block → ℕ → Block
-up_to_row block j = record { west = block.west; east = block.east; south = block.south; north = j }

@@ -1,17 +1,18 @@
 //! The choice of one cell: the cell of least rank, the first in cell order among equals.
 ghost use Rattle.std.specs.Prelude.{◌≡◌, ◌⊎◌};
-ghost use Rattle.goal_reach.specs.inner.Ranking.{IsPreferred, IsNoWorse, IsBest};
+ghost use Rattle.goal_reach.specs.inner.Ranking.{IsPreferred, IsNoWorse};
 
+use crate::axes::Axis;
 use nav_types::{Cell, Rect, Size};
 
 /// Cells of a map to choose from, a rank for each of them, and where to look first.
 pub(crate) trait Choice {
-    ghost use Rattle.std.specs.Prelude.{ℕ, ◌≡◌, ◌≤◌, IfSome, IfNone};
+    ghost use Rattle.std.specs.Prelude.{ℕ, ◌≡◌, ◌<◌, ◌≤◌, IfSome, IfNone};
     ghost use Rattle.nav_types.specs.declared.cells.Cell.{Cell};
     ghost use Rattle.nav_types.specs.declared.cells.Rect.{Rect};
     ghost use Rattle.nav_types.specs.declared.cells.Size.{Size};
     ghost use Rattle.nav_types.specs.Cells.{IsInside, IsInRect, IsRectInside};
-    ghost use Rattle.goal_reach.specs.inner.Rings.{widened};
+    ghost use Rattle.goal_reach.specs.inner.Rings.{widened, place_on, line_on, cell_on};
 
     ghost extent: { Self → Size };
 
@@ -43,6 +44,15 @@ pub(crate) trait Choice {
         ensures offered { IfSome result (λ rank. offered self.now cell) }
         ensures rank { IfSome result (λ rank. rank ≡ rank_of self.now cell) }
         ensures none { IfNone result (offered self.now cell → ⊥) };
+
+    /// The place on the cell's line from which to look on: from this cell up to it no cell of the line is one to
+    /// choose from.
+    fn next_along(&self, axis: Axis, cell: Cell) -> u16
+        requires sound { sound self.now }
+        requires inside { IsInside (extent self.now) cell }
+        ensures reached { place_on axis cell ≤ result }
+        ensures none { (k : ℕ) → place_on axis cell ≤ k → k < result
+            → offered self.now (cell_on axis (line_on axis cell) k) → ⊥ };
 
     /// A rank that no cell of the map is below which lies beyond so many rings round the core.
     fn least_beyond(&self, rings: u16) -> u128

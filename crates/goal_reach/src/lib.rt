@@ -4,6 +4,7 @@
 //! Nothing here takes memory.
 #![tactic(auto)]
 
+mod axes;
 mod choices;
 mod laws;
 mod reaching;

@@ -9,22 +9,29 @@ ghost use Rattle.goal_reach.specs.Targets.{hit_by, IsSoundTarget, AreTargets};
 ghost use Rattle.goal_reach.specs.inner.StartAreas.{IsAreaOf};
 ghost use Rattle.nav_types.specs.Walks.{CanReach};
 
+use crate::axes::{Axis, next_free};
 use crate::choices::Choice;
 use crate::remote::least_remoteness;
 use crate::rings::least_cell;
 use crate::targets::Target;
 use goal_shapes::{Goal, cell_box, contains, remoteness};
-use nav_types::{Areas, Cell, Class, Rect, Size};
+use nav_types::{Areas, Cell, Class, FreeCells, Rect, Size};
 
 /// The targets of a goal that can be walked to from a start cell (`AreTargets`): the goal itself exactly
 /// where a legal walk joins one of its cells to the start. Else the near cell: of the cells that are
 /// joined to the start the least remote from the goal, the first in cell order among equals.
 ///
 /// So the target is sound for the map, and it hits a cell that is joined to the start. It looks at the goal's box
-/// alone, and for a near cell at rings round the box until none beyond can be as little remote as the best.
+/// alone, and for a near cell at rings round the box until none beyond can be as little remote as the best. The
+/// impassable cells along a row of the box and along a side of a ring are passed over at once.
 ///
 /// The start is passable, and the goal is sound for the map.
-pub fn made_reachable<M: Areas>(map: &M, class: Class, start: Cell, goal: &Goal) -> Target
+pub fn made_reachable<M: Areas + FreeCells>(
+    map: &M,
+    class: Class,
+    start: Cell,
+    goal: &Goal,
+) -> Target
     requires class { class < M.class_count map.now }
     requires start { IsTrue (M.passes map.now class start) }
     requires goal { IsSoundGoal (M.extent map.now) goal.now }
@@ -61,7 +68,7 @@ struct AreaCells<'a, M: Areas> {
     frame: Rect,
 }
 
-impl<M: Areas> AreaCells<'_, M> {
+impl<M: Areas + FreeCells> AreaCells<'_, M> {
     /// Whether a legal walk joins the cell to the start: two passable cells are joined exactly where their
     /// areas have one number, and 0 is the number of no passable cell.
     fn has(&self, cell: Cell) -> bool
@@ -107,17 +114,24 @@ impl<M: Areas> AreaCells<'_, M> {
             → IsTrue (contains self.now.goal.now cell)
             → Joined (M.passes self.now.map.now self.now.class) self.now.start cell → ⊥ }
     {
-        for i in self.frame.i0..self.frame.i1 + 1 {
-            let cell = Cell::new(i, j);
-            if contains(self.goal, cell) && self.has(cell) {
-                return true;
+        let end = self.frame.i1 + 1;
+        let mut i = self.frame.i0;
+        'row: while i < end {
+            let next = self.map.next_free_east(self.class, Cell::new(i, j));
+            i = next.min(end);
+            if i < end {
+                let cell = Cell::new(i, j);
+                if contains(self.goal, cell) && self.has(cell) {
+                    return true;
+                }
+                i += 1;
             }
         }
         false
     }
 }
 
-impl<M: Areas> Choice for AreaCells<'_, M> {
+impl<M: Areas + FreeCells> Choice for AreaCells<'_, M> {
     ghost use Rattle.std.specs.Prelude.{◌<◌};
     ghost use Rattle.nav_types.specs.Walks.{Joined};
     ghost use Rattle.nav_types.specs.Frames.{IsFrame};
@@ -151,6 +165,11 @@ impl<M: Areas> Choice for AreaCells<'_, M> {
         } else {
             None
         }
+    }
+
+    // A cell joined to the start is passable.
+    fn next_along(&self, axis: Axis, cell: Cell) -> u16 {
+        next_free(self.map, self.class, axis, cell)
     }
 
     fn least_beyond(&self, rings: u16) -> u128 {

@@ -1,6 +1,6 @@
 //! How remote a cell is at least that lies outside a goal's box.
-ghost use Rattle.std.specs.Prelude.{◌≡◌, ◌≤◌, ◌+◌, ◌*◌, ◌^◌, unsigned_abs};
-ghost use Rattle.fixed_point.specs.Plane.{square, IsUpTo, IsUnitVector};
+ghost use Rattle.std.specs.Prelude.{◌≡◌, ◌≤◌, ◌+◌, ◌*◌, ◌^◌};
+ghost use Rattle.fixed_point.specs.Plane.{square, IsUnitVector};
 ghost use Rattle.goal_shapes.specs.Goals.{squared_length};
 ghost use Rattle.goal_shapes.specs.Limits.{IsWellFormed};
 ghost use Rattle.goal_reach.specs.inner.Remote.{IsLeastBeyond};

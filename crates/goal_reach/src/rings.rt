@@ -5,26 +5,29 @@ ghost use Rattle.nav_types.specs.Cells.{IsInside, IsInRect, IsRectInside};
 ghost use Rattle.goal_reach.specs.declared.choices.Ranked.{Ranked};
 ghost use Rattle.goal_reach.specs.Choices.{IsLeastBy};
 ghost use Rattle.goal_reach.specs.inner.Ranking.{IsBest};
-ghost use Rattle.goal_reach.specs.inner.Rings.{rect_of, whole_map, clipped, widened, IsInRun, IsInBlock, IsBlockInside, IsOnRing, Encloses};
+ghost use Rattle.goal_reach.specs.inner.Rings.{rect_of, whole_map, clipped, widened, cell_on, IsInRun, IsInBlock, IsBlockInside, IsOnRing, Encloses};
 
+use crate::axes::{Axis, cell_on};
 use crate::choices::{Choice, Ranked, better};
 use nav_types::{Cell, Rect, Size};
 
-/// The cells from column `west` up to `east` and from row `south` up to `north`, where `east` and `north` are
-/// the first that no longer belong to it.
+/// The cells of rows, or of columns, that lie side by side: of the lines from `first_line` up to `past_line` those
+/// at the places from `from` up to `end`. `past_line` and `end` are the first that no longer belong to it.
 #[derive(Drop)]
 struct Block {
-    west: u16,
-    east: u16,
-    south: u16,
-    north: u16,
+    axis: Axis,
+    first_line: u16,
+    past_line: u16,
+    from: u16,
+    end: u16,
 }
 
 /// The cell of least rank, the first in cell order among equals. None exactly where there is no cell to
 /// choose from. All of them lie in the map.
 ///
 /// It looks at the core and then at one ring after the other round it, and ends where no cell beyond can be
-/// as good as the best so far, or where the map has no cell beyond.
+/// as good as the best so far, or where the map has no cell beyond. Along the sides of a ring it passes over
+/// the cells that the choice passes over at once (`next_along`).
 pub(crate) fn least_cell<C: Choice>(choice: &C) -> Option<Cell>
     requires sound { C.sound choice.now }
     requires within { (cell : Cell) → C.offered choice.now cell → IsInside (C.extent choice.now) cell }
@@ -116,28 +119,32 @@ fn best_on_ring<C: Choice>(choice: &C, inner: Rect, outer: Rect) -> Option<Ranke
     ensures { IsBest (C.rank_of choice.now) (λ cell. C.offered choice.now cell × IsOnRing inner outer cell) result }
 {
     let south = Block {
-        west: outer.i0,
-        east: outer.i1 + 1,
-        south: outer.j0,
-        north: inner.j0,
+        axis: Axis::Row,
+        first_line: outer.j0,
+        past_line: inner.j0,
+        from: outer.i0,
+        end: outer.i1 + 1,
     };
     let north = Block {
-        west: outer.i0,
-        east: outer.i1 + 1,
-        south: inner.j1 + 1,
-        north: outer.j1 + 1,
+        axis: Axis::Row,
+        first_line: inner.j1 + 1,
+        past_line: outer.j1 + 1,
+        from: outer.i0,
+        end: outer.i1 + 1,
     };
     let west = Block {
-        west: outer.i0,
-        east: inner.i0,
-        south: inner.j0,
-        north: inner.j1 + 1,
+        axis: Axis::Column,
+        first_line: outer.i0,
+        past_line: inner.i0,
+        from: inner.j0,
+        end: inner.j1 + 1,
     };
     let east = Block {
-        west: inner.i1 + 1,
-        east: outer.i1 + 1,
-        south: inner.j0,
-        north: inner.j1 + 1,
+        axis: Axis::Column,
+        first_line: inner.i1 + 1,
+        past_line: outer.i1 + 1,
+        from: inner.j0,
+        end: inner.j1 + 1,
     };
     better(
         better(best_in_block(choice, &south), best_in_block(choice, &north)),
@@ -152,10 +159,11 @@ fn best_in_rect<C: Choice>(choice: &C, rect: Rect) -> Option<Ranked>
     ensures { IsBest (C.rank_of choice.now) (λ cell. C.offered choice.now cell × IsInRect rect cell) result }
 {
     let block = Block {
-        west: rect.i0,
-        east: rect.i1 + 1,
-        south: rect.j0,
-        north: rect.j1 + 1,
+        axis: Axis::Row,
+        first_line: rect.j0,
+        past_line: rect.j1 + 1,
+        from: rect.i0,
+        end: rect.i1 + 1,
     };
     best_in_block(choice, &block)
 }
@@ -167,22 +175,32 @@ fn best_in_block<C: Choice>(choice: &C, block: &Block) -> Option<Ranked>
     ensures { IsBest (C.rank_of choice.now) (λ cell. C.offered choice.now cell × IsInBlock block.now cell) result }
 {
     let mut best = None;
-    for j in block.south..block.north {
-        best = better(best, best_in_run(choice, block.west, block.east, j));
+    for line in block.first_line..block.past_line {
+        best = better(
+            best,
+            best_in_run(choice, block.axis, line, block.from, block.end),
+        );
     }
     best
 }
 
-/// The best cell of row `j` from column `west` up to `east`, without that one.
-fn best_in_run<C: Choice>(choice: &C, west: u16, east: u16, j: u16) -> Option<Ranked>
+/// The best cell of a line from place `from` up to `end`, without that one. It looks only at cells that `next_along`
+/// leads to.
+fn best_in_run<C: Choice>(choice: &C, axis: Axis, line: u16, from: u16, end: u16) -> Option<Ranked>
     requires sound { C.sound choice.now }
-    requires columns { (west ≤ east) × (east ≤ (C.extent choice.now).w) }
-    requires row { j < (C.extent choice.now).h }
-    ensures { IsBest (C.rank_of choice.now) (λ cell. C.offered choice.now cell × IsInRun west east j cell) result }
+    requires places { from ≤ end }
+    requires inside { (cell : Cell) → IsInRun axis line from end cell → IsInside (C.extent choice.now) cell }
+    ensures { IsBest (C.rank_of choice.now) (λ cell. C.offered choice.now cell × IsInRun axis line from end cell)
+        result }
 {
     let mut best = None;
-    for i in west..east {
-        best = better(best, ranked(choice, Cell::new(i, j)));
+    let mut place = from;
+    'run: while place < end {
+        place = choice.next_along(axis, cell_on(axis, line, place)).min(end);
+        if place < end {
+            best = better(best, ranked(choice, cell_on(axis, line, place)));
+            place += 1;
+        }
     }
     best
 }

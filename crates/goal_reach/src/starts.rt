@@ -1,22 +1,24 @@
-ghost use Rattle.std.specs.Prelude.{◌≡◌, ◌<◌, ◌↔◌, IsTrue, IsFalse, IfSome, IfNone, IsNone};
+ghost use Rattle.std.specs.Prelude.{◌<◌, ◌↔◌, IsTrue, IsFalse, IfSome, IsNone};
 ghost use Rattle.nav_types.specs.declared.cells.Cell.{Cell};
 ghost use Rattle.fixed_point.specs.Plane.{IsOnAxis};
 ghost use Rattle.goal_shapes.specs.Goals.{HoldsPoint, squared_distance};
-ghost use Rattle.goal_reach.specs.Starts.{IsStartCell, IsBlockedAt};
+ghost use Rattle.goal_reach.specs.Starts.{IsStartCell};
 
+use crate::axes::{Axis, next_free};
 use crate::choices::Choice;
 use crate::rings::{least_cell, rect_of};
 use fixed_point::{Fixed, squared};
 use goal_shapes::{cell_of_point, squared_distance};
-use nav_types::{Cell, Class, Rect, Size, View};
+use nav_types::{Cell, Class, FreeCells, Rect, Size, View};
 
 /// The start cell of the point (`x`, `z`) for a class (`IsStartCell`): the cell that holds the point, where
 /// that is passable, else the passable cell whose middle is nearest to the point, the first in cell order
 /// among equals. None exactly where no cell is passable for the class.
 ///
 /// It looks at the cells near the point alone: at square rings round the cell that holds it, until none beyond can
-/// be as near as the best. The point lies on the map.
-pub fn nearest_passable<V: View>(view: &V, class: Class, x: Fixed, z: Fixed) -> Option<Cell>
+/// be as near as the best. The impassable cells along a side of a ring are passed over at once. The point lies on the
+/// map.
+pub fn nearest_passable<V: FreeCells>(view: &V, class: Class, x: Fixed, z: Fixed) -> Option<Cell>
     requires class { class < V.class_count view.now }
     requires column { IsOnAxis (V.extent view.now).w x }
     requires row { IsOnAxis (V.extent view.now).h z }
@@ -40,7 +42,7 @@ pub fn nearest_passable<V: View>(view: &V, class: Class, x: Fixed, z: Fixed) -> 
 
 /// The passable cells of a map, ranked by their distance from a point, which the cell `holder` holds.
 #[derive(Drop)]
-struct PassableCells<'a, V: View> {
+struct PassableCells<'a, V: FreeCells> {
     view: &'a V,
     class: Class,
     x: Fixed,
@@ -48,7 +50,7 @@ struct PassableCells<'a, V: View> {
     holder: Cell,
 }
 
-impl<V: View> Choice for PassableCells<'_, V> {
+impl<V: FreeCells> Choice for PassableCells<'_, V> {
     ghost use Rattle.std.specs.Prelude.{◌<◌, IsTrue};
     ghost use Rattle.nav_types.specs.Cells.{IsInside};
     ghost use Rattle.goal_shapes.specs.Goals.{HoldsPoint, squared_distance};
@@ -79,6 +81,10 @@ impl<V: View> Choice for PassableCells<'_, V> {
         } else {
             None
         }
+    }
+
+    fn next_along(&self, axis: Axis, cell: Cell) -> u16 {
+        next_free(self.view, self.class, axis, cell)
     }
 
     // The point is at most half a navcell from the middle of the cell that holds it, so the middle of a cell beyond

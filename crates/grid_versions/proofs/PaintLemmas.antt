@@ -21,8 +21,7 @@ use Rattle.navcell_grid.specs.Grids.{IsInSpan}
 use Rattle.navcell_grid.proofs.PatchCells.{place_in-low}
 use Rattle.clearance_raster.specs.inner.TestRasters.{IsRasterIn}
 use Rattle.clearance_raster.proofs.Rastering.{Test, Numbers, part_none, part_both, part_alike, one_if-has_class}
-use Rattle.grid_versions.specs.Maps.{Map}
-use Rattle.grid_versions.specs.Passing.{is_in_rect, has_base}
+use Rattle.grid_versions.specs.Passing.{is_in_rect, is_listed}
 use Rattle.grid_versions.proofs.PassingLemmas.{in_rect_from, in_rect_to}
 
 -- ---- a rectangle, row by row
@@ -209,16 +208,16 @@ new_number rect patch cell extent numbers inside =
     ∙ ap (λ (r : Rect). get_or (replicate (columns rect * rows rect) 0) (place_in r cell) 0) extent
     ∙ get_or-replicate (columns rect * rows rect) (place_in rect cell) 0 0 (place_in-low rect cell inside)
 
--- a new patch that gets the bits of all base rectangles
-pub base_bits : (map : Map) (rect : Rect) (empty : Numbering) (all : Numbers) → empty.rect ≡ rect
-    → empty.numbers ≡ replicate (columns rect * rows rect) 0 → IsRasterIn rect rect (has_base map) (number_of empty) all
-    → (k : ℕ) (cell : Cell) → IsInRect rect cell → has_class k (all cell) ≡ has_base map k cell
-base_bits map rect empty all extent numbers set k cell inside =
+-- a new patch that gets the bits of base rectangles
+pub base_bits : (base : List (Rect × ℕ)) (rect : Rect) (empty : Numbering) (all : Numbers) → empty.rect ≡ rect
+    → empty.numbers ≡ replicate (columns rect * rows rect) 0 → IsRasterIn rect rect (is_listed base) (number_of empty) all
+    → (k : ℕ) (cell : Cell) → IsInRect rect cell → has_class k (all cell) ≡ is_listed base k cell
+base_bits base rect empty all extent numbers set k cell inside =
     let none = new_number rect empty cell extent numbers inside in
     let clear : has_class k (number_of empty cell) ≡ false =
     ap (λ n. has_class k n) none ∙ ap (λ b. b == 1) (bit_at-zero k) in
-    class_after (number_of empty cell) (all cell) k (has_base map k cell) (set.bits cell k inside)
-    ∙ ap (λ b. b || has_base map k cell) clear
+    class_after (number_of empty cell) (all cell) k (is_listed base k cell) (set.bits cell k inside)
+    ∙ ap (λ b. b || is_listed base k cell) clear
 
 -- ---- bits that are set already
 

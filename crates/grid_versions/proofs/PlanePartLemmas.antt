@@ -32,8 +32,6 @@ use Rattle.grid_versions.proofs.PassingLemmas.{passable_in_words}
 use Rattle.grid_versions.proofs.TallyLemmas.{differing_inside}
 use Rattle.grid_versions.proofs.VersionLemmas.{passable-inside, own_rect, chunk-passes}
 
--- ---- one part more
-
 -- ---- the part of one chunk
 
 -- no class is in a number without bits

@@ -1,5 +1,5 @@
 -- Which cells of a map are passable, by its base rectangles and the standing obstructions.
-use Rattle.std.specs.Prelude.{ℕ, ◌≡◌, ◌<◌, Bool, ◌&&◌, ◌||◌, not, nat_le, nat_lt, length, Some, Contains, IsFalse}
+use Rattle.std.specs.Prelude.{ℕ, ◌≡◌, ◌<◌, Bool, ◌&&◌, ◌||◌, not, nat_le, nat_lt, List, length, Some, Contains, IsFalse}
 use Rattle.std.specs.List.{list_any}
 use Rattle.std.specs.FinMap as fin_map
 use Rattle.nav_types.specs.declared.cells.Cell.{Cell}
@@ -20,9 +20,13 @@ is_inside size cell = nat_lt cell.i size.w && nat_lt cell.j size.h
 abbrev pub is_in_rect : Rect → Cell → Bool
 is_in_rect rect cell = nat_le rect.i0 cell.i && nat_le cell.i rect.i1 && nat_le rect.j0 cell.j && nat_le cell.j rect.j1
 
+-- bit k is in the mask of one of the rectangles that holds the cell
+abbrev pub is_listed : List (Rect × ℕ) → ℕ → Cell → Bool
+is_listed entries k cell = list_any (λ (entry : Rect × ℕ). has_class k entry.1 && is_in_rect entry.0 cell) entries
+
 -- bit k is in the mask of a base rectangle that holds the cell
 abbrev pub has_base : Map → ℕ → Cell → Bool
-has_base map k cell = list_any (λ (entry : Rect × ℕ). has_class k entry.1 && is_in_rect entry.0 cell) map.base
+has_base map k cell = is_listed map.base k cell
 
 -- a standing obstruction blocks the cell for class k
 abbrev pub is_blocked : Map → Standing → ℕ → Cell → Bool

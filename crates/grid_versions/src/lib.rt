@@ -2,6 +2,7 @@
 //! region edges and areas, and the edits that lead from one version to the next.
 #![tactic(auto)]
 
+mod base_bands;
 mod changed_parts;
 mod chunk_bits;
 mod chunk_cells;

@@ -9,10 +9,11 @@ ghost use Rattle.obstruction_shapes.specs.Shapes.{FitsMap};
 ghost use Rattle.clearance_raster.specs.Rasters.{blocks_class};
 ghost use Rattle.clearance_raster.specs.inner.TestRasters.{IsRasterIn};
 ghost use Rattle.obstruction_store.specs.Standing.{AllFit};
-ghost use Rattle.grid_versions.specs.Passing.{is_in_rect, has_base, is_blocked};
+ghost use Rattle.grid_versions.specs.Passing.{is_in_rect, is_listed, is_blocked};
 ghost use Rattle.grid_versions.specs.inner.Painting.{AreBaseChunks, ArePaintedChunks};
 ghost use Rattle.grid_versions.specs.inner.Reachers.{blocks_under, HoldUnpainted, AreReachers};
 
+use crate::base_bands::BaseBand;
 use crate::chunk_cells::ChunkCells;
 use crate::chunks;
 use crate::maps::MapSpec;
@@ -32,10 +33,16 @@ pub fn base_patches(alloc: Global, map: &MapSpec) -> Result<SharedList<Patch>, N
 {
     let size = map.size();
     let count = chunks::count(size);
+    let base = map.base().as_slice();
     let mut all = SharedList::with_capacity(alloc, count as usize)?;
+    let mut band = BaseBand::of_no_row(alloc);
     for place in 0..count {
         let rect = cells_of(size, chunks::numbered(size, place));
-        all.push(alloc, base_patch(alloc, map, rect)?)?;
+        // Chunks side by side have one band.
+        if !band.is_of(rect.j0, rect.j1) {
+            band = BaseBand::of_rows(alloc, base, rect.j0, rect.j1)?;
+        }
+        all.push(alloc, base_patch(alloc, &band.entries, rect)?)?;
     }
     Ok(all)
 }
@@ -67,28 +74,27 @@ pub fn painted_patches(
     Ok(all)
 }
 
-/// The numbers of the rectangle's cells under the base rectangles alone.
-fn base_patch(alloc: Global, map: &MapSpec, rect: Rect) -> Result<Patch, NoMemory>
+/// The numbers of the rectangle's cells under these base rectangles alone.
+fn base_patch(alloc: Global, base: &[(Rect, u16)], rect: Rect) -> Result<Patch, NoMemory>
     requires { IsPatch rect }
     ensures rect { IfOk result (λ patch. patch.rect ≡ rect) }
     ensures whole { IfOk result (λ patch. length patch.numbers ≡ columns patch.rect * rows patch.rect) }
     ensures bits { IfOk result (λ patch. (k : ℕ) (cell : Cell) → IsInRect rect cell
-        → has_class k (number_of patch cell) ≡ has_base map.now k cell) }
+        → has_class k (number_of patch cell) ≡ is_listed base.now k cell) }
 {
     let mut patch = Patch::new(alloc, rect)?;
-    paint_base(&mut patch, rect, map);
+    paint_base(&mut patch, rect, base);
     let _ = patch.rect();
     Ok(patch)
 }
 
-/// Sets the bits of all base rectangles in a patch of this rectangle.
-fn paint_base(patch: &mut Patch, rect: Rect, map: &MapSpec)
+/// Sets the bits of these base rectangles in a patch of this rectangle.
+fn paint_base(patch: &mut Patch, rect: Rect, base: &[(Rect, u16)])
     requires patch { IsPatch rect }
     requires rect { patch.old.rect ≡ rect }
     ensures rect { patch.new.rect ≡ rect }
-    ensures set { IsRasterIn rect rect (has_base map.now) (number_of patch.old) (number_of patch.new) }
+    ensures set { IsRasterIn rect rect (is_listed base.now) (number_of patch.old) (number_of patch.new) }
 {
-    let base = map.base().as_slice();
     for entry in base {
         paint_area(patch, rect, entry.0, entry.1);
     }

@@ -3,7 +3,7 @@ ghost use Rattle.std.specs.Prelude.{ℕ, ◌≡◌, ◌<◌, ◌++◌, option_to
 ghost use Rattle.std.specs.FinMap as fin_map;
 ghost use Rattle.obstruction_store.specs.Standing.{Standing, AllFit};
 ghost use Rattle.grid_versions.specs.Fitting.{fits};
-ghost use Rattle.grid_versions.specs.Editing.{edit_reply, after_edit, add_reply, remove_reply};
+ghost use Rattle.grid_versions.specs.Editing.{edit_reply, after_edit};
 ghost use Rattle.grid_versions.specs.Editing.{after_edits, edit_replies};
 ghost use Rattle.grid_versions.specs.inner.Reaching.{CoverChanges, HoldsReach, NameChanges};
 

@@ -5,7 +5,7 @@ ghost use Rattle.nav_types.specs.declared.cells.Cell.{Cell};
 ghost use Rattle.nav_types.specs.Cells.{IsInside, chunk_of};
 ghost use Rattle.nav_types.specs.Counting.{Counts};
 ghost use Rattle.nav_types.specs.Regions.{HasArea, HasRegion, HasTallies, HasRelabelled};
-ghost use Rattle.class_planes.specs.Planes.{AreOf};
+ghost use Rattle.class_planes.specs.Planes.{AreOf, is_passable};
 ghost use Rattle.obstruction_store.specs.Standing.{AllFit};
 ghost use Rattle.grid_versions.specs.Chunks.{chunk_count, chunk_place};
 ghost use Rattle.grid_versions.specs.inner.Tables.{AreTables};
@@ -15,8 +15,8 @@ use crate::maps::MapSpec;
 use crate::planed_map::PlanedMap;
 use crate::tables::ClassTables;
 use crate::versions::Tallies;
-use class_planes::Planes;
-use nav_types::{Cell, Class, NoMemory, Rect, Ticks, View};
+use class_planes::{ClassPlane, Planes};
+use nav_types::{Cell, Class, NoMemory, Rect, Ticks};
 use obstruction_store::Store;
 use reach_sets::RegionId;
 use std::alloc::Global;
@@ -146,14 +146,13 @@ impl VersionParts {
         self.layers.tables.at(usize::from(class.number()))
     }
 
-    /// Whether the cell is passable for the class, as `Version::passable` says.
-    pub fn passable(&self, class: Class, cell: Cell) -> bool
-        requires class { class < length self.now.map.classes }
-        requires inside { IsInside self.now.map.size cell }
-        ensures { result ≡ passes_of self.now class cell }
+    /// The plane of a class of the map.
+    pub fn plane(&self, class: Class) -> &ClassPlane
+        requires { class < length self.now.map.classes }
+        ensures extent { result.now.size ≡ self.now.map.size }
+        ensures cells { is_passable result.now ≡ passes_of self.now class }
     {
-        let planed = PlanedMap::new(&self.map, &self.shapes, &self.layers.planes);
-        planed.passable(class, cell)
+        PlanedMap::new(&self.map, &self.shapes, &self.layers.planes).plane(class)
     }
 
     /// The tallies, as `Version::tallies` says.

@@ -13,7 +13,7 @@ use crate::maps::MapSpec;
 use crate::standing_edits::{Edited, edited_copy};
 use crate::version_parts::VersionParts;
 use class_planes::Planes;
-use nav_types::{Areas, Cell, Class, NoMemory, Size, Ticks, View};
+use nav_types::{Areas, Cell, Class, FreeCells, NoMemory, Size, Ticks, View};
 use obstruction_store::Store;
 use reach_sets::RegionId;
 use std::alloc::Global;
@@ -231,7 +231,21 @@ impl View for Version {
     /// Whether the cell is passable for the class (`passable_at`): no base rectangle and no standing obstruction covers
     /// it for the class.
     fn passable(&self, class: Class, cell: Cell) -> bool {
-        self.parts.passable(class, cell)
+        self.parts.plane(class).passable(cell)
+    }
+}
+
+impl FreeCells for Version {
+    /// The column of the first passable cell of the row, from this one to the east (`IsFirstFree`); the width of the map
+    /// where there is none.
+    fn next_free_east(&self, class: Class, cell: Cell) -> u16 {
+        self.parts.plane(class).next_free_east(cell)
+    }
+
+    /// The row of the first passable cell of the column, from this one to the north (`IsFirstFree`); the height of the
+    /// map where there is none.
+    fn next_free_north(&self, class: Class, cell: Cell) -> u16 {
+        self.parts.plane(class).next_free_north(cell)
     }
 }
 

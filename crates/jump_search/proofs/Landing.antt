@@ -26,7 +26,7 @@ use Rattle.jump_search.proofs.Measuring.{run_moves, octile_to_through}
 use Rattle.jump_search.proofs.Lasting.{gains_none, gains_through, along_later, open_later}
 
 -- how many steps a run has
-steps_moved : (dir : Dir) (count : ℕ) (from to : Cell) → Moves dir count from to → count ≡ steps_over from to
+pub steps_moved : (dir : Dir) (count : ℕ) (from to : Cell) → Moves dir count from to → count ≡ steps_over from to
 steps_moved N count from to moves = let c = moves.columns in let r = moves.rows in omega (arith, c, r)
 steps_moved E count from to moves = let c = moves.columns in let r = moves.rows in omega (arith, c, r)
 steps_moved S count from to moves = let c = moves.columns in let r = moves.rows in omega (arith, c, r)

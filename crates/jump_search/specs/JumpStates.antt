@@ -4,8 +4,12 @@ use Rattle.std.specs.Prelude.{ℕ, Bool, ◌≡◌, ◌+◌, ◌-◌, ◌*◌, �
 use Rattle.std.specs.Prelude.{max}
 use Rattle.nav_types.specs.declared.cells.Cell.{Cell}
 use Rattle.nav_types.specs.declared.cells.Rect.{Rect}
+use Rattle.nav_types.specs.declared.cells.Size.{Size}
 use Rattle.nav_types.specs.declared.directions.Dir.{Dir}
+use Rattle.nav_types.specs.Counting.{Counts}
 use Rattle.nav_types.specs.Directions.{is_straight}
+use Rattle.nav_types.specs.Frames.{IsFrame}
+use Rattle.walks.specs.Chosen.{IsAnswer}
 use Rattle.jump_scan.specs.Stops.{IsStraightStop, IsDiagonalStop}
 use Rattle.jump_scan.specs.Successors.{IsSuccessor}
 use Rattle.jump_search.specs.declared.states.JumpState.{JumpState}
@@ -60,3 +64,14 @@ pub record IsOpened (passes hit : Cell → Bool) (start : Cell) (rect : Rect) (b
     pub cost : ℕ
     pub pruned : IsPrunedCost passes hit start state cost
     pub near : cost + octile_to rect state.cell ≤ bound
+
+-- so many jump states are opened where the answer has this cost, whichever rectangle frames the aim
+abbrev pub CountsOpened : (passes hit framed : Cell → Bool) → Size → Cell → ℕ → ℕ → Type 0
+CountsOpened passes hit framed size start cost opened = (rect : Rect) → IsFrame framed size rect
+    → Counts (IsOpened passes hit start rect cost) opened
+
+-- what was counted from the one number to the other is at most the opened number, whichever answer it is counted by
+abbrev pub IsWithinOpened : (passes hit framed : Cell → Bool) → Size → Cell → ℕ → ℕ → Type 0
+IsWithinOpened passes hit framed size start before after = (end : Cell) (cost : ℕ) (points : List Cell) (rect : Rect)
+    (n : ℕ) → IsAnswer passes start hit end cost points → IsFrame framed size rect
+    → Counts (IsOpened passes hit start rect cost) n → after ≤ before + n

@@ -13,7 +13,7 @@ use std::marker::Model;
 const ROOM: usize = 16384;
 
 /// A jump state that a search has met.
-#[derive(Clone, Copy, Debug, PartialEq, Eq)]
+#[derive(Clone, Copy)]
 pub struct Node {
     pub state: JumpState,
     /// The least cost of jumps to the state that is known.

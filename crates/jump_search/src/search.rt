@@ -1,12 +1,8 @@
 //! The jump search, over a map that answers runs or over any view.
-ghost use Rattle.std.specs.Prelude.{ℕ, List, ◌≡◌, ◌<◌, ◌≤◌, ◌+◌, IsTrue, IfOk};
-ghost use Rattle.nav_types.specs.declared.cells.Cell.{Cell};
-ghost use Rattle.nav_types.specs.declared.cells.Rect.{Rect};
-ghost use Rattle.nav_types.specs.Counting.{Counts};
-ghost use Rattle.nav_types.specs.Frames.{IsFrame};
+ghost use Rattle.std.specs.Prelude.{◌≡◌, ◌<◌, ◌+◌, IsTrue, IfOk};
 ghost use Rattle.nav_types.specs.Walks.{CanReach};
 ghost use Rattle.walks.specs.Chosen.{IsAnswer};
-ghost use Rattle.jump_search.specs.JumpStates.{IsOpened};
+ghost use Rattle.jump_search.specs.JumpStates.{CountsOpened, IsWithinOpened};
 
 use crate::framed::Framed;
 use crate::searching::searched;
@@ -40,15 +36,12 @@ fn answered<R: Runs, A: Aim, L: Ledger>(
     requires reach { CanReach (R.passes runs.now class) start (A.hit aim.now (R.extent runs.now)) }
     ensures answer { IfOk result (λ traced. IsAnswer (R.passes runs.now class) start (A.hit aim.now (R.extent runs.now))
         traced.found.end traced.found.cost.0 traced.found.waypoints) }
-    ensures opened { IfOk result (λ traced. IsTrue all → (rect : Rect)
-        → IsFrame (A.framed aim.now (R.extent runs.now)) (R.extent runs.now) rect
-        → Counts (IsOpened (R.passes runs.now class) (A.hit aim.now (R.extent runs.now)) start rect traced.found.cost.0)
-        traced.opened) }
-    ensures most { (end : Cell) (cost : ℕ) (points : List Cell) (rect : Rect) (n : ℕ)
-        → IsAnswer (R.passes runs.now class) start (A.hit aim.now (R.extent runs.now)) end cost points
-        → IsFrame (A.framed aim.now (R.extent runs.now)) (R.extent runs.now) rect
-        → Counts (IsOpened (R.passes runs.now class) (A.hit aim.now (R.extent runs.now)) start rect cost) n
-        → ticks.new ≤ ticks.old + n }
+    ensures opened { IfOk result (λ traced. IsTrue all → CountsOpened (R.passes runs.now class)
+        (A.hit aim.now (R.extent runs.now)) (A.framed aim.now (R.extent runs.now)) (R.extent runs.now) start
+        traced.found.cost.0 traced.opened) }
+    ensures ticks { IfOk result (λ traced. ticks.new ≡ ticks.old + traced.opened) }
+    ensures most { IsWithinOpened (R.passes runs.now class) (A.hit aim.now (R.extent runs.now))
+        (A.framed aim.now (R.extent runs.now)) (R.extent runs.now) start ticks.old ticks.new }
 {
     let framed = Framed {
         aim,
@@ -74,7 +67,7 @@ fn answered<R: Runs, A: Aim, L: Ledger>(
 /// number: how many jump states have a least pruned cost that, with the octile distance to the rectangle of the aim, is
 /// within the cost of the answer. The start must be passable, and some hit cell must be joined to it.
 ///
-/// Each opened jump state is one tick, so there are no more than the opened number, also where memory runs out.
+/// Each opened jump state is one tick, so that the ticks are the opened number, and no more than it where memory runs out.
 pub fn jump_search_with<R: Runs, A: Aim, L: Ledger>(
     alloc: Global,
     runs: &R,
@@ -89,15 +82,12 @@ pub fn jump_search_with<R: Runs, A: Aim, L: Ledger>(
     requires reach { CanReach (R.passes runs.now class) start (A.hit aim.now (R.extent runs.now)) }
     ensures answer { IfOk result (λ traced. IsAnswer (R.passes runs.now class) start (A.hit aim.now (R.extent runs.now))
         traced.found.end traced.found.cost.0 traced.found.waypoints) }
-    ensures opened { IfOk result (λ traced. (rect : Rect)
-        → IsFrame (A.framed aim.now (R.extent runs.now)) (R.extent runs.now) rect
-        → Counts (IsOpened (R.passes runs.now class) (A.hit aim.now (R.extent runs.now)) start rect traced.found.cost.0)
-        traced.opened) }
-    ensures most { (end : Cell) (cost : ℕ) (points : List Cell) (rect : Rect) (n : ℕ)
-        → IsAnswer (R.passes runs.now class) start (A.hit aim.now (R.extent runs.now)) end cost points
-        → IsFrame (A.framed aim.now (R.extent runs.now)) (R.extent runs.now) rect
-        → Counts (IsOpened (R.passes runs.now class) (A.hit aim.now (R.extent runs.now)) start rect cost) n
-        → ticks.new ≤ ticks.old + n }
+    ensures opened { IfOk result (λ traced. CountsOpened (R.passes runs.now class)
+        (A.hit aim.now (R.extent runs.now)) (A.framed aim.now (R.extent runs.now)) (R.extent runs.now) start
+        traced.found.cost.0 traced.opened) }
+    ensures ticks { IfOk result (λ traced. ticks.new ≡ ticks.old + traced.opened) }
+    ensures most { IsWithinOpened (R.passes runs.now class) (A.hit aim.now (R.extent runs.now))
+        (A.framed aim.now (R.extent runs.now)) (R.extent runs.now) start ticks.old ticks.new }
 {
     answered(alloc, runs, class, start, aim, true, ticks)
 }
@@ -117,15 +107,12 @@ pub fn jump_search<V: View, A: Aim, L: Ledger>(
     requires reach { CanReach (V.passes view.now class) start (A.hit aim.now (V.extent view.now)) }
     ensures answer { IfOk result (λ traced. IsAnswer (V.passes view.now class) start (A.hit aim.now (V.extent view.now))
         traced.found.end traced.found.cost.0 traced.found.waypoints) }
-    ensures opened { IfOk result (λ traced. (rect : Rect)
-        → IsFrame (A.framed aim.now (V.extent view.now)) (V.extent view.now) rect
-        → Counts (IsOpened (V.passes view.now class) (A.hit aim.now (V.extent view.now)) start rect traced.found.cost.0)
-        traced.opened) }
-    ensures most { (end : Cell) (cost : ℕ) (points : List Cell) (rect : Rect) (n : ℕ)
-        → IsAnswer (V.passes view.now class) start (A.hit aim.now (V.extent view.now)) end cost points
-        → IsFrame (A.framed aim.now (V.extent view.now)) (V.extent view.now) rect
-        → Counts (IsOpened (V.passes view.now class) (A.hit aim.now (V.extent view.now)) start rect cost) n
-        → ticks.new ≤ ticks.old + n }
+    ensures opened { IfOk result (λ traced. CountsOpened (V.passes view.now class)
+        (A.hit aim.now (V.extent view.now)) (A.framed aim.now (V.extent view.now)) (V.extent view.now) start
+        traced.found.cost.0 traced.opened) }
+    ensures ticks { IfOk result (λ traced. ticks.new ≡ ticks.old + traced.opened) }
+    ensures most { IsWithinOpened (V.passes view.now class) (A.hit aim.now (V.extent view.now))
+        (A.framed aim.now (V.extent view.now)) (V.extent view.now) start ticks.old ticks.new }
 {
     jump_search_with(alloc, &CellRuns::new(view), class, start, aim, ticks)
 }
@@ -149,11 +136,8 @@ pub fn jump_find_with<R: Runs, A: Aim, L: Ledger>(
     requires reach { CanReach (R.passes runs.now class) start (A.hit aim.now (R.extent runs.now)) }
     ensures answer { IfOk result (λ found. IsAnswer (R.passes runs.now class) start (A.hit aim.now (R.extent runs.now))
         found.end found.cost.0 found.waypoints) }
-    ensures most { (end : Cell) (cost : ℕ) (points : List Cell) (rect : Rect) (n : ℕ)
-        → IsAnswer (R.passes runs.now class) start (A.hit aim.now (R.extent runs.now)) end cost points
-        → IsFrame (A.framed aim.now (R.extent runs.now)) (R.extent runs.now) rect
-        → Counts (IsOpened (R.passes runs.now class) (A.hit aim.now (R.extent runs.now)) start rect cost) n
-        → ticks.new ≤ ticks.old + n }
+    ensures most { IsWithinOpened (R.passes runs.now class) (A.hit aim.now (R.extent runs.now))
+        (A.framed aim.now (R.extent runs.now)) (R.extent runs.now) start ticks.old ticks.new }
 {
     let traced = answered(alloc, runs, class, start, aim, false, ticks)?;
     Ok(traced.found)
@@ -174,11 +158,8 @@ pub fn jump_find<V: View, A: Aim, L: Ledger>(
     requires reach { CanReach (V.passes view.now class) start (A.hit aim.now (V.extent view.now)) }
     ensures answer { IfOk result (λ found. IsAnswer (V.passes view.now class) start (A.hit aim.now (V.extent view.now))
         found.end found.cost.0 found.waypoints) }
-    ensures most { (end : Cell) (cost : ℕ) (points : List Cell) (rect : Rect) (n : ℕ)
-        → IsAnswer (V.passes view.now class) start (A.hit aim.now (V.extent view.now)) end cost points
-        → IsFrame (A.framed aim.now (V.extent view.now)) (V.extent view.now) rect
-        → Counts (IsOpened (V.passes view.now class) (A.hit aim.now (V.extent view.now)) start rect cost) n
-        → ticks.new ≤ ticks.old + n }
+    ensures most { IsWithinOpened (V.passes view.now class) (A.hit aim.now (V.extent view.now))
+        (A.framed aim.now (V.extent view.now)) (V.extent view.now) start ticks.old ticks.new }
 {
     jump_find_with(alloc, &CellRuns::new(view), class, start, aim, ticks)
 }

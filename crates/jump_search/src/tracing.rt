@@ -3,7 +3,7 @@
 //! Of the jumps that come to a cell at its distance the chosen walk takes one: that in the direction of the step that
 //! follows, where that is straight, else the first by the preference of directions.
 
-ghost use Rattle.std.specs.Prelude.{ℕ, Bool, Option, None, Some, ◌≡◌, ◌≢◌, ◌+◌, ◌*◌, ◌<◌, ◌≤◌, ◌++◌, replicate, IfSome};
+ghost use Rattle.std.specs.Prelude.{ℕ, Bool, Option, None, Some, ◌≡◌, ◌+◌, ◌*◌, ◌<◌, ◌≤◌, ◌++◌, replicate, IfSome};
 ghost use Rattle.std.specs.Prelude.{IfNone, IfOk, OnOk};
 ghost use Rattle.nav_types.specs.declared.cells.Cell.{Cell};
 ghost use Rattle.nav_types.specs.declared.cells.Rect.{Rect};
@@ -21,7 +21,7 @@ use std::alloc::Global;
 use walks::{Walk, reversed};
 
 /// The last run to a cell: its direction, and how many steps it has.
-#[derive(Clone, Copy, Debug, PartialEq, Eq)]
+#[derive(Clone, Copy)]
 struct LastRun {
     dir: Dir,
     run: u16,

@@ -1,14 +1,12 @@
 //! Start cells and targets on small maps, and how much of a wide one is looked at for them.
 use crate::fixtures::counted::Counted;
 use crate::fixtures::figures::goal_of;
-use crate::fixtures::maps::{block, drawn};
 use crate::fixtures::texts::{fields_of, parsed_cell};
-use crate::fixtures::versions::version_of;
+use crate::fixtures::versions::{drawn_version, version_of};
 use fixed_point::{Fixed, is_on_axis};
 use goal_reach::{Target, made_reachable, nearest_passable};
 use goal_shapes::check;
-use nav_types::{Areas, Cell, Class, Rect, Size, View};
-use navcell_grid::Grid;
+use nav_types::{Areas, Cell, Class, FreeCells, Rect};
 use std::alloc::Global;
 
 /// In each line the rows of a map from the first up, `#` impassable, a point in halves of a navcell, and
@@ -33,7 +31,7 @@ fn halves(count: u16) -> Fixed {
 }
 
 /// Whether the start cell of a point, in halves of a navcell, is this one. None where the point is not on the map.
-fn starts_at<V: View>(view: &V, point: Cell, start: Option<Cell>) -> Option<bool> {
+fn starts_at<V: FreeCells>(view: &V, point: Cell, start: Option<Cell>) -> Option<bool> {
     let (x, z) = (halves(point.i), halves(point.j));
     let size = view.size();
     if view.classes() < 1 || !is_on_axis(x, size.w) || !is_on_axis(z, size.h) {
@@ -46,7 +44,7 @@ fn starts_at<V: View>(view: &V, point: Cell, start: Option<Cell>) -> Option<bool
 fn starts_as_the_line_says(alloc: Global, line: &str) -> Option<bool> {
     let [map, point, start, ..] = fields_of(line);
     let point = parsed_cell(point)?;
-    let map = drawn(alloc, map)?;
+    let map = drawn_version(alloc, map)?;
     starts_at(&map, point, parsed_cell(start))
 }
 
@@ -62,7 +60,12 @@ fn starts_are_as_the_table_says(rt: HostRuntime) {
 
 /// Whether the goal of a text has the near cell in its place, or stays where that is none, on any map whose areas are
 /// numbered. None where the text is no sound goal or the start is not passable.
-fn is_target<M: Areas>(map: &M, start: Cell, goal: &str, near: Option<Cell>) -> Option<bool> {
+fn is_target<M: Areas + FreeCells>(
+    map: &M,
+    start: Cell,
+    goal: &str,
+    near: Option<Cell>,
+) -> Option<bool> {
     let class = Class::new(0);
     let size = map.size();
     let Ok(goal) = check(goal_of(goal)?, size) else {
@@ -118,16 +121,10 @@ fn a_goal_out_of_reach_has_a_near_cell(rt: HostRuntime) {
     }
 }
 
-/// A wide map of which one cell is blocked, (1000, 1000).
-fn boulder(alloc: Global) -> Option<Grid> {
-    let mut map = Grid::new(alloc, Size::new(2048, 2048)?).ok()?;
-    block(&mut map, Cell::new(1000, 1000));
-    Some(map)
-}
-
 #[test]
 fn a_blocked_start_looks_at_cells_near_by(rt: HostRuntime) {
-    let Some(map) = boulder(rt.alloc()) else {
+    let boulder = [(rect(1000, 1000, 1000, 1000), 1)];
+    let Some(map) = version_of(rt.alloc(), [2048, 2048], (1, "0"), &boulder) else {
         panic!(rt; "no map");
     };
     let counted = Counted::new(&map);
@@ -159,4 +156,18 @@ fn a_goal_out_of_reach_looks_at_cells_near_by(rt: HostRuntime) {
         );
         assert!(rt; counted.cells() < 5000, "{goal}");
     }
+}
+
+/// A goal in the middle of a blocked square of 601 by 601 navcells: a side of a ring is passed over by one question.
+#[test]
+fn blocked_cells_are_passed_over_at_once(rt: HostRuntime) {
+    let wall = [(rect(0, 0, 600, 600), 1)];
+    let Some(map) = version_of(rt.alloc(), [1024, 1024], (1, "0"), &wall) else {
+        panic!(rt; "no map");
+    };
+    let counted = Counted::new(&map);
+    let start = Cell::new(700, 700);
+    let near = Some(Cell::new(601, 300));
+    assert!(rt; is_target(&counted, start, "point 19693568 19693568", near) == Some(true));
+    assert!(rt; counted.cells() < 5000);
 }

@@ -10,3 +10,4 @@ pub mod Frames
 pub mod Numbering
 pub mod Beside
 pub mod Rows
+pub mod Lines

@@ -12,4 +12,4 @@ pub use cells::{Cell, Chunk, Class, Cost, Rect, Size};
 pub use directions::{Dir, DirSet};
 pub use sequences::{Bytes, NoMemory, Sequence, Words};
 pub use ticks::Ticks;
-pub use views::{Aim, Areas, Rows, View, is_free_beside, legal_steps, neighbour, step};
+pub use views::{Aim, Areas, FreeCells, Rows, View, is_free_beside, legal_steps, neighbour, step};

@@ -55,6 +55,29 @@ pub trait Rows: View {
         ensures { AreRowBits (Self.extent self.now) (Self.class_count self.now) (Self.passes self.now) j out.new };
 }
 
+/// A map that finds the passable cells along its rows and columns.
+pub trait FreeCells: View {
+    ghost use Rattle.std.specs.Prelude.{◌<◌};
+    ghost use Rattle.nav_types.specs.Cells.{IsInside, cell_at};
+    ghost use Rattle.nav_types.specs.Lines.{IsFirstFree};
+
+    /// The column of the first cell of the row, from this one to the east, that is passable for the class; the width of
+    /// the map where there is none.
+    fn next_free_east(&self, class: Class, cell: Cell) -> u16
+        requires class { class < Self.class_count self.now }
+        requires inside { IsInside (Self.extent self.now) cell }
+        ensures { IsFirstFree (λ i. Self.passes self.now class (cell_at i cell.j)) cell.i (Self.extent self.now).w
+            result };
+
+    /// The row of the first cell of the column, from this one to the north, that is passable for the class; the height
+    /// of the map where there is none.
+    fn next_free_north(&self, class: Class, cell: Cell) -> u16
+        requires class { class < Self.class_count self.now }
+        requires inside { IsInside (Self.extent self.now) cell }
+        ensures { IsFirstFree (λ j. Self.passes self.now class (cell_at cell.i j)) cell.j (Self.extent self.now).h
+            result };
+}
+
 /// A map whose areas are numbered.
 pub trait Areas: View {
     ghost use Rattle.std.specs.Prelude.{ℕ, ◌≡◌, ◌<◌, ◌↔◌, IsTrue, IsFalse};

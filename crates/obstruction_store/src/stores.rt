@@ -1,5 +1,5 @@
 //! The store of the standing obstructions.
-ghost use Rattle.std.specs.Prelude.{◌≡◌, ◌≤◌, ◌↔◌, Some, None, IsSome, IsSomeAnd, IsErr, IfOk, OnOk, OnErr, option_copied};
+ghost use Rattle.std.specs.Prelude.{◌≡◌, ◌≤◌, ◌↔◌, Some, None, IsSomeAnd, IsErr, IfOk, OnOk, OnErr, option_copied};
 ghost use Rattle.std.specs.FinMap as map;
 ghost use Rattle.obstruction_shapes.specs.Shapes.{FitsMap, moved_to};
 ghost use Rattle.obstruction_store.specs.Standing.{Stands, IsFull, moved};

@@ -1,6 +1,6 @@
 //! Entries as a heap: a tree of which each entry comes after the one above it, or is it.
 
-ghost use Rattle.std.specs.Prelude.{◌≡◌, ◌≢◌, ℕ, ◌<◌, ◌≤◌, [], ◌∷◌, ◌++◌, length, slice_set, Contains, IfSome, IfNone, OnOk, OnErr};
+ghost use Rattle.std.specs.Prelude.{◌≡◌, ◌≢◌, ℕ, ◌<◌, [], ◌∷◌, ◌++◌, length, slice_set, Contains, IfSome, IfNone, OnOk, OnErr};
 ghost use Rattle.open_heap.specs.Queue.{IsNotLater};
 ghost use Rattle.open_heap.specs.inner.Trees.{entry_at, parent, IsNoneSooner, IsFirstBelow, IsSoonerBelow, IsHeap, CanRise, CanSink, HasSame, Lacks};
 

@@ -153,6 +153,13 @@ pub record AreOpen (number : ℕ) (open_ports : List Port) (made : List CallerSt
   pub ports : All IsNew open_ports
   pub callers : made ≡ map fresh (ids_from 0 open_ports)
 
+pub open_none : (open_ports : List Port) (made : List CallerState) → open_ports ≡ [] → made ≡ [] → AreOpen 0 open_ports made
+open_none open_ports made none nobody = record {
+  count = ap length none;
+  ports = subst (All IsNew) (sym none) (All-nil IsNew);
+  callers = nobody ∙ ap (λ (l : List Port). map fresh (ids_from 0 l)) (sym none);
+}
+
 pub open_more : (number : ℕ) (ports new : List Port) (callers more : List CallerState) (port : Port) (caller : CallerState) → AreOpen number ports callers → IsNew port → caller ≡ fresh (id_of number port)
     → new ≡ ports ++ port ∷ [] → more ≡ callers ++ caller ∷ [] → AreOpen (number + 1) new more
 open_more number ports new callers more port caller before one own p q =

@@ -1,21 +1,18 @@
 -- The ports of all callers, once posts were taken off their lanes or replies were sent.
-use Rattle.std.proofs.Common.{◌≡◌, ℕ, zero, suc, ◌+◌, ◌≤◌, List, [], ◌∷◌, ◌++◌, Some, Ok, Err, Result, All, length, slice_index, refl, sym, ap, ◌∙◌, arith, append-nil}
+use Rattle.std.proofs.Common.{◌≡◌, ℕ, zero, suc, ◌+◌, ◌≤◌, List, [], ◌∷◌, ◌++◌, Some, Ok, Err, Result, All, length, slice_index, refl, sym, ap, arith}
 use Rattle.std.specs.Prelude.{slice_get}
 use Rattle.nav_types.specs.declared.sequences.NoMemory.{NoMemory}
 use Rattle.turn_core.specs.declared.posts.Post.{Post}
 use Rattle.turn_core.specs.declared.replies.Reply.{Reply}
 use Rattle.turn_core.specs.States.{list_of}
 use Rattle.turn_core.specs.Effects.{joined_up}
+use Rattle.turn_core.proofs.CallerLists.{joined_nothing}
 use Rattle.turn_core.proofs.PostCounts.{count_more}
 use Rattle.path_service.specs.declared.ports.Port.{Port}
 use Rattle.path_service.specs.inner.Zips.{zipped, AllPaired}
 use Rattle.path_service.specs.inner.Ports.{gained, sends, joins, posted_in, told_in, sent_in, ids_from, id_of, HasRoom, IsInRoom, PortHasLooked, Fills, FillAll}
 use Rattle.path_service.proofs.Zips.{paired_more}
 use Rattle.std.proofs.lemmas.List.Elements.{All-nil, All-cons, All-head, All-tail}
-
-pub joined_none : {A : Type 0} (xs : List (List A)) → joined_up xs [] ≡ xs
-joined_none [] = refl
-joined_none (x ∷ xs) = ap (λ (l : List _). l ∷ joined_up xs []) (append-nil x) ∙ ap (λ (l : List (List _)). x ∷ l) (joined_none xs)
 
 -- ---- posts were taken
 
@@ -81,7 +78,7 @@ ids_sends number (p ∷ ports) (r ∷ parts) = ap (λ (l : List _). id_of number
 pub sent_sends : (ports : List Port) (parts : List (List Reply)) → length parts ≤ length ports → sent_in (zipped sends ports parts) ≡ joined_up (sent_in ports) parts
 sent_sends [] [] e = refl
 sent_sends [] (r ∷ parts) e = absurd (omega (arith, e))
-sent_sends (p ∷ ports) [] e = sym (joined_none (sent_in (p ∷ ports)))
+sent_sends (p ∷ ports) [] e = sym (joined_nothing (sent_in (p ∷ ports)))
 sent_sends (p ∷ ports) (r ∷ parts) e = ap (λ (l : List (List Reply)). (p.replies.posted ++ r) ∷ l) (sent_sends ports parts (omega (arith, e)))
 
 pub room_sends : (ports : List Port) (parts : List (List Reply)) → All IsInRoom ports → All IsInRoom (zipped sends ports parts)

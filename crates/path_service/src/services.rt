@@ -2,7 +2,7 @@
 ghost use Rattle.std.specs.Prelude.{◌≡◌, All, IfOk, length, map};
 ghost use Rattle.path_service.specs.Callers.{fresh, AreNumbered};
 ghost use Rattle.path_service.specs.Services.{started_on};
-ghost use Rattle.path_service.specs.inner.Ports.{ids_from};
+ghost use Rattle.path_service.specs.inner.Ports.{id_of, ids_from};
 ghost use Rattle.path_service.specs.inner.Opening.{IsNew};
 
 use crate::callers::{Caller, Callers};
@@ -47,16 +47,30 @@ fn open_lanes(rt: &impl Wait, alloc: Global, count: u8) -> Result<Lanes, NoMemor
     ensures ports { IfOk result (λ lanes. All IsNew lanes.ports.items) }
     ensures callers { IfOk result (λ lanes. lanes.callers ≡ map fresh (ids_from 0 lanes.ports.items)) }
 {
-    let mut ports = Vec::new(alloc);
-    let mut callers = Sequence::new(alloc);
+    let room = usize::from(count);
+    let mut ports = Vec::with_capacity(alloc, room)?;
+    let mut callers = Vec::with_capacity(alloc, room)?;
     for number in 0..count {
-        let (post_in, post_out) = lane(rt, alloc)?;
-        let (reply_in, reply_out) = lane(rt, alloc)?;
-        ports.push(Port {
-            posts: post_out,
-            replies: reply_in,
-        })?;
-        callers.push(Caller::new(number, post_in, reply_out))?;
+        let (port, caller) = open_pair(rt, alloc, number)?;
+        ports.push_reserved(port);
+        callers.push_reserved(caller);
     }
-    Ok(Lanes { ports, callers })
+    Ok(Lanes {
+        ports,
+        callers: Sequence::from(callers),
+    })
+}
+
+/// The two lanes of the caller of a number: the driver's ends of them, and the caller.
+fn open_pair(rt: &impl Wait, alloc: Global, number: u8) -> Result<(Port, Caller), NoMemory>
+    ensures port { IfOk result (λ made. IsNew made.0) }
+    ensures caller { IfOk result (λ made. made.1 ≡ fresh (id_of number made.0)) }
+{
+    let (post_in, post_out) = lane(rt, alloc)?;
+    let (reply_in, reply_out) = lane(rt, alloc)?;
+    let port = Port {
+        posts: post_out,
+        replies: reply_in,
+    };
+    Ok((port, Caller::new(number, post_in, reply_out)))
 }

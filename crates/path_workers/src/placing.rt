@@ -23,7 +23,7 @@ pub struct TracedAnswers {
 }
 
 /// The answer to a job, with the job's number and the opened number of the answer where that is asked for.
-#[derive(Debug, Drop)]
+#[derive(Drop)]
 pub(crate) struct Answered {
     pub job: u64,
     pub answer: Answer,
@@ -64,11 +64,10 @@ fn blank_places(alloc: Global, count: usize) -> Result<Places, NoMemory>
     ensures answers { IfOk result (λ places. length places.answers.items ≡ count) }
     ensures opened { IfOk result (λ places. length places.opened.items ≡ count) }
 {
+    let opened = vec![in alloc; 0; count]?;
     let mut answers = Vec::with_capacity(alloc, count)?;
-    let mut opened = Vec::with_capacity(alloc, count)?;
     for _ in 0..count {
-        answers.push(Answer::Nowhere)?;
-        opened.push(0)?;
+        answers.push_reserved(Answer::Nowhere);
     }
     Ok(Places { answers, opened })
 }

@@ -3,10 +3,7 @@ use Rattle.std.proofs.Common.{◌≡◌, ℕ, suc, ◌+◌, ◌<◌, ◌≤◌, 
 use Rattle.turn_core.specs.declared.posts.Post.{Post}
 use Rattle.turn_core.specs.States.{list_of}
 use Rattle.turn_core.specs.Effects.{joined_up}
-
-pub joined_none : (lists : List (List Post)) → lists ≡ joined_up lists []
-joined_none [] = refl
-joined_none (posts ∷ lists) = ap (λ (l : List Post). l ∷ lists) (sym (append-nil posts)) ∙ ap (λ (ls : List (List Post)). (posts ++ []) ∷ ls) (joined_none lists)
+use Rattle.turn_core.proofs.CallerLists.{joined_nothing}
 
 -- the next caller's posts are joined to its own
 joined_next : (lists turn : List (List Post)) (posts : List Post) → length turn < length lists
@@ -29,7 +26,7 @@ pub record JoinsFirst (old turn now left : List (List Post)) (callers : ℕ) : T
   pub now_is : now ≡ joined_up old done
 
 pub joins_none : (old turn left : List (List Post)) (callers : ℕ) → left ≡ turn → callers ≡ 0 → JoinsFirst old turn old left callers
-joins_none old turn left callers same none = record { done = []; parts = same; count = sym none; now_is = joined_none old }
+joins_none old turn left callers same none = record { done = []; parts = same; count = sym none; now_is = sym (joined_nothing old) }
 
 -- the next caller has a list
 pub joins_less : (old turn now left more : List (List Post)) (posts : List Post) (callers : ℕ) → JoinsFirst old turn now left callers → left ≡ posts ∷ more → length turn ≡ length old

@@ -18,7 +18,7 @@ use Rattle.script_text.proofs.ReadNext.{goes_nowhere}
 use Rattle.script_text.proofs.ReadCalls.{fault_then, goes_then, stuck_then, turns_of-append}
 use Rattle.script_text.proofs.ReadTold.{told-same, told-then}
 use Rattle.pathserve.specs.inner.WholeScripts.{AllTold}
-use Rattle.pathserve.proofs.JoinedPosts.{joined_none}
+use Rattle.turn_core.proofs.CallerLists.{joined_nothing}
 
 -- ---- a refusal behind what went on
 
@@ -110,7 +110,7 @@ joined_pass : (passes : Post → Bool) (lists turn : List (List Post)) → list_
     → list_all (λ posts. list_all passes posts) turn ≡ true → list_all (λ posts. list_all passes posts) (joined_up lists turn) ≡ true
 joined_pass passes [] turn own more = more
 joined_pass passes (posts ∷ lists) [] own more =
-    ap (λ (ls : List (List Post)). list_all (λ posts. list_all passes posts) ls) (sym (joined_none (posts ∷ lists))) ∙ own
+    ap (λ (ls : List (List Post)). list_all (λ posts. list_all passes posts) ls) (joined_nothing (posts ∷ lists)) ∙ own
 joined_pass passes (posts ∷ lists) (next ∷ turn) own more =
     let mine = and_parts (list_all passes posts) (list_all (λ posts. list_all passes posts) lists) own in
     let others = and_parts (list_all passes next) (list_all (λ posts. list_all passes posts) turn) more in

@@ -1,5 +1,5 @@
 //! The program's work: a script is read and answered turn by turn, and each turn is told as text.
-ghost use Rattle.std.specs.Prelude.{◌≡◌, ◌≢◌, ◌<◌, ◌≤◌, ◌^◌, ◌⊎◌, ◌↔◌, ℕ, IfErr, IfOk, IfSome, IsErrOf, IsFalse, IsSome, List, OnOk, Option, Some, None, Ok, Err, length};
+ghost use Rattle.std.specs.Prelude.{◌≡◌, ◌≢◌, ◌<◌, ◌≤◌, ◌^◌, ◌↔◌, ℕ, IfErr, IfOk, IfSome, IsErrOf, IsFalse, IsSome, List, OnOk, Option, Some, None, Ok, Err, length};
 ghost use Rattle.nav_types.specs.declared.limits.TheConstants.{MAX_WORKERS};
 ghost use Rattle.io_edges.specs.Faults.{Rose};
 ghost use Rattle.io_edges.specs.Passing.{HasGiven, HasTaken};

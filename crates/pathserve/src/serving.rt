@@ -15,7 +15,7 @@ ghost use Rattle.pathserve.specs.Output.{ComesByStop, turn_texts};
 ghost use Rattle.pathserve.specs.Reasons.{IsWhyBad};
 ghost use Rattle.pathserve.specs.Serving.{ServesTold, journal_text};
 ghost use Rattle.pathserve.specs.inner.WholeScripts.{AllTold, IsTextOfSession, RefusedTold, WholeTold};
-ghost use Rattle.pathserve.specs.inner.Writing.{EndsWith, WritesPiece, WritesSome};
+ghost use Rattle.pathserve.specs.inner.Writing.{WritesPiece, WritesSome};
 
 use crate::bad_lines::BadLine;
 use crate::replay::stop_at;
@@ -78,7 +78,7 @@ pub fn run_serve<R: Threads + Wait + Sync, S: Source, K: Sink, G: Gate + Sync>(
         Err(NoMemory) => return Status::NoMemory,
     };
     match read_script(alloc, source, &mut reader) {
-        Ok(script) => serve_script(rt, alloc, script, workers, sink, gate),
+        Ok(script) => status_written(serve_script(rt, alloc, &script, workers, sink, gate)),
         Err(fault) => stop_at(alloc, sink, &reader, fault, why),
     }
 }
@@ -145,37 +145,15 @@ fn append_turn(lists: &mut Vec<Posts>, turn: TurnPosts) -> Result<(), NoMemory>
 }
 
 /// Appends posts to those of a caller.
-fn append_posts(lists: &mut Vec<Posts>, caller: usize, posts: Posts) -> Result<(), NoMemory>
+fn append_posts(lists: &mut Vec<Posts>, caller: usize, mut posts: Posts) -> Result<(), NoMemory>
     requires { caller < length lists.old.items }
     ensures { OnOk result (lists.new.items ≡ slice_set lists.old.items caller (list_of lists.old.items caller ++ posts)) }
 {
-    let mut more = posts;
-    lists[caller].append(&mut more)
-}
-
-/// The status of a script that was read to its end: its callers are served, and what comes of it is written.
-fn serve_script<R: Threads + Wait + Sync, K: Sink, G: Gate + Sync>(
-    rt: &R,
-    alloc: Global,
-    script: Script,
-    workers: u8,
-    sink: &mut K,
-    gate: &G,
-) -> Status
-    requires wide { length script.posts ≡ script.map.callers }
-    requires count { post_count script.posts < 2 ^ 32 }
-    requires lines { HaveLines script.map.version script.posts }
-    requires some { 1 ≤ workers }
-    requires few { workers ≤ MAX_WORKERS }
-    ensures ends { EndsWith (IsTextOfSession script.map script.posts) (K.kept sink.old) (K.kept sink.new) result }
-    ensures later { K.faults sink.old ≤ K.faults sink.new }
-    ensures write { result ≡ Status.WriteFault → Rose (K.faults sink.old) (K.faults sink.new) }
-{
-    status_written(serve_posts(rt, alloc, &script, workers, sink, gate))
+    lists[caller].append(&mut posts)
 }
 
 /// Has the callers of a script served, and writes the journal of the session and the answers to it.
-fn serve_posts<R: Threads + Wait + Sync, K: Sink, G: Gate + Sync>(
+fn serve_script<R: Threads + Wait + Sync, K: Sink, G: Gate + Sync>(
     rt: &R,
     alloc: Global,
     script: &Script,

@@ -21,7 +21,7 @@ use std::sync::Wait;
 use std::sync::atomic::{AtomicBool, Ordering};
 use std::thread;
 use std::thread::{Scope, Threads};
-use turn_core::{Answers, Jobs, RunBy, TurnPosts, count_posts};
+use turn_core::{Answers, Jobs, RunBy, Runner, TurnPosts, count_posts};
 
 /// A service all of whose callers have ended.
 #[derive(Drop)]
@@ -188,6 +188,22 @@ fn drive<R: Threads + Wait + Sync, G: Gate + Sync>(
         run: &run,
         staged: &staged,
     };
+    make_turns(rt, driver, posts, &runner, short)
+}
+
+/// Stages, starts and delivers turns by a runner, until so many posts have their replies.
+fn make_turns<W: Runner + Sync, R: Threads + Wait + Sync>(
+    rt: &R,
+    driver: &mut Driver,
+    posts: u64,
+    runner: &W,
+    short: &AtomicBool,
+) -> Result<(), NoMemory>
+    requires ready { W.ready runner.now }
+    requires begins { IsAtStart driver.old }
+    requires count { posts < 2 ^ 32 }
+    ensures { OnOk result (HasServed driver.old driver.new posts) }
+{
     let mut delivered = 0;
     let mut next = 0;
     for _ in rt.forever() {
@@ -202,7 +218,7 @@ fn drive<R: Threads + Wait + Sync, G: Gate + Sync>(
             next = driver.stage(rt)?;
         } else {
             delivered += next;
-            next = driver.start(rt, &runner)?;
+            next = driver.start(rt, runner)?;
             driver.deliver(rt)?;
         }
     }

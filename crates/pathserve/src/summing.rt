@@ -14,7 +14,7 @@ use crate::writing::{status_of, write_text};
 use answer_text::summary_text;
 use grid_versions::MapSpec;
 use io_edges::{Gate, Sink};
-use nav_types::{Bytes, NoMemory, Sequence};
+use nav_types::{Bytes, NoMemory};
 use std::alloc::Global;
 use std::thread::Threads;
 use turn_core::{AllReplies, AnsweredTurn, Journal, bare_version};
@@ -79,12 +79,12 @@ fn all_replies<R: Threads + Sync, G: Gate + Sync>(
     requires few { AllByRecursion (λ turn. length (jobs turn) < 2 ^ 32) journal }
     ensures { IfOk result (IsOneThread map.now journal) }
 {
+    let mut all = Vec::with_capacity(alloc, journal.len())?;
     let mut version = bare_version(alloc, map)?;
-    let mut all = Sequence::new(alloc);
     for posts in journal.into_items() {
         let AnsweredTurn { replies, after } = replied(rt, alloc, &version, posts, workers, gate)?;
-        all.push(replies)?;
+        all.push_reserved(replies);
         version = after;
     }
-    Ok(all)
+    Ok(AllReplies::from(all))
 }

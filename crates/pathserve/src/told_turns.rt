@@ -97,8 +97,7 @@ fn with_replies<R: Threads + Sync, G: Gate + Sync>(
     ensures standing { IfOk result (λ answered. answered.after.standing ≡ after_edits_of ready) }
 {
     let answers = run_turn(rt, alloc, ready.version(), ready.jobs(), workers, gate)?;
-    let (_posts, answered) = ready.answered(answers);
-    Ok(answered)
+    Ok(ready.answered(answers).1)
 }
 
 /// Answers a turn whose edits are made, and tells the answers.
@@ -147,7 +146,7 @@ fn with_opened_numbers<R: Threads + Sync, G: Gate + Sync>(
         workers,
         gate,
     )?;
-    let (_posts, AnsweredTurn { replies, after }) = ready.answered(answers);
+    let AnsweredTurn { replies, after } = ready.answered(answers).1;
     let text = profile_text(alloc, turn, &replies, opened.as_slice())?;
     Ok(Told { text, after })
 }

@@ -52,13 +52,14 @@ pub(crate) fn begin_all<'s, E, R: Wait + Sync, G: Gate + Sync>(
     requires room { All IsShort posts.now }
     ensures { IfOk result (λ works. BeginAll (map caller_id callers) posts.now works.items) }
 {
-    let mut works = Vec::new(alloc);
+    let lists = posts.as_slice();
+    let mut works = Vec::with_capacity(alloc, lists.len())?;
     let mut callers = callers.into_items().into_iter();
-    for list in posts.as_slice() {
+    for list in lists {
         let Some(caller) = callers.next() else {
             unreachable!();
         };
-        works.push(begin(scope, rt, alloc, gate, short, caller, list))?;
+        works.push_reserved(begin(scope, rt, alloc, gate, short, caller, list));
     }
     Ok(works)
 }
@@ -143,11 +144,11 @@ pub(crate) fn end_all(
     ensures { IfOk result (λ ended. (ids : List CallerId) (lists : List (List APost))
         → BeginAll ids lists works.items → HaveAllPosted ids lists ended) }
 {
-    let mut ended = EndedCallers::new(alloc);
+    let mut ended = Vec::with_capacity(alloc, works.len())?;
     for begun in works {
-        ended.push(end(rt, begun))?;
+        ended.push_reserved(end(rt, begun));
     }
-    Ok(ended)
+    Ok(EndedCallers::from(ended))
 }
 
 /// The caller of a work that was begun, when it has ended.

@@ -1,5 +1,5 @@
 //! A lane on which nothing more is posted, with both of its ends.
-ghost use Rattle.std.specs.Prelude.{◌≡◌, ◌^◌, ◌≤◌, true, [], ◌∷◌, ◌++◌, List, length, IfSome, IfNone, IsNone, ◌↔◌};
+ghost use Rattle.std.specs.Prelude.{◌≡◌, true, [], ◌∷◌, ◌++◌, List, length, IfSome, IfNone, IsNone, ◌↔◌};
 ghost use Rattle.std.specs.Arc.{arc_value};
 ghost use Rattle.crossbeam_queue.specs.SegTies.{IsSegPassOf};
 ghost use Rattle.request_lanes.specs.Ends.{Leaves};

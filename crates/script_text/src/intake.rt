@@ -1,5 +1,5 @@
 //! What is taken from a source: its bytes, cut into lines.
-ghost use Rattle.std.specs.Prelude.{◌≡◌, ◌≢◌, ◌+◌, ◌++◌, ◌∷◌, ◌≤◌, ◌<◌, ◌↔◌, ◌==◌, [], length, false, position, ℕ};
+ghost use Rattle.std.specs.Prelude.{◌≡◌, ◌≢◌, ◌+◌, ◌∷◌, ◌≤◌, ◌<◌, ◌↔◌, ◌==◌, [], length, false, position, ℕ};
 ghost use Rattle.std.specs.Prelude.{IsTrue, IfErr, IfOk, IfSome, OnOk, OnErr, IsErrOf, vec_len, Ok};
 ghost use Rattle.std.specs.Io.{ReadsAtMost};
 ghost use Rattle.std.specs.Io.KnownBytes.{ReadConsumes};
@@ -49,7 +49,6 @@ impl Model for Intake {
 impl Intake {
     ghost use Rattle.script_text.specs.declared.intake.LineEnd.TheVariants.{Newline, Input};
     ghost use Rattle.script_text.specs.Reader.{WhereTold};
-    ghost use Rattle.script_text.specs.Lines.{IsPlain};
     ghost use Rattle.script_text.specs.inner.Taking.{Taken, RefillAnswer, ReadsByNeedTold, MovesLine, LineTold};
     ghost use Rattle.script_text.specs.inner.Taking.{HasLine, HoldsNewline, IsHeldLine, end_of};
 

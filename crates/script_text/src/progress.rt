@@ -1,5 +1,5 @@
 //! How far a script was read, and what its next line gives.
-ghost use Rattle.std.specs.Prelude.{◌≡◌, ◌+◌, ◌≤◌, ◌<◌, length, ℕ, All, IfErr, IfOk, IfSome, IsFalse, IsSome, OnOk};
+ghost use Rattle.std.specs.Prelude.{◌≡◌, ◌+◌, ◌≤◌, ◌<◌, ◌∷◌, [], length, ℕ, All, IfErr, IfOk, IfSome, IsFalse, IsSome, OnOk};
 ghost use Rattle.std.specs.Prelude.{OnErr, option_and_then, option_map, Some};
 ghost use Rattle.std.specs.List.{list_all};
 ghost use Rattle.serde_json.specs.View.{view};
@@ -45,7 +45,7 @@ impl Model for Progress {
 
 impl Progress {
     ghost use Rattle.script_text.specs.Script.{beginning, rules_of, accept, counted, end_line, finish, is_long};
-    ghost use Rattle.script_text.specs.Script.{map_line, placed_in_turn, with_post};
+    ghost use Rattle.script_text.specs.Script.{arrived, begins, map_line, placed_in_turn, with_post};
     ghost use Rattle.script_text.specs.Reader.{callers_of, rules_at};
     ghost use Rattle.turn_core.specs.Turns.{post_count};
     ghost use Rattle.script_text.specs.Causes.{cause, end_cause};
@@ -94,20 +94,20 @@ impl Progress {
         }
         // Counted first, so that a bad line's number is that of the place.
         self.count(size);
-        match read_map(alloc, line)? {
-            Some(map) => self.begin(alloc, map),
-            None => Err(ScriptFault::BadLine(self.lines)),
-        }
+        let Some(map) = read_map(alloc, line)? else {
+            return Err(ScriptFault::BadLine(self.lines));
+        };
+        self.begin(alloc, &map)?;
+        Ok(map)
     }
 
     /// Goes on behind the map line, with an empty list of posts for each caller.
-    fn begin(&mut self, alloc: Global, map: MapSpec) -> Result<MapSpec, ScriptFault>
+    fn begin(&mut self, alloc: Global, map: &MapSpec) -> Result<(), NoMemory>
         requires first { self.old.part ≡ Part.BeforeMap }
-        ensures begins { BeginsMap (map_line self.old (Some map)) self.new result }
-        ensures same { IfOk result (λ same. same ≡ map) }
+        ensures begins { OnOk result (map_line self.old (Some map.now) ≡ arrived (begins map.now ∷ []) self.new) }
+        ensures part { OnOk result (self.new.part ≡ Part.InBase (rules_of map.now)) }
         ensures bytes { self.new.bytes ≡ self.old.bytes }
         ensures posts { OnOk result (post_count self.new.posts ≡ 0) }
-        ensures number { IfErr result (λ fault. (n : ℕ) → fault ≡ ScriptFault.BadLine n → ⊥) }
     {
         let rules = Rules {
             size: map.size(),
@@ -116,7 +116,7 @@ impl Progress {
         };
         self.posts = empty_lists(alloc, usize::from(rules.callers))?;
         self.part = Part::InBase(rules);
-        Ok(map)
+        Ok(())
     }
 
     /// Takes the next line where it is a base line, and answers its rectangles. Where it is none, nothing changes.

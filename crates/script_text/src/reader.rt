@@ -11,11 +11,10 @@ ghost use Rattle.script_text.specs.Reader.{HaveLinesAt, HoldsRefused, HoldsTurn,
 ghost use Rattle.script_text.specs.Reader.{TurnTold};
 ghost use Rattle.script_text.specs.Reader.{callers_of, held_cause, is_last, rules_at};
 ghost use Rattle.turn_core.specs.Turns.{post_count};
-ghost use Rattle.script_text.specs.inner.Judging.{BaseTold, BeginsMap, CountsPosts, GivesTurn, IsBadAt, IsBase};
-ghost use Rattle.script_text.specs.inner.Judging.{IsBetweenTurns, IsInTurns, IsNoBaseAt, IsNoBaseNext, TakesBase};
+ghost use Rattle.script_text.specs.inner.Judging.{BaseTold, BeginsMap, CountsPosts, GivesTurn, IsBadAt};
+ghost use Rattle.script_text.specs.inner.Judging.{IsBetweenTurns, IsInTurns, IsNoBaseAt, TakesBase};
 ghost use Rattle.script_text.specs.inner.Judging.{held_at};
-ghost use Rattle.script_text.specs.Lines.{IsPlain};
-ghost use Rattle.script_text.specs.inner.Taking.{HeldLine, IsWholeLine, bytes_of};
+ghost use Rattle.script_text.specs.inner.Taking.{IsWholeLine, bytes_of};
 
 use crate::causes::Cause;
 use crate::faults::ScriptFault;

@@ -1,33 +1,34 @@
 -- Replies that answer a request, with their opened numbers.
-use Rattle.std.proofs.Common.{◌≡◌, ℕ, ℤ, Bool, true, false, List, Option, Some, None, Result, Ok, Err, IfOk, is_some, refl, sym, ap, ◌∙◌, subst}
-use Rattle.std.specs.Prelude.{◌↔◌, IsSome}
+use Rattle.std.proofs.Common.{◌≡◌, ◌<◌, ℕ, ℤ, Bool, true, false, List, Option, Some, None, Result, Ok, Err, IfOk, is_some, length, refl, sym, ap, ◌∙◌, subst}
+use Rattle.std.specs.Prelude.{◌↔◌, IsSome, position, bytes_eq}
 use Rattle.std.proofs.lemmas.Bool.{false_from_ne_true}
 use Rattle.nav_types.specs.declared.cells.Cell.{Cell}
 use Rattle.nav_types.specs.declared.cells.Rect.{Rect}
 use Rattle.nav_types.specs.declared.cells.Size.{Size}
 use Rattle.nav_types.specs.declared.sequences.NoMemory.{NoMemory}
+use Rattle.nav_types.specs.Cells.{IsInside}
 use Rattle.nav_types.specs.Counting.{Counts}
 use Rattle.nav_types.specs.Frames.{IsFrame}
 use Rattle.fixed_point.specs.Plane.{IsOnAxis}
+use Rattle.class_config.specs.declared.table.PassabilityClass.{PassabilityClass}
+use Rattle.goal_shapes.specs.Goals.{HoldsPoint}
 use Rattle.goal_shapes.specs.declared.goals.Goal.{Goal}
-use Rattle.goal_shapes.specs.declared.goals.GoalSpec.{GoalSpec}
 use Rattle.jump_search.specs.declared.search.Traced.{Traced}
 use Rattle.jump_search.specs.JumpStates.{IsOpened}
 use Rattle.grid_versions.specs.declared.edits.Refusal.{Refusal}
 use Rattle.grid_versions.specs.declared.edits.Refusal.TheVariants.{StartOutside}
 use Rattle.grid_versions.specs.Maps.{Map}
-use Rattle.grid_versions.specs.Passing.{passable_at}
 use Rattle.turn_core.specs.declared.posts.Request.{Request}
-use Rattle.turn_core.specs.declared.replies.PathAnswer.{PathAnswer}
 use Rattle.turn_core.specs.declared.replies.TracedAnswer.{TracedAnswer}
 use Rattle.turn_core.specs.declared.solving.Wanted.{Wanted}
 use Rattle.turn_core.specs.declared.solving.Wanted.TheVariants.{OpenedNumber}
 use Rattle.turn_core.specs.declared.replies.Answer.{Answer}
-use Rattle.turn_core.specs.declared.replies.Answer.TheVariants.{Refused, Nowhere, Path as IsPath, Region as IsRegion}
+use Rattle.turn_core.specs.declared.replies.Answer.TheVariants.{Refused}
 use Rattle.turn_core.specs.Words.{Standing}
-use Rattle.turn_core.specs.NamedGoals.{class_named, is_on_map, goal_found}
+use Rattle.turn_core.specs.NamedGoals.{class_named, is_on_map}
 use Rattle.turn_core.specs.Solving.{IsPathTo, IsPathFound, IsAnswerAt, IsAnswerTo}
-use Rattle.turn_core.specs.Opening.{IsOpenedTo, IsOpenedFor, IsOfPath, HasOpened, IsTracedAnswerTo}
+use Rattle.turn_core.specs.Opening.{HasOpened, IsTracedAnswerTo}
+use Rattle.turn_core.specs.inner.Asked.{IsAskedAt}
 use Rattle.turn_core.specs.inner.Opened.{IsCountedBy}
 use Rattle.turn_core.proofs.FoundGoals.{on_map_decides}
 
@@ -56,6 +57,28 @@ pub answered_ok : (named : Option ℕ) (on_map : Bool) (Answers : ℕ → Answer
 answered_ok named on_map Answers (Ok traced) class has on is = answered_at named on_map Answers traced.answer class has on is
 answered_ok named on_map Answers (Err refused) class has on is = tt
 
+-- what is asked at a point of the map
+pub asked_on_map : (map : Map) (name : List ℕ) (x z : ℤ) (class : ℕ) (cell : Cell) → IsAskedAt map name x z class cell → is_on_map map.size x z ≡ true
+asked_on_map map name x z class cell asked = (on_map_decides map.size x z).1 (asked.column, asked.row)
+
+-- the class of a name, by the classes as they are read
+pub class_seen : (map : Map) (name : List ℕ) (classes : List PassabilityClass) (class : ℕ) → classes ≡ map.classes
+    → Some class ≡ position (λ known. bytes_eq known.name name) classes → class_named map name ≡ Some class
+class_seen map name classes class same found = sym (found ∙ ap (λ (cs : List PassabilityClass). position (λ known. bytes_eq known.name name) cs) same)
+
+-- what is named on a map, as it is read
+pub asked_seen : (map : Map) (name : List ℕ) (x z : ℤ) (classes : List PassabilityClass) (size : Size) (class : ℕ) (cell : Cell)
+    → classes ≡ map.classes → size ≡ map.size → Some class ≡ position (λ known. bytes_eq known.name name) classes → class < length classes
+    → IsOnAxis size.w x × IsOnAxis size.h z → HoldsPoint x z cell → IsInside size cell → IsAskedAt map name x z class cell
+asked_seen map name x z classes size class cell same side found known on holder inside = record {
+  named = class_seen map name classes class same found;
+  known = subst (λ (cs : List PassabilityClass). class < length cs) same known;
+  column = subst (λ (s : Size). IsOnAxis s.w x) side on.0;
+  row = subst (λ (s : Size). IsOnAxis s.h z) side on.1;
+  holder = holder;
+  inside = subst (λ (s : Size). IsInside s cell) side inside;
+}
+
 -- the refusal at a point that does not lie on the map
 pub outside_at : (named : Option ℕ) (on_map : Bool) (Answers : ℕ → Answer → Type 0) (class : ℕ)
     → named ≡ Some class → on_map ≡ false → IsAnswerAt named on_map Answers (Refused StartOutside)
@@ -78,24 +101,6 @@ found_err passes x z refusal found is =
     subst (λ (f : Result Goal Refusal). IsPathFound passes x z f answer) is refl
 
 -- ---- opened numbers
-
-of_path : (One Other : PathAnswer → ℕ → Type 0) (answer : Answer) (opened : ℕ) → ((path : PathAnswer) → One path opened → Other path opened)
-    → IsOfPath One answer opened → IsOfPath Other answer opened
-of_path One Other (IsPath path) opened each is = each path is
-of_path One Other (IsRegion region) opened each is = is
-of_path One Other (Refused refusal) opened each is = is
-of_path One Other Nowhere opened each is = is
-
--- the opened number of a path to a goal is that of a path of the class by its name to the goal as it is named
-pub opened_ok : (map : Map) (standing : Standing) (name : List ℕ) (spec : GoalSpec) (class : ℕ) (goal : Goal) (wanted : Wanted) (result : Result TracedAnswer NoMemory)
-    → class_named map name ≡ Some class → Ok goal ≡ goal_found map standing spec
-    → IfOk result (λ (traced : TracedAnswer). wanted ≡ OpenedNumber
-    → IsOfPath (IsOpenedTo (passable_at map standing class) map.size goal) traced.answer traced.opened)
-    → IfOk result (λ (traced : TracedAnswer). wanted ≡ OpenedNumber → IsOfPath (IsOpenedFor map standing name spec) traced.answer traced.opened)
-opened_ok map standing name spec class goal wanted (Ok traced) has found is = λ want.
-    of_path (IsOpenedTo (passable_at map standing class) map.size goal) (IsOpenedFor map standing name spec) traced.answer traced.opened
-    (λ path number. record { class = class; named = has; goal = goal; found = sym found; number = number }) (is want)
-opened_ok map standing name spec class goal wanted (Err refused) has found is = tt
 
 -- the opened number of a search, by the rectangle of its aim in a map of its size
 pub counted_ok : (passes hit : Cell → Bool) (framed : Size → Cell → Bool) (size side : Size) (start : Cell) (wanted : Wanted) (rect : Rect) (result : Result Traced NoMemory)

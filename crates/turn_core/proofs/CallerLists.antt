@@ -30,6 +30,11 @@ drop_none : (A : Type 0) (k : ℕ) → drop k (nothing A) ≡ []
 drop_none A zero = refl
 drop_none A (suc k) = refl
 
+-- lists to which nothing is joined
+pub joined_nothing : {A : Type 0} (xs : List (List A)) → joined_up xs [] ≡ xs
+joined_nothing [] = refl
+joined_nothing (x ∷ xs) = ap (λ (l : List _). l ∷ joined_up xs []) (append-nil x) ∙ ap (λ (l : List (List _)). x ∷ l) (joined_nothing xs)
+
 pub next_posts_at : (pss : List (List Post)) (ts ks : List ℕ) (c : ℕ) → list_of (next_posts pss ts ks) c ≡ take (slice_index ks c) (drop (slice_index ts c) (list_of pss c))
 next_posts_at [] ts ks c = sym (ap (take (slice_index ks c)) (drop_none Post (slice_index ts c)) ∙ take_none Post (slice_index ks c))
 next_posts_at (ps ∷ pss) ts ks zero = ap (λ (k : ℕ). take k (drop (first ts) ps)) (first_at ks) ∙ ap (λ (t : ℕ). take (slice_index ks 0) (drop t ps)) (first_at ts)

@@ -1,10 +1,10 @@
 -- How far callers have collected the replies to them, turn by turn.
 use Rattle.std.proofs.Common.{◌≡◌, inl, inr, ℕ, zero, suc, ◌+◌, ◌-◌, ◌<◌, ◌≤◌, List, [], ◌∷◌, ◌++◌, None, Some}
-use Rattle.std.proofs.Common.{length, take, drop, set, get_or, slice_index, slice_index_or, refl, sym, ap}
+use Rattle.std.proofs.Common.{length, take, drop, set, replicate, get_or, slice_index, slice_index_or, refl, sym, ap}
 use Rattle.std.proofs.Common.{◌∙◌, subst, arith, append-nil, length-append}
 use Rattle.std.specs.Prelude.{slice_get}
 use Rattle.std.proofs.lemmas.List.{take_more, take_all, take-append-le, take-append-drop, drop_more, get_or-set_same}
-use Rattle.std.proofs.lemmas.List.{get_or-set_other, length-set}
+use Rattle.std.proofs.lemmas.List.{get_or-set_other, length-set, length-replicate}
 use Rattle.std.proofs.lemmas.Bool.{cases_eq}
 use Rattle.std.proofs.lemmas.Grind.{flat_map-append}
 use Rattle.std.proofs.lemmas.Option.{slice_get_past, slice_get_read}
@@ -14,6 +14,7 @@ use Rattle.turn_core.specs.declared.machines.delivered.ReplyPlace.{ReplyPlace}
 use Rattle.turn_core.specs.declared.replies.Reply.{Reply}
 use Rattle.turn_core.specs.States.{list_of}
 use Rattle.turn_core.specs.inner.Runs.{replies_to, beginning, HasCome, HaveCome}
+use Rattle.turn_core.proofs.CallerLists.{zeros_at}
 
 get_back : {A : Type 0} (xs ys : List A) (k : ℕ) → length xs ≤ k → slice_get (xs ++ ys) k ≡ slice_get ys (k - length xs)
 get_back [] ys k h = ap (slice_get ys) (let e : k ≡ k - 0 = omega arith in e)
@@ -72,6 +73,20 @@ none_next c ds n at all come =
     let count : n ≡ length (replies_to c (take at.turn ds)) + at.place = come.replies in
     let whole : length (replies_to c (take at.turn ds)) ≡ length (replies_to c ds) = ap (λ (l : List DeliveredTurn). length (replies_to c l)) (take_all at.turn ds all) in
     slice_get_past (replies_to c ds) n (omega (arith, count, whole))
+
+at_beginning : (n c : ℕ) → slice_index_or (replicate n beginning) c beginning ≡ beginning
+at_beginning zero c = refl
+at_beginning (suc n) zero = refl
+at_beginning (suc n) (suc c) = at_beginning n c
+
+-- at the opening
+pub come_nowhere : (n : ℕ) (ds : List DeliveredTurn) (ns : List ℕ) (places : List ReplyPlace) → ds ≡ [] → ns ≡ replicate n 0 → places ≡ replicate n beginning → HaveCome ds ns places
+come_nowhere n ds ns places none zeros same = record {
+  wide = ap length same ∙ length-replicate n beginning ∙ sym (length-replicate n 0) ∙ ap length (sym zeros);
+  each = λ c. subst (λ (l : List ReplyPlace). HasCome ds c (slice_index ns c) (slice_index_or l c beginning)) (sym same)
+      (subst (λ (at : ReplyPlace). HasCome ds c (slice_index ns c) at) (sym (at_beginning n c))
+      (record { turn = omega arith; replies = ap (λ (l : List ℕ). slice_index l c) zeros ∙ zeros_at n c }));
+}
 
 -- one turn more
 pub come_still : (ds more : List DeliveredTurn) (d : DeliveredTurn) (ns : List ℕ) (places : List ReplyPlace) → more ≡ ds ++ d ∷ [] → HaveCome ds ns places → HaveCome more ns places

@@ -1,8 +1,11 @@
 -- One caller more of a staged turn.
-use Rattle.std.proofs.Common.{◌≡◌, ℕ, ◌+◌, ◌<◌, List, [], ◌∷◌, ◌++◌, length, map, take, drop, get_or, slice_index, sym, ap, ◌∙◌, arith, append_assoc, add-zero}
-use Rattle.std.proofs.lemmas.List.{drop_more, get_or-drop, drop-drop}
+use Rattle.std.proofs.Common.{◌≡◌, ℕ, ◌+◌, ◌-◌, ◌<◌, ◌≤◌, Bool, List, [], ◌∷◌, ◌++◌, None, Some, length, map, take, drop, get_or, slice_index, sym, ap, ◌∙◌, arith, append_assoc, append-nil, add-zero}
+use Rattle.std.specs.Prelude.{nat_le}
+use Rattle.std.proofs.lemmas.Bool.{le-leb, lt-leb}
+use Rattle.std.proofs.lemmas.List.{drop_all, drop_more, get_or-drop, drop-drop, take_more}
+use Rattle.turn_core.specs.declared.events.Why.TheVariants.{Posted}
 use Rattle.turn_core.specs.declared.posts.Post.{Post}
-use Rattle.turn_core.specs.Table.{first}
+use Rattle.turn_core.specs.Table.{first, or_else, unless, why_few}
 use Rattle.turn_core.specs.Effects.{next_posts, added_up}
 use Rattle.turn_core.proofs.CallerLists.{first_at}
 
@@ -46,3 +49,59 @@ taken_more pss ts ks i ps made all part n lt same is cut sum before =
     ∙ ap (λ (l : List ℕ). made ++ l) (sym (added_up_more ts (length (take (slice_index ks i) (drop (slice_index ts i) ps))) (map length rest) i (omega arith)))
     ∙ ap (λ (l : List (List Post)). made ++ added_up (drop i ts) (map length l)) (sym (next_posts_more pss ts ks i ps lt is))
     ∙ before
+
+-- the turn with no caller left, and what is taken with it
+pub turn_end : (pss : List (List Post)) (ts ks : List ℕ) (i : ℕ) (made all : List (List Post)) → length pss ≤ i
+    → made ++ next_posts (drop i pss) (drop i ts) (drop i ks) ≡ all → made ≡ all
+turn_end pss ts ks i made all past before =
+    sym (append-nil made)
+    ∙ ap (λ (rest : List (List Post)). made ++ next_posts rest (drop i ts) (drop i ks)) (sym (drop_all i pss past))
+    ∙ before
+
+pub taken_end : (pss : List (List Post)) (ts ks : List ℕ) (i : ℕ) (made all : List ℕ) → length pss ≤ i → length ts ≡ length pss
+    → made ++ added_up (drop i ts) (map length (next_posts (drop i pss) (drop i ts) (drop i ks))) ≡ all → made ≡ all
+taken_end pss ts ks i made all past same before =
+    sym (append-nil made)
+    ∙ ap (λ (rest : List (List Post)). made ++ map length (next_posts rest (drop i ts) (drop i ks))) (sym (drop_all i pss past))
+    ∙ ap (λ (rest : List ℕ). made ++ added_up rest (map length (next_posts (drop i pss) (drop i ts) (drop i ks)))) (sym (drop_all i ts (omega (arith, same, past))))
+    ∙ before
+
+-- why the next caller has too few posts left, and then why one after it has
+why_few_more : (pss : List (List Post)) (ts ks : List ℕ) (i : ℕ) (ps : List Post) (taken wanted left : ℕ) → i < length pss → ps ≡ get_or pss i ps
+    → taken ≡ slice_index ts i → wanted ≡ slice_index ks i → left ≡ length ps - taken
+    → why_few i (drop i pss) (drop i ts) (drop i ks)
+    ≡ or_else (unless (nat_le wanted left) (Posted i left)) (why_few (i + 1) (drop (i + 1) pss) (drop (i + 1) ts) (drop (i + 1) ks))
+why_few_more pss ts ks i ps taken wanted left lt is at_taken at_wanted at_left =
+    let first_left : length ps - first (drop i ts) ≡ left = ap (λ (t : ℕ). length ps - t) (first_drop i ts ∙ sym at_taken) ∙ sym at_left in
+    let first_wanted : first (drop i ks) ≡ wanted = first_drop i ks ∙ sym at_wanted in
+    ap (λ (rest : List (List Post)). why_few i rest (drop i ts) (drop i ks)) (drop_more pss i ps lt ∙ ap (λ (p : List Post). p ∷ drop (i + 1) pss) (sym is))
+    ∙ ap (λ (l : ℕ). or_else (unless (nat_le (first (drop i ks)) l) (Posted i l)) (why_few (i + 1) (drop (i + 1) pss) (drop 1 (drop i ts)) (drop 1 (drop i ks)))) first_left
+    ∙ ap (λ (w : ℕ). or_else (unless (nat_le w left) (Posted i left)) (why_few (i + 1) (drop (i + 1) pss) (drop 1 (drop i ts)) (drop 1 (drop i ks)))) first_wanted
+    ∙ ap (λ (r : List ℕ). or_else (unless (nat_le wanted left) (Posted i left)) (why_few (i + 1) (drop (i + 1) pss) r (drop 1 (drop i ks)))) (past_drop i ts)
+    ∙ ap (λ (r : List ℕ). or_else (unless (nat_le wanted left) (Posted i left)) (why_few (i + 1) (drop (i + 1) pss) (drop (i + 1) ts) r)) (past_drop i ks)
+
+-- the next caller has enough
+pub why_few_skips : (pss : List (List Post)) (ts ks : List ℕ) (i : ℕ) (ps : List Post) (taken wanted left : ℕ) → i < length pss → ps ≡ get_or pss i ps
+    → taken ≡ slice_index ts i → wanted ≡ slice_index ks i → left ≡ length ps - taken → wanted ≤ left
+    → why_few i (drop i pss) (drop i ts) (drop i ks) ≡ why_few (i + 1) (drop (i + 1) pss) (drop (i + 1) ts) (drop (i + 1) ks)
+why_few_skips pss ts ks i ps taken wanted left lt is at_taken at_wanted at_left enough =
+    why_few_more pss ts ks i ps taken wanted left lt is at_taken at_wanted at_left
+    ∙ ap (λ (b : Bool). or_else (unless b (Posted i left)) (why_few (i + 1) (drop (i + 1) pss) (drop (i + 1) ts) (drop (i + 1) ks))) (le-leb wanted left enough)
+
+-- the next caller has too few
+pub why_few_here : (pss : List (List Post)) (ts ks : List ℕ) (i : ℕ) (ps : List Post) (taken wanted left : ℕ) → i < length pss → ps ≡ get_or pss i ps
+    → taken ≡ slice_index ts i → wanted ≡ slice_index ks i → left ≡ length ps - taken → left < wanted
+    → why_few i (drop i pss) (drop i ts) (drop i ks) ≡ Some (Posted i left)
+why_few_here pss ts ks i ps taken wanted left lt is at_taken at_wanted at_left few =
+    why_few_more pss ts ks i ps taken wanted left lt is at_taken at_wanted at_left
+    ∙ ap (λ (b : Bool). or_else (unless b (Posted i left)) (why_few (i + 1) (drop (i + 1) pss) (drop (i + 1) ts) (drop (i + 1) ks))) (lt-leb wanted left few)
+
+-- no caller is left
+pub why_few_none : (pss : List (List Post)) (ts ks : List ℕ) (i : ℕ) → length pss ≤ i → why_few i (drop i pss) (drop i ts) (drop i ks) ≡ None
+why_few_none pss ts ks i past = ap (λ (rest : List (List Post)). why_few i rest (drop i ts) (drop i ks)) (drop_all i pss past)
+
+-- one item more that is copied
+pub copied_more : {A : Type 0} (xs made now : List A) (i : ℕ) (x y : A) → i < length xs → x ≡ get_or xs i x → made ≡ take i xs → y ≡ x → now ≡ made ++ y ∷ []
+    → now ≡ take (i + 1) xs
+copied_more xs made now i x y lt is before same pushed =
+    pushed ∙ ap (λ (l : List _). l ++ y ∷ []) before ∙ ap (λ (z : _). take i xs ++ z ∷ []) (same ∙ is) ∙ sym (take_more xs i x lt)

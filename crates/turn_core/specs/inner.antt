@@ -4,3 +4,4 @@ pub mod EditedTurns
 pub mod Runs
 pub mod Machines
 pub mod Opened
+pub mod Asked

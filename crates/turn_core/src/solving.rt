@@ -1,5 +1,5 @@
 //! The answers to requests on a version.
-ghost use Rattle.std.specs.Prelude.{◌≡◌, ◌<◌, ℤ, IfOk, IsTrue, length};
+ghost use Rattle.std.specs.Prelude.{◌≡◌, ◌<◌, ℤ, IfErr, IfOk, IsTrue, length};
 ghost use Rattle.fixed_point.specs.Plane.{IsOnAxis};
 ghost use Rattle.nav_types.specs.Cells.{IsInside};
 ghost use Rattle.nav_types.specs.Walks.{CanReach};
@@ -13,6 +13,7 @@ ghost use Rattle.turn_core.specs.Solving.{is_near, IsPathTo, IsPathFound, IsRegi
 ghost use Rattle.turn_core.specs.Solving.{IsAnswerTo};
 ghost use Rattle.turn_core.specs.Opening.{IsOpenedTo, IsOpenedFor, IsOfPath, HasOpened, IsTracedAnswerTo};
 ghost use Rattle.turn_core.specs.declared.solving.Wanted.TheVariants.{OpenedNumber};
+ghost use Rattle.turn_core.specs.inner.Asked.{IsAskedAt, IsRefusedAt};
 ghost use Rattle.turn_core.specs.inner.Opened.{IsCountedBy};
 
 use crate::named_goals::goal_of;
@@ -90,6 +91,27 @@ fn answered(
     }
 }
 
+/// The class that a request names, and the cell in which its point lies.
+#[derive(Clone, Copy)]
+struct Asked {
+    class: Class,
+    cell: Cell,
+}
+
+/// The class of a name, and the cell that holds the point (`x`, `z`); or why what is asked of them is refused.
+fn asked_at(version: &Version, name: &ClassName, x: Fixed, z: Fixed) -> Result<Asked, Refusal>
+    ensures asked { IfOk result (λ asked. IsAskedAt version.now.map name.now x z asked.class asked.cell) }
+    ensures refused { IfErr result (IsRefusedAt version.now.map name.now x z) }
+{
+    let Some(class) = version.map().classes().find(name) else {
+        return Err(Refusal::UnknownClass);
+    };
+    let Some(cell) = cell_of_point(x, z, version.map().size()) else {
+        return Err(Refusal::StartOutside);
+    };
+    Ok(Asked { class, cell })
+}
+
 /// The answer to a path of a class by its name, from the point (`x`, `z`).
 fn path_asked(
     alloc: Global,
@@ -106,20 +128,14 @@ fn path_asked(
     ensures opened { IfOk result (λ traced. wanted ≡ OpenedNumber
         → IsOfPath (IsOpenedFor version.now.map version.now.standing name.now goal.now) traced.answer traced.opened) }
 {
-    let Some(class) = version.map().classes().find(name) else {
-        return Ok(TracedAnswer {
-            answer: Answer::Refused(Refusal::UnknownClass),
-            opened: 0,
-        });
-    };
-    if cell_of_point(x, z, version.map().size()).is_none() {
-        return Ok(TracedAnswer {
-            answer: Answer::Refused(Refusal::StartOutside),
-            opened: 0,
-        });
-    }
-    match goal_of(version, goal) {
-        Ok(goal) => path_to(alloc, version, class, x, z, &goal, wanted),
+    match asked_at(version, name, x, z) {
+        Ok(asked) => match goal_of(version, goal) {
+            Ok(goal) => path_to(alloc, version, asked.class, x, z, &goal, wanted),
+            Err(refusal) => Ok(TracedAnswer {
+                answer: Answer::Refused(refusal),
+                opened: 0,
+            }),
+        },
         Err(refusal) => Ok(TracedAnswer {
             answer: Answer::Refused(refusal),
             opened: 0,
@@ -256,13 +272,10 @@ fn region_asked(version: &Version, name: &ClassName, x: Fixed, z: Fixed) -> Answ
     ensures { IsAnswerAt (class_named version.now.map name.now) (is_on_map version.now.map.size x z)
         (λ class. IsRegionAt (passable_at version.now.map version.now.standing class) x z) result }
 {
-    let Some(class) = version.map().classes().find(name) else {
-        return Answer::Refused(Refusal::UnknownClass);
-    };
-    let Some(cell) = cell_of_point(x, z, version.map().size()) else {
-        return Answer::Refused(Refusal::StartOutside);
-    };
-    Answer::Region(region_at(version, class, cell))
+    match asked_at(version, name, x, z) {
+        Ok(asked) => Answer::Region(region_at(version, asked.class, asked.cell)),
+        Err(refusal) => Answer::Refused(refusal),
+    }
 }
 
 /// The chunk, the region and the area of a cell for a class.

@@ -3,7 +3,9 @@ use Rattle.std.specs.Prelude.{ℕ, ◌≡◌, ◌+◌, ◌-◌, ◌<◌, ◌≤�
 use Rattle.nav_types.specs.declared.cells.Cell.{Cell}
 use Rattle.nav_types.specs.declared.cells.Rect.{Rect}
 use Rattle.nav_types.specs.declared.cells.Size.{Size}
-use Rattle.nav_types.specs.Cells.{IsInRect}
+use Rattle.nav_types.specs.Cells.{cell_at, IsInside, IsInRect}
+use Rattle.goal_reach.specs.declared.axes.Axis.{Axis}
+use Rattle.goal_reach.specs.declared.axes.Axis.TheVariants.{Row, Column}
 use Rattle.goal_reach.specs.declared.rings.Block.{Block}
 
 -- the rectangle of one cell
@@ -33,22 +35,41 @@ pub record Encloses (outer inner : Rect) : Type 0 where
 abbrev pub IsOnRing : Rect → Rect → Cell → Type 0
 IsOnRing inner outer cell = IsInRect outer cell × (IsInRect inner cell → ⊥)
 
--- the cell lies in row j, in a column from `west` up to `east`, without that one
-pub record IsInRun (west east j : ℕ) (cell : Cell) : Type 0 where
-  pub row : cell.j ≡ j
-  pub first : west ≤ cell.i
-  pub past : cell.i < east
+-- the place of the cell on its line: its column in a row, its row in a column
+abbrev pub place_on : Axis → Cell → ℕ
+place_on Row cell = cell.i
+place_on Column cell = cell.j
+
+-- the line of the cell: its row, or its column
+abbrev pub line_on : Axis → Cell → ℕ
+line_on Row cell = cell.j
+line_on Column cell = cell.i
+
+-- the cell at a place of a line
+abbrev pub cell_on : Axis → ℕ → ℕ → Cell
+cell_on Row line place = cell_at place line
+cell_on Column line place = cell_at line place
+
+-- how many cells a line has in a map of this size
+abbrev pub side_along : Axis → Size → ℕ
+side_along Row size = size.w
+side_along Column size = size.h
+
+-- the cell lies on the line, at a place from `from` up to `end`, without that one
+pub record IsInRun (axis : Axis) (line from end : ℕ) (cell : Cell) : Type 0 where
+  pub on_line : line_on axis cell ≡ line
+  pub first : from ≤ place_on axis cell
+  pub past : place_on axis cell < end
 
 -- the cell lies in the block
 pub record IsInBlock (block : Block) (cell : Cell) : Type 0 where
-  pub west : block.west ≤ cell.i
-  pub east : cell.i < block.east
-  pub south : block.south ≤ cell.j
-  pub north : cell.j < block.north
+  pub first_line : block.first_line ≤ line_on block.axis cell
+  pub past_line : line_on block.axis cell < block.past_line
+  pub from : block.from ≤ place_on block.axis cell
+  pub end : place_on block.axis cell < block.end
 
 -- the block lies in a map of this size
 pub record IsBlockInside (size : Size) (block : Block) : Type 0 where
-  pub columns : block.west ≤ block.east
-  pub rows : block.south ≤ block.north
-  pub last_column : block.east ≤ size.w
-  pub last_row : block.north ≤ size.h
+  pub lines : block.first_line ≤ block.past_line
+  pub places : block.from ≤ block.end
+  pub cells : (cell : Cell) → IsInBlock block cell → IsInside size cell

@@ -1,5 +1,5 @@
 //! Posts of a match.
-ghost use Rattle.std.specs.Prelude.{◌≡◌, ◌<◌, ◌++◌, IfOk, OnOk};
+ghost use Rattle.std.specs.Prelude.{◌≡◌, ◌<◌, ◌≤◌, ◌+◌, ◌++◌, IfOk, OnOk, vec_capacity, vec_len};
 ghost use Rattle.pathserve.specs.Making.{add_of, class_name, draw_first_post, draw_removal, draw_addition, draw_path, draw_first_posts, draw_later_posts, draw_posts, one_in_four};
 
 use super::draws::Draws;
@@ -71,37 +71,41 @@ fn later_posts(alloc: Global, draws: &mut Draws, turn: u32, caller: u32) -> Resu
     ensures value { IfOk result (λ posts. posts ≡ (draw_later_posts turn caller draws.old).value) }
     ensures state { OnOk result (draws.new ≡ (draw_later_posts turn caller draws.old).state) }
 {
-    let mut posts = Sequence::new(alloc);
-    push_some_removal(&mut posts, draws, caller)?;
-    push_some_addition(&mut posts, draws, caller)?;
-    posts.push(path(alloc, draws, turn, caller)?)?;
-    Ok(posts)
+    let mut posts = Vec::with_capacity(alloc, 3)?;
+    push_some_removal(&mut posts, draws, caller);
+    push_some_addition(&mut posts, draws, caller);
+    posts.push_reserved(path(alloc, draws, turn, caller)?);
+    Ok(Posts::from(posts))
 }
 
 /// With one chance in four the removal of one of the caller's numbers.
 #[tactic(auto, unfolding(crate::specs::Making::one_in_four))]
-fn push_some_removal(posts: &mut Posts, draws: &mut Draws, caller: u32) -> Result<(), NoMemory>
-    requires { caller < 16 }
-    ensures value { OnOk result (posts.new ≡ posts.old ++ (one_in_four (draw_removal caller) draws.old).value) }
-    ensures state { OnOk result (draws.new ≡ (one_in_four (draw_removal caller) draws.old).state) }
+fn push_some_removal(posts: &mut Vec<Post>, draws: &mut Draws, caller: u32)
+    requires caller { caller < 16 }
+    requires room { vec_len posts.old < vec_capacity posts.old }
+    ensures value { posts.new.items ≡ posts.old.items ++ (one_in_four (draw_removal caller) draws.old).value }
+    ensures len { vec_len posts.new ≤ vec_len posts.old + 1 }
+    ensures capacity { vec_capacity posts.new ≡ vec_capacity posts.old }
+    ensures state { draws.new ≡ (one_in_four (draw_removal caller) draws.old).state }
 {
     if draws.below(4) == 0 {
-        posts.push(removal(draws, caller))?;
+        posts.push_reserved(removal(draws, caller));
     }
-    Ok(())
 }
 
 /// With one chance in four the add of a unit under one of the caller's numbers.
 #[tactic(auto, unfolding(crate::specs::Making::one_in_four))]
-fn push_some_addition(posts: &mut Posts, draws: &mut Draws, caller: u32) -> Result<(), NoMemory>
-    requires { caller < 16 }
-    ensures value { OnOk result (posts.new ≡ posts.old ++ (one_in_four (draw_addition caller) draws.old).value) }
-    ensures state { OnOk result (draws.new ≡ (one_in_four (draw_addition caller) draws.old).state) }
+fn push_some_addition(posts: &mut Vec<Post>, draws: &mut Draws, caller: u32)
+    requires caller { caller < 16 }
+    requires room { vec_len posts.old < vec_capacity posts.old }
+    ensures value { posts.new.items ≡ posts.old.items ++ (one_in_four (draw_addition caller) draws.old).value }
+    ensures len { vec_len posts.new ≤ vec_len posts.old + 1 }
+    ensures capacity { vec_capacity posts.new ≡ vec_capacity posts.old }
+    ensures state { draws.new ≡ (one_in_four (draw_addition caller) draws.old).state }
 {
     if draws.below(4) == 0 {
-        posts.push(addition(draws, caller))?;
+        posts.push_reserved(addition(draws, caller));
     }
-    Ok(())
 }
 
 /// The removal of one of the caller's numbers.

@@ -1,5 +1,5 @@
 //! The canonical lines of maps. Each call appends a text; where there is no memory, what stands is a beginning of it.
-ghost use Rattle.std.specs.Prelude.{◌≡◌, ◌++◌, ◌≤◌, length, map, All, IsTrue, OnOk};
+ghost use Rattle.std.specs.Prelude.{◌≡◌, ◌++◌, ◌≤◌, map, All, IsTrue, OnOk};
 ghost use Rattle.serde_json.specs.Written.{compact_text};
 ghost use Rattle.class_config.specs.Classes.{is_table};
 ghost use Rattle.nav_types.specs.declared.limits.TheConstants.{MAX_CALLERS};

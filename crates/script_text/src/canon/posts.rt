@@ -1,6 +1,5 @@
 //! The canonical lines of posts. Each call appends a text; where there is no memory, what stands is a beginning of it.
-ghost use Rattle.std.specs.Prelude.{◌≡◌, ◌≤◌, ◌++◌, ◌∷◌, [], true, OnOk, IsTrue, FitsSigned};
-ghost use Rattle.std.specs.Int.{w32};
+ghost use Rattle.std.specs.Prelude.{◌≡◌, ◌++◌, ◌∷◌, [], true, OnOk, IsTrue};
 ghost use Rattle.serde_json.specs.Data.{string};
 ghost use Rattle.serde_json.specs.Written.{compact_text, members_text};
 ghost use Rattle.class_config.specs.Forms.{is_class_name};

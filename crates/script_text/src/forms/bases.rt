@@ -1,5 +1,5 @@
 //! The rectangles of base lines.
-ghost use Rattle.std.specs.Prelude.{◌≡◌, ◌≤◌, All, IfOk, IfSome, map, option_map, length, List};
+ghost use Rattle.std.specs.Prelude.{◌≡◌, All, IfOk, IfSome, map};
 ghost use Rattle.nav_types.specs.Cells.{IsRectInside};
 ghost use Rattle.serde_json.specs.View.{view};
 ghost use Rattle.script_text.specs.Forms as form;

@@ -1,5 +1,5 @@
 //! The goals in path lines.
-ghost use Rattle.std.specs.Prelude.{◌≡◌, option_map};
+ghost use Rattle.std.specs.Prelude.{◌≡◌};
 ghost use Rattle.serde_json.specs.View.{view};
 ghost use Rattle.script_text.specs.Values.{under};
 ghost use Rattle.script_text.specs.Forms as form;

@@ -1,5 +1,5 @@
 //! The posts of post lines.
-ghost use Rattle.std.specs.Prelude.{◌≡◌, IfOk, map, option_map};
+ghost use Rattle.std.specs.Prelude.{◌≡◌, IfOk, map};
 ghost use Rattle.serde_json.specs.View.{view};
 ghost use Rattle.class_config.specs.Forms as config;
 ghost use Rattle.script_text.specs.Forms as form;

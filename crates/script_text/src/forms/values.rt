@@ -1,9 +1,7 @@
 //! The values in lines: whole numbers, decimals, class names, and arrays of these.
 ghost use Rattle.std.specs.Prelude.{◌≡◌, ◌≤◌, ◌<◌, ◌==◌, IfOk, IfSome, length, false, map, option_and_then, option_map};
-ghost use Rattle.std.specs.Option.{option_map_or};
 ghost use Rattle.serde_json.specs.View.{view};
 ghost use Rattle.serde_json.specs.Find.{as_array, at};
-ghost use Rattle.class_config.specs.Classes.{list_of};
 ghost use Rattle.script_text.specs.Values as value_form;
 
 use class_config::{ClassName, NameRefusal};

@@ -60,8 +60,9 @@ pub(crate) fn why_few(posted: &[Posts], taken: &[u64], takes: &[u64]) -> Option<
     ensures { result ≡ why_few 0 posted.now taken.now takes.now }
 {
     for (caller, posts) in posted.iter().enumerate() {
+        let wanted = number_at(takes, caller);
         let left = left_of(posts, number_at(taken, caller));
-        if number_at(takes, caller) > left {
+        if wanted > left {
             return Some(Why::Posted(caller as u8, left));
         }
     }

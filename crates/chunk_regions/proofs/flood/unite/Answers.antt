@@ -15,3 +15,6 @@ loop-region-preserved c =
     subst (λ n. set items i n ≡ map (number_after c.args.a c.args.b) (take (i + 1) old) ++ drop (i + 1) old) (sym value)
     (map_over_more (number_after c.args.a c.args.b) old items i (get_or items i 0) below c.loop-region.invariant
     (get_or_default items i 0 (get_or items i 0) within))
+
+pub returns-clause-firsts : goal.returns-clause-firsts
+returns-clause-firsts c = c.remove.ensures.items

@@ -1,10 +1,40 @@
-use Rattle.std.proofs.Common.{◌≡◌, ◌+◌, ◌*◌, ◌/◌, Bool, ℕ, List, length, ap, ◌∙◌, subst}
+use Rattle.std.proofs.Common.{◌≡◌, ◌<◌, ◌+◌, ◌*◌, ◌/◌, Bool, ℕ, List, length, sym, ap, ◌∙◌, subst, arith}
 use Rattle.std.specs.Vec.{with_items}
 use Rattle.std.proofs.lemmas.List.{with_items_is}
 use Rattle.nav_types.specs.Cells.{cell_at}
 use Rattle.class_planes.specs.inner.Lines.{LineTable, RowTable, HasNextLine, free_cell, line_at}
-use Rattle.class_planes.proofs.TurnLemmas.{columns_more}
+use Rattle.class_planes.proofs.TurnLemmas.{columns_more, line_long}
 use Rattle.class_planes.proofs.turned.push_columns.Goals as goal
+
+pub line-line-requires-clause-band : goal.line-line-requires-clause-band
+line-line-requires-clause-band c =
+    omega (arith, c.requires.before.lines.many, c.requires.band, c.requires.half, c.from-in-loop-k.ensures)
+
+pub line-line-requires-clause-long : goal.line-line-requires-clause-long
+line-line-requires-clause-long c =
+    let lines = c.requires.before.lines in
+    let n : ℕ = 32 * c.args.band + 16 * c.args.half + c.from-in-loop-k.result in
+    let below : n / 32 < c.args.size.w / 32 + 1 =
+    omega (arith, c.requires.band, c.requires.half, c.from-in-loop-k.ensures) in
+    (lines.each (n / 32) below).long ∙ ap (λ (words : ℕ). 32 * words) (sym lines.wide)
+
+pub push_column-requires-clause-whole : goal.push_column-requires-clause-whole
+push_column-requires-clause-whole c = omega (arith, ap length c.deref.ensures.value, c.in_ok-numbers.ensures.long)
+
+pub push_column-requires-clause-within : goal.push_column-requires-clause-within
+push_column-requires-clause-within c =
+    let before = c.requires.before in
+    let count : ℕ = c.args.size.w / 32 + 1 in
+    let words : ℕ = c.args.size.h / 64 + 1 in
+    let n : ℕ = 32 * c.args.band + 16 * c.args.half + c.from-in-loop-k.result in
+    let below : n / 32 < count = omega (arith, c.requires.band, c.requires.half, c.from-in-loop-k.ensures) in
+    let long : length c.line-line.result.now ≡ words =
+    ap length c.line-line.ensures ∙ line_long before.earlier count words n c.args.before.now before.lines below in
+    omega (arith, long, ap length c.deref.ensures.value, c.in_ok-numbers.ensures.long, c.requires.span, c.requires.within)
+
+pub push_column-requires-clause-room : goal.push_column-requires-clause-room
+push_column-requires-clause-room c =
+    omega (arith, ap length c.deref_mut.ensures.value, ap length c.deref.ensures.value, c.loop-k.invariant.room)
 
 pub loop-k-preserved : goal.loop-k-preserved
 loop-k-preserved c =

@@ -4,5 +4,5 @@ use Rattle.grid_versions.proofs.painting.base_patch.Goals as goal
 
 pub returns-clause-bits : goal.returns-clause-bits
 returns-clause-bits c =
-    base_bits c.args.map.now c.args.rect c.in_ok-patch.patch (number_of c.paint_base.new.patch) c.in_ok-patch.ensures.rect
+    base_bits c.args.base.now c.args.rect c.in_ok-patch.patch (number_of c.paint_base.new.patch) c.in_ok-patch.ensures.rect
     c.in_ok-patch.ensures.numbers c.paint_base.ensures.set

@@ -1,10 +1,8 @@
-use Rattle.std.proofs.Common.{◌&&◌, ℕ, List, ◌∙◌, Bool, subst}
-use Rattle.std.specs.List.{list_any}
+use Rattle.std.proofs.Common.{◌&&◌, ℕ, Bool}
 use Rattle.nav_types.specs.declared.cells.Cell.{Cell}
 use Rattle.nav_types.specs.declared.cells.Rect.{Rect}
 use Rattle.nav_types.specs.Numbering.{number_of}
 use Rattle.lane_rows.specs.Rows.{has_class}
-use Rattle.clearance_raster.specs.inner.TestRasters.{IsRasterIn}
 use Rattle.grid_versions.specs.Passing.{is_in_rect}
 use Rattle.grid_versions.proofs.PaintLemmas.{Ends-at, Ends-past}
 use Rattle.grid_versions.proofs.painting.paint_base.Goals as goal
@@ -14,7 +12,7 @@ covers k cell entry = has_class k entry.1 && is_in_rect entry.0 cell
 
 pub loop-entry-preserved : goal.loop-entry-preserved
 loop-entry-preserved c =
-    let base = c.as_slice-base.result.now in
+    let base = c.args.base.now in
     let none : Rect × ℕ = (record { i0 = 0; j0 = 0; i1 = 0; j1 = 0 }, 0) in
     record {
       extent = c.paint_area.ensures.rect;
@@ -25,9 +23,6 @@ loop-entry-preserved c =
 
 pub returns-clause-set : goal.returns-clause-set
 returns-clause-set c =
-    let base = c.as_slice-base.result.now in
-    let rect = c.args.rect in
-    subst (λ (xs : List (Rect × ℕ)). IsRasterIn rect rect (λ k cell. list_any (covers k cell) xs) (number_of c.args.patch.now)
-    (number_of c.loop-entry.patch)) (c.as_slice-base.ensures ∙ c.base.ensures.base)
-    (Ends-past rect rect covers base base c.loop-entry.entry-index (number_of c.args.patch.now) (number_of c.loop-entry.patch)
-    c.loop-entry-test.false c.loop-entry.invariant.ends)
+    let base = c.args.base.now in
+    Ends-past c.args.rect c.args.rect covers base base c.loop-entry.entry-index (number_of c.args.patch.now) (number_of c.loop-entry.patch)
+    c.loop-entry-test.false c.loop-entry.invariant.ends

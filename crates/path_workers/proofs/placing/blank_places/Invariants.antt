@@ -1,8 +1,9 @@
-use Rattle.std.proofs.Common.{◌≡◌, length}
+use Rattle.std.proofs.Common.{◌≡◌, ◌≤◌, length}
+use Rattle.std.specs.Prelude.{vec_capacity}
 use Rattle.path_workers.proofs.placing.blank_places.Given as goal
 
 abbrev pub invariant-loop : goal.invariant-loop
 invariant-loop l = record {
-  answers : length l.answers.items ≡ l.counter;
-  opened : length l.opened.items ≡ l.counter;
+  count : length l.answers.items ≡ l.counter;
+  room : l.count ≤ vec_capacity l.answers;
 }

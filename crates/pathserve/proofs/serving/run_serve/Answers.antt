@@ -1,9 +1,9 @@
-use Rattle.std.proofs.Common.{Result, Err, ap}
+use Rattle.std.proofs.Common.{Result, Err, ap, sym, ◌∙◌}
 use Rattle.script_text.specs.declared.faults.ScriptFault.{ScriptFault}
 use Rattle.pathserve.specs.declared.serving.Script.{Script}
 use Rattle.pathserve.specs.inner.WholeScripts.{IsTextOfSession}
 use Rattle.pathserve.proofs.Passes.{ends_taken}
-use Rattle.pathserve.proofs.ServedTexts.{ends_no_read, ends_no_usage, stop_of_refusal, stop_served, told_refused, told_session}
+use Rattle.pathserve.proofs.ServedTexts.{ends_no_read, ends_no_usage, fault_written, stop_of_refusal, stop_served, told_refused, told_session}
 use Rattle.pathserve.proofs.serving.run_serve.Goals as goal
 
 -- ---- no part of the script came
@@ -22,21 +22,25 @@ returns-clause-stop g c =
 
 pub returns-in-Ok-read_script-clause-told : goal.returns-in-Ok-read_script-clause-told
 returns-in-Ok-read_script-clause-told g c =
-    told_session c.in-Ok-read_script.script.map c.in-Ok-read_script.script.posts _ _ _ _ _ c.in-Ok-read_script.ensures.whole c.serve_script.ensures.ends
+    told_session c.in-Ok-read_script.script.map c.in-Ok-read_script.script.posts _ _ _ _ _ c.in-Ok-read_script.ensures.whole (c.serve_script.result, (c.serve_script.ensures.written, c.status_written.ensures))
 
 pub returns-in-Ok-read_script-clause-stop : goal.returns-in-Ok-read_script-clause-stop
 returns-in-Ok-read_script-clause-stop g c =
-    stop_served c.in-Ok-read_script.script.map c.in-Ok-read_script.script.posts _ _ _ _ _ _ _ _ _ c.in-Ok-read_script.ensures.whole c.serve_script.ensures.ends
-    c.serve_script.ensures.write
+    stop_served c.in-Ok-read_script.script.map c.in-Ok-read_script.script.posts _ _ _ _ _ _ _ _ _ c.in-Ok-read_script.ensures.whole (c.serve_script.result, (c.serve_script.ensures.written, c.status_written.ensures))
+    (λ is. c.serve_script.ensures.fault (fault_written c.serve_script.result (sym c.status_written.ensures ∙ is)))
 
 pub returns-in-Ok-read_script-clause-usage : goal.returns-in-Ok-read_script-clause-usage
 returns-in-Ok-read_script-clause-usage g c =
-    ends_no_usage (IsTextOfSession c.in-Ok-read_script.script.map c.in-Ok-read_script.script.posts) _ _ _ c.serve_script.ensures.ends
+    ends_no_usage (IsTextOfSession c.in-Ok-read_script.script.map c.in-Ok-read_script.script.posts) _ _ _ (c.serve_script.result, (c.serve_script.ensures.written, c.status_written.ensures))
 
 pub returns-in-Ok-read_script-clause-read : goal.returns-in-Ok-read_script-clause-read
 returns-in-Ok-read_script-clause-read g c = λ is.
-    absurd (ends_no_read (IsTextOfSession c.in-Ok-read_script.script.map c.in-Ok-read_script.script.posts) _ _ _ c.serve_script.ensures.ends is)
+    absurd (ends_no_read (IsTextOfSession c.in-Ok-read_script.script.map c.in-Ok-read_script.script.posts) _ _ _ (c.serve_script.result, (c.serve_script.ensures.written, c.status_written.ensures)) is)
 
 pub returns-in-Ok-read_script-clause-taken : goal.returns-in-Ok-read_script-clause-taken
 returns-in-Ok-read_script-clause-taken g c =
-    ends_taken (IsTextOfSession c.in-Ok-read_script.script.map c.in-Ok-read_script.script.posts) _ _ _ c.serve_script.ensures.ends
+    ends_taken (IsTextOfSession c.in-Ok-read_script.script.map c.in-Ok-read_script.script.posts) _ _ _ (c.serve_script.result, (c.serve_script.ensures.written, c.status_written.ensures))
+
+pub returns-in-Ok-read_script-clause-write : goal.returns-in-Ok-read_script-clause-write
+returns-in-Ok-read_script-clause-write g c =
+    λ is. c.serve_script.ensures.fault (fault_written c.serve_script.result (sym c.status_written.ensures ∙ is))

@@ -1,4 +1,5 @@
-use Rattle.std.proofs.Common.{◌≡◌, ◌+◌, All, length, drop}
+use Rattle.std.proofs.Common.{◌≡◌, ◌+◌, ◌≤◌, All, length, drop}
+use Rattle.std.specs.Prelude.{vec_capacity}
 use Rattle.std.specs.Vec.Iter.{into_iter_items, into_iter_len}
 use Rattle.pathserve.specs.inner.Works.{HasPostedNone}
 use Rattle.pathserve.proofs.BegunWorks.{HaveBegun}
@@ -6,8 +7,10 @@ use Rattle.pathserve.proofs.works.begin_all.Given as goal
 
 abbrev pub invariant-loop-list : goal.invariant-loop-list
 invariant-loop-list g l = record {
-  begun : HaveBegun l.fn.callers l.list-items (into_iter_items l.callers) (drop l.list-index l.list-items) l.works.items;
+  begun : HaveBegun l.fn.callers l.lists (into_iter_items l.callers) (drop l.list-index l.lists) l.works.items;
   first : All HasPostedNone (into_iter_items l.callers);
-  wide : length (into_iter_items l.callers) + l.list-index ≡ length l.list-items;
+  wide : length (into_iter_items l.callers) + l.list-index ≡ length l.lists;
   left : into_iter_len l.callers ≡ length (into_iter_items l.callers);
+  count : length l.works.items ≡ l.list-index;
+  room : length l.lists ≤ vec_capacity l.works;
 }

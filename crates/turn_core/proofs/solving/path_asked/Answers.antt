@@ -1,54 +1,31 @@
-use Rattle.std.proofs.Common.{◌≡◌, ◌∙◌, refl, ap, ℕ, Some, false, true}
-use Rattle.grid_versions.specs.Maps.{Map}
+use Rattle.std.proofs.Common.{ℕ}
 use Rattle.grid_versions.specs.Passing.{passable_at}
 use Rattle.turn_core.specs.declared.replies.Answer.{Answer}
 use Rattle.turn_core.specs.declared.replies.Answer.TheVariants.{Refused}
 use Rattle.turn_core.specs.NamedGoals.{class_named, is_on_map, goal_found}
 use Rattle.turn_core.specs.Solving.{IsPathFound}
-use Rattle.turn_core.proofs.Answered.{on_map_seen, answered_at, answered_ok, outside_at, found_ok, found_err, opened_ok}
+use Rattle.turn_core.proofs.Answered.{asked_on_map, answered_at, answered_ok, found_ok, found_err}
 use Rattle.turn_core.proofs.solving.path_asked.Goals as goal
 
-pub returns-then-is_none : goal.returns-then-is_none
-returns-then-is_none c =
+pub returns-in-Ok-goal_of-clause-answer : goal.returns-in-Ok-goal_of-clause-answer
+returns-in-Ok-goal_of-clause-answer c =
     let map = c.args.version.now.map in
-    let Answers : ℕ → Answer → Type 0 =
-    λ class. IsPathFound (passable_at map c.args.version.now.standing class) c.args.x c.args.z (goal_found map c.args.version.now.standing c.args.goal.now) in
-    let has : class_named map c.args.name.now ≡ Some c.in-Some.class = cc in
-    let off = on_map_seen map.size c.size.result c.args.x c.args.z c.cell_of_point.result false
-    (c.size.ensures ∙ ap (λ (m : Map). m.size) c.map-2.ensures) c.cell_of_point.ensures.on_map c.if-is_none.ensures in
-    record {
-      answer = outside_at (class_named map c.args.name.now) (is_on_map map.size c.args.x c.args.z) Answers c.in-Some.class has off;
-      opened = λ wanted. refl;
-    }
+    let standing = c.args.version.now.standing in
+    let found = goal_found map standing c.args.goal.now in
+    let Answers : ℕ → Answer → Type 0 = λ class. IsPathFound (passable_at map standing class) c.args.x c.args.z found in
+    let asked = c.in-Ok.ensures.asked in
+    answered_ok (class_named map c.args.name.now) (is_on_map map.size c.args.x c.args.z) Answers c.path_to.result c.in-Ok.asked.class asked.named
+    (asked_on_map map c.args.name.now c.args.x c.args.z c.in-Ok.asked.class _ asked)
+    (found_ok (passable_at map standing c.in-Ok.asked.class) c.args.x c.args.z c.in-Ok-goal_of.goal found c.path_to.result
+    c.in-Ok-goal_of.ensures.found c.path_to.ensures.answer)
 
-pub returns-in-Ok : goal.returns-in-Ok
-returns-in-Ok c =
+pub returns-in-Err-goal_of-clause-answer : goal.returns-in-Err-goal_of-clause-answer
+returns-in-Err-goal_of-clause-answer c =
     let map = c.args.version.now.map in
-    let Answers : ℕ → Answer → Type 0 =
-    λ class. IsPathFound (passable_at map c.args.version.now.standing class) c.args.x c.args.z (goal_found map c.args.version.now.standing c.args.goal.now) in
-    let has : class_named map c.args.name.now ≡ Some c.in-Some.class = cc in
-    let on = on_map_seen map.size c.size.result c.args.x c.args.z c.cell_of_point.result true
-    (c.size.ensures ∙ ap (λ (m : Map). m.size) c.map-2.ensures) c.cell_of_point.ensures.on_map c.if-is_none.ensures in
-    let passes = passable_at map c.args.version.now.standing c.in-Some.class in
-    let found = goal_found map c.args.version.now.standing c.args.goal.now in
-    record {
-      answer = answered_ok (class_named map c.args.name.now) (is_on_map map.size c.args.x c.args.z) Answers c.path_to.result c.in-Some.class has on
-          (found_ok passes c.args.x c.args.z c.in-Ok.goal found c.path_to.result c.in-Ok.ensures.found c.path_to.ensures.answer);
-      opened = opened_ok map c.args.version.now.standing c.args.name.now c.args.goal.now c.in-Some.class c.in-Ok.goal c.args.wanted c.path_to.result
-          has c.in-Ok.ensures.found c.path_to.ensures.opened;
-    }
-
-pub returns-in-Err : goal.returns-in-Err
-returns-in-Err c =
-    let map = c.args.version.now.map in
-    let Answers : ℕ → Answer → Type 0 =
-    λ class. IsPathFound (passable_at map c.args.version.now.standing class) c.args.x c.args.z (goal_found map c.args.version.now.standing c.args.goal.now) in
-    let has : class_named map c.args.name.now ≡ Some c.in-Some.class = cc in
-    let on = on_map_seen map.size c.size.result c.args.x c.args.z c.cell_of_point.result true
-    (c.size.ensures ∙ ap (λ (m : Map). m.size) c.map-2.ensures) c.cell_of_point.ensures.on_map c.if-is_none.ensures in
-    record {
-      answer = answered_at (class_named map c.args.name.now) (is_on_map map.size c.args.x c.args.z) Answers (Refused c.in-Err.refusal) c.in-Some.class has on
-          (found_err (passable_at map c.args.version.now.standing c.in-Some.class) c.args.x c.args.z c.in-Err.refusal
-          (goal_found map c.args.version.now.standing c.args.goal.now) c.in-Err.ensures.found);
-      opened = λ wanted. refl;
-    }
+    let standing = c.args.version.now.standing in
+    let found = goal_found map standing c.args.goal.now in
+    let Answers : ℕ → Answer → Type 0 = λ class. IsPathFound (passable_at map standing class) c.args.x c.args.z found in
+    let asked = c.in-Ok.ensures.asked in
+    answered_at (class_named map c.args.name.now) (is_on_map map.size c.args.x c.args.z) Answers (Refused c.in-Err-goal_of.refusal) c.in-Ok.asked.class asked.named
+    (asked_on_map map c.args.name.now c.args.x c.args.z c.in-Ok.asked.class _ asked)
+    (found_err (passable_at map standing c.in-Ok.asked.class) c.args.x c.args.z c.in-Err-goal_of.refusal found c.in-Err-goal_of.ensures.found)

@@ -1,4 +1,20 @@
+use Rattle.std.proofs.Common.{inr, refl}
 use Rattle.turn_core.proofs.solving.path_to.Goals as goal
+
+pub returns-clause-answer : goal.returns-clause-answer
+returns-clause-answer c = inr (
+  _,
+  (
+    refl,
+    record {
+      start_cell = c.in-Some.ensures.start;
+      target = c.made_reachable-target.result;
+      targets = c.made_reachable-target.ensures.targets;
+      nearness = c.is_near.ensures;
+      walk = c.in_ok-found.ensures.answer;
+    },
+  ),
+)
 
 pub returns-clause-opened : goal.returns-clause-opened
 returns-clause-opened c = λ wanted.

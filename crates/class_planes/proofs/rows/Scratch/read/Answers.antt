@@ -1,11 +1,12 @@
-use Rattle.std.proofs.Common.{◌≡◌, ◌+◌, ◌-◌, ◌*◌, ◌/◌, ◌%◌, ◌<◌, ◌≤◌, ℕ, List, length, get_or, ap, ◌∙◌, arith}
+use Rattle.std.proofs.Common.{◌≡◌, ◌+◌, ◌-◌, ◌*◌, ◌/◌, ◌%◌, ◌<◌, ◌≤◌, ℕ, List, length, get_or, sym, ap, ◌∙◌, arith}
 use Rattle.std.specs.Int.{bit_at}
 use Rattle.std.specs.Vec.{with_items}
 use Rattle.std.proofs.lemmas.List.{with_items_is}
 use Rattle.nav_types.specs.declared.cells.Size.{Size}
 use Rattle.nav_types.specs.Cells.{cell_at}
-use Rattle.class_planes.proofs.BitLemmas.{line_bits}
-use Rattle.class_planes.proofs.CellLemmas.{east_of}
+use Rattle.lane_rows.specs.Rows.{one_if}
+use Rattle.class_planes.proofs.BitLemmas.{line_bits, no_bits}
+use Rattle.class_planes.proofs.CellLemmas.{east_of, north_of}
 use Rattle.class_planes.proofs.rows.Scratch.read.Goals as goal
 
 pub returns-then-j-size-clause-bits : goal.returns-then-j-size-clause-bits
@@ -38,3 +39,12 @@ returns-then-j-size-clause-bits g c i =
     (λ past. let east : w ≤ i = omega arith in
     east_of size (g.V.View.passes view c.args.class) i c.args.j (g.met.V.View.within view c.args.class) east)
     (λ below. c.free_words.ensures.bits i below ∙ ap (λ (n : ℕ). 1 - bit_at (get_or row i 0) n) class_is)
+
+pub returns-else-j-size-clause-bits : goal.returns-else-j-size-clause-bits
+returns-else-j-size-clause-bits g c i =
+    let view = c.args.view.now in
+    let size : Size = g.V.View.extent view in
+    let past : size.h ≤ c.args.j = omega (arith, ap (λ (s : Size). s.h) c.size.ensures) in
+    ap (λ (xs : List ℕ). bit_at (get_or xs (i / 64) 0) (i % 64)) (c.fill.ensures.items (λ y same. same))
+    ∙ no_bits _ i
+    ∙ sym (ap one_if (north_of size (g.V.View.passes view c.args.class) i c.args.j (g.met.V.View.within view c.args.class) past))

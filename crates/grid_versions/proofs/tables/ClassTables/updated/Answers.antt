@@ -1,10 +1,13 @@
-use Rattle.std.proofs.Common.{ℕ, List, ◌≡◌, Bool, refl, sym, subst}
+use Rattle.std.proofs.Common.{ℕ, List, ◌≡◌, Bool, length, refl, sym, ap, ◌∙◌, subst}
 use Rattle.std.specs.Arc.{arc_value}
+use Rattle.std.proofs.lemmas.List.{length-map}
 use Rattle.std.proofs.lemmas.Result.{IfOk-weaker}
 use Rattle.nav_types.specs.declared.cells.Cell.{Cell}
 use Rattle.nav_types.specs.declared.cells.Size.{Size}
+use Rattle.lane_rows.specs.Rows.{has_class}
 use Rattle.chunk_regions.specs.Labelling.{Labelling}
 use Rattle.region_edges.specs.declared.neighbours.Side.TheVariants.{East, North}
+use Rattle.grid_versions.specs.Chunks.{chunk_count}
 use Rattle.grid_versions.specs.inner.Tables.{Tables, AreTables, AreAllLabels, AreAllEdges, label_counts, region_counts}
 use Rattle.grid_versions.specs.inner.Building.{AreSides, IsLaidOut}
 use Rattle.grid_versions.specs.inner.Changing.{AreChanges}
@@ -56,6 +59,42 @@ next_edges-requires-clause-labels g c =
     let changed = c.requires.before.1.1 in
     let were = subst (λ (t : Tables). AreTables old extent t) (sym c.self.view_is) c.requires.before.1.0 in
     laid_here old passes c.size-size.result extent c.args.class c.args.changed.now before c.size-size.ensures were changed c.in_ok-labels.labels c.in_ok-labels.ensures.labels
+
+pub next_edges-requires-clause-each : goal.next_edges-requires-clause-each
+next_edges-requires-clause-each g c =
+    ap (λ (t : Tables). length t.east) c.self.view_is
+    ∙ c.requires.before.1.0.east_are.each
+    ∙ ap (λ (s : Size). chunk_count s) (sym c.size-size.ensures)
+
+pub next_edges-requires-clause-changed : goal.next_edges-requires-clause-changed
+next_edges-requires-clause-changed g c =
+    sym (length-map c.args.changed.now (has_class c.args.class))
+    ∙ c.requires.before.1.1.marks.each
+    ∙ ap (λ (s : Size). chunk_count s) (sym c.size-size.ensures)
+
+pub next_edges-requires-2-clause-each : goal.next_edges-requires-2-clause-each
+next_edges-requires-2-clause-each g c =
+    ap (λ (t : Tables). length t.north) c.self.view_is
+    ∙ c.requires.before.1.0.north_are.each
+    ∙ ap (λ (s : Size). chunk_count s) (sym c.size-size.ensures)
+
+pub next_edges-requires-2-clause-changed : goal.next_edges-requires-2-clause-changed
+next_edges-requires-2-clause-changed g c =
+    sym (length-map c.args.changed.now (has_class c.args.class))
+    ∙ c.requires.before.1.1.marks.each
+    ∙ ap (λ (s : Size). chunk_count s) (sym c.size-size.ensures)
+
+pub relabelled-requires-clause-counts : goal.relabelled-requires-clause-counts
+relabelled-requires-clause-counts g c =
+    c.in_ok-labels.ensures.counts c.if-counts.true ∙ ap (λ (t : Tables). region_counts t) c.self.view_is
+
+pub relabelled-requires-clause-east : goal.relabelled-requires-clause-east
+relabelled-requires-clause-east g c =
+    c.in_ok-east.ensures.stay c.if-to_east.true ∙ ap (λ (t : Tables). t.east) c.self.view_is
+
+pub relabelled-requires-clause-north : goal.relabelled-requires-clause-north
+relabelled-requires-clause-north g c =
+    c.in_ok-north.ensures.stay c.if-to_north.true ∙ ap (λ (t : Tables). t.north) c.self.view_is
 
 pub next_edges-requires-2-clause-labels : goal.next_edges-requires-2-clause-labels
 next_edges-requires-2-clause-labels g c =

@@ -1,7 +1,7 @@
-use Rattle.std.proofs.Common.{◌≡◌, ℕ, ◌+◌, List, [], ◌∷◌, ◌++◌, length, map, take, drop, slice_index, ap, ◌∙◌}
+use Rattle.std.proofs.Common.{◌≡◌, ℕ, ◌+◌, ◌≤◌, List, [], ◌∷◌, ◌++◌, length, map, take, drop, slice_index, ap, ◌∙◌, arith}
 use Rattle.turn_core.specs.declared.posts.Post.{Post}
 use Rattle.turn_core.specs.Effects.{next_posts, added_up}
-use Rattle.turn_core.proofs.StagedTurns.{turn_more, taken_more}
+use Rattle.turn_core.proofs.StagedTurns.{turn_more, taken_more, turn_end, taken_end}
 use Rattle.turn_core.proofs.machines.staging.next_turn.Goals as goal
 
 pub loop-caller-preserved : goal.loop-caller-preserved
@@ -21,4 +21,17 @@ loop-caller-preserved c =
       turn = ap (λ (l : List (List Post)). l ++ rest) c.in_ok-push.ensures.turn ∙ turn_more pss ts ks i ps made.turn (next_posts pss ts ks) part c.loop-caller-test.true c.index-posted-caller.is cut c.loop-caller.invariant.turn;
       taken = ap (λ (l : List ℕ). l ++ added_up (drop (i + 1) ts) (map length rest)) raised
           ∙ taken_more pss ts ks i ps made.taken.items (added_up ts (map length (next_posts pss ts ks))) part (slice_index ts i + length part) c.loop-caller-test.true c.requires c.index-posted-caller.is cut (λ _. slice_index ts i + length part) c.loop-caller.invariant.taken;
+    }
+
+pub returns : goal.returns
+returns c =
+    let pss = c.args.posted.now in
+    let ts = c.args.taken.now in
+    let ks = c.args.takes.now in
+    let i = c.loop-caller.caller in
+    let made = c.loop-caller.next in
+    let past : length pss ≤ i = omega arith in
+    record {
+      turn = turn_end pss ts ks i made.turn (next_posts pss ts ks) past c.loop-caller.invariant.turn;
+      taken = taken_end pss ts ks i made.taken.items (added_up ts (map length (next_posts pss ts ks))) past c.requires c.loop-caller.invariant.taken;
     }

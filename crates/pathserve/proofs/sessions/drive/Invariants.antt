@@ -1,9 +1,0 @@
-use Rattle.pathserve.specs.inner.Sessions.{HasComeTo}
-use Rattle.pathserve.proofs.sessions.drive.Given as goal
-
-abbrev pub invariant-loop : goal.invariant-loop
-invariant-loop g l = record {
-  can_next : (goal.iterator-loop g).can_next l.iterator';
-  finite : (goal.iterator-loop g).is_finite l.iterator';
-  come : HasComeTo l.fn.driver l.driver l.delivered l.next;
-}
