@@ -1,3 +1,4 @@
 pub mod Growing
 pub mod LineTexts
 pub mod Waypoints
+pub mod NotesOfNothing

@@ -2,18 +2,18 @@
 use Rattle.std.specs.Prelude.{ℕ, ◌+◌, Bool, List, [], ◌∷◌, ◌++◌, length, map, codes, decimal, if◌then◌else◌}
 use Rattle.std.specs.List.{join_with_byte}
 use Rattle.nav_types.specs.declared.cells.Cell.{Cell}
-use Rattle.grid_versions.specs.declared.edits.EditReply.{EditReply}
-use Rattle.grid_versions.specs.declared.edits.EditReply.TheVariants as edit
-use Rattle.grid_versions.specs.declared.edits.Refusal.{Refusal}
-use Rattle.grid_versions.specs.declared.edits.Refusal.TheVariants.{BadShape, DuplicateId, StoreFull, UnknownId, UnknownClass, StartOutside, GoalOutside}
-use Rattle.grid_versions.specs.declared.versions.Tallies.{Tallies}
-use Rattle.turn_core.specs.declared.replies.Answer.{Answer}
-use Rattle.turn_core.specs.declared.replies.Answer.TheVariants.{Refused, Nowhere, Path, Region}
-use Rattle.turn_core.specs.declared.replies.PathAnswer.{PathAnswer}
-use Rattle.turn_core.specs.declared.replies.RegionAnswer.{RegionAnswer}
-use Rattle.turn_core.specs.declared.replies.Reply.{Reply}
-use Rattle.turn_core.specs.declared.replies.Reply.TheVariants.{Edit as Edited, Answer as Answered}
-use Rattle.turn_core.specs.declared.replies.TurnReplies.{TurnReplies}
+use Rattle.posts.specs.declared.edits.EditReply.{EditReply}
+use Rattle.posts.specs.declared.edits.EditReply.TheVariants as edit
+use Rattle.posts.specs.declared.edits.Refusal.{Refusal}
+use Rattle.posts.specs.declared.edits.Refusal.TheVariants.{BadShape, DuplicateId, StoreFull, UnknownId, UnknownClass, StartOutside, GoalOutside}
+use Rattle.posts.specs.declared.replies.Tallies.{Tallies}
+use Rattle.posts.specs.declared.replies.Answer.{Answer}
+use Rattle.posts.specs.declared.replies.Answer.TheVariants.{Refused, Nowhere, Path, Region}
+use Rattle.posts.specs.declared.replies.PathAnswer.{PathAnswer}
+use Rattle.posts.specs.declared.replies.RegionAnswer.{RegionAnswer}
+use Rattle.posts.specs.declared.replies.Reply.{Reply}
+use Rattle.posts.specs.declared.replies.Reply.TheVariants.{Edit as Edited, Answer as Answered}
+use Rattle.posts.specs.declared.replies.TurnReplies.{TurnReplies}
 
 -- the words with one space (32) between them, and a newline (10)
 abbrev pub line_of : List (List ℕ) → List ℕ

@@ -1,5 +1,5 @@
 pub mod Answers
-pub mod Profiles
+pub mod Noted
 pub mod Summaries
 pub mod Writing
 pub mod inner

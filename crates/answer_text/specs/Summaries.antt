@@ -1,12 +1,12 @@
 -- The summary of a run: two lines on the replies of all its turns.
 use Rattle.std.specs.Prelude.{ℕ, ◌<◌, ◌-◌, ◌^◌, Bool, true, false, not, List, [], ◌∷◌, ◌++◌, length, flat_map, count_by, sum_by, slice_get, codes, decimal}
 use Rattle.std.specs.Option.{option_map_or}
-use Rattle.grid_versions.specs.declared.versions.Tallies.{Tallies}
-use Rattle.grid_versions.specs.declared.edits.EditReply.TheVariants as edit
-use Rattle.turn_core.specs.declared.replies.Answer.TheVariants as answer
-use Rattle.turn_core.specs.declared.replies.Reply.{Reply}
-use Rattle.turn_core.specs.declared.replies.Reply.TheVariants.{Edit as Edited, Answer as Answered}
-use Rattle.turn_core.specs.declared.replies.TurnReplies.{TurnReplies}
+use Rattle.posts.specs.declared.replies.Tallies.{Tallies}
+use Rattle.posts.specs.declared.edits.EditReply.TheVariants as edit
+use Rattle.posts.specs.declared.replies.Answer.TheVariants as answer
+use Rattle.posts.specs.declared.replies.Reply.{Reply}
+use Rattle.posts.specs.declared.replies.Reply.TheVariants.{Edit as Edited, Answer as Answered}
+use Rattle.posts.specs.declared.replies.TurnReplies.{TurnReplies}
 use Rattle.answer_text.specs.Answers.{line_of}
 
 -- an obstruction was added

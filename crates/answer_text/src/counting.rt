@@ -3,8 +3,7 @@ ghost use Rattle.std.specs.Prelude.{◌≡◌, ◌∷◌, []};
 ghost use Rattle.answer_text.specs.inner.Counting.{counts_of, together, IsCountable};
 ghost use Rattle.answer_text.specs.Summaries.{turn_replies, all_replies};
 
-use grid_versions::EditReply;
-use turn_core::{Answer, Replies, Reply, TurnReplies};
+use posts::{Answer, EditReply, Replies, Reply, TurnReplies};
 
 /// How many replies there are, how many of them are of each kind, what their paths cost together, and how
 /// many waypoints these have together.

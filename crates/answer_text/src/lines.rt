@@ -7,10 +7,9 @@ ghost use Rattle.answer_text.specs.Writing.{GrewFrom};
 ghost use Rattle.answer_text.specs.inner.Spacing.{spaced};
 
 use crate::pieces::{write_after, write_cell, write_waypoint};
-use grid_versions::{EditReply, Refusal, Tallies};
 use nav_types::{Bytes, Cell, NoMemory};
+use posts::{Answer, EditReply, PathAnswer, Refusal, RegionAnswer, Reply, Tallies};
 use std::alloc::Global;
-use turn_core::{Answer, PathAnswer, RegionAnswer, Reply};
 
 /// Appends the line of a reply: the caller's number, the number of the post among the caller's posts of
 /// the turn, and what the reply says (`reply_line`). Where there is no memory, the text still begins as it

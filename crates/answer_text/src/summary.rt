@@ -1,15 +1,14 @@
 //! The summary of a run.
 ghost use Rattle.std.specs.Prelude.{◌≡◌, ◌++◌, List, IfOk, OnOk};
-ghost use Rattle.turn_core.specs.declared.replies.Reply.{Reply};
+ghost use Rattle.posts.specs.declared.replies.Reply.{Reply};
 ghost use Rattle.answer_text.specs.inner.Counting.{counts_of};
 ghost use Rattle.answer_text.specs.Summaries.{summary_text, totals_line, last_line, last_tallies, HasFewReplies, HasCountableCosts, HasCountableWaypoints};
 
 use crate::counting::ReplyCounts;
 use crate::pieces::write_after;
-use grid_versions::Tallies;
 use nav_types::{Bytes, NoMemory};
+use posts::{AllReplies, Tallies, TurnReplies};
 use std::alloc::Global;
-use turn_core::{AllReplies, TurnReplies};
 
 /// The summary of the turns of a run (`summary_text`), two lines: how many turns and replies there are and
 /// how many replies of each kind, with the costs and the numbers of waypoints of all paths added up; and the

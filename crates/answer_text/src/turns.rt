@@ -4,8 +4,8 @@ ghost use Rattle.answer_text.specs.Answers.{turn_text, reply_lines};
 
 use crate::lines::{write_reply, write_turn_line};
 use nav_types::{Bytes, NoMemory};
+use posts::{Reply, TurnReplies};
 use std::alloc::Global;
-use turn_core::{Reply, TurnReplies};
 
 /// The text of a turn of this number (`turn_text`): its turn line, and then for caller 0, 1 and so on
 /// one line for each reply, in the order of the posts.

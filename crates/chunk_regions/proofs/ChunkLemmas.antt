@@ -14,7 +14,8 @@ use Rattle.nav_types.specs.declared.cells.Size.{Size}
 use Rattle.nav_types.specs.Cells.{cell_at, IsInRect, IsInside}
 use Rattle.nav_types.specs.Numbering.{Numbering, columns, rows, number_of, place_in}
 use Rattle.nav_types.specs.Regions.{passes_in, HasRegion}
-use Rattle.chunk_regions.specs.Labelling.{AreLabels, AreBitsOf, chunk_rect}
+use Rattle.chunk_regions.specs.Labelling.{AreLabels, AreBitsOf}
+use Rattle.nav_types.specs.Rects.{chunk_rect}
 use Rattle.chunk_regions.specs.declared.flood.Place.{Place}
 use Rattle.chunk_regions.specs.inner.Spans.{Runs, AreRuns, Holds, IsCut, region_at, region_of, number_by}
 use Rattle.chunk_regions.specs.inner.Joining.{IsNumbered}

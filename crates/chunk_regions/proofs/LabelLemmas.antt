@@ -9,7 +9,8 @@ use Rattle.std.proofs.lemmas.Option.{slice_get_within}
 use Rattle.nav_types.specs.Cells.{IsInside, IsInRect, IsBefore}
 use Rattle.nav_types.specs.Regions.{passes_in, InOneRegion}
 use Rattle.nav_types.specs.Numbering.{number_of}
-use Rattle.chunk_regions.specs.Labelling.{Labelling, AreLabels, chunk_rect}
+use Rattle.chunk_regions.specs.Labelling.{Labelling, AreLabels}
+use Rattle.nav_types.specs.Rects.{chunk_rect}
 use Rattle.nav_types.proofs.CellOrder.{IsBefore-asym}
 use Rattle.nav_types.proofs.FirstCells.{AreFirsts-unique}
 

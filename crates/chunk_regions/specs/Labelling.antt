@@ -1,13 +1,14 @@
 -- The regions of one chunk and class.
-use Rattle.std.specs.Prelude.{ℕ, Bool, ◌≡◌, ◌+◌, ◌-◌, ◌*◌, ◌<◌, ◌==◌, List, min, slice_index}
+use Rattle.std.specs.Prelude.{ℕ, Bool, ◌≡◌, ◌+◌, ◌*◌, ◌<◌, ◌==◌, List, slice_index}
 use Rattle.std.specs.Int.{bit_at}
+use Rattle.nav_types.specs.declared.limits.TheConstants.{CHUNK_SIDE}
 use Rattle.nav_types.specs.declared.cells.Cell.{Cell}
 use Rattle.nav_types.specs.declared.cells.Chunk.{Chunk}
-use Rattle.nav_types.specs.declared.cells.Rect.{Rect}
 use Rattle.nav_types.specs.declared.cells.Size.{Size}
 use Rattle.nav_types.specs.Cells.{cell_at, IsBefore, IsInRect}
 use Rattle.nav_types.specs.Counting.{AreFirsts}
 use Rattle.nav_types.specs.Regions.{passes_in, InOneRegion, HasRegion}
+use Rattle.nav_types.specs.Rects.{chunk_rect}
 use Rattle.nav_types.specs.Numbering.{Numbering, number_of}
 
 -- a chunk, the region numbers of its cells in the map, and the first cells of its regions in order
@@ -15,15 +16,6 @@ pub record Labelling : Type 0 where
   pub chunk : Chunk
   pub cells : Numbering
   pub firsts : List Cell
-
--- the chunk's cells in a map of this size, where it has one: 96 by 96 navcells, fewer at the map's east and north side
-abbrev pub chunk_rect : Size → Chunk → Rect
-chunk_rect size chunk = record {
-  i0 = 96 * chunk.ci;
-  j0 = 96 * chunk.cj;
-  i1 = min (96 * chunk.ci + 95) (size.w - 1);
-  j1 = min (96 * chunk.cj + 95) (size.h - 1);
-}
 
 -- the labels are those of the chunk in a map of this size, where `passes` says which cells are passable for the class
 pub record AreLabels (passes : Cell → Bool) (size : Size) (chunk : Chunk) (labels : Labelling) : Type 0 where
@@ -33,8 +25,7 @@ pub record AreLabels (passes : Cell → Bool) (size : Size) (chunk : Chunk) (lab
       → HasRegion passes chunk cell (number_of labels.cells cell)
   pub first_cells : AreFirsts (passes_in passes chunk) (InOneRegion passes chunk) IsBefore labels.firsts
 
--- the numbers of a chunk's 96 rows have a bit for each of its 96 columns, which is set exactly where the cell is
--- passable
+-- the numbers of a chunk's rows have a bit for each of its columns, which is set exactly where the cell is passable
 pub record AreBitsOf (passes : Cell → Bool) (chunk : Chunk) (bits : List ℕ) : Type 0 where
-  pub set : (row column : ℕ) → row < 96 → column < 96
-      → (bit_at (slice_index bits row) column == 1) ≡ passes (cell_at (96 * chunk.ci + column) (96 * chunk.cj + row))
+  pub set : (row column : ℕ) → row < CHUNK_SIDE → column < CHUNK_SIDE
+      → (bit_at (slice_index bits row) column == 1) ≡ passes (cell_at (CHUNK_SIDE * chunk.ci + column) (CHUNK_SIDE * chunk.cj + row))

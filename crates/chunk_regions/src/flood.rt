@@ -1,6 +1,7 @@
-ghost use Rattle.std.specs.Prelude.{ℕ, Bool, ◌≡◌, ◌+◌, ◌-◌, ◌*◌, ◌<◌, ◌≤◌, [], ◌∷◌, ◌++◌, length, map, remove, OnOk, IfOk, Some, slice_get, slice_index};
+ghost use Rattle.std.specs.Prelude.{ℕ, Bool, ◌≡◌, ◌+◌, ◌-◌, ◌*◌, ◌/◌, ◌<◌, ◌≤◌, [], ◌∷◌, ◌++◌, length, map, remove, OnOk, IfOk, Some, slice_get, slice_index};
 ghost use Rattle.nav_types.specs.declared.cells.Cell.{Cell};
 ghost use Rattle.nav_types.specs.declared.cells.Chunk.{Chunk};
+ghost use Rattle.nav_types.specs.declared.limits.TheConstants.{CHUNK_SIDE, CHUNK_CELLS, MAX_CHUNKS_ALONG};
 ghost use Rattle.nav_types.specs.Cells.{cell_at};
 ghost use Rattle.chunk_regions.specs.declared.spans.Span.{Span};
 ghost use Rattle.chunk_regions.specs.inner.Spans.{Runs, IsPlace, IsCut, region_of};
@@ -105,14 +106,14 @@ fn join_rest(rows: &RowSpans, all: &mut Numbered, place: Place, span: Span, from
 /// Gives the newest span a region of its own: its first cell is then the region's first.
 #[inline(always)]
 fn begin(all: &mut Numbered, chunk: Chunk, place: Place, span: Span) -> Result<(), NoMemory>
-    requires column { chunk.ci < 22 }
-    requires row { chunk.cj < 22 }
-    requires here { place.row < 96 }
-    requires few { length all.old.firsts.items < 4608 }
+    requires column { chunk.ci < MAX_CHUNKS_ALONG }
+    requires row { chunk.cj < MAX_CHUNKS_ALONG }
+    requires here { place.row < CHUNK_SIDE }
+    requires few { length all.old.firsts.items < CHUNK_CELLS / 2 }
     ensures regions { OnOk result (all.new.regions.items
         ≡ all.old.regions.items ++ (length all.old.firsts.items + 1) ∷ []) }
     ensures firsts { OnOk result (all.new.firsts.items
-        ≡ all.old.firsts.items ++ cell_at (96 * chunk.ci + span.first) (96 * chunk.cj + place.row) ∷ []) }
+        ≡ all.old.firsts.items ++ cell_at (CHUNK_SIDE * chunk.ci + span.first) (CHUNK_SIDE * chunk.cj + place.row) ∷ []) }
 {
     all.firsts.push(Cell::new(
         chunk.ci * CHUNK_SIDE + u16::from(span.first),
@@ -133,8 +134,8 @@ fn number_span(
     end: u16,
 ) -> Result<(), NoMemory>
     requires place { IsPlace rows.now place }
-    requires column { chunk.ci < 22 }
-    requires row { chunk.cj < 22 }
+    requires column { chunk.ci < MAX_CHUNKS_ALONG }
+    requires row { chunk.cj < MAX_CHUNKS_ALONG }
     requires from { slice_index rows.now.starts (place.row - 1) ≤ south }
     requires to { south ≤ end }
     requires end { end ≡ slice_index rows.now.starts place.row }
@@ -182,9 +183,9 @@ fn first_reaching(rows: &RowSpans, from: u16, end: u16, column: u8) -> u16
 /// Gives the spans of one row their regions, side by side with those of the row before.
 #[inline(always)]
 fn number_row(rows: &RowSpans, all: &mut Numbered, chunk: Chunk, row: u16) -> Result<(), NoMemory>
-    requires here { row < 96 }
-    requires column { chunk.ci < 22 }
-    requires row { chunk.cj < 22 }
+    requires here { row < CHUNK_SIDE }
+    requires column { chunk.ci < MAX_CHUNKS_ALONG }
+    requires row { chunk.cj < MAX_CHUNKS_ALONG }
     requires next { length all.old.regions.items ≡ slice_index rows.now.starts row }
     requires bounded { AreBounded all.old.regions.items all.old.firsts.items }
     requires united { AreUnited rows.now all.old.regions.items (slice_index rows.now.starts row) }
@@ -206,10 +207,10 @@ fn number_row(rows: &RowSpans, all: &mut Numbered, chunk: Chunk, row: u16) -> Re
 
 /// Numbers the regions of all spans.
 pub fn number_all(alloc: Global, chunk: Chunk, rows: &RowSpans) -> Result<Numbered, NoMemory>
-    requires column { chunk.ci < 22 }
-    requires row { chunk.cj < 22 }
+    requires column { chunk.ci < MAX_CHUNKS_ALONG }
+    requires row { chunk.cj < MAX_CHUNKS_ALONG }
     ensures regions { IfOk result (λ all. length all.regions.items ≡ length rows.now.spans) }
-    ensures few { IfOk result (λ all. length all.firsts.items ≤ 4608) }
+    ensures few { IfOk result (λ all. length all.firsts.items ≤ CHUNK_CELLS / 2) }
     ensures bounded { IfOk result (λ all. AreBounded all.regions.items all.firsts.items) }
     ensures numbered { IfOk result (λ all. (passes : Cell → Bool) → IsCut passes chunk rows.now
         → IsNumbered passes (region_of chunk rows.now all.regions.items) all.firsts.items) }

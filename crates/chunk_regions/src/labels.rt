@@ -1,11 +1,11 @@
 ghost use Rattle.std.specs.Prelude.{ℕ, Bool, ◌≡◌, ◌≢◌, ◌+◌, ◌-◌, ◌*◌, ◌<◌, ◌≤◌, IfOk, IfSome, IfNone, Some, slice_get, slice_index, length};
 ghost use Rattle.nav_types.specs.declared.cells.Cell.{Cell};
+ghost use Rattle.nav_types.specs.declared.limits.TheConstants.{CHUNK_SIDE, CHUNK_CELLS};
 ghost use Rattle.nav_types.specs.Cells.{cell_at, IsInRect};
 ghost use Rattle.chunk_regions.specs.Labelling.{AreLabels, AreBitsOf};
 ghost use Rattle.chunk_regions.specs.inner.Spans.{AreSpans, Holds, region_at};
 
 use crate::bits::{ChunkBits, read};
-use crate::extent::cells_of;
 use crate::flood::{Numbered, number_all};
 use crate::spans::{RowSpans, cut};
 use nav_types::limits::CHUNK_SIDE;
@@ -28,6 +28,7 @@ pub struct Labels {
 impl Model for Labels {
     ghost use Rattle.std.specs.Prelude.{ℕ, ◌≡◌, ◌<◌, ◌≤◌, ◌*◌, length, map, slice_index};
     ghost use Rattle.std.specs.List.{range_with_len};
+    ghost use Rattle.nav_types.specs.declared.limits.TheConstants.{CHUNK_CELLS};
     ghost use Rattle.nav_types.specs.Numbering.{IsPatch, columns, rows};
     ghost use Rattle.chunk_regions.specs.Labelling.{Labelling};
     ghost use Rattle.chunk_regions.specs.inner.Spans.{number_by};
@@ -45,7 +46,7 @@ impl Model for Labels {
     } };
 
     ghost invariant = { λ l. IsPatch l.rect × (length l.regions.items ≡ length l.spans.spans)
-        × (length l.firsts.items ≤ 9216)
+        × (length l.firsts.items ≤ CHUNK_CELLS)
         × ((at : ℕ) → at < length l.regions.items → 1 ≤ slice_index l.regions.items at) };
 }
 
@@ -61,7 +62,7 @@ pub struct Stretch {
 /// The place of the row's span that holds the column.
 #[inline(always)]
 fn holding(spans: &RowSpans, row: u16, column: u8) -> Option<u16>
-    requires { row < 96 }
+    requires { row < CHUNK_SIDE }
     ensures are { AreSpans spans.now }
     ensures held { IfSome result (λ at. Holds spans.now row at column) }
     ensures none { IfNone result ((at : ℕ) → Holds spans.now row at column → ⊥) }
@@ -77,7 +78,7 @@ fn holding(spans: &RowSpans, row: u16, column: u8) -> Option<u16>
 /// The place of the row's span that holds the column, looked for from the row's first span on.
 #[inline(always)]
 fn holding_from_west(spans: &RowSpans, row: u16, column: u8) -> Option<u16>
-    requires { row < 96 }
+    requires { row < CHUNK_SIDE }
     ensures are { AreSpans spans.now }
     ensures held { IfSome result (λ at. Holds spans.now row at column) }
     ensures none { IfNone result ((at : ℕ) → Holds spans.now row at column → ⊥) }
@@ -99,7 +100,7 @@ fn holding_from_west(spans: &RowSpans, row: u16, column: u8) -> Option<u16>
 /// The place of the row's span that holds the column, looked for from the row's last span back.
 #[inline(always)]
 fn holding_from_east(spans: &RowSpans, row: u16, column: u8) -> Option<u16>
-    requires { row < 96 }
+    requires { row < CHUNK_SIDE }
     ensures are { AreSpans spans.now }
     ensures held { IfSome result (λ at. Holds spans.now row at column) }
     ensures none { IfNone result ((at : ℕ) → Holds spans.now row at column → ⊥) }
@@ -121,18 +122,18 @@ fn holding_from_east(spans: &RowSpans, row: u16, column: u8) -> Option<u16>
     None
 }
 
-/// The region of the row's cell in that column, 0 where no span holds it, and the last of the 96 columns up to which all
-/// cells from that one to the east have it.
+/// The region of the row's cell in that column, 0 where no span holds it, and the last column of the chunk up to which
+/// all cells from that one to the east have it.
 #[inline(always)]
 fn stretch_in_row(spans: &RowSpans, regions: &[u16], row: u16, column: u8) -> (u16, u8)
-    requires row { row < 96 }
-    requires column { column < 96 }
+    requires row { row < CHUNK_SIDE }
+    requires column { column < CHUNK_SIDE }
     requires each { length regions.now ≡ length spans.now.spans }
     requires some { (at : ℕ) → at < length regions.now → 1 ≤ slice_index regions.now at }
     ensures from { column ≤ result.1 }
-    ensures within { result.1 < 96 }
+    ensures within { result.1 < CHUNK_SIDE }
     ensures same { (x : ℕ) → column ≤ x → x ≤ result.1 → region_at spans.now regions.now row x ≡ result.0 }
-    ensures longest { result.1 < 95 → region_at spans.now regions.now row (result.1 + 1) ≢ result.0 }
+    ensures longest { result.1 < CHUNK_SIDE - 1 → region_at spans.now regions.now row (result.1 + 1) ≢ result.0 }
 {
     let (start, end) = spans.row(row);
     for at in start..end {
@@ -198,10 +199,10 @@ impl Labels {
         }
     }
 
-    /// How many regions there are, at most 9216.
+    /// How many regions there are, at most `CHUNK_CELLS`.
     pub fn count(&self) -> u16
         ensures value { result ≡ length self.now.firsts }
-        ensures most { result ≤ 9216 }
+        ensures most { result ≤ CHUNK_CELLS }
     {
         self.firsts.len() as u16
     }
@@ -228,8 +229,8 @@ pub fn label<V: View, L: Ledger>(
     ticks: &mut Ticks<L>,
 ) -> Result<Labels, NoMemory>
     requires class { class < V.class_count view.now }
-    requires columns { 96 * chunk.ci < (V.extent view.now).w }
-    requires rows { 96 * chunk.cj < (V.extent view.now).h }
+    requires columns { CHUNK_SIDE * chunk.ci < (V.extent view.now).w }
+    requires rows { CHUNK_SIDE * chunk.cj < (V.extent view.now).h }
     ensures labels { IfOk result (AreLabels (V.passes view.now class) (V.extent view.now) chunk) }
     ensures ticks { ticks.new ≡ ticks.old + 1 }
 {
@@ -246,14 +247,14 @@ pub fn label_bits<L: Ledger>(
     bits: &ChunkBits,
     ticks: &mut Ticks<L>,
 ) -> Result<Labels, NoMemory>
-    requires columns { 96 * chunk.ci < size.w }
-    requires rows { 96 * chunk.cj < size.h }
+    requires columns { CHUNK_SIDE * chunk.ci < size.w }
+    requires rows { CHUNK_SIDE * chunk.cj < size.h }
     ensures labels { IfOk result (λ labels. (passes : Cell → Bool) → AreBitsOf passes chunk bits.now
         → AreLabels passes size chunk labels) }
     ensures ticks { ticks.new ≡ ticks.old + 1 }
 {
     ticks.tick();
-    let rect = cells_of(size, chunk);
+    let rect = Rect::of_chunk(size, chunk);
     let spans = cut(alloc, bits)?;
     let Numbered { regions, firsts } = number_all(alloc, chunk, &spans)?;
     Ok(Labels {

@@ -2,13 +2,11 @@
 #![tactic(auto)]
 
 mod bits;
-mod extent;
 mod flood;
 mod labels;
 mod laws;
 mod spans;
 
 pub use bits::ChunkBits;
-pub use extent::cells_of;
 pub use labels::{Labels, Stretch, label, label_bits};
 pub use laws::{one_area, one_region, same_area, same_region, straight_steps_join};

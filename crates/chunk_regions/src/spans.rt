@@ -1,5 +1,6 @@
-ghost use Rattle.std.specs.Prelude.{ℕ, ◌≡◌, ◌≢◌, ◌<◌, ◌≤◌, ◌+◌, ◌^◌, OnOk, IfOk, Some, slice_get, slice_index, length};
+ghost use Rattle.std.specs.Prelude.{ℕ, ◌≡◌, ◌≢◌, ◌<◌, ◌≤◌, ◌+◌, ◌/◌, ◌^◌, OnOk, IfOk, Some, slice_get, slice_index, length};
 ghost use Rattle.std.specs.Int.{bit_at};
+ghost use Rattle.nav_types.specs.declared.limits.TheConstants.{CHUNK_SIDE, CHUNK_CELLS};
 ghost use Rattle.chunk_regions.specs.inner.Spans.{Runs, AreRuns, IsRowTo};
 
 use crate::bits::ChunkBits;
@@ -48,7 +49,7 @@ impl RowSpans {
 
     /// The places of a row's spans: from the first to before the second.
     pub fn row(&self, row: u16) -> (u16, u16)
-        requires { row < 96 }
+        requires { row < CHUNK_SIDE }
         ensures from { result.0 ≡ slice_index self.now.starts row }
         ensures to { result.1 ≡ slice_index self.now.starts (row + 1) }
         ensures are { AreSpans self.now }
@@ -64,8 +65,8 @@ impl RowSpans {
         requires { at < length self.now.spans }
         ensures value { slice_get self.now.spans at ≡ Some result }
         ensures ordered { result.first ≤ result.last }
-        ensures within { result.last < 96 }
-        ensures few { length self.now.spans ≤ 4608 }
+        ensures within { result.last < CHUNK_SIDE }
+        ensures few { length self.now.spans ≤ CHUNK_CELLS / 2 }
         ensures are { AreSpans self.now }
     {
         self.spans[at as usize]
@@ -76,7 +77,7 @@ impl RowSpans {
 #[inline(always)]
 fn take_lowest(bits: &mut u128) -> u8
     requires some { 0 < bits.old }
-    requires few { bits.old < 2 ^ 97 }
+    requires few { bits.old < 2 ^ (CHUNK_SIDE + 1) }
     ensures set { bit_at bits.old result ≡ 1 }
     ensures lowest { (k : ℕ) → k < result → bit_at bits.old k ≡ 0 }
     ensures taken { bit_at bits.new result ≡ 0 }
@@ -91,10 +92,10 @@ fn take_lowest(bits: &mut u128) -> u8
 /// Adds the spans of a row with these bits.
 #[inline(always)]
 fn cut_row(spans: &mut Vec<Span>, bits: u128) -> Result<(), NoMemory>
-    requires few { bits < 2 ^ 96 }
+    requires few { bits < 2 ^ CHUNK_SIDE }
     ensures kept { (k : ℕ) → k < length spans.old.items
         → slice_get spans.new.items k ≡ slice_get spans.old.items k }
-    ensures cut { OnOk result (IsRowTo bits (length spans.old.items) spans.new.items 97) }
+    ensures cut { OnOk result (IsRowTo bits (length spans.old.items) spans.new.items (CHUNK_SIDE + 1)) }
 {
     // a bit where a span begins, and one behind where it ends
     let mut edges = bits ^ (bits << 1);

@@ -1,12 +1,12 @@
 -- Lists of classes: what is found by name, and what is read of items.
-use Rattle.std.proofs.Common.{◌≡◌, ◌≢◌, ℕ, zero, suc, ◌+◌, ◌++◌, ◌&&◌, ◌||◌, List, [], ◌∷◌, length, map, Bool, true, false, not, Option, Some, None, is_some, option_map, option_and_then, nat_le, cond, refl, ap, sym, ◌∙◌, ℤ, append-nil}
+use Rattle.std.proofs.Common.{◌≡◌, ◌≢◌, ℕ, zero, suc, ◌+◌, ◌++◌, ◌&&◌, ◌||◌, List, [], ◌∷◌, length, map, Bool, true, false, Option, Some, None, is_some, option_map, option_and_then, nat_le, cond, Result, Ok, Err, IfOk, IsErrOf, refl, ap, sym, ◌∙◌, ℤ}
 use Rattle.std.specs.Prelude.{All, bytes_eq, codes, slice_get, ◌↔◌, position}
 use Rattle.std.specs.List.{list_all, list_any, filter_map, cons_option, position_from}
 use Rattle.std.specs.Option.{option_map_or}
 use Rattle.std.proofs.lemmas.Bool.{and_from, and_parts}
 use Rattle.std.proofs.lemmas.Slice.Eq.{bytes_eq-Decides}
 use Rattle.std.proofs.lemmas.List.Elements.{All-head, All-tail, All-cons, All-nil, filter_map-append}
-use Rattle.std.proofs.lemmas.List.Folds.{list_all-map}
+use Rattle.std.proofs.lemmas.List.Folds.{list_all-append, list_all-map}
 use Rattle.std.proofs.lemmas.List.{length-map}
 use Rattle.std.proofs.lemmas.Iterator.Adapters.{position_from-zero}
 use Rattle.serde_json.specs.Data.{Data}
@@ -14,9 +14,11 @@ use Rattle.serde_json.specs.Find.{as_array}
 use Rattle.serde_json.specs.View.{view, items_of, items_view}
 use Rattle.serde_json.specs.declared.value.Value.{Value}
 use Rattle.class_config.specs.declared.table.PassabilityClass.{PassabilityClass}
+use Rattle.class_config.specs.declared.table.ClassRefusal.{ClassRefusal}
+use Rattle.class_config.specs.declared.table.ClassRefusal.TheVariants.{NotClasses}
 use Rattle.fixed_point.specs.Text.{some_if}
 use Rattle.class_config.specs.Forms.{has_keys, text_under, is_class_name}
-use Rattle.class_config.specs.Classes.{is_class, is_clearance, class_of, class_with, clearance_under, has_name, are_distinct, is_table, list_of, are_classes, classes_of}
+use Rattle.class_config.specs.Classes.{is_class, is_clearance, class_of, class_with, clearance_under, are_distinct, is_table, list_of, are_classes, classes_of}
 
 -- ---- tests
 
@@ -102,26 +104,12 @@ filter_map-more f before now ys x y e is gives =
     let one : filter_map f (x ∷ []) ≡ y ∷ [] = ap (λ o. cons_option o []) gives in
     ap (λ l. l ++ y ∷ []) is ∙ ap (λ l. filter_map f before ++ l) (sym one) ∙ sym (filter_map-append f before (x ∷ [])) ∙ ap (filter_map f) (sym e)
 
--- one item more, which gives nothing
-pub filter_map-less : {X Y : Type 0} (f : X → Option Y) (before now : List X) (ys : List Y) (x : X)
-    → now ≡ before ++ x ∷ [] → ys ≡ filter_map f before → f x ≡ None → ys ≡ filter_map f now
-filter_map-less f before now ys x e is gives =
-    let one : filter_map f (x ∷ []) ≡ [] = ap (λ o. cons_option o []) gives in
-    is ∙ sym (append-nil (filter_map f before)) ∙ ap (λ l. filter_map f before ++ l) (sym one) ∙ sym (filter_map-append f before (x ∷ [])) ∙ ap (filter_map f) (sym e)
-
--- ---- distinct names
-
--- the first item is a class, whose name no other may have
-pub distinct-class : {X : Type 0} (f : X → Option PassabilityClass) (items : List X) (first : X) (rest : List X) (class : PassabilityClass) (name : List ℕ) (found others : Bool)
-    → items ≡ first ∷ rest → Some class ≡ f first → name ≡ class.name
-    → found ≡ list_any (λ x. option_map_or (λ other. bytes_eq other.name name) (f x) false) rest
-    → others ≡ are_distinct (filter_map f rest) → (not found && others) ≡ are_distinct (filter_map f items)
-distinct-class f items first rest class name found others e gives named has distinct =
-    let same : found ≡ has_name class.name (filter_map f rest) =
-    has ∙ ap (λ n. list_any (λ x. option_map_or (λ other. bytes_eq other.name n) (f x) false) rest) named
-    ∙ sym (list_any-filter_map (λ other. bytes_eq other.name class.name) f rest) in
-    ap (λ t. not t && others) same ∙ ap (λ t. not (has_name class.name (filter_map f rest)) && t) distinct
-    ∙ ap (λ o. are_distinct (cons_option o (filter_map f rest))) gives ∙ ap (λ xs. are_distinct (filter_map f xs)) (sym e)
+-- and each still gives something
+pub gives-more : {X Y : Type 0} (f : X → Option Y) (before now : List X) (x : X) (y : Y)
+    → now ≡ before ++ x ∷ [] → list_all (λ x. is_some (f x)) before ≡ true → f x ≡ Some y → list_all (λ x. is_some (f x)) now ≡ true
+gives-more f before now x y e each gives =
+    ap (list_all (λ x. is_some (f x))) e ∙ list_all-append (λ x. is_some (f x)) before (x ∷ [])
+    ∙ and_from (list_all (λ x. is_some (f x)) before) (is_some (f x) && true) each (ap (λ o. is_some o && true) gives)
 
 -- ---- the table
 
@@ -144,19 +132,15 @@ is_class-class_of : (d : Data) (class : PassabilityClass) → class_of d ≡ Som
 is_class-class_of d class e =
     class_from_keys (has_keys (codes "name" ∷ codes "clearance" ∷ []) d) (text_under (codes "name") d) (clearance_under d) class e
 
--- what is read of classes is a table
-is_table-filter_map : (items : List Data) → are_classes items ≡ true → is_table (filter_map class_of items) ≡ true
-is_table-filter_map items h =
-    let few = nat_le 1 (length items) && nat_le (length items) 16 in
-    let each = list_all (λ d. is_some (class_of d)) items in
+-- what is read of classes is a table where the classes may be those of a map
+is_table-filter_map : (items : List Data) → list_all (λ d. is_some (class_of d)) items ≡ true → is_table (filter_map class_of items) ≡ are_classes items
+is_table-filter_map items each =
+    let few = λ (n : ℕ). nat_le 1 n && nat_le n 16 in
     let classes = filter_map class_of items in
-    let outer = and_parts (few && each) (are_distinct classes) h in
-    let inner = and_parts few each outer.0 in
-    let same : length classes ≡ length items = length-filter_map class_of items inner.1 in
-    and_from (nat_le 1 (length classes) && nat_le (length classes) 16 && list_all is_class classes) (are_distinct classes)
-    (and_from (nat_le 1 (length classes) && nat_le (length classes) 16) (list_all is_class classes)
-    (ap (λ n. nat_le 1 n && nat_le n 16) same ∙ inner.0) (list_all-filter_map is_class class_of is_class-class_of items))
-    outer.1
+    let passed : list_all is_class classes ≡ list_all (λ d. is_some (class_of d)) items =
+    list_all-filter_map is_class class_of is_class-class_of items ∙ sym each in
+    ap (λ n. few n && list_all is_class classes && are_distinct classes) (length-filter_map class_of items each)
+    ∙ ap (λ t. few (length items) && t && are_distinct classes) passed
 
 list_all-slice_get : {X : Type 0} (p : X → Bool) (xs : List X) (k : ℕ) (x : X) → list_all p xs ≡ true → slice_get xs k ≡ Some x → p x ≡ true
 list_all-slice_get p [] k x each is = absurd (cc)
@@ -186,35 +170,46 @@ classes_of-array d values e =
     ap (λ found. option_and_then (λ items. some_if (are_classes items) (filter_map class_of items)) (option_map list_of found)) (sym e)
     ∙ ap (λ items. some_if (are_classes items) (filter_map class_of items)) (list_of-items_of (map view values))
 
--- the tests of the items of an array tell whether they are the classes of a map
-pub are_classes-values : (values : List Value) (all distinct : Bool)
-    → all ≡ (nat_le 1 (length values) && nat_le (length values) 16 && list_all (λ value. is_some (class_of (view value))) values)
-    → distinct ≡ are_distinct (filter_map (λ value. class_of (view value)) values) → (all && distinct) ≡ are_classes (map view values)
-are_classes-values values all distinct e h =
-    let n = length (map view values) in
-    let each = list_all (λ d. is_some (class_of d)) (map view values) in
-    let lengths : length values ≡ n = sym (length-map values view) in
-    let tests : list_all (λ value. is_some (class_of (view value))) values ≡ each = sym (list_all-map (λ d. is_some (class_of d)) view values) in
-    ap (λ t. t && distinct) (e ∙ ap (λ m. nat_le 1 m && nat_le m 16 && list_all (λ value. is_some (class_of (view value))) values) lengths
-    ∙ ap (λ t. nat_le 1 n && nat_le n 16 && t) tests)
-    ∙ ap (λ t. nat_le 1 n && nat_le n 16 && each && t) (h ∙ ap are_distinct (sym (filter_map-map class_of view values)))
+-- whether there are 1 to 16 items and each is a class
+abbrev pub are_read : List Value → Bool
+are_read values = nat_le 1 (length values) && nat_le (length values) 16 && list_all (λ value. is_some (class_of (view value))) values
 
--- an array whose items are not the classes of a map describes none
-pub no_classes-array : (d : Data) (values : List Value) (test : Bool) → Some (items_view values) ≡ as_array d → test ≡ are_classes (map view values) → test ≡ false
-    → classes_of d ≡ None
-no_classes-array d values test e is fails =
-    classes_of-array d values e ∙ ap (λ t. some_if t (filter_map class_of (map view values))) (sym is ∙ fails)
+are_read-map : (values : List Value) → are_read values ≡ (nat_le 1 (length (map view values)) && nat_le (length (map view values)) 16
+    && list_all (λ d. is_some (class_of d)) (map view values))
+are_read-map values =
+    ap (λ n. nat_le 1 n && nat_le n 16 && list_all (λ value. is_some (class_of (view value))) values) (sym (length-map values view))
+    ∙ ap (λ t. nat_le 1 (length (map view values)) && nat_le (length (map view values)) 16 && t) (sym (list_all-map (λ d. is_some (class_of d)) view values))
 
-pub classes-array : (d : Data) (values : List Value) (classes : List PassabilityClass) (test : Bool) → Some (items_view values) ≡ as_array d
-    → test ≡ are_classes (map view values) → test ≡ true → classes ≡ filter_map (λ value. class_of (view value)) values → classes_of d ≡ Some classes
-classes-array d values classes test e is holds read =
-    classes_of-array d values e ∙ ap (λ t. some_if t (filter_map class_of (map view values))) (sym is ∙ holds)
-    ∙ ap Some (filter_map-map class_of view values ∙ sym read)
+-- an array of other items describes no classes
+pub no_classes-array : (d : Data) (values : List Value) → Some (items_view values) ≡ as_array d → are_read values ≡ false → classes_of d ≡ None
+no_classes-array d values e fails =
+    classes_of-array d values e ∙ ap (λ t. some_if (t && are_distinct (filter_map class_of (map view values))) (filter_map class_of (map view values)))
+    (sym (are_read-map values) ∙ fails)
 
-pub is_table-values : (values : List Value) (classes : List PassabilityClass) (test : Bool) → test ≡ are_classes (map view values) → test ≡ true
-    → classes ≡ filter_map (λ value. class_of (view value)) values → is_table classes ≡ true
-is_table-values values classes test is holds read =
-    ap is_table (read ∙ sym (filter_map-map class_of view values)) ∙ is_table-filter_map (map view values) (sym is ∙ holds)
+-- an array of classes describes them where they are a table
+classes-array : (d : Data) (values : List Value) (classes : List PassabilityClass) → Some (items_view values) ≡ as_array d → are_read values ≡ true
+    → classes ≡ filter_map (λ value. class_of (view value)) values → classes_of d ≡ some_if (is_table classes) classes
+classes-array d values classes e holds read =
+    let same : filter_map class_of (map view values) ≡ classes = filter_map-map class_of view values ∙ sym read in
+    let few = nat_le 1 (length (map view values)) && nat_le (length (map view values)) 16 in
+    let each = (and_parts few (list_all (λ d. is_some (class_of d)) (map view values)) (sym (are_read-map values) ∙ holds)).1 in
+    classes_of-array d values e ∙ ap (λ t. some_if t (filter_map class_of (map view values))) (sym (is_table-filter_map (map view values) each))
+    ∙ ap (λ found. some_if (is_table found) found) same
+
+-- what the making of the table answers is what the reading answers
+pub table_of-array : (d : Data) (values : List Value) (classes : List PassabilityClass) (result : Result (List PassabilityClass) ClassRefusal)
+    → Some (items_view values) ≡ as_array d → are_read values ≡ true → classes ≡ filter_map (λ value. class_of (view value)) values
+    → IfOk result (λ table. table ≡ classes) → (IsErrOf result NotClasses ↔ (is_table classes ≡ false))
+    → IfOk result (λ table. classes_of d ≡ Some table) × (IsErrOf result NotClasses ↔ (classes_of d ≡ None))
+table_of-array d values classes result e holds read ok refused =
+    by_test (is_table classes) (classes-array d values classes e holds read) result ok refused
+  where
+    by_test : (test : Bool) → classes_of d ≡ some_if test classes → (made : Result (List PassabilityClass) ClassRefusal) → IfOk made (λ table. table ≡ classes)
+        → (IsErrOf made NotClasses ↔ (test ≡ false)) → IfOk made (λ table. classes_of d ≡ Some table) × (IsErrOf made NotClasses ↔ (classes_of d ≡ None))
+    by_test true is (Ok table) same both = (is ∙ ap Some (sym same), (λ f. absurd (cc), λ none. absurd (cc)))
+    by_test true is (Err refusal) same both = (tt, (λ f. let t : true ≡ false = both.0 f in absurd (cc), λ none. absurd (cc)))
+    by_test false is (Ok table) same both = let f : IsErrOf (Ok table) NotClasses = both.1 refl in absurd (cc)
+    by_test false is (Err refusal) same both = (tt, (λ f. is, λ none. both.1 refl))
 
 -- there is no place that was found exactly where no class has the name
 pub none_found : (name : List ℕ) (classes : List PassabilityClass) (found : Option ℕ) → found ≡ position (λ class. bytes_eq class.name name) classes

@@ -1,6 +1,6 @@
 -- Forms over the reading of serde_json: objects with exactly the keys of a form, the strings under them, and class
 -- names.
-use Rattle.std.specs.Prelude.{ℕ, ◌&&◌, ◌||◌, ◌==◌, List, [], ◌∷◌, length, count_by, bytes_eq, Bool, false, nat_le, Option, option_and_then}
+use Rattle.std.specs.Prelude.{ℕ, ◌-◌, ◌&&◌, ◌||◌, ◌==◌, List, [], ◌∷◌, ◌++◌, length, replicate, count_by, bytes_eq, Bool, false, nat_le, Option, option_and_then}
 use Rattle.std.specs.List.{list_all, list_any}
 use Rattle.std.specs.Char.{is_ascii_alphanumeric}
 use Rattle.serde_json.specs.Data.{Data, object, array, Members, no_members, member, null, boolean, number, string}
@@ -30,3 +30,7 @@ text_under key d = option_and_then as_str (get key d)
 abbrev pub is_class_name : List ℕ → Bool
 is_class_name name = nat_le 1 (length name) && nat_le (length name) 64
     && list_all (λ byte. is_ascii_alphanumeric byte || byte == 45 || byte == 95) name
+
+-- a name and zeros behind it, 64 bytes in all
+abbrev pub padded : List ℕ → List ℕ
+padded name = name ++ replicate (64 - length name) 0

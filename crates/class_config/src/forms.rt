@@ -1,5 +1,5 @@
 //! The forms of a class and of its name, over the reading of a JSON text.
-ghost use Rattle.std.specs.Prelude.{◌≡◌, ◌==◌, ◌||◌, IsTrue, IfSome, bytes_eq, is_some, map, option_map, string_bytes, string_cmp};
+ghost use Rattle.std.specs.Prelude.{◌≡◌, ◌==◌, ◌||◌, bytes_eq, is_some, map, option_map, string_bytes, string_cmp};
 ghost use Rattle.std.specs.BTreeMap.{IsOrdered};
 ghost use Rattle.std.specs.List.{list_all, list_any};
 ghost use Rattle.std.specs.Map.{keys_of};
@@ -9,42 +9,30 @@ ghost use Rattle.serde_json.specs.View.{view};
 ghost use Rattle.class_config.specs.Forms as form;
 ghost use Rattle.class_config.specs.Classes.{class_of, is_clearance};
 
+use crate::names::ClassName;
+use crate::table::PassabilityClass;
 use fixed_point::Fixed;
 use nav_types::limits::MAX_CLEARANCE;
 use serde_json::{Map, Value};
 
-/// A class as it stands in a value, with its name lent.
-#[derive(Clone, Copy)]
-pub struct Reading<'v> {
-    pub name: &'v str,
-    pub clearance: Fixed,
-}
-
 /// The class that a value is, if it is one.
-pub fn reading_of(value: &Value) -> Option<Reading<'_>>
-    ensures class { option_map (λ reading. record { name = reading.name.now; clearance = reading.clearance }) result
-        ≡ class_of (view value.now) }
-    ensures name { IfSome result (λ reading. IsTrue (form.is_class_name reading.name.now)) }
+pub fn class_of(value: &Value) -> Option<PassabilityClass>
+    ensures { result ≡ class_of (view value.now) }
 {
     if !has_keys(value, &["name", "clearance"]) {
         return None;
     }
-    let (Some(name), Some(text)) = (text_under(value, "name"), text_under(value, "clearance"))
-    else {
-        return None;
-    };
-    let Ok(clearance) = Fixed::parse(text.as_bytes()) else {
-        return None;
-    };
-    if is_class_name(name.as_bytes()) && is_clearance(clearance) {
-        Some(Reading { name, clearance })
+    let name = ClassName::new(text_under(value, "name")?.as_bytes())?;
+    let clearance = Fixed::parse(text_under(value, "clearance")?.as_bytes()).ok()?;
+    if is_clearance(clearance) {
+        Some(PassabilityClass { name, clearance })
     } else {
         None
     }
 }
 
 /// Whether the number is from 0 to 64 navcells.
-fn is_clearance(clearance: Fixed) -> bool
+pub fn is_clearance(clearance: Fixed) -> bool
     ensures { result ≡ is_clearance clearance }
 {
     let raw = clearance.raw();

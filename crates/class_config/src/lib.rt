@@ -7,5 +7,5 @@ mod names;
 mod table;
 
 pub use forms::{has_keys, text_under};
-pub use names::{ClassName, NameRefusal};
+pub use names::ClassName;
 pub use table::{ClassRefusal, ClassTable, PassabilityClass};

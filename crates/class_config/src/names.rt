@@ -1,64 +1,66 @@
 //! The names of passability classes.
-ghost use Rattle.std.specs.Prelude.{◌≡◌, ◌↔◌, false, IsTrue, IfOk, IsErrOf};
-ghost use Rattle.class_config.specs.Forms.{is_class_name};
+ghost use Rattle.std.specs.Prelude.{◌≡◌, ◌≤◌, ◌↔◌, IsTrue, IsSome, IfSome, bytes_eq, length};
+ghost use Rattle.std.specs.Cmp.Rules.{comparing};
+ghost use Rattle.std.proofs.Common.{rules};
+ghost use Rattle.class_config.specs.Forms.{is_class_name, padded};
 
 use crate::forms;
-use nav_types::{Bytes, NoMemory};
-use std::alloc::Global;
 use std::marker::Model;
 
+/// The bytes of the longest class name.
+const LONGEST: usize = 64;
+
 /// The name of a passability class: 1 to 64 bytes, each an ASCII letter, a digit, `-` or `_`
-/// (`is_class_name`). Contracts see the list of its bytes.
-#[derive(Debug, Drop)]
+/// (`is_class_name`). It is kept in place. Contracts see the list of its bytes.
+#[derive(Clone, Copy, Debug)]
 pub struct ClassName {
-    bytes: Bytes,
+    bytes: [u8; LONGEST],
+    len: u8,
 }
 
 impl Model for ClassName {
-    ghost use Rattle.std.specs.Prelude.{List, ℕ, IsTrue};
-    ghost use Rattle.class_config.specs.Forms.{is_class_name};
+    ghost use Rattle.std.specs.Prelude.{◌≡◌, List, ℕ, IsTrue, length, take};
+    ghost use Rattle.class_config.specs.Forms.{is_class_name, padded};
 
     ghost Value = { List ℕ };
 
-    ghost view = { λ name. name.bytes };
+    ghost view = { λ name. take name.len name.bytes };
 
-    ghost invariant = { λ name. IsTrue (is_class_name name.bytes) };
+    ghost invariant = { λ name. IsTrue (is_class_name (take name.len name.bytes))
+        × (length (take name.len name.bytes) ≡ name.len)
+        × (name.bytes ≡ padded (take name.len name.bytes)) };
+
+    ghost inverse = { λ name. record { bytes = padded name; len = length name } };
 }
 
-/// Why a text was not taken as the name of a class.
-#[derive(Clone, Copy, Debug, PartialEq, Eq)]
-pub enum NameRefusal {
-    /// The bytes are not of the form of a class name.
-    NotName,
-    /// There was no memory for the name.
-    NoMemory,
+impl PartialEq for ClassName {
+    ghost eq = { λ name other. bytes_eq name other };
+
+    ghost laws = { Prim.search (comparing, rules) };
+
+    fn eq(&self, other: &ClassName) -> bool {
+        self.as_bytes() == other.as_bytes()
+    }
+}
+
+impl Eq for ClassName {
+    ghost laws = { Prim.search (comparing, rules) };
 }
 
 impl ClassName {
-    /// The name of these bytes.
-    ///
-    /// `NotName` exactly where they are not of the form of a class name (`is_class_name`).
-    pub fn new(alloc: Global, text: &[u8]) -> Result<ClassName, NameRefusal>
-        ensures bytes { IfOk result (λ name. name ≡ text.now) }
-        ensures not_name { IsErrOf result NameRefusal.NotName ↔ (is_class_name text.now ≡ false) }
+    /// The name of these bytes. None exactly where they are not of the form of a class name
+    /// (`is_class_name`).
+    pub fn new(text: &[u8]) -> Option<ClassName>
+        ensures some { IsSome result ↔ IsTrue (is_class_name text.now) }
+        ensures bytes { IfSome result (λ name. name ≡ text.now) }
     {
         if !forms::is_class_name(text) {
-            return Err(NameRefusal::NotName);
+            return None;
         }
-        match ClassName::of(alloc, text) {
-            Ok(name) => Ok(name),
-            Err(NoMemory) => Err(NameRefusal::NoMemory),
-        }
-    }
-
-    /// The name of bytes that are of the form of a class name.
-    pub(crate) fn of(alloc: Global, text: &[u8]) -> Result<ClassName, NoMemory>
-        requires { IsTrue (is_class_name text.now) }
-        ensures { IfOk result (λ name. name ≡ text.now) }
-    {
-        let mut bytes = Bytes::new(alloc);
-        bytes.extend(text)?;
-        Ok(ClassName { bytes })
+        Some(ClassName {
+            bytes: padded(text),
+            len: text.len() as u8,
+        })
     }
 
     /// The bytes of the name.
@@ -66,13 +68,16 @@ impl ClassName {
         ensures bytes { result.now ≡ self.now }
         ensures form { IsTrue (is_class_name self.now) }
     {
-        self.bytes.as_slice()
+        &self.bytes[..usize::from(self.len)]
     }
+}
 
-    /// The same name once more.
-    pub fn copy(&self, alloc: Global) -> Result<ClassName, NoMemory>
-        ensures { IfOk result (λ made. made ≡ self.now) }
-    {
-        ClassName::of(alloc, self.as_bytes())
-    }
+/// The bytes of a name with zeros behind them.
+fn padded(name: &[u8]) -> [u8; LONGEST]
+    requires { length name.now ≤ 64 }
+    ensures { result ≡ padded name.now }
+{
+    let mut bytes = [0; LONGEST];
+    bytes[..name.len()].copy_from_slice(name);
+    bytes
 }

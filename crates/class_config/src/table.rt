@@ -1,12 +1,11 @@
 //! The table of a map's passability classes.
-ghost use Rattle.std.specs.Prelude.{◌≡◌, ◌≢◌, ◌↔◌, ◌<◌, ◌≤◌, ◌&&◌, IsTrue, IsNone, IfSome, IfOk, IsErrOf, All, is_some, bytes_eq, false, filter_map, length, map, nat_le, option_map, position, slice_get};
-ghost use Rattle.std.specs.List.{list_all, list_any};
-ghost use Rattle.std.specs.Option.{option_map_or};
+ghost use Rattle.std.specs.Prelude.{◌≡◌, ◌≢◌, ◌↔◌, ◌<◌, ◌≤◌, ◌&&◌, IsTrue, IsNone, IfSome, IfOk, IsErrOf, All, is_some, bytes_eq, false, filter_map, length, map, nat_le, option_map, position, slice_get, take};
+ghost use Rattle.std.specs.List.{list_all};
 ghost use Rattle.serde_json.specs.View.{view, items_view};
 ghost use Rattle.serde_json.specs.Find.{as_array};
-ghost use Rattle.class_config.specs.Classes.{class_of, classes_of, are_classes, are_distinct, is_class, is_clearance, is_table, name_at, clearance_at};
+ghost use Rattle.class_config.specs.Classes.{class_of, classes_of, are_distinct, has_name, is_class, is_clearance, is_table, name_at, clearance_at};
 
-use crate::forms::{self, Reading};
+use crate::forms;
 use crate::names::ClassName;
 use fixed_point::Fixed;
 use nav_types::limits::MAX_CLASSES;
@@ -15,8 +14,11 @@ use serde_json::Value;
 use std::alloc::Global;
 use std::marker::Model;
 
+/// The greatest number of classes that a map has.
+const MOST: usize = MAX_CLASSES as usize;
+
 /// A passability class of a map.
-#[derive(Debug, Drop)]
+#[derive(Clone, Copy, Debug, PartialEq, Eq)]
 pub struct PassabilityClass {
     /// The name of the class.
     pub name: ClassName,
@@ -46,16 +48,34 @@ impl Model for ClassTable {
     ghost invariant = { λ table. IsTrue (is_table table.classes) };
 }
 
-/// Why a value was not taken as the classes of a map.
+/// Why classes, or a value, were not taken as the classes of a map.
 #[derive(Clone, Copy, Debug, PartialEq, Eq)]
 pub enum ClassRefusal {
-    /// The value is not of the form of the classes of a map.
+    /// They are not the classes of a map, or the value is not of their form.
     NotClasses,
     /// There was no memory for the table.
     NoMemory,
 }
 
 impl ClassTable {
+    /// The table of these classes, in their order.
+    ///
+    /// `NotClasses` exactly where there are not 1 to 16, a clearance is not from 0 to 64 navcells, or two have the
+    /// same name (`is_table`).
+    pub fn new(alloc: Global, classes: &[PassabilityClass]) -> Result<ClassTable, ClassRefusal>
+        ensures classes { IfOk result (λ table. table ≡ classes.now) }
+        ensures not_classes { IsErrOf result ClassRefusal.NotClasses ↔ (is_table classes.now ≡ false) }
+    {
+        if !is_table(classes) {
+            return Err(ClassRefusal::NotClasses);
+        }
+        let mut kept = Sequence::new(alloc);
+        match kept.extend(classes) {
+            Ok(()) => Ok(ClassTable { classes: kept }),
+            Err(NoMemory) => Err(ClassRefusal::NoMemory),
+        }
+    }
+
     /// Reads the classes of a map line: an array of 1 to 16 objects, each with exactly the keys `name`
     /// (a class name) and `clearance` (a string that is a fixed-point text, from 0 to 64 after its cut
     /// to a raw number), with distinct names.
@@ -68,13 +88,10 @@ impl ClassTable {
         let Some(items) = items_of(value) else {
             return Err(ClassRefusal::NotClasses);
         };
-        if !are_classes(items) {
+        let Some(classes) = gathered(items) else {
             return Err(ClassRefusal::NotClasses);
-        }
-        match gathered(alloc, items) {
-            Ok(classes) => Ok(ClassTable { classes }),
-            Err(NoMemory) => Err(ClassRefusal::NoMemory),
-        }
+        };
+        ClassTable::new(alloc, &classes[..items.len()])
     }
 
     /// The class with this name. None exactly where no class has it.
@@ -83,7 +100,7 @@ impl ClassTable {
         ensures below { IfSome result (λ class. class < length self.now) }
         ensures none { IsNone result ↔ All (λ class. class.name ≢ name.now) self.now }
     {
-        match place_of(self.classes.as_slice(), name.as_bytes()) {
+        match place_of(self.classes.as_slice(), name) {
             Some(at) => Some(Class::new(at as u8)),
             None => None,
         }
@@ -128,42 +145,56 @@ impl ClassTable {
     pub fn copy(&self, alloc: Global) -> Result<ClassTable, NoMemory>
         ensures { IfOk result (λ made. made ≡ self.now) }
     {
-        let classes = copied(alloc, self.classes.as_slice())?;
+        let classes = self.classes.copy(alloc)?;
         Ok(ClassTable { classes })
     }
 }
 
 /// The first place of a class with this name.
-fn place_of(classes: &[PassabilityClass], name: &[u8]) -> Option<usize>
+fn place_of(classes: &[PassabilityClass], name: &ClassName) -> Option<usize>
     ensures place { result ≡ position (λ class. bytes_eq class.name name.now) classes.now }
     ensures below { IfSome result (λ at. at < length classes.now) }
 {
-    classes.iter().position(|class| is_named(class, name))
+    classes.iter().position(|class| class.name == *name)
 }
 
-/// Whether the class has this name.
-fn is_named(class: &PassabilityClass, name: &[u8]) -> bool
-    ensures { result ≡ bytes_eq class.now.name name.now }
+/// Whether the classes can be those of a map.
+fn is_table(classes: &[PassabilityClass]) -> bool
+    ensures { result ≡ is_table classes.now }
 {
-    class.name.as_bytes() == name
+    1 <= classes.len() && classes.len() <= MOST && are_classes(classes) && are_distinct(classes)
 }
 
-/// The same classes once more.
-fn copied(
-    alloc: Global,
-    classes: &[PassabilityClass],
-) -> Result<Sequence<PassabilityClass>, NoMemory>
-    ensures { IfOk result (λ made. made ≡ classes.now) }
+/// Whether a map may have each of the classes.
+fn are_classes(classes: &[PassabilityClass]) -> bool
+    ensures { result ≡ list_all is_class classes.now }
 {
-    let mut made = Sequence::new(alloc);
-    for class in classes {
-        let name = class.name.copy(alloc)?;
-        made.push(PassabilityClass {
-            name,
-            clearance: class.clearance,
-        })?;
+    classes.iter().all(is_class)
+}
+
+/// Whether a map may have the class. Its name is of the form of one, so the clearance decides.
+fn is_class(class: &PassabilityClass) -> bool
+    ensures { result ≡ is_class class.now }
+{
+    let _name = class.name.as_bytes(); // the form of a name
+    forms::is_clearance(class.clearance)
+}
+
+/// Whether no two of the classes have the same name.
+fn are_distinct(classes: &[PassabilityClass]) -> bool
+    ensures { result ≡ are_distinct classes.now }
+{
+    match classes.split_first() {
+        Some((first, rest)) => !has_name(rest, &first.name) && are_distinct(rest),
+        None => true,
     }
-    Ok(made)
+}
+
+/// Whether one of the classes has this name.
+fn has_name(classes: &[PassabilityClass], name: &ClassName) -> bool
+    ensures { result ≡ has_name name.now classes.now }
+{
+    classes.iter().any(|class| class.name == *name)
 }
 
 /// The items of an array.
@@ -176,73 +207,20 @@ fn items_of(value: &Value) -> Option<&[Value]>
     }
 }
 
-/// Whether the items are the classes of a map.
-fn are_classes(items: &[Value]) -> bool
-    ensures { result ≡ are_classes (map view items.now) }
-{
-    are_all_classes(items) && are_distinct(items)
-}
-
-/// Whether there are 1 to 16 items and each of them is a class.
-fn are_all_classes(items: &[Value]) -> bool
-    ensures { result ≡ (nat_le 1 (length items.now) && nat_le (length items.now) 16
+/// The classes that the items are, at the front of an array. None exactly where there are not 1 to 16 items, or
+/// one of them is no class.
+fn gathered(items: &[Value]) -> Option<[PassabilityClass; MOST]>
+    ensures some { is_some result ≡ (nat_le 1 (length items.now) && nat_le (length items.now) 16
         && list_all (λ item. is_some (class_of (view item))) items.now) }
+    ensures front { IfSome result (λ classes.
+        take (length items.now) classes ≡ filter_map (λ item. class_of (view item)) items.now) }
 {
-    1 <= items.len() && items.len() <= usize::from(MAX_CLASSES) && is_each_class(items)
-}
-
-/// Whether each item is a class.
-fn is_each_class(items: &[Value]) -> bool
-    ensures { result ≡ list_all (λ item. is_some (class_of (view item))) items.now }
-{
-    items.iter().all(|item| forms::reading_of(item).is_some())
-}
-
-/// Whether no two of the classes among the items have the same name.
-fn are_distinct(items: &[Value]) -> bool
-    ensures { result ≡ are_distinct (filter_map (λ item. class_of (view item)) items.now) }
-{
-    let Some((first, rest)) = items.split_first() else {
-        return true;
-    };
-    match forms::reading_of(first) {
-        Some(Reading { name, .. }) => !has_class(rest, name.as_bytes()) && are_distinct(rest),
-        None => are_distinct(rest),
+    if items.len() > MOST {
+        return None;
     }
-}
-
-/// Whether one of the items is a class of this name.
-fn has_class(items: &[Value], name: &[u8]) -> bool
-    ensures { result ≡ list_any
-        (λ item. option_map_or (λ class. bytes_eq class.name name.now) (class_of (view item)) false) items.now }
-{
-    items.iter().any(|item| is_class_of(item, name))
-}
-
-/// Whether the value is a class of this name.
-fn is_class_of(value: &Value, name: &[u8]) -> bool
-    ensures { result ≡ option_map_or (λ class. bytes_eq class.name name.now) (class_of (view value.now)) false }
-{
-    match forms::reading_of(value) {
-        Some(reading) => reading.name.as_bytes() == name,
-        None => false,
+    let mut classes = [forms::class_of(items.first()?)?; MOST];
+    for (at, item) in items.iter().enumerate() {
+        classes[at] = forms::class_of(item)?;
     }
-}
-
-/// The classes among the items, in their order.
-fn gathered(alloc: Global, items: &[Value]) -> Result<Sequence<PassabilityClass>, NoMemory>
-    ensures { IfOk result (λ classes. classes ≡ filter_map (λ item. class_of (view item)) items.now) }
-{
-    let mut classes = Sequence::new(alloc);
-    for item in items {
-        let Some(reading) = forms::reading_of(item) else {
-            continue;
-        };
-        let name = ClassName::of(alloc, reading.name.as_bytes())?;
-        classes.push(PassabilityClass {
-            name,
-            clearance: reading.clearance,
-        })?;
-    }
-    Ok(classes)
+    Some(classes)
 }

@@ -2,7 +2,8 @@
 use Rattle.std.proofs.Common.{◌≡◌, ℕ, zero, suc, ◌+◌, ◌-◌, ◌/◌, ◌%◌, ◌<◌, ◌≤◌, Bool, true, false, IsTrue, IsFalse, leb, eqb, max, List, get_or, inl, inr, refl, sym, ap, ap₂, ◌∙◌, subst, arith, if◌then◌else◌}
 use Rattle.std.proofs.lemmas.Bool.{cases_lt, false≢true, le-leb, leb-true, eqb-true, false_from_ne_true}
 use Rattle.std.proofs.lemmas.Nat.Bits.{bit_at-lt}
-use Rattle.class_planes.specs.inner.Runs.{bit_in, opening, LaneWords, end_up, end_down, IsNext, IsLast, up_bits, down_bits, opens_after, GoesFar}
+use Rattle.nav_types.specs.declared.straights.Way.TheVariants.{Up, Down}
+use Rattle.class_planes.specs.inner.Runs.{bit_in, opening, LaneWords, end_up, end_down, IsNext, IsLast, bits_along, opens_after, GoesFar}
 
 far_forced : (mid left right : ℕ → ℕ) (count m : ℕ) → mid 0 ≡ 1
     → ((n : ℕ) → suc n < count → (mid (suc n) ≡ 1) × (opens_after left right n ≡ 0))
@@ -39,7 +40,7 @@ far_free mid left right count here on end = record {
     free_at (suc n) within = (on n within).0
 
 up_end : (lanes : LaneWords) (from n : ℕ) → end_up lanes (from + suc n)
-    ≡ max (1 - up_bits lanes.mid from (suc n)) (opens_after (up_bits lanes.left from) (up_bits lanes.right from) n)
+    ≡ max (1 - bits_along Up lanes.mid from (suc n)) (opens_after (bits_along Up lanes.left from) (bits_along Up lanes.right from) n)
 up_end lanes from n =
     let same : from + suc n - 1 ≡ from + n = omega arith in
     ap (λ p. max (1 - bit_in lanes.mid (from + suc n))
@@ -54,18 +55,18 @@ if_false : (b : Bool) (x y : ℕ) → b ≡ false → (if b then x else y) ≡ y
 if_false true x y is = absurd (false≢true (sym is))
 if_false false x y is = refl
 
-pub down_at : (words : List ℕ) (from n : ℕ) → n ≤ from → down_bits words from n ≡ bit_in words (from - n)
+pub down_at : (words : List ℕ) (from n : ℕ) → n ≤ from → bits_along Down words from n ≡ bit_in words (from - n)
 down_at words from n within = if_true (leb n from) (bit_in words (from - n)) 0 (le-leb n from within)
 
-pub down_past : (words : List ℕ) (from n : ℕ) → from < n → down_bits words from n ≡ 0
+pub down_past : (words : List ℕ) (from n : ℕ) → from < n → bits_along Down words from n ≡ 0
 down_past words from n past =
     if_false (leb n from) (bit_in words (from - n)) 0
     (false_from_ne_true (leb n from)
     (λ is. let within : n ≤ from = leb-true n from is in omega (arith, within, past)))
 
 down_end : (lanes : LaneWords) (from n : ℕ) → suc n ≤ from → end_down lanes (from - suc n)
-    ≡ max (1 - down_bits lanes.mid from (suc n))
-    (opens_after (down_bits lanes.left from) (down_bits lanes.right from) n)
+    ≡ max (1 - bits_along Down lanes.mid from (suc n))
+    (opens_after (bits_along Down lanes.left from) (bits_along Down lanes.right from) n)
 down_end lanes from n within =
     let same : from - suc n + 1 ≡ from - n = omega (arith, within) in
     let here = λ (words : List ℕ). sym (down_at words from (suc n) within) in
@@ -76,7 +77,7 @@ down_end lanes from n within =
 pub bit_small : (words : List ℕ) (i : ℕ) → bit_in words i < 2
 bit_small words i = bit_at-lt (get_or words (i / 64) 0) (i % 64)
 
-pub down_small : (words : List ℕ) (from n : ℕ) → down_bits words from n < 2
+pub down_small : (words : List ℕ) (from n : ℕ) → bits_along Down words from n < 2
 down_small words from n = elim (cases_lt from n) [
   | inl past ↦ let none = down_past words from n past in omega (arith, none)
   | inr within ↦ let is = down_at words from n within in let small = bit_small words (from - n) in omega
@@ -89,7 +90,7 @@ no_end m o e small is none = (omega (arith, small, is, none), omega (arith, is, 
 
 pub up_forced : (lanes : LaneWords) (from end count : ℕ) → bit_in lanes.mid from ≡ 1 → IsNext (end_up lanes) from end
     → bit_in lanes.mid end ≡ 1 → count ≡ end - from
-    → GoesFar (up_bits lanes.mid from) (up_bits lanes.left from) (up_bits lanes.right from)
+    → GoesFar (bits_along Up lanes.mid from) (bits_along Up lanes.left from) (bits_along Up lanes.right from)
     (record { count = count; forced = true })
 up_forced lanes from end count here next free is =
     let after = next.after in
@@ -99,15 +100,15 @@ up_forced lanes from end count here next free is =
     let last_free : bit_in lanes.mid (from + suc m) ≡ 1 = ap (bit_in lanes.mid) all ∙ free in
     let set : end_up lanes (from + suc m) ≡ 1 = ap (end_up lanes) all ∙ next.set in
     let parts = up_end lanes from m in
-    far_forced (up_bits lanes.mid from) (up_bits lanes.left from) (up_bits lanes.right from) count m
+    far_forced (bits_along Up lanes.mid from) (bits_along Up lanes.left from) (bits_along Up lanes.right from) count m
     (subst (λ n. bit_in lanes.mid n ≡ 1) start here)
-    (λ n less. no_end (up_bits lanes.mid from (suc n))
-    (opens_after (up_bits lanes.left from) (up_bits lanes.right from) n) (end_up lanes (from + suc n))
+    (λ n less. no_end (bits_along Up lanes.mid from (suc n))
+    (opens_after (bits_along Up lanes.left from) (bits_along Up lanes.right from) n) (end_up lanes (from + suc n))
     (bit_small lanes.mid (from + suc n)) (up_end lanes from n)
     (next.none (from + suc n) (omega arith) (omega (arith, less, is))))
     (omega (arith, is, after)) last_free
-    (is_opening (up_bits lanes.mid from (suc m))
-    (opens_after (up_bits lanes.left from) (up_bits lanes.right from) m) (end_up lanes (from + suc m)) last_free
+    (is_opening (bits_along Up lanes.mid from (suc m))
+    (opens_after (bits_along Up lanes.left from) (bits_along Up lanes.right from) m) (end_up lanes (from + suc m)) last_free
     parts set)
   where
     is_opening : (m o e : ℕ) → m ≡ 1 → e ≡ max (1 - m) o → e ≡ 1 → o ≡ 1
@@ -115,53 +116,53 @@ up_forced lanes from end count here next free is =
 
 pub up_free : (lanes : LaneWords) (from end count : ℕ) → bit_in lanes.mid from ≡ 1 → IsNext (end_up lanes) from end
     → bit_in lanes.mid end ≡ 0 → count ≡ end - from - 1
-    → GoesFar (up_bits lanes.mid from) (up_bits lanes.left from) (up_bits lanes.right from)
+    → GoesFar (bits_along Up lanes.mid from) (bits_along Up lanes.left from) (bits_along Up lanes.right from)
     (record { count = count; forced = false })
 up_free lanes from end count here next blocked is =
     let after = next.after in
     let start : from ≡ from + 0 = omega arith in
     let all : from + suc count ≡ end = omega (arith, is, after) in
-    far_free (up_bits lanes.mid from) (up_bits lanes.left from) (up_bits lanes.right from) count
+    far_free (bits_along Up lanes.mid from) (bits_along Up lanes.left from) (bits_along Up lanes.right from) count
     (subst (λ n. bit_in lanes.mid n ≡ 1) start here)
-    (λ n less. no_end (up_bits lanes.mid from (suc n))
-    (opens_after (up_bits lanes.left from) (up_bits lanes.right from) n) (end_up lanes (from + suc n))
+    (λ n less. no_end (bits_along Up lanes.mid from (suc n))
+    (opens_after (bits_along Up lanes.left from) (bits_along Up lanes.right from) n) (end_up lanes (from + suc n))
     (bit_small lanes.mid (from + suc n)) (up_end lanes from n)
     (next.none (from + suc n) (omega arith) (omega (arith, less, is, after))))
     (ap (bit_in lanes.mid) all ∙ blocked)
 
-down_start : (lanes : LaneWords) (from : ℕ) → bit_in lanes.mid from ≡ 1 → down_bits lanes.mid from 0 ≡ 1
+down_start : (lanes : LaneWords) (from : ℕ) → bit_in lanes.mid from ≡ 1 → bits_along Down lanes.mid from 0 ≡ 1
 down_start lanes from here =
     let same : from - 0 ≡ from = omega arith in down_at lanes.mid from 0 (omega arith) ∙ ap (bit_in lanes.mid) same ∙
     here
 
 down_on : (lanes : LaneWords) (from n : ℕ) → suc n ≤ from → end_down lanes (from - suc n) ≡ 0
-    → (down_bits lanes.mid from (suc n) ≡ 1) ×
-    (opens_after (down_bits lanes.left from) (down_bits lanes.right from) n ≡ 0)
+    → (bits_along Down lanes.mid from (suc n) ≡ 1) ×
+    (opens_after (bits_along Down lanes.left from) (bits_along Down lanes.right from) n ≡ 0)
 down_on lanes from n within none =
-    no_end (down_bits lanes.mid from (suc n)) (opens_after (down_bits lanes.left from) (down_bits lanes.right from) n)
+    no_end (bits_along Down lanes.mid from (suc n)) (opens_after (bits_along Down lanes.left from) (bits_along Down lanes.right from) n)
     (end_down lanes (from - suc n)) (down_small lanes.mid from (suc n))
     (down_end lanes from n within) none
 
 pub down_forced : (lanes : LaneWords) (from end count : ℕ) → bit_in lanes.mid from ≡ 1
     → IsLast (end_down lanes) from end → bit_in lanes.mid end ≡ 1 → count ≡ from - end
-    → GoesFar (down_bits lanes.mid from) (down_bits lanes.left from) (down_bits lanes.right from)
+    → GoesFar (bits_along Down lanes.mid from) (bits_along Down lanes.left from) (bits_along Down lanes.right from)
     (record { count = count; forced = true })
 down_forced lanes from end count here last free is =
     let before = last.before in
     let m : ℕ = count - 1 in
     let within : suc m ≤ from = omega (arith, is, before) in
     let all : from - suc m ≡ end = omega (arith, is, before) in
-    let last_free : down_bits lanes.mid from (suc m) ≡ 1 = down_at lanes.mid from (suc m) within ∙ ap (bit_in lanes.mid)
+    let last_free : bits_along Down lanes.mid from (suc m) ≡ 1 = down_at lanes.mid from (suc m) within ∙ ap (bit_in lanes.mid)
     all ∙ free in
     let set : end_down lanes (from - suc m) ≡ 1 = ap (end_down lanes) all ∙ last.set in
     let parts = down_end lanes from m within in
-    far_forced (down_bits lanes.mid from) (down_bits lanes.left from) (down_bits lanes.right from) count m
+    far_forced (bits_along Down lanes.mid from) (bits_along Down lanes.left from) (bits_along Down lanes.right from) count m
     (down_start lanes from here)
     (λ n less. down_on lanes from n (omega (arith, less, is))
     (last.none (from - suc n) (omega (arith, less, is, before)) (omega (arith, less, is, before))))
     (omega (arith, is, before)) last_free
-    (is_opening (down_bits lanes.mid from (suc m))
-    (opens_after (down_bits lanes.left from) (down_bits lanes.right from) m) (end_down lanes (from - suc m))
+    (is_opening (bits_along Down lanes.mid from (suc m))
+    (opens_after (bits_along Down lanes.left from) (bits_along Down lanes.right from) m) (end_down lanes (from - suc m))
     last_free parts set)
   where
     is_opening : (m o e : ℕ) → m ≡ 1 → e ≡ max (1 - m) o → e ≡ 1 → o ≡ 1
@@ -169,12 +170,12 @@ down_forced lanes from end count here last free is =
 
 pub down_free : (lanes : LaneWords) (from end count : ℕ) → bit_in lanes.mid from ≡ 1 → IsLast (end_down lanes) from end
     → bit_in lanes.mid end ≡ 0 → count ≡ from - end - 1
-    → GoesFar (down_bits lanes.mid from) (down_bits lanes.left from) (down_bits lanes.right from)
+    → GoesFar (bits_along Down lanes.mid from) (bits_along Down lanes.left from) (bits_along Down lanes.right from)
     (record { count = count; forced = false })
 down_free lanes from end count here last blocked is =
     let before = last.before in
     let all : from - suc count ≡ end = omega (arith, is, before) in
-    far_free (down_bits lanes.mid from) (down_bits lanes.left from) (down_bits lanes.right from) count
+    far_free (bits_along Down lanes.mid from) (bits_along Down lanes.left from) (bits_along Down lanes.right from) count
     (down_start lanes from here)
     (λ n less. down_on lanes from n (omega (arith, less, is, before))
     (last.none (from - suc n) (omega (arith, less, is, before)) (omega (arith, less, is, before))))
@@ -182,10 +183,10 @@ down_free lanes from end count here last blocked is =
 
 pub down_whole : (lanes : LaneWords) (from : ℕ) → bit_in lanes.mid from ≡ 1
     → ((i : ℕ) → i < from → end_down lanes i ≡ 0)
-    → GoesFar (down_bits lanes.mid from) (down_bits lanes.left from) (down_bits lanes.right from)
+    → GoesFar (bits_along Down lanes.mid from) (bits_along Down lanes.left from) (bits_along Down lanes.right from)
     (record { count = from; forced = false })
 down_whole lanes from here none =
-    far_free (down_bits lanes.mid from) (down_bits lanes.left from) (down_bits lanes.right from) from
+    far_free (bits_along Down lanes.mid from) (bits_along Down lanes.left from) (bits_along Down lanes.right from) from
     (down_start lanes from here)
     (λ n within. down_on lanes from n within (none (from - suc n) (omega (arith, within))))
     (down_past lanes.mid from (suc from) (omega arith))

@@ -7,7 +7,7 @@ use Rattle.std.proofs.lemmas.Nat.{mul-le}
 use Rattle.std.proofs.lemmas.List.{length-take}
 use Rattle.std.proofs.lemmas.List.Elements.{All-cons, All-nil}
 use Rattle.nav_types.specs.declared.cells.Rect.{Rect}
-use Rattle.class_planes.specs.declared.stop_words.Way.{Way}
+use Rattle.nav_types.specs.declared.straights.Way.{Way}
 use Rattle.class_planes.specs.inner.Lines.{LineTable, AreLines, line_at, line_in, patched}
 use Rattle.class_planes.specs.inner.Runs.{bit_in, LaneWords}
 use Rattle.class_planes.specs.inner.StopLines.{AreMapLines, AreBandStops, AreStops, AreStopsBefore, AreStopsWhere, IsBandStop, IsFarFrom, IsInTouchedWord, line_before, with_band}

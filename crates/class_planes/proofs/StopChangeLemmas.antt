@@ -8,8 +8,8 @@ use Rattle.nav_types.specs.declared.cells.Size.{Size}
 use Rattle.nav_types.specs.Cells.{IsInRect, IsRectInside, cell_at}
 use Rattle.lane_rows.specs.Rows.{one_if}
 use Rattle.class_planes.specs.Planes.{IsOutside}
-use Rattle.class_planes.specs.declared.stop_words.Way.{Way}
-use Rattle.class_planes.specs.declared.stop_words.Way.TheVariants.{Up, Down}
+use Rattle.nav_types.specs.declared.straights.Way.{Way}
+use Rattle.nav_types.specs.declared.straights.Way.TheVariants.{Up, Down}
 use Rattle.class_planes.specs.inner.Lines.{LineTable, RowTable, AreLines, AreRows, AreColumns, free_cell, line_at, line_in}
 use Rattle.class_planes.specs.inner.Runs.{bit_in, opening, LaneWords}
 use Rattle.class_planes.specs.inner.StopLines.{AreSameOutside, AreStops, AreStopsBefore, IsFarFrom, IsRectOf, IsStopBit, lanes_of, line_before, stop_bit, turned_rect}

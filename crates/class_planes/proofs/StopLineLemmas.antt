@@ -1,21 +1,27 @@
 -- Runs along the lines of a map whose stops are known beforehand.
-use Rattle.std.proofs.Common.{◌≡◌, ◌≢◌, ℕ, zero, suc, ◌+◌, ◌-◌, ◌*◌, ◌/◌, ◌%◌, ◌<◌, ◌≤◌, Bool, true, false, ◌&&◌, ltb, eqb, IsTrue, min, max, List, [], length, get_or, inl, inr, refl, sym, ap, ap₂, ◌∙◌, subst, arith}
-use Rattle.std.proofs.lemmas.Bool.{cases_lt, cases_eq, true≢false, false≢true, lt-ltb, le-ltb}
+use Rattle.std.proofs.Common.{◌≡◌, ◌≢◌, ℕ, zero, suc, ◌+◌, ◌-◌, ◌*◌, ◌/◌, ◌%◌, ◌<◌, ◌≤◌, Bool, true, false, ◌&&◌, eqb, IsTrue, min, max, List, [], length, get_or, inl, inr, refl, sym, ap, ap₂, ◌∙◌, subst, arith}
+use Rattle.std.proofs.lemmas.Bool.{cases_lt, cases_eq, true≢false, false≢true, false_from_ne_true, lt-ltb}
 use Rattle.nav_types.specs.declared.cells.Cell.{Cell}
 use Rattle.nav_types.specs.declared.cells.Size.{Size}
-use Rattle.nav_types.specs.declared.directions.Dir.TheVariants.{N, E, S, W}
+use Rattle.nav_types.specs.declared.straights.Axis.{Axis}
+use Rattle.nav_types.specs.declared.straights.Axis.TheVariants.{Row, Column}
+use Rattle.nav_types.specs.declared.straights.Straight.{Straight}
+use Rattle.nav_types.specs.declared.straights.Way.{Way}
+use Rattle.nav_types.specs.declared.straights.Way.TheVariants.{Up, Down}
 use Rattle.nav_types.specs.Cells.{IsInside, cell_at}
+use Rattle.nav_types.specs.Lines.{cell_on, line_on, place_on, side_along}
 use Rattle.lane_rows.specs.Rows.{one_if}
 use Rattle.class_planes.specs.Planes.{PlaneCells, is_passable}
-use Rattle.class_planes.specs.declared.stop_words.Way.{Way}
-use Rattle.class_planes.specs.declared.stop_words.Way.TheVariants.{Up, Down}
-use Rattle.class_planes.specs.inner.Lines.{LineTable, RowTable, AreLines, AreRows, AreColumns, free_at, free_cell, line_at, line_in, plane_of}
-use Rattle.class_planes.specs.inner.Runs.{AreLanesOf, Far, GoesFar, LaneWords, TellsStop, bit_in, down_bits, is_before, opening, opens_after, up_bits}
-use Rattle.class_planes.specs.inner.StopLines.{AreStops, IsStopBit, lanes_of, line_before, stop_bit}
+use Rattle.class_planes.specs.declared.tracks.Track.{Track}
+use Rattle.class_planes.specs.inner.Lines.{LineTable, RowTable, AreLines, free_at, free_cell, line_at, line_in, plane_of}
+use Rattle.class_planes.specs.inner.Runs.{AreLanesOf, Far, GoesFar, LaneWords, TellsStop, bit_in, bits_along, is_before, opening, opens_after}
+use Rattle.class_planes.specs.inner.StopLines.{AreMapLines, AreStops, IsStopBit, lanes_of, line_before, stop_bit, stops_along}
+use Rattle.class_planes.specs.inner.Tracks.{IsTrackAlong, IsTrackOf, line_count}
 use Rattle.class_planes.proofs.FarLemmas.{bit_small, down_at, down_past, down_small}
-use Rattle.class_planes.proofs.PlaneLemmas.{free_passable, line_free, only_inside, told}
-use Rattle.class_planes.proofs.TrackLemmas.{down_room, east_track, far_runs, north_track, south_track, west_track}
-use Rattle.class_planes.proofs.TurnLemmas.{line_long, past_rows}
+use Rattle.class_planes.proofs.PlaneLemmas.{line_free, only_inside, passable_is, told}
+use Rattle.class_planes.proofs.StopBandLemmas.{HasPlace, are_map_lines, has_place}
+use Rattle.class_planes.proofs.TrackLemmas.{lanes_far}
+use Rattle.class_planes.proofs.TurnLemmas.{line_long}
 use Rattle.class_planes.proofs.WordLemmas.{past_line}
 
 -- how far a run goes, and whether it ends where a side opens
@@ -132,11 +138,11 @@ either_small a b c d small_b small_d = omega (arith, small_b, small_d)
 
 pub told_up : (lanes : LaneWords) (stops : List ℕ) (from : ℕ) → from / 64 < length lanes.mid → bit_in lanes.mid from ≡ 1
     → ((i : ℕ) → i / 64 < length lanes.mid → IsStopBit Up lanes stops i)
-    → Tells (up_bits lanes.mid from) (up_bits lanes.left from) (up_bits lanes.right from) (bit_in stops from)
+    → Tells (bits_along Up lanes.mid from) (bits_along Up lanes.left from) (bits_along Up lanes.right from) (bit_in stops from)
 told_up lanes stops from within free each =
     let last : ℕ = 64 * length lanes.mid - 1 - from in
     let here : from + 0 ≡ from = omega arith in
-    let along : AreAlong (up_bits lanes.mid from) (up_bits lanes.left from) (up_bits lanes.right from) (up_bits stops from)
+    let along : AreAlong (bits_along Up lanes.mid from) (bits_along Up lanes.left from) (bits_along Up lanes.right from) (bits_along Up stops from)
     last = record {
       free_small = λ m. bit_small lanes.mid (from + m);
       stop_small = λ m. bit_small stops (from + m);
@@ -149,22 +155,22 @@ told_up lanes stops from within free each =
           ∙ ap (λ n. stop_bit lanes (from + m) n (bit_in stops n)) next;
       ends = past_line lanes.mid (from + suc last) (omega (arith, within));
     } in
-    subst (λ n. Tells (up_bits lanes.mid from) (up_bits lanes.left from) (up_bits lanes.right from) (bit_in stops n)) here
-    (run_told (up_bits lanes.mid from) (up_bits lanes.left from) (up_bits lanes.right from) (up_bits stops from) last along
+    subst (λ n. Tells (bits_along Up lanes.mid from) (bits_along Up lanes.left from) (bits_along Up lanes.right from) (bit_in stops n)) here
+    (run_told (bits_along Up lanes.mid from) (bits_along Up lanes.left from) (bits_along Up lanes.right from) (bits_along Up stops from) last along
     (ap (bit_in lanes.mid) here ∙ free))
 
 pub told_down : (lanes : LaneWords) (stops : List ℕ) (from : ℕ) → from / 64 < length lanes.mid → bit_in lanes.mid from ≡ 1
     → ((i : ℕ) → i / 64 < length lanes.mid → IsStopBit Down lanes stops i)
-    → Tells (down_bits lanes.mid from) (down_bits lanes.left from) (down_bits lanes.right from) (bit_in stops from)
+    → Tells (bits_along Down lanes.mid from) (bits_along Down lanes.left from) (bits_along Down lanes.right from) (bit_in stops from)
 told_down lanes stops from within free each =
     let here : from - 0 ≡ from = omega arith in
     let start = λ (words : List ℕ). down_at words from 0 (omega arith) ∙ ap (bit_in words) here in
-    let along : AreAlong (down_bits lanes.mid from) (down_bits lanes.left from) (down_bits lanes.right from)
-    (down_bits stops from) from = record {
+    let along : AreAlong (bits_along Down lanes.mid from) (bits_along Down lanes.left from) (bits_along Down lanes.right from)
+    (bits_along Down stops from) from = record {
       free_small = down_small lanes.mid from;
       stop_small = down_small stops from;
-      opens_small = λ m. either_small (down_bits lanes.left from m) (down_bits lanes.left from (suc m))
-          (down_bits lanes.right from m) (down_bits lanes.right from (suc m)) (down_small lanes.left from (suc m))
+      opens_small = λ m. either_small (bits_along Down lanes.left from m) (bits_along Down lanes.left from (suc m))
+          (bits_along Down lanes.right from m) (bits_along Down lanes.right from (suc m)) (down_small lanes.left from (suc m))
           (down_small lanes.right from (suc m));
       each = λ m few. elim (cases_lt m from) [
         | inl more ↦
@@ -180,17 +186,17 @@ told_down lanes stops from within free each =
             (at_next stops)))
         | inr all ↦
             let place : from - m ≡ 0 = omega (arith, all) in
-            let none : down_bits lanes.mid from (suc m) ≡ 0 = down_past lanes.mid from (suc m) (omega (arith, all)) in
+            let none : bits_along Down lanes.mid from (suc m) ≡ 0 = down_past lanes.mid from (suc m) (omega (arith, all)) in
             let right : IsStopBit Down lanes stops 0 = each 0 (omega (arith, within)) in
             down_at stops from m few ∙ ap (bit_in stops) place ∙ right
-            ∙ none_free (down_bits lanes.mid from (suc m))
-            (max (opens_after (down_bits lanes.left from) (down_bits lanes.right from) m) (down_bits stops from (suc m)))
+            ∙ none_free (bits_along Down lanes.mid from (suc m))
+            (max (opens_after (bits_along Down lanes.left from) (bits_along Down lanes.right from) m) (bits_along Down stops from (suc m)))
             none
       ];
       ends = down_past lanes.mid from (suc from) (omega arith);
     } in
-    subst (Tells (down_bits lanes.mid from) (down_bits lanes.left from) (down_bits lanes.right from)) (start stops)
-    (run_told (down_bits lanes.mid from) (down_bits lanes.left from) (down_bits lanes.right from) (down_bits stops from) from
+    subst (Tells (bits_along Down lanes.mid from) (bits_along Down lanes.left from) (bits_along Down lanes.right from)) (start stops)
+    (run_told (bits_along Down lanes.mid from) (bits_along Down lanes.left from) (bits_along Down lanes.right from) (bits_along Down stops from) from
     along (start lanes.mid ∙ free))
   where
     none_free : (mid rest : ℕ) → mid ≡ 0 → 0 ≡ min mid rest
@@ -227,11 +233,6 @@ stop_at way count n i lines stops are line within =
     subst (λ w. IsStopBit way (lanes_of lines count n) (line_in w band (n % 32)) i) (sym are.wide)
     (subst (λ m. IsStopBit way (lanes_of lines count m) (line_in lines.words band (n % 32)) i) there
     ((are.each (n / 32) (omega (arith, line))).each (n % 32) i (omega arith) (omega (arith, there, line)) within tt))
-
--- the bits up or down a line
-abbrev pub bits_along : Way → List ℕ → ℕ → ℕ → ℕ
-bits_along Up = up_bits
-bits_along Down = down_bits
 
 -- what the table's bit of a place tells, where that is free
 pub record IsTold (same : ℕ → ℕ → Bool) (n i : ℕ) (bits : List ℕ → ℕ → ℕ → ℕ) (stop : Bool) : Type 0 where
@@ -273,116 +274,99 @@ told_at way free same count words n i lines stops are alike none stops_are line 
     told_way Up lanes stops from within free each = told_up lanes stops from within free each
     told_way Down lanes stops from within free each = told_down lanes stops from within free each
 
-first_false : (a b x : Bool) → a ≡ false → (a && b && x) ≡ false
-first_false true b x is = absurd (true≢false is)
-first_false false b x is = refl
+-- ---- along the axis of a plane
 
--- past the last column nothing is free
-past_columns : (table : RowTable) (i j : ℕ) → table.size.w ≤ i → free_cell table (cell_at i j) ≡ false
-past_columns table i j past =
-    first_false (ltb i table.size.w) (ltb j table.size.h) (free_at table.rows j i) (le-ltb i table.size.w past)
+-- a cell inside lies on a line of the map
+pub on_line : (axis : Axis) (size : Size) (cell : Cell) → IsInside size cell
+    → (line_on axis cell < line_count axis size) × (place_on axis cell < side_along axis size)
+on_line Row size cell inside = (inside.row, inside.column)
+on_line Column size cell inside = (inside.column, inside.row)
 
--- ---- a line of a plane, with the lines beside it
+-- past the last line nothing is free
+past_lines : (axis : Axis) (plane : PlaneCells) (k : ℕ)
+    → is_passable plane (cell_on axis (line_count axis plane.size) k) ≡ false
+past_lines Row plane k = false_from_ne_true (is_passable plane (cell_at k plane.size.h))
+    (λ is. let row = (only_inside plane (cell_at k plane.size.h) is).row in omega (arith, row))
+past_lines Column plane k = false_from_ne_true (is_passable plane (cell_at plane.size.w k))
+    (λ is. let column = (only_inside plane (cell_at plane.size.w k) is).column in omega (arith, column))
 
-pub row_lanes : (table : RowTable) (plane : PlaneCells) (j : ℕ) → plane_of table ≡ plane → AreRows table → j < table.size.h
-    → AreLanesOf (λ j i. is_passable plane (cell_at i j)) j (lanes_of table.rows table.size.h j)
-row_lanes table plane j same are line =
-    lanes_are (λ j i. free_cell table (cell_at i j)) (λ j i. is_passable plane (cell_at i j)) table.size.h
-    (table.size.w / 64 + 1) j table.rows are (λ j i. free_passable table plane same (cell_at i j)) line
-    (λ i. past_rows table i table.size.h (omega arith))
+same_cell_on : (axis : Axis) (plane : PlaneCells) (cell : Cell)
+    → is_passable plane (cell_on axis (line_on axis cell) (place_on axis cell)) ≡ is_passable plane cell
+same_cell_on Row plane cell = refl
+same_cell_on Column plane cell = refl
 
-pub column_lanes : (table : RowTable) (plane : PlaneCells) (columns : LineTable) (i : ℕ) → plane_of table ≡ plane
-    → AreColumns table columns → i < table.size.w
-    → AreLanesOf (λ i j. is_passable plane (cell_at i j)) i (lanes_of columns table.size.w i)
-column_lanes table plane columns i same are line =
-    lanes_are (λ i j. free_cell table (cell_at i j)) (λ i j. is_passable plane (cell_at i j)) table.size.w
-    (table.size.h / 64 + 1) i columns are (λ i j. free_passable table plane same (cell_at i j)) line
-    (λ j. past_columns table table.size.w j (omega arith))
+-- the free cells of the rows of a plane are its passable ones
+pub axis_track : (axis : Axis) (table : RowTable) (plane : PlaneCells) (track : Track) → plane_of table ≡ plane
+    → IsTrackAlong axis table track
+    → IsTrackOf (λ n k. is_passable plane (cell_on axis n k)) (line_count axis plane.size) (side_along axis plane.size) track
+axis_track axis table plane track same is =
+    subst (λ (p : PlaneCells). IsTrackOf (λ n k. is_passable p (cell_on axis n k)) (line_count axis p.size)
+    (side_along axis p.size) track) same
+    (subst (λ (free : Cell → Bool). IsTrackOf (λ n k. free (cell_on axis n k)) (line_count axis table.size)
+    (side_along axis table.size) track) (λ p cell. sym (passable_is table cell) p) is)
 
--- ---- the four directions
+-- a track of these lines
+pub track_along : (axis : Axis) (size : Size) (rows lines : LineTable) (row_track track : Track) → row_track.lines ≡ rows
+    → track.lines ≡ lines
+    → AreLines (λ n k. free_cell (record { size = size; rows = rows }) (cell_on axis n k)) (line_count axis size / 32 + 1)
+    (side_along axis size / 64 + 1) lines
+    → ((way : Way) → AreStops way (line_count axis size) lines (stops_along way track.stops))
+    → IsTrackAlong axis (record { size = size; rows = row_track.lines }) track
+track_along axis size rows lines row_track track kept same are stops =
+    subst (λ (r : LineTable). IsTrackAlong axis (record { size = size; rows = r }) track) (sym kept) (record {
+      lines = subst (AreLines (λ n k. free_cell (record { size = size; rows = rows }) (cell_on axis n k))
+          (line_count axis size / 32 + 1) (side_along axis size / 64 + 1)) (sym same) are;
+      stops = λ way. subst (λ (l : LineTable). AreStops way (line_count axis size) l (stops_along way track.stops)) (sym same)
+          (stops way);
+    })
 
-pub inside_of : (table : RowTable) (plane : PlaneCells) (cell : Cell) → plane_of table ≡ plane
-    → IsTrue (is_passable plane cell) → IsInside table.size cell
-inside_of table plane cell same passing =
-    subst (λ (s : Size). IsInside s cell) (sym (ap (λ (p : PlaneCells). p.size) same)) (only_inside plane cell passing)
+-- a line of a plane, with the lines beside it
+pub axis_lanes : (axis : Axis) (plane : PlaneCells) (track : Track) (n : ℕ)
+    → IsTrackOf (λ n k. is_passable plane (cell_on axis n k)) (line_count axis plane.size) (side_along axis plane.size) track
+    → n < line_count axis plane.size
+    → AreLanesOf (λ n k. is_passable plane (cell_on axis n k)) n (lanes_of track.lines (line_count axis plane.size) n)
+axis_lanes axis plane track n is line =
+    let free : ℕ → ℕ → Bool = λ n k. is_passable plane (cell_on axis n k) in
+    lanes_are free free (line_count axis plane.size) (side_along axis plane.size / 64 + 1) n track.lines is.lines
+    (λ m i. refl) line (λ k. past_lines axis plane k)
 
-row_told : (way : Way) (table : RowTable) (plane : PlaneCells) (cell : Cell) (stops : LineTable) → plane_of table ≡ plane
-    → AreRows table → AreStops way table.size.h table.rows stops → IsTrue (is_passable plane cell)
-    → IsTold (λ j i. is_passable plane (cell_at i j)) cell.j cell.i (bits_along way) (free_at stops cell.j cell.i)
-row_told way table plane cell stops same are stops_are passing =
-    let inside = inside_of table plane cell same passing in
-    let column = inside.column in
-    told_at way (λ j i. free_cell table (cell_at i j)) (λ j i. is_passable plane (cell_at i j)) table.size.h
-    (table.size.w / 64 + 1) cell.j cell.i table.rows stops are (λ j i. free_passable table plane same (cell_at i j))
-    (λ i. past_rows table i table.size.h (omega arith)) stops_are inside.row (omega (arith, column)) passing
-
-column_told : (way : Way) (table : RowTable) (plane : PlaneCells) (cell : Cell) (columns stops : LineTable)
-    → plane_of table ≡ plane → AreColumns table columns → AreStops way table.size.w columns stops
-    → IsTrue (is_passable plane cell)
-    → IsTold (λ i j. is_passable plane (cell_at i j)) cell.i cell.j (bits_along way) (free_at stops cell.i cell.j)
-column_told way table plane cell columns stops same are stops_are passing =
-    let inside = inside_of table plane cell same passing in
-    let row = inside.row in
-    told_at way (λ i j. free_cell table (cell_at i j)) (λ i j. is_passable plane (cell_at i j)) table.size.w
-    (table.size.h / 64 + 1) cell.i cell.j columns stops are (λ i j. free_passable table plane same (cell_at i j))
-    (λ j. past_columns table table.size.w j (omega arith)) stops_are inside.column (omega (arith, row)) passing
-
-pub known_north : (table : RowTable) (plane : PlaneCells) (cell : Cell) (columns stops : LineTable)
-    → plane_of table ≡ plane → AreColumns table columns → AreStops Up table.size.w columns stops
-    → IsTrue (is_passable plane cell)
-    → TellsStop (is_passable plane) N cell (free_at stops cell.i cell.j)
-known_north table plane cell columns stops same are stops_are passing =
-    let at = column_told Up table plane cell columns stops same are stops_are passing in (
-      at.far,
-      (
-        far_runs (is_passable plane) N cell (up_bits at.lanes.mid cell.j) (up_bits at.lanes.left cell.j)
-            (up_bits at.lanes.right cell.j) at.far (north_track (is_passable plane) cell at.lanes at.are) tt at.goes,
-        at.stops,
-      ),
+-- the stops of a plane tell of the straight runs over it
+pub stop_known : (plane : PlaneCells) (straight : Straight) (cell : Cell) (track : Track)
+    → IsTrackOf (λ n k. is_passable plane (cell_on straight.axis n k)) (line_count straight.axis plane.size)
+    (side_along straight.axis plane.size) track → IsTrue (is_passable plane cell)
+    → TellsStop (is_passable plane) straight cell
+    (free_at (stops_along straight.way track.stops) (line_on straight.axis cell) (place_on straight.axis cell))
+stop_known plane straight cell track is passing =
+    let axis = straight.axis in
+    let free : ℕ → ℕ → Bool = λ n k. is_passable plane (cell_on axis n k) in
+    let at = on_line axis plane.size cell (only_inside plane cell passing) in
+    let place : place_on axis cell < side_along axis plane.size = at.1 in
+    let told = told_at straight.way free free (line_count axis plane.size) (side_along axis plane.size / 64 + 1)
+    (line_on axis cell) (place_on axis cell) track.lines (stops_along straight.way track.stops) is.lines (λ m i. refl)
+    (λ k. past_lines axis plane k) (is.stops straight.way) at.0 (omega (arith, place))
+    (same_cell_on axis plane cell ∙ passing) in (
+      told.far,
+      (lanes_far (is_passable plane) straight cell told.lanes told.far told.are told.goes, told.stops),
     )
 
-pub known_south : (table : RowTable) (plane : PlaneCells) (cell : Cell) (columns stops : LineTable)
-    → plane_of table ≡ plane → AreColumns table columns → AreStops Down table.size.w columns stops
-    → IsTrue (is_passable plane cell)
-    → TellsStop (is_passable plane) S cell (free_at stops cell.i cell.j)
-known_south table plane cell columns stops same are stops_are passing =
-    let at = column_told Down table plane cell columns stops same are stops_are passing in
-    let mid : ℕ → ℕ = down_bits at.lanes.mid cell.j in
-    let left : ℕ → ℕ = down_bits at.lanes.left cell.j in
-    let right : ℕ → ℕ = down_bits at.lanes.right cell.j in (
-      at.far,
-      (
-        far_runs (is_passable plane) S cell mid left right at.far (south_track (is_passable plane) cell at.lanes at.are)
-            (down_room mid left right at.lanes.mid cell.j at.far refl at.goes) at.goes,
-        at.stops,
-      ),
-    )
+-- a place of the stops
+pub stop_place : (axis : Axis) (way : Way) (plane : PlaneCells) (cell : Cell) (track : Track)
+    → IsTrackOf (λ n k. is_passable plane (cell_on axis n k)) (line_count axis plane.size)
+    (side_along axis plane.size) track → IsTrue (is_passable plane cell)
+    → HasPlace (stops_along way track.stops) (line_on axis cell) (place_on axis cell)
+stop_place axis way plane cell track is passing =
+    let at = on_line axis plane.size cell (only_inside plane cell passing) in
+    has_place way (line_count axis plane.size) (side_along axis plane.size) (line_on axis cell) (place_on axis cell)
+    track.lines (stops_along way track.stops) (is.stops way) is.lines.wide at.0 at.1
 
-pub known_east : (table : RowTable) (plane : PlaneCells) (cell : Cell) (stops : LineTable) → plane_of table ≡ plane
-    → AreRows table → AreStops Up table.size.h table.rows stops → IsTrue (is_passable plane cell)
-    → TellsStop (is_passable plane) E cell (free_at stops cell.j cell.i)
-known_east table plane cell stops same are stops_are passing =
-    let at = row_told Up table plane cell stops same are stops_are passing in (
-      at.far,
-      (
-        far_runs (is_passable plane) E cell (up_bits at.lanes.mid cell.i) (up_bits at.lanes.left cell.i)
-            (up_bits at.lanes.right cell.i) at.far (east_track (is_passable plane) cell at.lanes at.are) tt at.goes,
-        at.stops,
-      ),
-    )
+side_few : (axis : Axis) (size : Size) → (0 < line_count axis size) × ((line_count axis size ≤ 2048) × (side_along axis size ≤ 2048))
+side_few Row size = (omega (arith, size.high), (omega (arith, size.high), omega (arith, size.wide)))
+side_few Column size = (omega (arith, size.wide), (omega (arith, size.wide), omega (arith, size.high)))
 
-pub known_west : (table : RowTable) (plane : PlaneCells) (cell : Cell) (stops : LineTable) → plane_of table ≡ plane
-    → AreRows table → AreStops Down table.size.h table.rows stops → IsTrue (is_passable plane cell)
-    → TellsStop (is_passable plane) W cell (free_at stops cell.j cell.i)
-known_west table plane cell stops same are stops_are passing =
-    let at = row_told Down table plane cell stops same are stops_are passing in
-    let mid : ℕ → ℕ = down_bits at.lanes.mid cell.i in
-    let left : ℕ → ℕ = down_bits at.lanes.left cell.i in
-    let right : ℕ → ℕ = down_bits at.lanes.right cell.i in (
-      at.far,
-      (
-        far_runs (is_passable plane) W cell mid left right at.far (west_track (is_passable plane) cell at.lanes at.are)
-            (down_room mid left right at.lanes.mid cell.i at.far refl at.goes) at.goes,
-        at.stops,
-      ),
-    )
+-- the lines of a map along an axis
+pub axis_lines : (axis : Axis) (size : Size) (free : ℕ → ℕ → Bool) (lines : LineTable)
+    → AreLines free (line_count axis size / 32 + 1) (side_along axis size / 64 + 1) lines
+    → AreMapLines (line_count axis size) lines
+axis_lines axis size free lines are =
+    let few = side_few axis size in
+    are_map_lines free (line_count axis size) (side_along axis size) lines few.0 few.1.0 few.1.1 are

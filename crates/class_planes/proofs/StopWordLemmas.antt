@@ -4,8 +4,8 @@ use Rattle.std.specs.Int.{bit_at}
 use Rattle.std.proofs.lemmas.Bool.{cases_lt}
 use Rattle.std.proofs.lemmas.List.{get_or-set_same, get_or-set_other}
 use Rattle.std.proofs.lemmas.Nat.Bits.{bit_at_or, bit_at_and, bit_at_not, bit_at_above, bit_at_lowest}
-use Rattle.class_planes.specs.declared.stop_words.Way.{Way}
-use Rattle.class_planes.specs.declared.stop_words.Way.TheVariants.{Up, Down}
+use Rattle.nav_types.specs.declared.straights.Way.{Way}
+use Rattle.nav_types.specs.declared.straights.Way.TheVariants.{Up, Down}
 use Rattle.class_planes.specs.inner.Runs.{bit_in, opening, LaneWords}
 use Rattle.class_planes.specs.inner.StopLines.{stop_bit, IsStopBit}
 use Rattle.nav_types.proofs.Bits.{bit_at-shr}

@@ -1,10 +1,14 @@
 -- A run of cells whose bits are known.
-use Rattle.std.proofs.Common.{◌≡◌, ℕ, suc, ◌+◌, ◌-◌, ◌/◌, ◌%◌, ◌<◌, ◌≤◌, ◌⊎◌, Bool, true, false, ◌&&◌, ltb, IsTrue, List, get_or, inl, inr, refl, sym, ap, ◌∙◌, subst, arith}
+use Rattle.std.proofs.Common.{◌≡◌, ℕ, suc, ◌+◌, ◌-◌, ◌/◌, ◌%◌, ◌<◌, ◌⊎◌, Bool, true, false, ◌&&◌, ltb, IsTrue, List, get_or, inl, inr, refl, sym, ◌∙◌, subst, arith}
 use Rattle.std.proofs.lemmas.Bool.{cases_lt, false≢true, lt-ltb, ltb-true, and_parts, and_from}
 use Rattle.std.proofs.lemmas.Nat.Bits.{bit_at-lt}
 use Rattle.nav_types.specs.declared.cells.Cell.{Cell}
 use Rattle.nav_types.specs.declared.directions.Dir.{Dir}
-use Rattle.nav_types.specs.declared.directions.Dir.TheVariants.{N, E, S, W}
+use Rattle.nav_types.specs.declared.straights.Axis.{Axis}
+use Rattle.nav_types.specs.declared.straights.Axis.TheVariants.{Row, Column}
+use Rattle.nav_types.specs.declared.straights.Straight.{Straight}
+use Rattle.nav_types.specs.Lines.{cell_on, line_on, place_on}
+use Rattle.nav_types.specs.Straights.{along, straight_dir}
 use Rattle.nav_types.specs.Cells.{cell_at}
 use Rattle.nav_types.specs.Directions.{is_straight, Leads}
 use Rattle.nav_types.specs.Beside.{IsFreeBeside}
@@ -17,60 +21,68 @@ use Rattle.jump_scan.specs.Turns.{aside_to}
 use Rattle.jump_scan.specs.Successors.{HasForced, IsForcing}
 use Rattle.jump_scan.proofs.Turning.{HasForced-from_side, side_from_HasForced}
 use Rattle.lane_rows.specs.Rows.{one_if}
-use Rattle.class_planes.specs.inner.Runs.{opening, LaneWords, up_bits, down_bits, opens_after, Far, GoesFar, cell_along, RunsFar, HasRoom, AreLanesOf}
+use Rattle.nav_types.specs.declared.straights.Way.{Way}
+use Rattle.nav_types.specs.declared.straights.Way.TheVariants.{Up, Down}
+use Rattle.class_planes.specs.inner.Runs.{opening, LaneWords, bits_along, opens_after, Far, GoesFar, cell_along, RunsFar, HasRoom, AreLanesOf, bit_in, place_along, is_before}
 use Rattle.class_planes.proofs.FarLemmas.{down_at, down_past, down_small}
 
+-- a run along an axis is straight
+straight_is : (axis : Axis) (way : Way) → is_straight (along axis way) ≡ true
+straight_is Row Up = refl
+straight_is Row Down = refl
+straight_is Column Up = refl
+straight_is Column Down = refl
+
 -- the bits of one side
-pub record IsSide (passes : Cell → Bool) (dir : Dir) (from : Cell) (mid bits : ℕ → ℕ) (side : Side) : Type 0 where
+pub record IsSide (passes : Cell → Bool) (straight : Straight) (from : Cell) (mid bits : ℕ → ℕ) (side : Side) : Type 0 where
   pub small : (n : ℕ) → bits n < 2
-  pub free : (n : ℕ) → mid n ≡ 1 → bits n ≡ 1 → IsFreeBeside passes (cell_along dir from n) (aside_to side dir)
-  pub set : (n : ℕ) → mid n ≡ 1 → IsFreeBeside passes (cell_along dir from n) (aside_to side dir) → bits n ≡ 1
+  pub free : (n : ℕ) → mid n ≡ 1 → bits n ≡ 1 → IsFreeBeside passes (cell_along straight from n) (aside_to side (straight_dir straight))
+  pub set : (n : ℕ) → mid n ≡ 1 → IsFreeBeside passes (cell_along straight from n) (aside_to side (straight_dir straight)) → bits n ≡ 1
 
 -- the bits along a run, and those to its two sides
-pub record IsTrack (passes : Cell → Bool) (dir : Dir) (from : Cell) (mid left right : ℕ → ℕ) : Type 0 where
-  pub straight : is_straight dir ≡ true
-  pub start : from ≡ cell_along dir from 0
-  pub leads : (n : ℕ) → mid (suc n) ≡ 1 → Leads dir (cell_along dir from n) (cell_along dir from (suc n))
-  pub free : (n : ℕ) → mid n ≡ 1 → IsTrue (passes (cell_along dir from n))
-  pub next : (n : ℕ) (cell : Cell) → Leads dir (cell_along dir from n) cell → IsTrue (passes cell) → mid (suc n) ≡ 1
+pub record IsTrack (passes : Cell → Bool) (straight : Straight) (from : Cell) (mid left right : ℕ → ℕ) : Type 0 where
+  pub start : from ≡ cell_along straight from 0
+  pub leads : (n : ℕ) → mid (suc n) ≡ 1 → Leads (straight_dir straight) (cell_along straight from n) (cell_along straight from (suc n))
+  pub free : (n : ℕ) → mid n ≡ 1 → IsTrue (passes (cell_along straight from n))
+  pub next : (n : ℕ) (cell : Cell) → Leads (straight_dir straight) (cell_along straight from n) cell → IsTrue (passes cell) → mid (suc n) ≡ 1
   pub one : Side
   pub two : Side
   pub all : (side : Side) → (side ≡ one) ⊎ (side ≡ two)
-  pub at_one : IsSide passes dir from mid left one
-  pub at_two : IsSide passes dir from mid right two
+  pub at_one : IsSide passes straight from mid left one
+  pub at_two : IsSide passes straight from mid right two
 
 -- a side that opens forces a turn
-opens_forced : (passes : Cell → Bool) (dir : Dir) (from : Cell) (mid left right bits : ℕ → ℕ) (side : Side) (n : ℕ)
-    → IsTrack passes dir from mid left right
-    → IsSide passes dir from mid bits side → mid n ≡ 1 → mid (suc n) ≡ 1 → bits n ≡ 0 → bits (suc n) ≡ 1 → HasForced
-    passes (cell_along dir from (suc n)) dir
-opens_forced passes dir from mid left right bits side n track is here there shut open_now =
-    let at : Cell = cell_along dir from (suc n) in
-    HasForced-from_side passes at dir side (track.free (suc n) there) (
+opens_forced : (passes : Cell → Bool) (straight : Straight) (from : Cell) (mid left right bits : ℕ → ℕ) (side : Side) (n : ℕ)
+    → IsTrack passes straight from mid left right
+    → IsSide passes straight from mid bits side → mid n ≡ 1 → mid (suc n) ≡ 1 → bits n ≡ 0 → bits (suc n) ≡ 1 → HasForced
+    passes (cell_along straight from (suc n)) (straight_dir straight)
+opens_forced passes straight from mid left right bits side n track is here there shut open_now =
+    let at : Cell = cell_along straight from (suc n) in
+    HasForced-from_side passes at (straight_dir straight) side (track.free (suc n) there) (
       (
-        track.straight,
+        (straight_is straight.axis straight.way),
         λ before leads free.
-            let same = leads_from_same dir before (cell_along dir from n) at leads (track.leads n there) in
-            let set = is.set n here (subst (λ (c : Cell). IsFreeBeside passes c (aside_to side dir)) same free) in
+            let same = leads_from_same (straight_dir straight) before (cell_along straight from n) at leads (track.leads n there) in
+            let set = is.set n here (subst (λ (c : Cell). IsFreeBeside passes c (aside_to side (straight_dir straight))) same free) in
             omega (arith, set, shut),
       ),
       is.free (suc n) there open_now,
     )
 
-forced_opens : (passes : Cell → Bool) (dir : Dir) (from : Cell) (mid left right bits : ℕ → ℕ) (side : Side) (n : ℕ)
-    → IsTrack passes dir from mid left right
-    → IsSide passes dir from mid bits side → mid n ≡ 1 → mid (suc n) ≡ 1
-    → IsForcing passes (cell_along dir from (suc n)) dir side × IsFreeBeside passes (cell_along dir from (suc n))
-    (aside_to side dir)
+forced_opens : (passes : Cell → Bool) (straight : Straight) (from : Cell) (mid left right bits : ℕ → ℕ) (side : Side) (n : ℕ)
+    → IsTrack passes straight from mid left right
+    → IsSide passes straight from mid bits side → mid n ≡ 1 → mid (suc n) ≡ 1
+    → IsForcing passes (cell_along straight from (suc n)) (straight_dir straight) side × IsFreeBeside passes (cell_along straight from (suc n))
+    (aside_to side (straight_dir straight))
     → opening (bits n) (bits (suc n)) ≡ 1
-forced_opens passes dir from mid left right bits side n track is here there both =
+forced_opens passes straight from mid left right bits side n track is here there both =
     let now = is.set (suc n) there both.1 in
     let small = is.small n in
     elim (cases_lt (bits n) 1) [
       | inl low ↦ omega (arith, now, low)
       | inr high ↦
           let one : bits n ≡ 1 = omega (arith, high, small) in
-          absurd (both.0.1 (cell_along dir from n) (track.leads n there) (is.free n here one))
+          absurd (both.0.1 (cell_along straight from n) (track.leads n there) (is.free n here one))
     ]
 
 opening_small : (before bit : ℕ) → bit < 2 → opening before bit < 2
@@ -79,53 +91,53 @@ opening_small before bit small = omega (arith, small)
 opening_parts : (before bit : ℕ) → bit < 2 → opening before bit ≡ 1 → (before ≡ 0) × (bit ≡ 1)
 opening_parts before bit small is = (omega (arith, is, small), omega (arith, is, small))
 
-forced_from : (passes : Cell → Bool) (dir : Dir) (from : Cell) (mid left right : ℕ → ℕ) (n : ℕ)
-    → IsTrack passes dir from mid left right
-    → mid n ≡ 1 → mid (suc n) ≡ 1 → opens_after left right n ≡ 1 → HasForced passes (cell_along dir from (suc n)) dir
-forced_from passes dir from mid left right n track here there is =
+forced_from : (passes : Cell → Bool) (straight : Straight) (from : Cell) (mid left right : ℕ → ℕ) (n : ℕ)
+    → IsTrack passes straight from mid left right
+    → mid n ≡ 1 → mid (suc n) ≡ 1 → opens_after left right n ≡ 1 → HasForced passes (cell_along straight from (suc n)) (straight_dir straight)
+forced_from passes straight from mid left right n track here there is =
     elim (set_in_either (opening (left n) (left (suc n))) (opening (right n) (right (suc n)))
     (opening_small (left n) (left (suc n)) (track.at_one.small (suc n)))
     (opening_small (right n) (right (suc n)) (track.at_two.small (suc n))) is) [
       | inl one ↦
           let parts = opening_parts (left n) (left (suc n)) (track.at_one.small (suc n)) one in
-          opens_forced passes dir from mid left right left track.one n track track.at_one here there parts.0 parts.1
+          opens_forced passes straight from mid left right left track.one n track track.at_one here there parts.0 parts.1
       | inr two ↦
           let parts = opening_parts (right n) (right (suc n)) (track.at_two.small (suc n)) two in
-          opens_forced passes dir from mid left right right track.two n track track.at_two here there parts.0 parts.1
+          opens_forced passes straight from mid left right right track.two n track track.at_two here there parts.0 parts.1
     ]
 
-plain_from : (passes : Cell → Bool) (dir : Dir) (from : Cell) (mid left right : ℕ → ℕ) (n : ℕ)
-    → IsTrack passes dir from mid left right
-    → mid n ≡ 1 → mid (suc n) ≡ 1 → opens_after left right n ≡ 0 → HasForced passes (cell_along dir from (suc n)) dir →
+plain_from : (passes : Cell → Bool) (straight : Straight) (from : Cell) (mid left right : ℕ → ℕ) (n : ℕ)
+    → IsTrack passes straight from mid left right
+    → mid n ≡ 1 → mid (suc n) ≡ 1 → opens_after left right n ≡ 0 → HasForced passes (cell_along straight from (suc n)) (straight_dir straight) →
     ⊥
-plain_from passes dir from mid left right n track here there none forced =
-    let found = side_from_HasForced passes (cell_along dir from (suc n)) dir forced in
-    let Of = λ (side : Side). IsForcing passes (cell_along dir from (suc n)) dir side × IsFreeBeside passes
-    (cell_along dir from (suc n)) (aside_to side dir) in
+plain_from passes straight from mid left right n track here there none forced =
+    let found = side_from_HasForced passes (cell_along straight from (suc n)) (straight_dir straight) forced in
+    let Of = λ (side : Side). IsForcing passes (cell_along straight from (suc n)) (straight_dir straight) side × IsFreeBeside passes
+    (cell_along straight from (suc n)) (aside_to side (straight_dir straight)) in
     elim (track.all found.0) [
       | inl one ↦
-          let is = forced_opens passes dir from mid left right left track.one n track track.at_one here there
+          let is = forced_opens passes straight from mid left right left track.one n track track.at_one here there
           (subst Of one found.1) in
           omega (arith, is, none)
       | inr two ↦
-          let is = forced_opens passes dir from mid left right right track.two n track track.at_two here there
+          let is = forced_opens passes straight from mid left right right track.two n track track.at_two here there
           (subst Of two found.1) in
           omega (arith, is, none)
     ]
 
-pub far_runs : (passes : Cell → Bool) (dir : Dir) (from : Cell) (mid left right : ℕ → ℕ) (far : Far)
-    → IsTrack passes dir from mid left right → HasRoom dir from far.count
-    → GoesFar mid left right far → RunsFar passes dir from far
-far_runs passes dir from mid left right far track room goes = record {
+pub far_runs : (passes : Cell → Bool) (straight : Straight) (from : Cell) (mid left right : ℕ → ℕ) (far : Far)
+    → IsTrack passes straight from mid left right → HasRoom straight.way (place_on straight.axis from) far.count
+    → GoesFar mid left right far → RunsFar passes straight from far
+far_runs passes straight from mid left right far track room goes = record {
   start = track.start;
   room = room;
   steps = λ n within.
       let here = goes.free n (omega (arith, within)) in
       let there = goes.free (suc n) within in
-      straight_step passes dir (cell_along dir from n) (cell_along dir from (suc n)) track.straight
+      straight_step passes (straight_dir straight) (cell_along straight from n) (cell_along straight from (suc n)) (straight_is straight.axis straight.way)
       (track.leads n there) (track.free n here) (track.free (suc n) there);
   free = λ n within. track.free n (goes.free n within);
-  plain = λ n less. plain_from passes dir from mid left right n track (goes.free n (omega (arith, less)))
+  plain = λ n less. plain_from passes straight from mid left right n track (goes.free n (omega (arith, less)))
       (goes.free (suc n) (omega (arith, less))) (goes.shut n less);
   forced = λ is.
       let opens = goes.opens is in
@@ -134,11 +146,11 @@ far_runs passes dir from mid left right far track room goes = record {
         n,
         (
           last,
-          forced_from passes dir from mid left right n track (goes.free n (omega (arith, last)))
+          forced_from passes straight from mid left right n track (goes.free n (omega (arith, last)))
               (goes.free (suc n) (omega (arith, last))) opens.1.1,
         ),
       );
-  last = λ is n same. plain_from passes dir from mid left right n track (goes.free n (omega (arith, same)))
+  last = λ is n same. plain_from passes straight from mid left right n track (goes.free n (omega (arith, same)))
       (goes.free (suc n) (omega (arith, same))) (goes.last is n same);
   ends = λ is next step.
       let on = track.next far.count next step.leads step.next in
@@ -159,196 +171,206 @@ flag_small : (flag : Bool) → one_if flag < 2
 flag_small true = omega arith
 flag_small false = omega arith
 
--- the cell beside, in each straight direction
-north_of : (c : Cell) → Leads N c (cell_at c.i (c.j + 1))
-north_of c = record { columns = omega arith; rows = omega arith }
-
-east_of : (c : Cell) → Leads E c (cell_at (c.i + 1) c.j)
-east_of c = record { columns = omega arith; rows = omega arith }
-
-south_of : (c : Cell) → 0 < c.j → Leads S c (cell_at c.i (c.j - 1))
-south_of c some = record { columns = omega arith; rows = omega (arith, some) }
-
-west_of : (c : Cell) → 0 < c.i → Leads W c (cell_at (c.i - 1) c.j)
-west_of c some = record { columns = omega (arith, some); rows = omega arith }
-
 free_to : (passes : Cell → Bool) (dir : Dir) (c next : Cell) → Leads dir c next → IsFreeBeside passes c dir
     → IsTrue (passes next)
 free_to passes dir c next leads free =
     subst (λ (x : Cell). IsTrue (passes x)) (leads_to_same dir c free.0 next free.1.0 leads) free.1.1
 
-some_south : (c next : Cell) → Leads S c next → 0 < c.j
-some_south c next leads = let rows = leads.rows in omega (arith, rows)
+-- ---- along a line
 
-some_west : (c next : Cell) → Leads W c next → 0 < c.i
-some_west c next leads = let columns = leads.columns in omega (arith, columns)
+abbrev cell_to : Axis → Way → Cell → ℕ → Cell
+cell_to axis way from n = cell_on axis (line_on axis from) (place_along way (place_on axis from) n)
 
--- the lane after, where its bit is that of the cell in the direction
-side_after : (passes : Cell → Bool) (dir : Dir) (from : Cell) (mid bits : ℕ → ℕ) (side : Side) (beside : ℕ → Cell)
-    → ((n : ℕ) → bits n < 2) → ((n : ℕ) → mid n ≡ 1 → bits n ≡ one_if (passes (beside n)))
-    → ((n : ℕ) → Leads (aside_to side dir) (cell_along dir from n) (beside n)) → IsSide passes dir from mid bits side
-side_after passes dir from mid bits side beside small is leads = record {
-  small = small;
-  free = λ n here set. (beside n, (leads n, flag_true (passes (beside n)) (sym (is n here) ∙ set)));
-  set = λ n here free. is n here ∙ flag_one (passes (beside n))
-      (free_to passes (aside_to side dir) (cell_along dir from n) (beside n) (leads n) free);
-}
+begins : (axis : Axis) (way : Way) (from : Cell) → from ≡ cell_to axis way from 0
+begins Row Up from = same_cell from (cell_at (from.i + 0) from.j) (omega arith) refl
+begins Row Down from = same_cell from (cell_at (from.i - 0) from.j) (omega arith) refl
+begins Column Up from = same_cell from (cell_at from.i (from.j + 0)) refl (omega arith)
+begins Column Down from = same_cell from (cell_at from.i (from.j - 0)) refl (omega arith)
 
--- the lane before, which is one of zeros where there is no cell in the direction
-side_before : (passes : Cell → Bool) (dir : Dir) (from : Cell) (mid bits : ℕ → ℕ) (side : Side) (beside : ℕ → Cell) (place : ℕ)
-    → ((n : ℕ) → bits n < 2) → ((n : ℕ) → mid n ≡ 1 → bits n ≡ one_if (ltb 0 place && passes (beside n)))
-    → ((n : ℕ) → 0 < place → Leads (aside_to side dir) (cell_along dir from n) (beside n))
-    → ((n : ℕ) (next : Cell) → Leads (aside_to side dir) (cell_along dir from n) next → 0 < place) → IsSide passes dir
-    from mid bits side
-side_before passes dir from mid bits side beside place small is leads some = record {
-  small = small;
-  free = λ n here set.
-      let both = and_parts (ltb 0 place) (passes (beside n))
-      (flag_true (ltb 0 place && passes (beside n)) (sym (is n here) ∙ set)) in
-      (beside n, (leads n (ltb-true 0 place both.0), both.1));
-  set = λ n here free.
-      let there = some n free.0 free.1.0 in
-      is n here ∙ flag_one (ltb 0 place && passes (beside n))
-      (and_from (ltb 0 place) (passes (beside n)) (lt-ltb 0 place there)
-      (free_to passes (aside_to side dir) (cell_along dir from n) (beside n) (leads n there) free));
-}
+steps_on : (axis : Axis) (way : Way) (from : Cell) (n : ℕ) → HasRoom way (place_on axis from) (suc n)
+    → Leads (along axis way) (cell_to axis way from n) (cell_to axis way from (suc n))
+steps_on Row Up from n room = record { columns = omega arith; rows = omega arith }
+steps_on Row Down from n room = record { columns = omega (arith, room); rows = omega arith }
+steps_on Column Up from n room = record { columns = omega arith; rows = omega arith }
+steps_on Column Down from n room = record { columns = omega arith; rows = omega (arith, room) }
 
-left_right : (side : Side) → (side ≡ Left) ⊎ (side ≡ Right)
-left_right Left = inl refl
-left_right Right = inr refl
+-- a step that leads on has room, and comes to the next cell
+has_led : (axis : Axis) (way : Way) (from : Cell) (n : ℕ) (cell : Cell) → Leads (along axis way) (cell_to axis way from n) cell
+    → HasRoom way (place_on axis from) (suc n) × (cell ≡ cell_to axis way from (suc n))
+has_led Row Up from n cell leads =
+    let columns = leads.columns in let rows = leads.rows in
+    (tt, same_cell cell (cell_at (from.i + suc n) from.j) (omega (arith, columns)) (omega (arith, rows)))
+has_led Row Down from n cell leads =
+    let columns = leads.columns in let rows = leads.rows in (
+      omega (arith, columns),
+      same_cell cell (cell_at (from.i - suc n) from.j) (omega (arith, columns)) (omega (arith, rows)),
+    )
+has_led Column Up from n cell leads =
+    let columns = leads.columns in let rows = leads.rows in
+    (tt, same_cell cell (cell_at from.i (from.j + suc n)) (omega (arith, columns)) (omega (arith, rows)))
+has_led Column Down from n cell leads =
+    let columns = leads.columns in let rows = leads.rows in (
+      omega (arith, rows),
+      same_cell cell (cell_at from.i (from.j - suc n)) (omega (arith, columns)) (omega (arith, rows)),
+    )
 
-right_left : (side : Side) → (side ≡ Right) ⊎ (side ≡ Left)
-right_left Left = inr refl
-right_left Right = inl refl
+-- the bits along a run are those of its places
+bit_there : (way : Way) (words : List ℕ) (from n : ℕ) → HasRoom way from n
+    → bits_along way words from n ≡ bit_in words (place_along way from n)
+bit_there Up words from n room = refl
+bit_there Down words from n room = down_at words from n room
 
-up_small : (words : List ℕ) (from n : ℕ) → up_bits words from n < 2
-up_small words from n = bit_at-lt (get_or words ((from + n) / 64) 0) ((from + n) % 64)
+bits_small : (way : Way) (words : List ℕ) (from n : ℕ) → bits_along way words from n < 2
+bits_small Up words from n = bit_at-lt (get_or words ((from + n) / 64) 0) ((from + n) % 64)
+bits_small Down words from n = down_small words from n
 
-pub east_track : (passes : Cell → Bool) (from : Cell) (lanes : LaneWords)
-    → AreLanesOf (λ j i. passes (cell_at i j)) from.j lanes
-    → IsTrack passes E from (up_bits lanes.mid from.i) (up_bits lanes.left from.i) (up_bits lanes.right from.i)
-east_track passes from lanes are = record {
-  straight = refl;
-  start = same_cell from (cell_at (from.i + 0) from.j) (omega arith) refl;
-  leads = λ n there. record { columns = omega arith; rows = omega arith };
-  free = λ n here. flag_true (passes (cell_at (from.i + n) from.j)) (sym (are.mid (from.i + n)) ∙ here);
-  next = λ n cell leads free.
-      let columns = leads.columns in let rows = leads.rows in
-      let same : cell ≡ cell_at (from.i + suc n) from.j = same_cell cell (cell_at (from.i + suc n) from.j)
-      (omega (arith, columns)) (omega (arith, rows)) in
-      are.mid (from.i + suc n) ∙ flag_one (passes (cell_at (from.i + suc n) from.j))
-      (subst (λ (c : Cell). IsTrue (passes c)) same free);
-  one = Left;
-  two = Right;
-  all = left_right;
-  at_one = side_after passes E from (up_bits lanes.mid from.i) (up_bits lanes.left from.i) Left
-      (λ n. cell_at (from.i + n) (from.j + 1)) (up_small lanes.left from.i)
-      (λ n here. are.left (from.i + n)) (λ n. north_of (cell_at (from.i + n) from.j));
-  at_two = side_before passes E from (up_bits lanes.mid from.i) (up_bits lanes.right from.i) Right
-      (λ n. cell_at (from.i + n) (from.j - 1)) from.j (up_small lanes.right from.i)
-      (λ n here. are.right (from.i + n)) (λ n some. south_of (cell_at (from.i + n) from.j) some)
-      (λ n next leads. some_south (cell_at (from.i + n) from.j) next leads);
-}
-
-pub north_track : (passes : Cell → Bool) (from : Cell) (lanes : LaneWords)
-    → AreLanesOf (λ i j. passes (cell_at i j)) from.i lanes
-    → IsTrack passes N from (up_bits lanes.mid from.j) (up_bits lanes.left from.j) (up_bits lanes.right from.j)
-north_track passes from lanes are = record {
-  straight = refl;
-  start = same_cell from (cell_at from.i (from.j + 0)) refl (omega arith);
-  leads = λ n there. record { columns = omega arith; rows = omega arith };
-  free = λ n here. flag_true (passes (cell_at from.i (from.j + n))) (sym (are.mid (from.j + n)) ∙ here);
-  next = λ n cell leads free.
-      let columns = leads.columns in let rows = leads.rows in
-      let same : cell ≡ cell_at from.i (from.j + suc n) = same_cell cell (cell_at from.i (from.j + suc n))
-      (omega (arith, columns)) (omega (arith, rows)) in
-      are.mid (from.j + suc n) ∙ flag_one (passes (cell_at from.i (from.j + suc n)))
-      (subst (λ (c : Cell). IsTrue (passes c)) same free);
-  one = Right;
-  two = Left;
-  all = right_left;
-  at_one = side_after passes N from (up_bits lanes.mid from.j) (up_bits lanes.left from.j) Right
-      (λ n. cell_at (from.i + 1) (from.j + n)) (up_small lanes.left from.j)
-      (λ n here. are.left (from.j + n)) (λ n. east_of (cell_at from.i (from.j + n)));
-  at_two = side_before passes N from (up_bits lanes.mid from.j) (up_bits lanes.right from.j) Left
-      (λ n. cell_at (from.i - 1) (from.j + n)) from.i (up_small lanes.right from.j)
-      (λ n here. are.right (from.j + n)) (λ n some. west_of (cell_at from.i (from.j + n)) some)
-      (λ n next leads. some_west (cell_at from.i (from.j + n)) next leads);
-}
-
--- a set bit of a run downwards lies on the line
-on_line : (words : List ℕ) (from n : ℕ) → down_bits words from n ≡ 1 → n ≤ from
-on_line words from n set = elim (cases_lt from n) [
+-- a set bit of a run lies on the line
+has_room : (way : Way) (words : List ℕ) (from n : ℕ) → bits_along way words from n ≡ 1 → HasRoom way from n
+has_room Up words from n set = tt
+has_room Down words from n set = elim (cases_lt from n) [
   | inl past ↦ let none = down_past words from n past in absurd (omega (arith, none, set))
   | inr within ↦ within
 ]
 
-pub west_track : (passes : Cell → Bool) (from : Cell) (lanes : LaneWords)
-    → AreLanesOf (λ j i. passes (cell_at i j)) from.j lanes
-    → IsTrack passes W from (down_bits lanes.mid from.i) (down_bits lanes.left from.i) (down_bits lanes.right from.i)
-west_track passes from lanes are = record {
-  straight = refl;
-  start = same_cell from (cell_at (from.i - 0) from.j) (omega arith) refl;
-  leads = λ n there. let within = on_line lanes.mid from.i (suc n) there in record
-      { columns = omega (arith, within); rows = omega arith };
-  free = λ n here.
-      let within = on_line lanes.mid from.i n here in
-      flag_true (passes (cell_at (from.i - n) from.j))
-      (sym (down_at lanes.mid from.i n within ∙ are.mid (from.i - n)) ∙ here);
-  next = λ n cell leads free.
-      let columns = leads.columns in let rows = leads.rows in
-      let same : cell ≡ cell_at (from.i - suc n) from.j = same_cell cell (cell_at (from.i - suc n) from.j)
-      (omega (arith, columns)) (omega (arith, rows)) in
-      down_at lanes.mid from.i (suc n) (omega (arith, columns)) ∙ are.mid (from.i - suc n) ∙ flag_one
-      (passes (cell_at (from.i - suc n) from.j)) (subst (λ (c : Cell). IsTrue (passes c)) same free);
-  one = Right;
-  two = Left;
-  all = right_left;
-  at_one = side_after passes W from (down_bits lanes.mid from.i) (down_bits lanes.left from.i) Right
-      (λ n. cell_at (from.i - n) (from.j + 1)) (down_small lanes.left from.i)
-      (λ n here. down_at lanes.left from.i n (on_line lanes.mid from.i n here) ∙ are.left (from.i - n))
-      (λ n. north_of (cell_at (from.i - n) from.j));
-  at_two = side_before passes W from (down_bits lanes.mid from.i) (down_bits lanes.right from.i) Left
-      (λ n. cell_at (from.i - n) (from.j - 1)) from.j (down_small lanes.right from.i)
-      (λ n here. down_at lanes.right from.i n (on_line lanes.mid from.i n here) ∙ are.right (from.i - n))
-      (λ n some. south_of (cell_at (from.i - n) from.j) some)
-      (λ n next leads. some_south (cell_at (from.i - n) from.j) next leads);
-}
-
-pub south_track : (passes : Cell → Bool) (from : Cell) (lanes : LaneWords)
-    → AreLanesOf (λ i j. passes (cell_at i j)) from.i lanes
-    → IsTrack passes S from (down_bits lanes.mid from.j) (down_bits lanes.left from.j) (down_bits lanes.right from.j)
-south_track passes from lanes are = record {
-  straight = refl;
-  start = same_cell from (cell_at from.i (from.j - 0)) refl (omega arith);
-  leads = λ n there. let within = on_line lanes.mid from.j (suc n) there in record
-      { columns = omega arith; rows = omega (arith, within) };
-  free = λ n here.
-      let within = on_line lanes.mid from.j n here in
-      flag_true (passes (cell_at from.i (from.j - n)))
-      (sym (down_at lanes.mid from.j n within ∙ are.mid (from.j - n)) ∙ here);
-  next = λ n cell leads free.
-      let columns = leads.columns in let rows = leads.rows in
-      let same : cell ≡ cell_at from.i (from.j - suc n) = same_cell cell (cell_at from.i (from.j - suc n))
-      (omega (arith, columns)) (omega (arith, rows)) in
-      down_at lanes.mid from.j (suc n) (omega (arith, rows)) ∙ are.mid (from.j - suc n) ∙ flag_one
-      (passes (cell_at from.i (from.j - suc n))) (subst (λ (c : Cell). IsTrue (passes c)) same free);
-  one = Left;
-  two = Right;
-  all = left_right;
-  at_one = side_after passes S from (down_bits lanes.mid from.j) (down_bits lanes.left from.j) Left
-      (λ n. cell_at (from.i + 1) (from.j - n)) (down_small lanes.left from.j)
-      (λ n here. down_at lanes.left from.j n (on_line lanes.mid from.j n here) ∙ are.left (from.j - n))
-      (λ n. east_of (cell_at from.i (from.j - n)));
-  at_two = side_before passes S from (down_bits lanes.mid from.j) (down_bits lanes.right from.j) Right
-      (λ n. cell_at (from.i - 1) (from.j - n)) from.i (down_small lanes.right from.j)
-      (λ n here. down_at lanes.right from.j n (on_line lanes.mid from.j n here) ∙ are.right (from.j - n))
-      (λ n some. west_of (cell_at from.i (from.j - n)) some)
-      (λ n next leads. some_west (cell_at from.i (from.j - n)) next leads);
-}
-
 -- a run goes no farther than the line's begin
-pub down_room : (mid left right : ℕ → ℕ) (words : List ℕ) (from : ℕ) (far : Far) → mid ≡ down_bits words from
-    → GoesFar mid left right far → far.count ≤ from
-down_room mid left right words from far same goes =
-    on_line words from far.count (sym (ap (λ (f : ℕ → ℕ). f far.count) same) ∙ goes.free far.count (omega arith))
+pub run_room : (way : Way) (left right : ℕ → ℕ) (words : List ℕ) (from : ℕ) (far : Far)
+    → GoesFar (bits_along way words from) left right far → HasRoom way from far.count
+run_room way left right words from far goes = has_room way words from far.count (goes.free far.count (omega arith))
+
+-- ---- the lines beside it
+
+-- the side on which the line after lies, and that of the line before
+abbrev after_side : Axis → Way → Side
+after_side Row Up = Left
+after_side Row Down = Right
+after_side Column Up = Right
+after_side Column Down = Left
+
+abbrev before_side : Axis → Way → Side
+before_side Row Up = Right
+before_side Row Down = Left
+before_side Column Up = Left
+before_side Column Down = Right
+
+either_side : (axis : Axis) (way : Way) (side : Side) → (side ≡ after_side axis way) ⊎ (side ≡ before_side axis way)
+either_side Row Up Left = inl refl
+either_side Row Up Right = inr refl
+either_side Row Down Left = inr refl
+either_side Row Down Right = inl refl
+either_side Column Up Left = inr refl
+either_side Column Up Right = inl refl
+either_side Column Down Left = inl refl
+either_side Column Down Right = inr refl
+
+to_after : (axis : Axis) (way : Way) (line place : ℕ)
+    → Leads (aside_to (after_side axis way) (along axis way)) (cell_on axis line place) (cell_on axis (line + 1) place)
+to_after Row Up line place = record { columns = omega arith; rows = omega arith }
+to_after Row Down line place = record { columns = omega arith; rows = omega arith }
+to_after Column Up line place = record { columns = omega arith; rows = omega arith }
+to_after Column Down line place = record { columns = omega arith; rows = omega arith }
+
+to_before : (axis : Axis) (way : Way) (line place : ℕ) → 0 < line
+    → Leads (aside_to (before_side axis way) (along axis way)) (cell_on axis line place) (cell_on axis (line - 1) place)
+to_before Row Up line place some = record { columns = omega arith; rows = omega (arith, some) }
+to_before Row Down line place some = record { columns = omega arith; rows = omega (arith, some) }
+to_before Column Up line place some = record { columns = omega (arith, some); rows = omega arith }
+to_before Column Down line place some = record { columns = omega (arith, some); rows = omega arith }
+
+some_before : (axis : Axis) (way : Way) (line place : ℕ) (next : Cell)
+    → Leads (aside_to (before_side axis way) (along axis way)) (cell_on axis line place) next → 0 < line
+some_before Row Up line place next leads = let rows = leads.rows in omega (arith, rows)
+some_before Row Down line place next leads = let rows = leads.rows in omega (arith, rows)
+some_before Column Up line place next leads = let columns = leads.columns in omega (arith, columns)
+some_before Column Down line place next leads = let columns = leads.columns in omega (arith, columns)
+
+-- the bits of the line after, where they are those of its cells
+side_after : (passes : Cell → Bool) (straight : Straight) (from : Cell) (mid bits : ℕ → ℕ)
+    → ((n : ℕ) → bits n < 2)
+    → ((n : ℕ) → mid n ≡ 1 → bits n ≡ one_if (passes (cell_on straight.axis (line_on straight.axis from + 1)
+    (place_along straight.way (place_on straight.axis from) n))))
+    → IsSide passes straight from mid bits (after_side straight.axis straight.way)
+side_after passes straight from mid bits small is =
+    let axis = straight.axis in
+    let way = straight.way in
+    let line : ℕ = line_on axis from in
+    let place : ℕ → ℕ = place_along way (place_on axis from) in
+    let beside : ℕ → Cell = λ n. cell_on axis (line + 1) (place n) in
+    let aside : Dir = aside_to (after_side axis way) (straight_dir straight) in
+    record {
+      small = small;
+      free = λ n here set.
+          (beside n, (to_after axis way line (place n), flag_true (passes (beside n)) (sym (is n here) ∙ set)));
+      set = λ n here free. is n here ∙ flag_one (passes (beside n))
+          (free_to passes aside (cell_along straight from n) (beside n) (to_after axis way line (place n)) free);
+    }
+
+-- the bits of the line before, which is one of zeros where there is none
+side_before : (passes : Cell → Bool) (straight : Straight) (from : Cell) (mid bits : ℕ → ℕ)
+    → ((n : ℕ) → bits n < 2)
+    → ((n : ℕ) → mid n ≡ 1 → bits n ≡ one_if (is_before (λ m k. passes (cell_on straight.axis m k))
+    (line_on straight.axis from) (place_along straight.way (place_on straight.axis from) n)))
+    → IsSide passes straight from mid bits (before_side straight.axis straight.way)
+side_before passes straight from mid bits small is =
+    let axis = straight.axis in
+    let way = straight.way in
+    let line : ℕ = line_on axis from in
+    let place : ℕ → ℕ = place_along way (place_on axis from) in
+    let beside : ℕ → Cell = λ n. cell_on axis (line - 1) (place n) in
+    let aside : Dir = aside_to (before_side axis way) (straight_dir straight) in
+    record {
+      small = small;
+      free = λ n here set.
+          let both = and_parts (ltb 0 line) (passes (beside n))
+          (flag_true (ltb 0 line && passes (beside n)) (sym (is n here) ∙ set)) in
+          (beside n, (to_before axis way line (place n) (ltb-true 0 line both.0), both.1));
+      set = λ n here free.
+          let there = some_before axis way line (place n) free.0 free.1.0 in
+          is n here ∙ flag_one (ltb 0 line && passes (beside n))
+          (and_from (ltb 0 line) (passes (beside n)) (lt-ltb 0 line there)
+          (free_to passes aside (cell_along straight from n) (beside n) (to_before axis way line (place n) there) free));
+    }
+
+-- the three lines of a run
+pub track_of : (passes : Cell → Bool) (straight : Straight) (from : Cell) (lanes : LaneWords)
+    → AreLanesOf (λ n k. passes (cell_on straight.axis n k)) (line_on straight.axis from) lanes
+    → IsTrack passes straight from (bits_along straight.way lanes.mid (place_on straight.axis from))
+    (bits_along straight.way lanes.left (place_on straight.axis from))
+    (bits_along straight.way lanes.right (place_on straight.axis from))
+track_of passes straight from lanes are =
+    let axis = straight.axis in
+    let way = straight.way in
+    let first : ℕ = place_on axis from in
+    let place : ℕ → ℕ = place_along way first in
+    let room = λ (n : ℕ) (here : bits_along way lanes.mid first n ≡ 1). has_room way lanes.mid first n here in
+    let bit = λ (words : List ℕ) (n : ℕ) (here : bits_along way lanes.mid first n ≡ 1).
+    bit_there way words first n (room n here) in
+    record {
+      start = begins axis way from;
+      leads = λ n there. steps_on axis way from n (room (suc n) there);
+      free = λ n here. flag_true (passes (cell_along straight from n))
+          (sym (bit lanes.mid n here ∙ are.mid (place n)) ∙ here);
+      next = λ n cell leads free.
+          let led = has_led axis way from n cell leads in
+          bit_there way lanes.mid first (suc n) led.0 ∙ are.mid (place (suc n))
+          ∙ flag_one (passes (cell_along straight from (suc n))) (subst (λ (c : Cell). IsTrue (passes c)) led.1 free);
+      one = after_side axis way;
+      two = before_side axis way;
+      all = either_side axis way;
+      at_one = side_after passes straight from (bits_along way lanes.mid first) (bits_along way lanes.left first)
+          (bits_small way lanes.left first) (λ n here. bit lanes.left n here ∙ are.left (place n));
+      at_two = side_before passes straight from (bits_along way lanes.mid first) (bits_along way lanes.right first)
+          (bits_small way lanes.right first) (λ n here. bit lanes.right n here ∙ are.right (place n));
+    }
+
+-- a run along three lines of a map
+pub lanes_far : (passes : Cell → Bool) (straight : Straight) (from : Cell) (lanes : LaneWords) (far : Far)
+    → AreLanesOf (λ n k. passes (cell_on straight.axis n k)) (line_on straight.axis from) lanes
+    → GoesFar (bits_along straight.way lanes.mid (place_on straight.axis from))
+    (bits_along straight.way lanes.left (place_on straight.axis from))
+    (bits_along straight.way lanes.right (place_on straight.axis from)) far → RunsFar passes straight from far
+lanes_far passes straight from lanes far are goes =
+    let way = straight.way in
+    let first : ℕ = place_on straight.axis from in
+    far_runs passes straight from (bits_along way lanes.mid first) (bits_along way lanes.left first)
+    (bits_along way lanes.right first) far (track_of passes straight from lanes are)
+    (run_room way (bits_along way lanes.left first) (bits_along way lanes.right first) lanes.mid first far goes) goes

@@ -3,3 +3,4 @@ pub mod Runs
 pub mod Changes
 pub mod Reading
 pub mod StopLines
+pub mod Tracks

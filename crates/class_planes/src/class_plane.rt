@@ -2,24 +2,23 @@
 ghost use Rattle.std.specs.Prelude.{◌≡◌, ◌<◌, ◌≤◌, ◌/◌, ◌+◌, All, length, IfOk, IsTrue};
 ghost use Rattle.nav_types.specs.declared.cells.Cell.{Cell};
 ghost use Rattle.nav_types.specs.Cells.{IsInside, IsRectInside, cell_at};
-ghost use Rattle.nav_types.specs.Directions.{is_straight};
-ghost use Rattle.nav_types.specs.Lines.{IsFirstFree};
-ghost use Rattle.nav_types.specs.declared.directions.Dir.TheVariants as Dir;
+ghost use Rattle.nav_types.specs.Lines.{IsFirstFree, IsFirstBlocked, cell_on, line_on, place_on, side_along};
 ghost use Rattle.class_planes.specs.Planes.{AreFreeBits, IsOutside, is_passable};
 ghost use Rattle.class_planes.specs.inner.Lines.{AreRows, plane_of};
 ghost use Rattle.class_planes.specs.inner.Reading.{AreRead, IsUnread};
 ghost use Rattle.class_planes.specs.inner.Runs.{AreLanesOf, TellsStop};
+ghost use Rattle.class_planes.specs.inner.Tracks.{IsTrackOf, line_count};
 
-use crate::free_places::first_free;
+use crate::free_places::{first_blocked, first_free};
 use crate::lines::Lines;
 use crate::read_cells::ReadRect;
 use crate::rows::lines_of;
-use crate::stop_table::StopTable;
-use crate::stops::{lanes_at, stops_of, turned, updated_stops};
+use crate::stops::turned;
+use crate::tracks::Track;
 use crate::turned::{columns_of, updated_columns};
 use crate::updates::updated_lines;
 use crate::word_scans::Lanes;
-use nav_types::{Cell, Class, Dir, NoMemory, Rect, Rows, Size};
+use nav_types::{Axis, Cell, Class, NoMemory, Rect, Rows, Size, Straight, line_on, place_on};
 use std::alloc::Global;
 use std::marker::Model;
 
@@ -31,30 +30,24 @@ use std::marker::Model;
 /// the run has a stop for a side that opens.
 #[derive(Drop)]
 pub struct ClassPlane {
-    rows: Lines,
-    columns: Lines,
-    row_stops: StopTable,
-    column_stops: StopTable,
+    rows: Track,
+    columns: Track,
     size: Size,
 }
 
 impl Model for ClassPlane {
+    ghost use Rattle.nav_types.specs.declared.straights.Axis.TheVariants.{Row, Column};
     ghost use Rattle.class_planes.specs.Planes.{PlaneCells};
-    ghost use Rattle.class_planes.specs.inner.Lines.{AreRows, AreColumns, plane_of};
-    ghost use Rattle.class_planes.specs.inner.StopLines.{AreStops};
-    ghost use Rattle.class_planes.specs.declared.stop_words.Way.TheVariants.{Up, Down};
+    ghost use Rattle.class_planes.specs.inner.Lines.{plane_of};
+    ghost use Rattle.class_planes.specs.inner.Tracks.{IsTrackAlong};
 
     ghost Value = { PlaneCells };
 
-    ghost view = { λ p. plane_of (record { size = p.size; rows = p.rows }) };
+    ghost view = { λ p. plane_of (record { size = p.size; rows = p.rows.lines }) };
 
     ghost invariant = { λ p. record {
-      rows : AreRows (record { size = p.size; rows = p.rows });
-      columns : AreColumns (record { size = p.size; rows = p.rows }) p.columns;
-      east : AreStops Up p.size.h p.rows p.row_stops.up;
-      west : AreStops Down p.size.h p.rows p.row_stops.down;
-      north : AreStops Up p.size.w p.columns p.column_stops.up;
-      south : AreStops Down p.size.w p.columns p.column_stops.down;
+      row_track : IsTrackAlong Row (record { size = p.size; rows = p.rows.lines }) p.rows;
+      column_track : IsTrackAlong Column (record { size = p.size; rows = p.rows.lines }) p.columns;
     } };
 }
 
@@ -77,13 +70,11 @@ impl ClassPlane {
         ensures { IfOk result (λ plane. plane ≡ plane_of (record { size = size; rows = rows })) }
     {
         let columns = columns_of(alloc, &rows, size)?;
-        let row_stops = stops_of(alloc, &rows, size.h)?;
-        let column_stops = stops_of(alloc, &columns, size.w)?;
+        let row_track = Track::build(alloc, rows, size.h)?;
+        let column_track = Track::build(alloc, columns, size.w)?;
         Ok(ClassPlane {
-            rows,
-            columns,
-            row_stops,
-            column_stops,
+            rows: row_track,
+            columns: column_track,
             size,
         })
     }
@@ -109,24 +100,15 @@ impl ClassPlane {
         ensures size { IfOk result (λ plane. plane.size ≡ V.extent view.now) }
         ensures passes { IfOk result (λ plane. is_passable plane ≡ V.passes view.now class) }
     {
-        let rows = updated_lines(alloc, view, class, &self.rows, reads, rects)?;
-        let columns = updated_columns(alloc, &rows, self.size, &self.columns, rects)?;
         let size = self.size;
-        let row_stops = updated_stops(alloc, &self.rows, &rows, size.h, &self.row_stops, rects)?;
+        let rows = updated_lines(alloc, view, class, &self.rows.lines, reads, rects)?;
+        let columns = updated_columns(alloc, &rows, size, &self.columns.lines, rects)?;
+        let row_track = self.rows.renewed(alloc, rows, size.h, rects)?;
         let across = turned(alloc, rects)?;
-        let column_stops = updated_stops(
-            alloc,
-            &self.columns,
-            &columns,
-            size.w,
-            &self.column_stops,
-            &across,
-        )?;
+        let column_track = self.columns.renewed(alloc, columns, size.w, &across)?;
         Ok(ClassPlane {
-            rows,
-            columns,
-            row_stops,
-            column_stops,
+            rows: row_track,
+            columns: column_track,
             size,
         })
     }
@@ -145,7 +127,7 @@ impl ClassPlane {
         ensures words { length result.now ≡ self.now.size.w / 64 + 1 }
         ensures bits { AreFreeBits (λ i. is_passable self.now (cell_at i j)) result.now }
     {
-        self.rows.line(j)
+        self.rows.lines.line(j)
     }
 
     /// The passable cells of column `i`: bit `j % 64` of word `j / 64` is set exactly where the cell (i, j) is passable
@@ -155,45 +137,67 @@ impl ClassPlane {
         ensures words { length result.now ≡ self.now.size.h / 64 + 1 }
         ensures bits { AreFreeBits (λ j. is_passable self.now (cell_at i j)) result.now }
     {
-        self.columns.line(i)
+        self.columns.lines.line(i)
     }
 
-    /// The column of the first passable cell of the row, from this cell to the east; the width of the map where there is
+    /// The first place of the line from the cell's own up whose cell is passable; the length of the line where there is
     /// none. It looks at 64 cells at a time.
-    pub fn next_free_east(&self, cell: Cell) -> u16
+    pub fn next_free(&self, axis: Axis, cell: Cell) -> u16
         requires { IsInside self.now.size cell }
-        ensures { IsFirstFree (λ i. is_passable self.now (cell_at i cell.j)) cell.i self.now.size.w result }
+        ensures { IsFirstFree (λ k. is_passable self.now (cell_on axis (line_on axis cell) k)) (place_on axis cell)
+            (side_along axis self.now.size) result }
     {
-        first_free(self.row_words(cell.j), cell.i, self.size.w)
+        match axis {
+            Axis::Row => first_free(self.row_words(cell.j), cell.i, self.size.w),
+            Axis::Column => first_free(self.column_words(cell.i), cell.j, self.size.h),
+        }
     }
 
-    /// The row of the first passable cell of the column, from this cell to the north; the height of the map where there
+    /// The first place of the line from the cell's own up whose cell is not passable; the length of the line where there
     /// is none. It looks at 64 cells at a time.
-    pub fn next_free_north(&self, cell: Cell) -> u16
+    pub fn next_blocked(&self, axis: Axis, cell: Cell) -> u16
         requires { IsInside self.now.size cell }
-        ensures { IsFirstFree (λ j. is_passable self.now (cell_at cell.i j)) cell.j self.now.size.h result }
+        ensures { IsFirstBlocked (λ k. is_passable self.now (cell_on axis (line_on axis cell) k)) (place_on axis cell)
+            (side_along axis self.now.size) result }
     {
-        first_free(self.column_words(cell.i), cell.j, self.size.h)
+        match axis {
+            Axis::Row => first_blocked(self.row_words(cell.j), cell.i, self.size.w),
+            Axis::Column => first_blocked(self.column_words(cell.i), cell.j, self.size.h),
+        }
     }
 
-    /// Row `j` with the rows beside it.
+    /// The lines along the axis.
     #[inline(always)]
-    pub(crate) fn rows_at(&self, j: u16) -> Lanes<'_>
-        requires { j < self.now.size.h }
-        ensures words { length result.mid ≡ self.now.size.w / 64 + 1 }
-        ensures bits { AreLanesOf (λ j i. is_passable self.now (cell_at i j)) j result }
+    fn track(&self, axis: Axis) -> &Track
+        ensures { IsTrackOf (λ n k. is_passable self.now (cell_on axis n k)) (line_count axis self.now.size)
+            (side_along axis self.now.size) result.now }
     {
-        lanes_at(&self.rows, self.size.h, j)
+        match axis {
+            Axis::Row => &self.rows,
+            Axis::Column => &self.columns,
+        }
     }
 
-    /// Column `i` with the columns beside it.
+    /// How many lines the map has along the axis.
     #[inline(always)]
-    pub(crate) fn columns_at(&self, i: u16) -> Lanes<'_>
-        requires { i < self.now.size.w }
-        ensures words { length result.mid ≡ self.now.size.h / 64 + 1 }
-        ensures bits { AreLanesOf (λ i j. is_passable self.now (cell_at i j)) i result }
+    fn line_count(&self, axis: Axis) -> u16
+        ensures { result ≡ line_count axis self.now.size }
     {
-        lanes_at(&self.columns, self.size.w, i)
+        match axis {
+            Axis::Row => self.size.h,
+            Axis::Column => self.size.w,
+        }
+    }
+
+    /// The line of the cell along the axis, with the lines beside it.
+    #[inline(always)]
+    pub(crate) fn lanes_at(&self, axis: Axis, cell: Cell) -> Lanes<'_>
+        requires { IsTrue (is_passable self.now cell) }
+        ensures words { length result.mid ≡ side_along axis self.now.size / 64 + 1 }
+        ensures bits { AreLanesOf (λ n k. is_passable self.now (cell_on axis n k)) (line_on axis cell) result }
+    {
+        self.track(axis)
+            .lanes_at(self.line_count(axis), line_on(axis, cell))
     }
 
     /// Whether a cell of the map is passable.
@@ -201,57 +205,17 @@ impl ClassPlane {
         requires { IsInside self.now.size cell }
         ensures { result ≡ is_passable self.now cell }
     {
-        self.rows.is_free(cell.j, cell.i)
+        self.rows.lines.is_free(cell.j, cell.i)
     }
 
     /// Whether the straight run from the cell has a stop for a side that opens.
     #[inline(always)]
-    pub(crate) fn has_stop(&self, cell: Cell, dir: Dir) -> bool
-        requires passable { IsTrue (is_passable self.now cell) }
-        requires straight { IsTrue (is_straight dir) }
-        ensures { TellsStop (is_passable self.now) dir cell result }
-    {
-        match dir {
-            Dir::N => self.stops_north(cell),
-            Dir::E => self.stops_east(cell),
-            Dir::W => self.stops_west(cell),
-            Dir::S | Dir::NE | Dir::SE | Dir::SW | Dir::NW => self.stops_south(cell),
-        }
-    }
-
-    /// Whether the run to the north has a stop for a side that opens.
-    #[inline(always)]
-    fn stops_north(&self, cell: Cell) -> bool
+    pub(crate) fn has_stop(&self, cell: Cell, straight: Straight) -> bool
         requires { IsTrue (is_passable self.now cell) }
-        ensures { TellsStop (is_passable self.now) Dir.N cell result }
+        ensures { TellsStop (is_passable self.now) straight cell result }
     {
-        self.column_stops.stops_up(cell.i, cell.j)
-    }
-
-    /// Whether the run to the east has a stop for a side that opens.
-    #[inline(always)]
-    fn stops_east(&self, cell: Cell) -> bool
-        requires { IsTrue (is_passable self.now cell) }
-        ensures { TellsStop (is_passable self.now) Dir.E cell result }
-    {
-        self.row_stops.stops_up(cell.j, cell.i)
-    }
-
-    /// Whether the run to the south has a stop for a side that opens.
-    #[inline(always)]
-    fn stops_south(&self, cell: Cell) -> bool
-        requires { IsTrue (is_passable self.now cell) }
-        ensures { TellsStop (is_passable self.now) Dir.S cell result }
-    {
-        self.column_stops.stops_down(cell.i, cell.j)
-    }
-
-    /// Whether the run to the west has a stop for a side that opens.
-    #[inline(always)]
-    fn stops_west(&self, cell: Cell) -> bool
-        requires { IsTrue (is_passable self.now cell) }
-        ensures { TellsStop (is_passable self.now) Dir.W cell result }
-    {
-        self.row_stops.stops_down(cell.j, cell.i)
+        let axis = straight.axis;
+        self.track(axis)
+            .has_stop(straight.way, line_on(axis, cell), place_on(axis, cell))
     }
 }

@@ -16,6 +16,7 @@ mod stop_table;
 mod stop_words;
 mod stops;
 mod tight_rects;
+mod tracks;
 mod turned;
 mod updates;
 mod word_scans;

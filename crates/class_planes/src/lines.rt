@@ -4,11 +4,14 @@ ghost use Rattle.std.specs.Int.{bit_at};
 ghost use Rattle.class_planes.specs.inner.Lines.{line_at, line_in, free_at};
 ghost use Rattle.class_planes.specs.inner.Runs.{bit_in};
 
-use crate::word_scans::Lanes;
+use crate::word_scans::{Lanes, is_set};
 use nav_types::NoMemory;
 use std::alloc::Global;
 use std::marker::Model;
 use std::sync::Arc;
+
+/// How many lines a band has.
+pub const BAND: u16 = 32;
 
 /// The words of 32 lines. Contracts see the list of the words.
 #[derive(Drop)]
@@ -95,8 +98,8 @@ impl Lines {
         requires long { length (slice_index_or self.now.bands (n / 32) []) ≡ 32 * self.now.words }
         ensures { result.now ≡ line_at self.now n }
     {
-        let band = self.band(n / 32);
-        let start = usize::from(n % 32) * self.words;
+        let band = self.band(n / BAND);
+        let start = usize::from(n % BAND) * self.words;
         &band[start..start + self.words]
     }
 
@@ -112,7 +115,7 @@ impl Lines {
         ensures left { result.left ≡ line_at self.now (n + 1) }
         ensures right { result.right ≡ line_at self.now (n - 1) }
     {
-        lanes_in(self.band(n / 32), self.words, usize::from(n % 32))
+        lanes_in(self.band(n / BAND), self.words, usize::from(n % BAND))
     }
 
     /// Whether place `i` of line `n` is passable.
@@ -122,7 +125,7 @@ impl Lines {
         requires place { i / 64 < self.now.words }
         ensures { result ≡ free_at self.now n i }
     {
-        (self.line(n)[usize::from(i) / 64] >> (i % 64)) & 1 == 1
+        is_set(self.line(n), i)
     }
 
     /// The 16 places of line `n` from place 16 * group on, as the bits of a number.
@@ -140,8 +143,8 @@ impl Lines {
 pub fn is_inner(line: u16) -> bool
     ensures { IsTrue result ↔ ((0 < line % 32) × (line % 32 < 31)) }
 {
-    let place = line % 32;
-    0 < place && place < 31
+    let place = line % BAND;
+    0 < place && place < BAND - 1
 }
 
 /// How many words are copied at once.

@@ -1,9 +1,15 @@
 //! Runs over a view that has planes.
+ghost use Rattle.std.specs.Prelude.{IsTrue, IsFalse, IfSome, IfNone};
+ghost use Rattle.nav_types.specs.declared.cells.Cell.{Cell};
+ghost use Rattle.nav_types.specs.Directions.{is_straight};
+ghost use Rattle.jump_scan.specs.Stops.{IsStraightStop, IsDiagonalStop};
+ghost use Rattle.class_planes.specs.Planes.{is_passable};
 
+use crate::class_plane::ClassPlane;
 use crate::plane_scans;
 use crate::plane_sets::Planes;
 use jump_scan::Runs;
-use nav_types::{Aim, Cell, Class, Dir, Size, View};
+use nav_types::{Aim, Cell, Class, Dir, Heading, Size, View};
 use std::marker::Model;
 
 /// A view with planes of it, whose runs are scanned 64 cells at a time. A class without a plane is scanned cell by
@@ -65,19 +71,53 @@ impl<'a, V: View> View for PlaneRuns<'a, V> {
 impl<'a, V: View> Runs for PlaneRuns<'a, V> {
     fn straight<A: Aim>(&self, class: Class, from: Cell, dir: Dir, aim: &A) -> Option<Cell> {
         match self.planes.plane(class) {
-            Some(plane) => {
-                plane_scans::straight(plane, from, dir, aim.bounds(plane.size()), aim)
-            }
+            Some(plane) => straight_stop(plane, from, dir, aim),
             None => jump_scan::straight(self.view, class, from, dir, aim),
         }
     }
 
     fn diagonal<A: Aim>(&self, class: Class, from: Cell, dir: Dir, aim: &A) -> Option<Cell> {
         match self.planes.plane(class) {
-            Some(plane) => {
-                plane_scans::diagonal(plane, from, dir, aim.bounds(plane.size()), aim)
-            }
+            Some(plane) => diagonal_stop(plane, from, dir, aim),
             None => jump_scan::diagonal(self.view, class, from, dir, aim),
         }
+    }
+}
+
+/// The stop of the straight run from the cell.
+#[inline(always)]
+fn straight_stop<A: Aim>(plane: &ClassPlane, from: Cell, dir: Dir, aim: &A) -> Option<Cell>
+    requires start { IsTrue (is_passable plane.now from) }
+    requires straight { IsTrue (is_straight dir) }
+    requires aim { A.sound aim.now plane.now.size }
+    ensures some { IfSome result
+        (IsStraightStop (is_passable plane.now) (A.hit aim.now plane.now.size) dir from) }
+    ensures none { IfNone result
+        ((stop : Cell) → ¬ IsStraightStop (is_passable plane.now) (A.hit aim.now plane.now.size) dir from stop) }
+{
+    match dir.heading() {
+        Heading::Straight(straight) => {
+            plane_scans::straight(plane, from, straight, aim.bounds(plane.size()), aim)
+        }
+        Heading::Diagonal(_) => None,
+    }
+}
+
+/// The stop of the diagonal run from the cell.
+#[inline(always)]
+fn diagonal_stop<A: Aim>(plane: &ClassPlane, from: Cell, dir: Dir, aim: &A) -> Option<Cell>
+    requires start { IsTrue (is_passable plane.now from) }
+    requires diagonal { IsFalse (is_straight dir) }
+    requires aim { A.sound aim.now plane.now.size }
+    ensures some { IfSome result
+        (IsDiagonalStop (is_passable plane.now) (A.hit aim.now plane.now.size) dir from) }
+    ensures none { IfNone result
+        ((stop : Cell) → ¬ IsDiagonalStop (is_passable plane.now) (A.hit aim.now plane.now.size) dir from stop) }
+{
+    match dir.heading() {
+        Heading::Diagonal(diagonal) => {
+            plane_scans::diagonal(plane, from, diagonal, aim.bounds(plane.size()), aim)
+        }
+        Heading::Straight(_) => None,
     }
 }

@@ -1,85 +1,54 @@
 //! Runs over the plane of one class.
 ghost use Rattle.std.specs.Prelude.{◌≡◌, ◌<◌, ◌≤◌, ◌+◌, ◌-◌, ◌/◌, ◌==◌, ◌&&◌, ◌↔◌, ◌⊎◌, ℕ, IsTrue, IsFalse, IfSome, IfNone, length};
 ghost use Rattle.nav_types.specs.declared.cells.Cell.{Cell};
-ghost use Rattle.nav_types.specs.declared.directions.Dir.TheVariants as Dir;
+ghost use Rattle.nav_types.specs.declared.limits.TheConstants.{MAX_SIDE};
 ghost use Rattle.nav_types.specs.Cells.{IsInside, IsInRect, cell_at};
-ghost use Rattle.nav_types.specs.Directions.{Leads, is_straight, row_part, column_part};
+ghost use Rattle.nav_types.specs.Directions.{Leads, row_part, column_part};
+ghost use Rattle.nav_types.specs.Lines.{cell_on, line_on, place_on};
+ghost use Rattle.nav_types.specs.Straights.{diagonal_dir, straight_dir};
 ghost use Rattle.nav_types.specs.Frames.{IsFrame};
 ghost use Rattle.nav_types.specs.Walks.{Step};
 ghost use Rattle.jump_scan.specs.Stops.{HaltsDiagonal, IsStraightStop, HasStraightStop, IsDiagonalStop};
 ghost use Rattle.class_planes.specs.Planes.{AreFreeBits, is_passable};
-ghost use Rattle.class_planes.specs.inner.Runs.{Far, bit_in, cell_along, RunsFar, IsFirstHit, HasRoom, HoldsSteps};
+ghost use Rattle.class_planes.specs.inner.Runs.{Far, bit_in, cell_along, place_along, RunsFar, IsFirstHit, HasRoom, HoldsSteps};
 
 use crate::class_plane::ClassPlane;
 use crate::word_scans::{Reach, is_set};
-use nav_types::{Aim, Cell, Dir, Rect, Size};
+use nav_types::{Aim, Axis, Cell, Diagonal, Dir, Rect, Size, Straight, Way, place_on};
 use std::marker::Model;
-
-/// How far the run to the north goes.
-#[inline(always)]
-fn reach_north(plane: &ClassPlane, from: Cell) -> Reach
-    requires { IsTrue (is_passable plane.now from) }
-    ensures { RunsFar (is_passable plane.now) Dir.N from result }
-{
-    plane.columns_at(from.i).reach_up(from.j)
-}
-
-/// How far the run to the east goes.
-#[inline(always)]
-fn reach_east(plane: &ClassPlane, from: Cell) -> Reach
-    requires { IsTrue (is_passable plane.now from) }
-    ensures { RunsFar (is_passable plane.now) Dir.E from result }
-{
-    plane.rows_at(from.j).reach_up(from.i)
-}
-
-/// How far the run to the south goes.
-#[inline(always)]
-fn reach_south(plane: &ClassPlane, from: Cell) -> Reach
-    requires { IsTrue (is_passable plane.now from) }
-    ensures { RunsFar (is_passable plane.now) Dir.S from result }
-{
-    plane.columns_at(from.i).reach_down(from.j)
-}
-
-/// How far the run to the west goes.
-#[inline(always)]
-fn reach_west(plane: &ClassPlane, from: Cell) -> Reach
-    requires { IsTrue (is_passable plane.now from) }
-    ensures { RunsFar (is_passable plane.now) Dir.W from result }
-{
-    plane.rows_at(from.j).reach_down(from.i)
-}
 
 /// How far the straight run from the cell goes.
 #[inline(always)]
-fn reach(plane: &ClassPlane, from: Cell, dir: Dir) -> Reach
-    requires start { IsTrue (is_passable plane.now from) }
-    requires straight { IsTrue (is_straight dir) }
-    ensures { RunsFar (is_passable plane.now) dir from result }
+fn reach(plane: &ClassPlane, from: Cell, straight: Straight) -> Reach
+    requires { IsTrue (is_passable plane.now from) }
+    ensures { RunsFar (is_passable plane.now) straight from result }
 {
-    match dir {
-        Dir::N => reach_north(plane, from),
-        Dir::E => reach_east(plane, from),
-        Dir::W => reach_west(plane, from),
-        Dir::S | Dir::NE | Dir::SE | Dir::SW | Dir::NW => reach_south(plane, from),
-    }
+    let axis = straight.axis;
+    plane
+        .lanes_at(axis, from)
+        .reach(straight.way, place_on(axis, from))
 }
 
 /// The cell so many steps away.
-fn cell_along(from: Cell, dir: Dir, steps: u16) -> Cell
-    requires straight { IsTrue (is_straight dir) }
-    requires column { (cell_along dir from steps).i < 2048 }
-    requires row { (cell_along dir from steps).j < 2048 }
-    ensures { result ≡ cell_along dir from steps }
+fn cell_along(from: Cell, straight: Straight, steps: u16) -> Cell
+    requires column { (cell_along straight from steps).i < MAX_SIDE }
+    requires row { (cell_along straight from steps).j < MAX_SIDE }
+    ensures { result ≡ cell_along straight from steps }
 {
-    match dir {
-        Dir::N => Cell::new(from.i, from.j + steps),
-        Dir::E => Cell::new(from.i + steps, from.j),
-        Dir::W => Cell::new(from.i.saturating_sub(steps), from.j),
-        Dir::S | Dir::NE | Dir::SE | Dir::SW | Dir::NW => {
-            Cell::new(from.i, from.j.saturating_sub(steps))
-        }
+    match straight.axis {
+        Axis::Row => Cell::new(place_along(straight.way, from.i, steps), from.j),
+        Axis::Column => Cell::new(from.i, place_along(straight.way, from.j, steps)),
+    }
+}
+
+/// The place so many steps up or down a line.
+fn place_along(way: Way, place: u16, steps: u16) -> u16
+    requires { place_along way place steps < MAX_SIDE }
+    ensures { result ≡ place_along way place steps }
+{
+    match way {
+        Way::Up => place + steps,
+        Way::Down => place.saturating_sub(steps),
     }
 }
 
@@ -119,19 +88,25 @@ fn steps_down(place: u16, low: u16, high: u16, count: u16) -> Steps
     }
 }
 
-/// The steps, from 1 to `count`, that lead into the rectangle.
-fn steps_into(rect: Rect, from: Cell, dir: Dir, count: u16) -> Steps
-    requires straight { IsTrue (is_straight dir) }
-    requires room { HasRoom dir from count }
-    ensures { HoldsSteps (λ n. IsInRect rect (cell_along dir from n)) count result }
+/// The steps, from 1 to `count`, that lead from a place to one from `low` to `high`.
+fn steps_along(way: Way, place: u16, low: u16, high: u16, count: u16) -> Steps
+    requires { HasRoom way place count }
+    ensures { HoldsSteps (λ n. (low ≤ place_along way place n) × (place_along way place n ≤ high)) count result }
 {
-    match dir {
-        Dir::N => steps_up(from.j, rect.j0, rect.j1, count),
-        Dir::E => steps_up(from.i, rect.i0, rect.i1, count),
-        Dir::W => steps_down(from.i, rect.i0, rect.i1, count),
-        Dir::S | Dir::NE | Dir::SE | Dir::SW | Dir::NW => {
-            steps_down(from.j, rect.j0, rect.j1, count)
-        }
+    match way {
+        Way::Up => steps_up(place, low, high, count),
+        Way::Down => steps_down(place, low, high, count),
+    }
+}
+
+/// The steps, from 1 to `count`, that lead into the rectangle.
+fn steps_into(rect: Rect, from: Cell, straight: Straight, count: u16) -> Steps
+    requires { HasRoom straight.way (place_on straight.axis from) count }
+    ensures { HoldsSteps (λ n. IsInRect rect (cell_along straight from n)) count result }
+{
+    match straight.axis {
+        Axis::Row => steps_along(straight.way, from.i, rect.i0, rect.i1, count),
+        Axis::Column => steps_along(straight.way, from.j, rect.j0, rect.j1, count),
     }
 }
 
@@ -144,17 +119,14 @@ fn is_between(place: u16, low: u16, high: u16) -> bool
     place.wrapping_sub(low) <= high.wrapping_sub(low)
 }
 
-/// Whether the line of the run meets the rectangle.
+/// Whether the line of the cell meets the rectangle.
 #[inline(always)]
-fn meets(rect: Rect, from: Cell, dir: Dir) -> bool
-    requires straight { IsTrue (is_straight dir) }
-    ensures { IsFalse result → (n : ℕ) → IsInRect rect (cell_along dir from n) → ⊥ }
+fn meets(rect: Rect, cell: Cell, axis: Axis) -> bool
+    ensures { IsFalse result → (place : ℕ) → IsInRect rect (cell_on axis (line_on axis cell) place) → ⊥ }
 {
-    match dir {
-        Dir::E | Dir::W => is_between(from.j, rect.j0, rect.j1),
-        Dir::N | Dir::S | Dir::NE | Dir::SE | Dir::SW | Dir::NW => {
-            is_between(from.i, rect.i0, rect.i1)
-        }
+    match axis {
+        Axis::Row => is_between(cell.j, rect.j0, rect.j1),
+        Axis::Column => is_between(cell.i, rect.i0, rect.i1),
     }
 }
 
@@ -163,23 +135,22 @@ fn meets(rect: Rect, from: Cell, dir: Dir) -> bool
 fn first_hit<A: Aim>(
     size: Size,
     from: Cell,
-    dir: Dir,
+    straight: Straight,
     count: u16,
     rect: Rect,
     aim: &A,
 ) -> Option<u16>
-    requires straight { IsTrue (is_straight dir) }
-    requires room { HasRoom dir from count }
-    requires inside { (n : ℕ) → n ≤ count → IsInside size (cell_along dir from n) }
+    requires room { HasRoom straight.way (place_on straight.axis from) count }
+    requires inside { (n : ℕ) → n ≤ count → IsInside size (cell_along straight from n) }
     requires aim { A.sound aim.now size }
     requires frame { IsFrame (A.framed aim.now size) size rect }
-    ensures some { IfSome result (IsFirstHit (A.hit aim.now size) dir from count) }
+    ensures some { IfSome result (IsFirstHit (A.hit aim.now size) straight from count) }
     ensures none { IfNone result
-        ((n : ℕ) → 0 < n → n ≤ count → IsFalse (A.hit aim.now size (cell_along dir from n))) }
+        ((n : ℕ) → 0 < n → n ≤ count → IsFalse (A.hit aim.now size (cell_along straight from n))) }
 {
-    let Steps { first, last } = steps_into(rect, from, dir, count);
+    let Steps { first, last } = steps_into(rect, from, straight, count);
     for steps in first..last + 1 {
-        if aim.hits(size, cell_along(from, dir, steps)) {
+        if aim.hits(size, cell_along(from, straight, steps)) {
             return Some(steps);
         }
     }
@@ -188,140 +159,187 @@ fn first_hit<A: Aim>(
 
 /// Whether one of the cells from 1 to `count` steps away is hit.
 #[inline(always)]
-fn has_hit<A: Aim>(size: Size, from: Cell, dir: Dir, count: u16, rect: Rect, aim: &A) -> bool
-    requires straight { IsTrue (is_straight dir) }
-    requires room { HasRoom dir from count }
-    requires inside { (n : ℕ) → n ≤ count → IsInside size (cell_along dir from n) }
+fn has_hit<A: Aim>(
+    size: Size,
+    from: Cell,
+    straight: Straight,
+    count: u16,
+    rect: Rect,
+    aim: &A,
+) -> bool
+    requires room { HasRoom straight.way (place_on straight.axis from) count }
+    requires inside { (n : ℕ) → n ≤ count → IsInside size (cell_along straight from n) }
     requires aim { A.sound aim.now size }
     requires frame { IsFrame (A.framed aim.now size) size rect }
-    ensures hits { IsTrue result → (steps : ℕ) × IsFirstHit (A.hit aim.now size) dir from count steps }
+    ensures hits { IsTrue result → (steps : ℕ) × IsFirstHit (A.hit aim.now size) straight from count steps }
     ensures misses { IsFalse result
-        → (n : ℕ) → 0 < n → n ≤ count → IsFalse (A.hit aim.now size (cell_along dir from n)) }
+        → (n : ℕ) → 0 < n → n ≤ count → IsFalse (A.hit aim.now size (cell_along straight from n)) }
 {
-    first_hit(size, from, dir, count, rect, aim).is_some()
+    first_hit(size, from, straight, count, rect, aim).is_some()
 }
 
-/// The stop of the straight run from the cell, where the aim has the rectangle.
+/// The stop of the straight run from the cell, where the aim has the rectangle. Each direction has a copy of its own of the
+/// code.
+#[inline(always)]
 pub fn straight<A: Aim>(
     plane: &ClassPlane,
     from: Cell,
-    dir: Dir,
+    straight: Straight,
     rect: Rect,
     aim: &A,
 ) -> Option<Cell>
     requires start { IsTrue (is_passable plane.now from) }
-    requires straight { IsTrue (is_straight dir) }
     requires aim { A.sound aim.now plane.now.size }
     requires frame { IsFrame (A.framed aim.now plane.now.size) plane.now.size rect }
     ensures some { IfSome result
-        (IsStraightStop (is_passable plane.now) (A.hit aim.now plane.now.size) dir from) }
+        (IsStraightStop (is_passable plane.now) (A.hit aim.now plane.now.size) (straight_dir straight) from) }
     ensures none { IfNone result
-        ((stop : Cell) → ¬ IsStraightStop (is_passable plane.now) (A.hit aim.now plane.now.size) dir from stop) }
+        ((stop : Cell) → ¬ IsStraightStop (is_passable plane.now) (A.hit aim.now plane.now.size) (straight_dir straight) from stop) }
 {
-    if !meets(rect, from, dir) {
-        return forced_stop(plane, from, dir);
+    match (straight.axis, straight.way) {
+        (Axis::Row, Way::Up) => {
+            let straight = Straight {
+                axis: Axis::Row,
+                way: Way::Up,
+            };
+            straight_to(plane, from, straight, rect, aim)
+        }
+        (Axis::Row, Way::Down) => {
+            let straight = Straight {
+                axis: Axis::Row,
+                way: Way::Down,
+            };
+            straight_to(plane, from, straight, rect, aim)
+        }
+        (Axis::Column, Way::Up) => {
+            let straight = Straight {
+                axis: Axis::Column,
+                way: Way::Up,
+            };
+            straight_to(plane, from, straight, rect, aim)
+        }
+        (Axis::Column, Way::Down) => {
+            let straight = Straight {
+                axis: Axis::Column,
+                way: Way::Down,
+            };
+            straight_to(plane, from, straight, rect, aim)
+        }
     }
-    let Reach { count, forced } = reach(plane, from, dir);
-    match first_hit(plane.size(), from, dir, count, rect, aim) {
-        Some(steps) => Some(cell_along(from, dir, steps)),
-        None => end_of(from, dir, count, forced),
+}
+
+/// The stop of the straight run in this direction.
+#[inline(always)]
+fn straight_to<A: Aim>(
+    plane: &ClassPlane,
+    from: Cell,
+    straight: Straight,
+    rect: Rect,
+    aim: &A,
+) -> Option<Cell>
+    requires start { IsTrue (is_passable plane.now from) }
+    requires aim { A.sound aim.now plane.now.size }
+    requires frame { IsFrame (A.framed aim.now plane.now.size) plane.now.size rect }
+    ensures some { IfSome result
+        (IsStraightStop (is_passable plane.now) (A.hit aim.now plane.now.size) (straight_dir straight) from) }
+    ensures none { IfNone result
+        ((stop : Cell) → ¬ IsStraightStop (is_passable plane.now) (A.hit aim.now plane.now.size) (straight_dir straight) from stop) }
+{
+    if !meets(rect, from, straight.axis) {
+        return forced_stop(plane, from, straight);
+    }
+    let Reach { count, forced } = reach(plane, from, straight);
+    match first_hit(plane.size(), from, straight, count, rect, aim) {
+        Some(steps) => Some(cell_along(from, straight, steps)),
+        None => end_of(from, straight, count, forced),
     }
 }
 
 /// The cell at which a side opens for the straight run from the cell. The run is scanned only where there is one.
 #[inline(always)]
-fn forced_stop(plane: &ClassPlane, from: Cell, dir: Dir) -> Option<Cell>
+fn forced_stop(plane: &ClassPlane, from: Cell, straight: Straight) -> Option<Cell>
     requires start { IsTrue (is_passable plane.now from) }
-    requires straight { IsTrue (is_straight dir) }
-    ensures some { IfSome result (λ cell. (far : Far) × (RunsFar (is_passable plane.now) dir from far
-        × (IsTrue far.forced × (cell ≡ cell_along dir from far.count)))) }
-    ensures none { IfNone result ((far : Far) × (RunsFar (is_passable plane.now) dir from far × IsFalse far.forced)) }
+    ensures some { IfSome result (λ cell. (far : Far) × (RunsFar (is_passable plane.now) straight from far
+        × (IsTrue far.forced × (cell ≡ cell_along straight from far.count)))) }
+    ensures none { IfNone result ((far : Far) × (RunsFar (is_passable plane.now) straight from far × IsFalse far.forced)) }
 {
-    if !plane.has_stop(from, dir) {
+    if !plane.has_stop(from, straight) {
         return None;
     }
-    let Reach { count, forced } = reach(plane, from, dir);
-    end_of(from, dir, count, forced)
+    let Reach { count, forced } = reach(plane, from, straight);
+    end_of(from, straight, count, forced)
 }
 
 /// The last cell of the run, where a side opens there.
-fn end_of(from: Cell, dir: Dir, count: u16, forced: bool) -> Option<Cell>
-    requires straight { IsTrue (is_straight dir) }
-    requires column { (cell_along dir from count).i < 2048 }
-    requires row { (cell_along dir from count).j < 2048 }
-    ensures some { IfSome result (λ cell. IsTrue forced × (cell ≡ cell_along dir from count)) }
+fn end_of(from: Cell, straight: Straight, count: u16, forced: bool) -> Option<Cell>
+    requires column { (cell_along straight from count).i < MAX_SIDE }
+    requires row { (cell_along straight from count).j < MAX_SIDE }
+    ensures some { IfSome result (λ cell. IsTrue forced × (cell ≡ cell_along straight from count)) }
     ensures none { IfNone result (IsFalse forced) }
 {
     if forced {
-        Some(cell_along(from, dir, count))
+        Some(cell_along(from, straight, count))
     } else {
         None
     }
 }
 
 /// Whether the straight run from the cell, which is scanned, has a stop.
-fn has_scanned_stop<A: Aim>(plane: &ClassPlane, cell: Cell, dir: Dir, rect: Rect, aim: &A) -> bool
+fn has_scanned_stop<A: Aim>(
+    plane: &ClassPlane,
+    cell: Cell,
+    straight: Straight,
+    rect: Rect,
+    aim: &A,
+) -> bool
     requires passable { IsTrue (is_passable plane.now cell) }
-    requires straight { IsTrue (is_straight dir) }
     requires aim { A.sound aim.now plane.now.size }
     requires frame { IsFrame (A.framed aim.now plane.now.size) plane.now.size rect }
-    ensures { IsTrue result ↔ HasStraightStop (is_passable plane.now) (A.hit aim.now plane.now.size) dir cell }
+    ensures { IsTrue result ↔ HasStraightStop (is_passable plane.now) (A.hit aim.now plane.now.size) (straight_dir straight) cell }
 {
-    let Reach { count, forced } = reach(plane, cell, dir);
-    forced || has_hit(plane.size(), cell, dir, count, rect, aim)
+    let Reach { count, forced } = reach(plane, cell, straight);
+    forced || has_hit(plane.size(), cell, straight, count, rect, aim)
 }
 
 /// Whether the straight run from the cell has a stop.
 #[inline(always)]
-fn has_straight_stop<A: Aim>(plane: &ClassPlane, cell: Cell, dir: Dir, rect: Rect, aim: &A) -> bool
+fn has_straight_stop<A: Aim>(
+    plane: &ClassPlane,
+    cell: Cell,
+    straight: Straight,
+    rect: Rect,
+    aim: &A,
+) -> bool
     requires passable { IsTrue (is_passable plane.now cell) }
-    requires straight { IsTrue (is_straight dir) }
     requires aim { A.sound aim.now plane.now.size }
     requires frame { IsFrame (A.framed aim.now plane.now.size) plane.now.size rect }
-    ensures { IsTrue result ↔ HasStraightStop (is_passable plane.now) (A.hit aim.now plane.now.size) dir cell }
+    ensures { IsTrue result ↔ HasStraightStop (is_passable plane.now) (A.hit aim.now plane.now.size) (straight_dir straight) cell }
 {
-    if !meets(rect, cell, dir) {
-        return plane.has_stop(cell, dir);
+    if !meets(rect, cell, straight.axis) {
+        return plane.has_stop(cell, straight);
     }
-    has_scanned_stop(plane, cell, dir, rect, aim)
-}
-
-/// The straight part of the direction along the row.
-#[inline(always)]
-fn row_part(dir: Dir) -> Dir
-    ensures { result ≡ row_part dir }
-{
-    match dir {
-        Dir::NE | Dir::SE => Dir::E,
-        Dir::NW | Dir::SW => Dir::W,
-        Dir::N | Dir::E | Dir::S | Dir::W => dir,
-    }
-}
-
-/// The straight part of the direction along the column.
-#[inline(always)]
-fn column_part(dir: Dir) -> Dir
-    ensures { result ≡ column_part dir }
-{
-    match dir {
-        Dir::NE | Dir::NW => Dir::N,
-        Dir::SE | Dir::SW => Dir::S,
-        Dir::N | Dir::E | Dir::S | Dir::W => dir,
-    }
+    has_scanned_stop(plane, cell, straight, rect, aim)
 }
 
 /// Whether the straight run in one of the two straight parts of the direction has a stop.
 #[inline(always)]
-fn has_stop_aside<A: Aim>(plane: &ClassPlane, cell: Cell, dir: Dir, rect: Rect, aim: &A) -> bool
+fn has_stop_aside<A: Aim>(
+    plane: &ClassPlane,
+    cell: Cell,
+    diagonal: Diagonal,
+    rect: Rect,
+    aim: &A,
+) -> bool
     requires passable { IsTrue (is_passable plane.now cell) }
     requires aim { A.sound aim.now plane.now.size }
     requires frame { IsFrame (A.framed aim.now plane.now.size) plane.now.size rect }
     ensures { IsTrue result
-        ↔ (HasStraightStop (is_passable plane.now) (A.hit aim.now plane.now.size) (row_part dir) cell
-        ⊎ HasStraightStop (is_passable plane.now) (A.hit aim.now plane.now.size) (column_part dir) cell) }
+        ↔ (HasStraightStop (is_passable plane.now) (A.hit aim.now plane.now.size) (row_part (diagonal_dir diagonal)) cell
+        ⊎ HasStraightStop (is_passable plane.now) (A.hit aim.now plane.now.size) (column_part (diagonal_dir diagonal))
+        cell) }
 {
-    has_straight_stop(plane, cell, row_part(dir), rect, aim)
-        || has_straight_stop(plane, cell, column_part(dir), rect, aim)
+    has_straight_stop(plane, cell, diagonal.row_part(), rect, aim)
+        || has_straight_stop(plane, cell, diagonal.column_part(), rect, aim)
 }
 
 /// Whether the cell may lie in the rectangle.
@@ -345,7 +363,7 @@ fn is_hit<A: Aim>(size: Size, cell: Cell, rect: Rect, aim: &A) -> bool
 /// The place that a step leads to along a line. None exactly where it would lie before the first.
 #[inline(always)]
 fn shifted(place: u16, gained: u16, lost: u16) -> Option<u16>
-    requires place { place < 2048 }
+    requires place { place < MAX_SIDE }
     requires gains { gained ≤ 1 }
     ensures some { IfSome result (λ next. (next + lost ≡ place + gained) × (next ≤ place + 1)) }
     ensures none { IfNone result ((next : ℕ) → next + lost ≡ place + gained → ⊥) }
@@ -360,8 +378,8 @@ fn shifted(place: u16, gained: u16, lost: u16) -> Option<u16>
 /// The cell that one step leads to. None exactly where it would lie before the first column or the first row.
 #[inline(always)]
 fn cell_beside(cell: Cell, dir: Dir) -> Option<Cell>
-    requires column { cell.i < 2048 }
-    requires row { cell.j < 2048 }
+    requires column { cell.i < MAX_SIDE }
+    requires row { cell.j < MAX_SIDE }
     ensures leads { IfSome result (Leads dir cell) }
     ensures near { IfSome result (λ next. (next.i ≤ cell.i + 1) × (next.j ≤ cell.j + 1)) }
     ensures none { IfNone result ((next : Cell) → ¬ Leads dir cell next) }
@@ -391,15 +409,15 @@ fn is_open(row: &[u64], next_row: &[u64], from: Cell, to: Cell) -> bool
 /// The cell that one legal diagonal step from a passable cell leads to, where these are the words of the cell's row. None
 /// exactly where that step is not legal. Past the map no bit is set, so that only the first row and column are minded.
 #[inline(always)]
-fn next_cell(plane: &ClassPlane, row: &[u64], cell: Cell, dir: Dir) -> Option<Cell>
+fn next_cell(plane: &ClassPlane, row: &[u64], cell: Cell, diagonal: Diagonal) -> Option<Cell>
     requires passable { IsTrue (is_passable plane.now cell) }
     requires inside { IsInside plane.now.size cell }
     requires words { length row.now ≡ plane.now.size.w / 64 + 1 }
     requires bits { AreFreeBits (λ i. is_passable plane.now (cell_at i cell.j)) row.now }
-    ensures some { IfSome result (Step (is_passable plane.now) dir cell) }
-    ensures none { IfNone result ((next : Cell) → ¬ Step (is_passable plane.now) dir cell next) }
+    ensures some { IfSome result (Step (is_passable plane.now) (diagonal_dir diagonal) cell) }
+    ensures none { IfNone result ((next : Cell) → ¬ Step (is_passable plane.now) (diagonal_dir diagonal) cell next) }
 {
-    let Some(next) = cell_beside(cell, dir) else {
+    let Some(next) = cell_beside(cell, diagonal.dir()) else {
         return None;
     };
     if !is_open(row, plane.row_words(next.j), cell, next) {
@@ -410,58 +428,105 @@ fn next_cell(plane: &ClassPlane, row: &[u64], cell: Cell, dir: Dir) -> Option<Ce
 
 /// Whether a diagonal run in the direction stops at the cell, whatever way the cell lies from the aim.
 #[inline(never)]
-fn halts_by_aim<A: Aim>(plane: &ClassPlane, cell: Cell, dir: Dir, rect: Rect, aim: &A) -> bool
+fn halts_by_aim<A: Aim>(
+    plane: &ClassPlane,
+    cell: Cell,
+    diagonal: Diagonal,
+    rect: Rect,
+    aim: &A,
+) -> bool
     requires passable { IsTrue (is_passable plane.now cell) }
     requires inside { IsInside plane.now.size cell }
     requires aim { A.sound aim.now plane.now.size }
     requires frame { IsFrame (A.framed aim.now plane.now.size) plane.now.size rect }
-    ensures { IsTrue result ↔ HaltsDiagonal (is_passable plane.now) (A.hit aim.now plane.now.size) dir cell }
+    ensures { IsTrue result ↔ HaltsDiagonal (is_passable plane.now) (A.hit aim.now plane.now.size) (diagonal_dir diagonal) cell }
 {
-    is_hit(plane.size(), cell, rect, aim) || has_stop_aside(plane, cell, dir, rect, aim)
+    is_hit(plane.size(), cell, rect, aim) || has_stop_aside(plane, cell, diagonal, rect, aim)
 }
 
 /// Whether a diagonal run in the direction stops at the cell. Where neither the cell's row nor its column meets the aim, the
 /// stops known beforehand tell.
 #[inline(always)]
-fn halts_diagonal<A: Aim>(plane: &ClassPlane, cell: Cell, dir: Dir, rect: Rect, aim: &A) -> bool
+fn halts_diagonal<A: Aim>(
+    plane: &ClassPlane,
+    cell: Cell,
+    diagonal: Diagonal,
+    rect: Rect,
+    aim: &A,
+) -> bool
     requires passable { IsTrue (is_passable plane.now cell) }
     requires inside { IsInside plane.now.size cell }
     requires aim { A.sound aim.now plane.now.size }
     requires frame { IsFrame (A.framed aim.now plane.now.size) plane.now.size rect }
-    ensures { IsTrue result ↔ HaltsDiagonal (is_passable plane.now) (A.hit aim.now plane.now.size) dir cell }
+    ensures { IsTrue result ↔ HaltsDiagonal (is_passable plane.now) (A.hit aim.now plane.now.size) (diagonal_dir diagonal) cell }
 {
-    let along_row = row_part(dir);
-    let along_column = column_part(dir);
-    if meets(rect, cell, along_row) || meets(rect, cell, along_column) {
-        return halts_by_aim(plane, cell, dir, rect, aim);
+    let along_row = diagonal.row_part();
+    let along_column = diagonal.column_part();
+    if meets(rect, cell, along_row.axis) || meets(rect, cell, along_column.axis) {
+        return halts_by_aim(plane, cell, diagonal, rect, aim);
     }
     plane.has_stop(cell, along_row) || plane.has_stop(cell, along_column)
 }
 
 /// The stop of the diagonal run from the cell, where the aim has the rectangle. Each direction has a copy of its own of
 /// the code.
+#[inline(always)]
 pub fn diagonal<A: Aim>(
     plane: &ClassPlane,
     from: Cell,
-    dir: Dir,
+    diagonal: Diagonal,
     rect: Rect,
     aim: &A,
 ) -> Option<Cell>
     requires start { IsTrue (is_passable plane.now from) }
-    requires diagonal { IsFalse (is_straight dir) }
     requires aim { A.sound aim.now plane.now.size }
     requires frame { IsFrame (A.framed aim.now plane.now.size) plane.now.size rect }
     ensures some { IfSome result
-        (IsDiagonalStop (is_passable plane.now) (A.hit aim.now plane.now.size) dir from) }
+        (IsDiagonalStop (is_passable plane.now) (A.hit aim.now plane.now.size) (diagonal_dir diagonal) from) }
     ensures none { IfNone result
-        ((stop : Cell) → ¬ IsDiagonalStop (is_passable plane.now) (A.hit aim.now plane.now.size) dir from stop) }
+        ((stop : Cell) → ¬ IsDiagonalStop (is_passable plane.now) (A.hit aim.now plane.now.size) (diagonal_dir diagonal) from stop) }
 {
-    match dir {
-        Dir::NE => diagonal_to(plane, from, Dir::NE, rect, aim),
-        Dir::SE => diagonal_to(plane, from, Dir::SE, rect, aim),
-        Dir::SW => diagonal_to(plane, from, Dir::SW, rect, aim),
-        Dir::NW => diagonal_to(plane, from, Dir::NW, rect, aim),
-        Dir::N | Dir::E | Dir::S | Dir::W => None,
+    match (diagonal.columns, diagonal.rows) {
+        (Way::Up, Way::Up) => diagonal_to(
+            plane,
+            from,
+            Diagonal {
+                columns: Way::Up,
+                rows: Way::Up,
+            },
+            rect,
+            aim,
+        ),
+        (Way::Up, Way::Down) => diagonal_to(
+            plane,
+            from,
+            Diagonal {
+                columns: Way::Up,
+                rows: Way::Down,
+            },
+            rect,
+            aim,
+        ),
+        (Way::Down, Way::Up) => diagonal_to(
+            plane,
+            from,
+            Diagonal {
+                columns: Way::Down,
+                rows: Way::Up,
+            },
+            rect,
+            aim,
+        ),
+        (Way::Down, Way::Down) => diagonal_to(
+            plane,
+            from,
+            Diagonal {
+                columns: Way::Down,
+                rows: Way::Down,
+            },
+            rect,
+            aim,
+        ),
     }
 }
 
@@ -470,7 +535,7 @@ pub fn diagonal<A: Aim>(
 fn diagonal_to<A: Aim>(
     plane: &ClassPlane,
     from: Cell,
-    dir: Dir,
+    diagonal: Diagonal,
     rect: Rect,
     aim: &A,
 ) -> Option<Cell>
@@ -478,15 +543,15 @@ fn diagonal_to<A: Aim>(
     requires aim { A.sound aim.now plane.now.size }
     requires frame { IsFrame (A.framed aim.now plane.now.size) plane.now.size rect }
     ensures some { IfSome result
-        (IsDiagonalStop (is_passable plane.now) (A.hit aim.now plane.now.size) dir from) }
+        (IsDiagonalStop (is_passable plane.now) (A.hit aim.now plane.now.size) (diagonal_dir diagonal) from) }
     ensures none { IfNone result
-        ((stop : Cell) → ¬ IsDiagonalStop (is_passable plane.now) (A.hit aim.now plane.now.size) dir from stop) }
+        ((stop : Cell) → ¬ IsDiagonalStop (is_passable plane.now) (A.hit aim.now plane.now.size) (diagonal_dir diagonal) from stop) }
 {
     let mut cell = from;
     let mut row = plane.row_words(from.j);
-    'run: while let Some(next) = next_cell(plane, row, cell, dir) {
+    'run: while let Some(next) = next_cell(plane, row, cell, diagonal) {
         let next_row = plane.row_words(next.j);
-        if halts_diagonal(plane, next, dir, rect, aim) {
+        if halts_diagonal(plane, next, diagonal, rect, aim) {
             return Some(next);
         }
         cell = next;

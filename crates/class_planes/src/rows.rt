@@ -6,14 +6,11 @@ ghost use Rattle.nav_types.specs.Rows.{bit_of};
 ghost use Rattle.class_planes.specs.Planes.{AreFreeBits};
 ghost use Rattle.class_planes.specs.inner.Lines.{IsBand, AreLines};
 
-use crate::lines::Lines;
+use crate::lines::{BAND, Lines};
 use lane_rows::plane_words;
 use nav_types::{Class, NoMemory, Rows};
 use std::alloc::Global;
 use std::marker::Model;
-
-/// How many lines a band has.
-const BAND: u16 = 32;
 
 /// The rows of the view for the class, as lines of bits. After the last row there is at least one line of zeros.
 pub fn lines_of<V: Rows>(alloc: Global, view: &V, class: Class) -> Result<Lines, NoMemory>

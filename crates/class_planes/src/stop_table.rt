@@ -1,16 +1,14 @@
 //! The stops of the runs up and down the lines of a map, in bands that several tables may share.
 ghost use Rattle.std.specs.Prelude.{false, ◌≡◌, ◌<◌, ◌≤◌, ◌*◌, ◌/◌, ◌%◌, ◌==◌, [], length, slice_index_or, IfOk, OnOk};
 ghost use Rattle.class_planes.specs.inner.Lines.{AreLines, free_at, line_in};
-ghost use Rattle.class_planes.specs.inner.StopLines.{no_bands, with_band};
+ghost use Rattle.class_planes.specs.inner.StopLines.{no_bands, stops_along, with_band};
 ghost use Rattle.class_planes.specs.inner.Runs.{bit_in};
 
-use nav_types::NoMemory;
+use crate::lines::BAND;
+use nav_types::{NoMemory, Way};
 use std::alloc::Global;
 use std::marker::Model;
 use std::sync::Arc;
-
-/// How many lines a band has.
-const BAND: u16 = 32;
 
 /// The stops of the runs up and down 32 lines. Contracts see the words of both.
 #[derive(Drop)]
@@ -82,7 +80,7 @@ impl StopTable {
     }
 
     /// The words of band `b` for the runs upwards.
-    pub fn up_band(&self, b: u16) -> &[u64]
+    fn up_band(&self, b: u16) -> &[u64]
         requires { b < length self.now.up.bands }
         ensures { result.now ≡ slice_index_or self.now.up.bands b [] }
     {
@@ -90,39 +88,41 @@ impl StopTable {
     }
 
     /// The words of band `b` for the runs downwards.
-    pub fn down_band(&self, b: u16) -> &[u64]
+    fn down_band(&self, b: u16) -> &[u64]
         requires { b < length self.now.down.bands }
         ensures { result.now ≡ slice_index_or self.now.down.bands b [] }
     {
         &self.bands[usize::from(b)].down
     }
 
-    /// Whether the run upwards from place `i` of line `n` has a stop.
+    /// The words of band `b` for the runs that way.
     #[inline(always)]
-    pub fn stops_up(&self, n: u16, i: u16) -> bool
-        requires band { n / 32 < length self.now.up.bands }
-        requires long { length (slice_index_or self.now.up.bands (n / 32) []) ≡ 32 * self.now.up.words }
-        requires place { i / 64 < self.now.up.words }
-        ensures { result ≡ free_at self.now.up n i }
+    pub fn band(&self, way: Way, b: u16) -> &[u64]
+        requires { b < length (stops_along way self.now).bands }
+        ensures { result.now ≡ slice_index_or (stops_along way self.now).bands b [] }
     {
-        is_set(self.up_band(n / BAND), self.words, n % BAND, i)
+        match way {
+            Way::Up => self.up_band(b),
+            Way::Down => self.down_band(b),
+        }
     }
 
-    /// Whether the run downwards from place `i` of line `n` has a stop.
+    /// Whether the run that way from place `i` of line `n` has a stop.
     #[inline(always)]
-    pub fn stops_down(&self, n: u16, i: u16) -> bool
-        requires band { n / 32 < length self.now.down.bands }
-        requires long { length (slice_index_or self.now.down.bands (n / 32) []) ≡ 32 * self.now.down.words }
-        requires place { i / 64 < self.now.down.words }
-        ensures { result ≡ free_at self.now.down n i }
+    pub fn has_stop(&self, way: Way, n: u16, i: u16) -> bool
+        requires band { n / 32 < length (stops_along way self.now).bands }
+        requires long { length (slice_index_or (stops_along way self.now).bands (n / 32) [])
+            ≡ 32 * (stops_along way self.now).words }
+        requires place { i / 64 < (stops_along way self.now).words }
+        ensures { result ≡ free_at (stops_along way self.now) n i }
     {
-        is_set(self.down_band(n / BAND), self.words, n % BAND, i)
+        is_set_in(self.band(way, n / BAND), self.words, n % BAND, i)
     }
 }
 
 /// Whether the bit of place `i` of line `k` of a band is set.
 #[inline(always)]
-fn is_set(band: &[u64], words: usize, k: u16, i: u16) -> bool
+fn is_set_in(band: &[u64], words: usize, k: u16, i: u16) -> bool
     requires long { length band.now ≡ 32 * words }
     requires line { k < 32 }
     requires place { i / 64 < words }

@@ -2,19 +2,12 @@
 //! that opens.
 ghost use Rattle.std.specs.Prelude.{◌≡◌, ◌<◌, ◌≤◌, ◌+◌, ◌-◌, ◌*◌, ◌/◌, ℕ, length, max, min};
 ghost use Rattle.std.specs.Int.{bit_at};
-ghost use Rattle.class_planes.specs.declared.stop_words.Way.TheVariants as Way;
+ghost use Rattle.nav_types.specs.declared.straights.Way.TheVariants as Way;
 ghost use Rattle.class_planes.specs.inner.Runs.{bit_in, opening};
 ghost use Rattle.class_planes.specs.inner.StopLines.{stop_bit, IsStopBit};
 
 use crate::fills::{filled_down, filled_up};
 use crate::word_scans::{Lanes, moved_down, moved_up, top_before, word_at};
-
-/// Which way a run goes along its line.
-#[derive(Clone, Copy)]
-pub enum Way {
-    Up,
-    Down,
-}
 
 /// Of the free places those where a side is free that was not before.
 fn opened(free: u64, left: u64, left_before: u64, right: u64, right_before: u64) -> u64

@@ -1,18 +1,15 @@
 //! Where the straight runs along the lines of a map have a stop for a side that opens, known beforehand.
 ghost use Rattle.std.specs.Prelude.{ℕ, ⊤, ◌≡◌, ◌<◌, ◌≤◌, ◌+◌, ◌*◌, ◌/◌, All, length, map, IsFalse, IfOk, OnOk};
-ghost use Rattle.class_planes.specs.declared.stop_words.Way.TheVariants as Way;
+ghost use Rattle.nav_types.specs.declared.straights.Way.TheVariants as Way;
 ghost use Rattle.class_planes.specs.inner.StopLines.{IsBandStop, IsStopBit, AreAlike, AreMapLines, AreSameOutside, AreBandStops, AreStopsWhere, AreStops, AreStopsBefore, IsFarFrom, IsInTouchedWord, IsRectOf, lanes_of, line_before, turned_rect};
 
-use crate::lines::{Lines, copied, is_inner};
+use crate::lines::{BAND, Lines, copied, is_inner};
 use crate::stop_table::{StopTable, blank_stops};
-use crate::stop_words::{Way, renew_down, renew_up};
+use crate::stop_words::{renew_down, renew_up};
 use crate::tight_rects::tight_rects;
 use crate::word_scans::Lanes;
-use nav_types::{NoMemory, Rect};
+use nav_types::{NoMemory, Rect, Way};
 use std::alloc::Global;
-
-/// How many lines a band has.
-const BAND: u16 = 32;
 
 /// The stops of the runs along the first `count` lines.
 pub fn stops_of(alloc: Global, lines: &Lines, count: u16) -> Result<StopTable, NoMemory>
@@ -105,7 +102,7 @@ fn push_band(
         lines,
         count,
         Way::Up,
-        before.up_band(band),
+        before.band(Way::Up, band),
         rects,
         band,
     )?;
@@ -114,7 +111,7 @@ fn push_band(
         lines,
         count,
         Way::Down,
-        before.down_band(band),
+        before.band(Way::Down, band),
         rects,
         band,
     )?;

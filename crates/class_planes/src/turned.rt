@@ -6,13 +6,10 @@ ghost use Rattle.lane_rows.specs.Rows.{one_if};
 ghost use Rattle.class_planes.specs.Planes.{IsOutside};
 ghost use Rattle.class_planes.specs.inner.Lines.{IsBand, AreLines, AreLinesBut, AreRows, AreColumns, AreColumnsBefore, HasNextLine, patched, free_cell};
 
-use crate::lines::Lines;
+use crate::lines::{BAND, Lines};
 use lane_rows::plane_words;
 use nav_types::{NoMemory, Rect, Size};
 use std::alloc::Global;
-
-/// How many lines a band has.
-const BAND: u16 = 32;
 
 /// How many columns are read at once: one for each bit of a number.
 const GROUP: u8 = 16;
@@ -30,13 +27,7 @@ pub fn columns_of(alloc: Global, rows: &Lines, size: Size) -> Result<Lines, NoMe
     ensures { IfOk result (AreColumns (record { size = size; rows = rows.now })) }
 {
     let blank = blank_lines(alloc, size.w / BAND + 1, usize::from(size.h) / 64 + 1)?;
-    let map = Rect {
-        i0: 0,
-        j0: 0,
-        i1: size.w - 1,
-        j1: size.h - 1,
-    };
-    updated_columns(alloc, rows, size, &blank, &[map])
+    updated_columns(alloc, rows, size, &blank, &[Rect::of_map(size)])
 }
 
 /// So many bands of lines without a free place.
@@ -192,7 +183,7 @@ fn push_columns(
     let numbers = numbers_of(alloc, rows, size, 2 * band + half, span)?;
     let mut part = vec![in alloc; 0; usize::from(span.to - span.from)]?;
     for k in 0..GROUP {
-        let line = before.line(32 * band + 16 * half + u16::from(k));
+        let line = before.line(BAND * band + 16 * half + u16::from(k));
         push_column(line, span.from, &numbers, k, &mut part, words)?;
     }
     Ok(())

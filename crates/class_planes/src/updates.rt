@@ -7,14 +7,11 @@ ghost use Rattle.class_planes.specs.Planes.{IsOutside};
 ghost use Rattle.class_planes.specs.inner.Lines.{IsBand, AreLines, AreLinesBefore};
 ghost use Rattle.class_planes.specs.inner.Reading.{AreRead, AreWhole, IsOfWords, IsUnread, band_bit, numbers_in};
 
-use crate::lines::{Lines, copied};
+use crate::lines::{BAND, Lines, copied};
 use crate::read_cells::ReadRect;
 use crate::rows::free_words;
 use nav_types::{Class, NoMemory, Rect, Rows};
 use std::alloc::Global;
-
-/// How many lines a band has.
-const BAND: u16 = 32;
 
 /// The rows of the view for the class, as lines of bits, where `before` are the rows of a map that is the same outside
 /// of the rectangles, and outside of what was read.

@@ -1,8 +1,10 @@
 //! Where a run over the set bits of a line halts, 64 places at a time.
 ghost use Rattle.std.specs.Prelude.{◌≡◌, ◌<◌, ◌≤◌, ◌+◌, ◌-◌, ◌*◌, ◌/◌, ◌==◌, ℕ, length, max, IfSome, IfNone, slice_index};
 ghost use Rattle.std.specs.Int.{bit_at};
-ghost use Rattle.class_planes.specs.inner.Runs.{bit_in, opening, end_up, end_down, IsNext, IsLast, up_bits, down_bits, GoesFar};
+ghost use Rattle.class_planes.specs.inner.Runs.{bit_in, opening, end_up, end_down, IsNext, IsLast, bits_along, GoesFar};
+ghost use Rattle.nav_types.specs.declared.straights.Way.TheVariants as Way;
 
+use nav_types::Way;
 use std::marker::Model;
 
 /// How far a run goes: the steps to the last place where it may go on, and whether a side opens there. Contracts see
@@ -220,6 +222,7 @@ impl<'a> Lanes<'a> {
         ensures next { IsNext (end_up self.now) from result.place }
         ensures free { result.free ≡ (bit_in self.now.mid result.place == 1) }
     {
+        // The prover knows that the lines are equally long once a field is used.
         let _ = &self.mid;
         let first = from as usize / 64;
         let after = bits_after(self.first_ends_up(first), from % 64);
@@ -246,6 +249,7 @@ impl<'a> Lanes<'a> {
         ensures free { IfSome result (λ end. end.free ≡ (bit_in self.now.mid end.place == 1)) }
         ensures none { IfNone result ((i : ℕ) → i < from → end_down self.now i ≡ 0) }
     {
+        // The prover knows that the lines are equally long once a field is used.
         let _ = &self.mid;
         let mut w = from as usize / 64;
         let before = bits_before(self.first_ends_down(w), from % 64);
@@ -262,14 +266,29 @@ impl<'a> Lanes<'a> {
         None
     }
 
-    /// How far an upward run from the place goes.
+    /// How far a run from the place goes.
     #[inline(always)]
-    pub fn reach_up(&self, from: u16) -> Reach
+    pub fn reach(&self, way: Way, from: u16) -> Reach
         requires line { from / 64 < length self.now.mid }
         requires free { bit_in self.now.mid from ≡ 1 }
-        ensures { GoesFar (up_bits self.now.mid from) (up_bits self.now.left from) (up_bits self.now.right from)
-            result }
+        ensures { GoesFar (bits_along way self.now.mid from) (bits_along way self.now.left from)
+            (bits_along way self.now.right from) result }
     {
+        match way {
+            Way::Up => self.reach_up(from),
+            Way::Down => self.reach_down(from),
+        }
+    }
+
+    /// How far an upward run from the place goes.
+    #[inline(always)]
+    fn reach_up(&self, from: u16) -> Reach
+        requires line { from / 64 < length self.now.mid }
+        requires free { bit_in self.now.mid from ≡ 1 }
+        ensures { GoesFar (bits_along Way.Up self.now.mid from) (bits_along Way.Up self.now.left from)
+            (bits_along Way.Up self.now.right from) result }
+    {
+        // The prover knows that the lines are equally long once a field is used.
         let _ = &self.mid;
         let End { place, free } = self.next_up(from);
         if free {
@@ -287,12 +306,13 @@ impl<'a> Lanes<'a> {
 
     /// How far a downward run from the place goes.
     #[inline(always)]
-    pub fn reach_down(&self, from: u16) -> Reach
+    fn reach_down(&self, from: u16) -> Reach
         requires line { from / 64 < length self.now.mid }
         requires free { bit_in self.now.mid from ≡ 1 }
-        ensures { GoesFar (down_bits self.now.mid from) (down_bits self.now.left from)
-            (down_bits self.now.right from) result }
+        ensures { GoesFar (bits_along Way.Down self.now.mid from) (bits_along Way.Down self.now.left from)
+            (bits_along Way.Down self.now.right from) result }
     {
+        // The prover knows that the lines are equally long once a field is used.
         let _ = &self.mid;
         let Some(end) = self.last_down(from) else {
             return Reach {

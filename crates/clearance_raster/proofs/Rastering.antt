@@ -12,7 +12,7 @@ use Rattle.nav_types.specs.Cells.{cell_at, IsInside, IsInRect}
 use Rattle.nav_types.proofs.NumberTies.{below_next}
 use Rattle.lane_rows.specs.Rows.{has_class, one_if}
 use Rattle.navcell_grid.specs.Grids.{GridCells, number_at, IsInSpan}
-use Rattle.navcell_grid.specs.Patches.{IsPartOf}
+use Rattle.nav_types.specs.Rects.{IsPartOf}
 use Rattle.clearance_raster.specs.inner.TestRasters.{IsRaster, IsRasterIn}
 
 -- a test of classes and cells

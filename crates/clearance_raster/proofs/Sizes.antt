@@ -5,15 +5,15 @@ use Rattle.nav_types.specs.declared.cells.Rect.{Rect}
 use Rattle.nav_types.specs.declared.cells.Size.{Size}
 use Rattle.nav_types.specs.Cells.{IsInside, IsInRect}
 use Rattle.nav_types.proofs.Sizes.{same_size}
-use Rattle.clearance_raster.specs.inner.TestRasters.{all_cells}
+use Rattle.nav_types.specs.Rects.{map_rect}
 
-pub in_all : (size : Size) (cell : Cell) → IsInside size cell → IsInRect (all_cells size) cell
+pub in_all : (size : Size) (cell : Cell) → IsInside size cell → IsInRect (map_rect size) cell
 in_all size cell inside =
     let column = inside.column in let row = inside.row in
     record { west = omega arith; east = omega arith; south = omega arith; north = omega arith }
 
 -- two maps of the same cells are of one size
-pub size_from_cells : (a b : Size) → all_cells a ≡ all_cells b → a ≡ b
+pub size_from_cells : (a b : Size) → map_rect a ≡ map_rect b → a ≡ b
 size_from_cells a b same =
     let east : a.w - 1 ≡ b.w - 1 = ap (λ (r : Rect). r.i1) same in
     let north : a.h - 1 ≡ b.h - 1 = ap (λ (r : Rect). r.j1) same in

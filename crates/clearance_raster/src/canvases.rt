@@ -27,9 +27,9 @@ pub trait Canvas {
 
 impl Canvas for Grid {
     ghost use Rattle.navcell_grid.specs.Grids.{number_at};
-    ghost use Rattle.clearance_raster.specs.inner.TestRasters.{all_cells};
+    ghost use Rattle.nav_types.specs.Rects.{map_rect};
 
-    ghost rect_of = { λ g. all_cells g.size };
+    ghost rect_of = { λ g. map_rect g.size };
 
     ghost number = { number_at };
 

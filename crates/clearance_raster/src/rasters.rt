@@ -5,11 +5,11 @@ ghost use Rattle.nav_types.specs.Cells.{IsInside, IsInRect, IsRectInside};
 ghost use Rattle.nav_types.specs.Numbering.{number_of};
 ghost use Rattle.lane_rows.specs.Rows.{has_class, one_if};
 ghost use Rattle.navcell_grid.specs.Grids.{number_at};
-ghost use Rattle.navcell_grid.specs.Patches.{IsPartOf};
+ghost use Rattle.nav_types.specs.Rects.{IsPartOf};
 ghost use Rattle.obstruction_shapes.specs.Shapes.{FitsMap, HasUnitVector};
 ghost use Rattle.obstruction_shapes.specs.Blocking.{blocked};
 ghost use Rattle.clearance_raster.specs.Rasters.{blocks_class};
-ghost use Rattle.clearance_raster.specs.inner.TestRasters.{IsRasterIn, all_cells};
+ghost use Rattle.clearance_raster.specs.inner.TestRasters.{IsRasterIn};
 
 use crate::canvases::Canvas;
 use crate::masks::{classes_with, is_left};
@@ -34,7 +34,7 @@ pub fn raster(grid: &mut Grid, obstruction: &Obstruction, classes: &ClassTable)
         → bit_at (number_at grid.new cell) k ≡ max (bit_at (number_at grid.old cell) k) (one_if (blocks_class obstruction.now classes.now k cell)) }
 {
     let size = grid.size();
-    raster_classes(grid, whole(size), obstruction, classes, size);
+    raster_classes(grid, Rect::of_map(size), obstruction, classes, size);
 }
 
 /// Sets the bits of the cells of a part of a patch that an obstruction blocks. For each cell of the part, the bit of a
@@ -59,18 +59,6 @@ pub fn raster_in(
         → number_of patch.new cell ≡ number_of patch.old cell }
 {
     raster_classes(patch, part, obstruction, classes, size);
-}
-
-/// All cells of a map of this size.
-fn whole(size: Size) -> Rect
-    ensures { result ≡ all_cells size }
-{
-    Rect {
-        i0: 0,
-        j0: 0,
-        i1: size.w - 1,
-        j1: size.h - 1,
-    }
 }
 
 /// Sets the bits of all classes of the mask, one clearance after another.

@@ -3,7 +3,7 @@ ghost use Rattle.std.specs.Prelude.{◌≡◌, ◌≤◌, ◌↔◌, ◌⊎◌, 
 ghost use Rattle.nav_types.specs.declared.cells.Cell.{Cell};
 ghost use Rattle.nav_types.specs.Cells.{IsInside, IsInRect, IsRectInside};
 ghost use Rattle.lane_rows.specs.Rows.{has_class};
-ghost use Rattle.navcell_grid.specs.Patches.{IsPartOf};
+ghost use Rattle.nav_types.specs.Rects.{IsPartOf};
 ghost use Rattle.obstruction_shapes.specs.Shapes.{FitsMap};
 ghost use Rattle.obstruction_shapes.specs.Blocking.{blocked, IsNear};
 ghost use Rattle.class_config.specs.Classes.{clearance_at};
@@ -13,7 +13,6 @@ use crate::masks::includes;
 use class_config::ClassTable;
 use fixed_point::{Fixed, magnitude};
 use nav_types::{Class, Rect, Size};
-use navcell_grid::common;
 use obstruction_shapes::{Obstruction, Shape, reach_rect};
 
 /// The cells of a map that an obstruction can block for some class of its mask: those that are near enough to its shape
@@ -78,6 +77,5 @@ pub fn reach_in(shape: &Shape, clearance: Fixed, part: Rect, size: Size) -> Opti
         → IsTrue (blocked shape.now clearance cell) → IsInRect rect cell) }
     ensures none { IfNone result ((cell : Cell) → IsInRect part cell → ¬ IsTrue (blocked shape.now clearance cell)) }
 {
-    let reach = reach_rect(shape, clearance, size)?;
-    common(reach, part)
+    reach_rect(shape, clearance, size)?.intersection(part)
 }

@@ -4,7 +4,7 @@
 //! lies from -2147483648 to 2147483647. Nothing here takes memory.
 #![tactic(auto)]
 
-ghost use Rattle.std.specs.Prelude.{◌≡◌, ◌≤◌, ℤ, ◌+ℤ◌, ◌-ℤ◌, ◌*ℤ◌, ◌≤ℤ◌, ◌<ℤ◌, pos, FitsSigned, SomeIff};
+ghost use Rattle.std.specs.Prelude.{◌≡◌, ◌<◌, ◌^◌, ℤ, ◌+ℤ◌, ◌-ℤ◌, ◌*ℤ◌, ◌≤ℤ◌, ◌<ℤ◌, pos, FitsSigned, SomeIff};
 ghost use Rattle.std.specs.Int.{w32};
 ghost use Rattle.fixed_point.specs.Raw.{floor_of, centre_of};
 
@@ -85,10 +85,10 @@ impl Fixed {
         self.0.div_euclid(65536)
     }
 
-    /// The middle of navcell `i` along one axis, i + 1/2 (`centre_of`). A map has at most 2048 navcells
-    /// a side, so `i` is at most 2047.
+    /// The middle of navcell `i` along one axis, i + 1/2 (`centre_of`). A raw number has fifteen bits before
+    /// the point, so `i` is below 2^15.
     pub fn centre(i: u16) -> Fixed
-        requires { i ≤ 2047 }
+        requires { i < 2 ^ 15 }
         ensures value { result ≡ centre_of i }
     {
         Fixed(65536 * i32::from(i) + 32768)

@@ -1,14 +1,15 @@
 -- Sides make a ring, and rings make wider rectangles.
-use Rattle.std.proofs.Common.{ℕ, ◌≡◌, ◌+◌, ◌-◌, ◌<◌, ◌≤◌, ◌⊎◌, inl, inr, Option, Some, subst, sym, arith}
-use Rattle.std.proofs.lemmas.Bool.{cases_lt}
+use Rattle.std.proofs.Common.{ℕ, true, ◌≡◌, ◌==◌, ◌&&◌, ◌∙◌, ap, ◌+◌, ◌-◌, ◌<◌, ◌≤◌, ◌⊎◌, inl, inr, Option, Some, subst, sym, arith}
+use Rattle.std.proofs.lemmas.Bool.{cases_lt, and_parts, eqb-true}
 use Rattle.std.proofs.Math.Nat.{le-min, min-le_left, min-le_right}
 use Rattle.nav_types.specs.declared.cells.Cell.{Cell}
 use Rattle.nav_types.specs.declared.cells.Rect.{Rect}
 use Rattle.nav_types.specs.declared.cells.Size.{Size}
 use Rattle.nav_types.specs.Cells.{IsInside, IsInRect}
-use Rattle.goal_reach.specs.declared.axes.Axis.TheVariants.{Row, Column}
+use Rattle.nav_types.specs.declared.straights.Axis.TheVariants.{Row, Column}
 use Rattle.goal_reach.specs.declared.rings.Block.{Block}
-use Rattle.goal_reach.specs.inner.Rings.{whole_map, widened, clipped, Encloses, IsOnRing, IsInBlock}
+use Rattle.nav_types.specs.Rects.{map_rect}
+use Rattle.goal_reach.specs.inner.Rings.{widened, clipped, Encloses, IsOnRing, IsInBlock}
 use Rattle.goal_reach.specs.declared.choices.Ranked.{Ranked}
 use Rattle.goal_reach.specs.inner.Ranking.{IsNoWorse, IsBest}
 use Rattle.goal_reach.proofs.Choosing.{both_best, best_stays, best_of_more}
@@ -140,12 +141,23 @@ ring_adds rank Offered size core inner outer rings best next result within is_in
       )
     ]))
 
-whole_has : (size : Size) (cell : Cell) → IsInside size cell → IsInRect (whole_map size) cell
+whole_has : (size : Size) (cell : Cell) → IsInside size cell → IsInRect (map_rect size) cell
 whole_has size cell inside = let column = inside.column in let row = inside.row in record { west = omega arith; east = omega arith; south = omega arith; north = omega arith }
+
+-- rectangles are one where their borders are
+pub same_rect : (a b : Rect) → ((a.i0 == b.i0) && ((a.j0 == b.j0) && ((a.i1 == b.i1) && (a.j1 == b.j1)))) ≡ true → a ≡ b
+same_rect a b same =
+    let west = and_parts (a.i0 == b.i0) ((a.j0 == b.j0) && ((a.i1 == b.i1) && (a.j1 == b.j1))) same in
+    let south = and_parts (a.j0 == b.j0) ((a.i1 == b.i1) && (a.j1 == b.j1)) west.1 in
+    let sides = and_parts (a.i1 == b.i1) (a.j1 == b.j1) south.1 in
+    ap (λ i0. record { i0 = i0; j0 = a.j0; i1 = a.i1; j1 = a.j1 }) (eqb-true a.i0 b.i0 west.0)
+    ∙ ap (λ j0. record { i0 = b.i0; j0 = j0; i1 = a.i1; j1 = a.j1 }) (eqb-true a.j0 b.j0 south.0)
+    ∙ ap (λ i1. record { i0 = b.i0; j0 = b.j0; i1 = i1; j1 = a.j1 }) (eqb-true a.i1 b.i1 sides.0)
+    ∙ ap (λ j1. record { i0 = b.i0; j0 = b.j0; i1 = b.i1; j1 = j1 }) (eqb-true a.j1 b.j1 sides.1)
 
 -- where all the map has been looked at
 pub all_of_map : (rank : Cell → ℕ) (Offered : Cell → Type 0) (size : Size) (core : Rect) (rings : ℕ) (best : Option Ranked)
-    → ((cell : Cell) → Offered cell → IsInside size cell) → clipped size (widened rings core) ≡ whole_map size
+    → ((cell : Cell) → Offered cell → IsInside size cell) → clipped size (widened rings core) ≡ map_rect size
     → IsBest rank (λ cell. Offered cell × IsInRect (widened rings core) cell) best → IsBest rank Offered best
 all_of_map rank Offered size core rings best within is was =
     best_stays rank (λ cell. Offered cell × IsInRect (widened rings core) cell) Offered best was

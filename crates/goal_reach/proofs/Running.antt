@@ -3,12 +3,13 @@ use Rattle.std.proofs.Common.{ℕ, ◌≡◌, ◌+◌, ◌<◌, ◌≤◌, ◌�
 use Rattle.std.proofs.lemmas.Bool.{cases_lt}
 use Rattle.std.proofs.Math.Nat.{le-min, min-le_left, min-le_right}
 use Rattle.nav_types.specs.declared.cells.Cell.{Cell}
-use Rattle.goal_reach.specs.declared.axes.Axis.{Axis}
-use Rattle.goal_reach.specs.declared.axes.Axis.TheVariants.{Row, Column}
+use Rattle.nav_types.specs.declared.straights.Axis.{Axis}
+use Rattle.nav_types.specs.declared.straights.Axis.TheVariants.{Row, Column}
 use Rattle.goal_reach.specs.declared.rings.Block.{Block}
 use Rattle.goal_reach.specs.declared.choices.Ranked.{Ranked}
 use Rattle.goal_reach.specs.inner.Ranking.{IsNoWorse, IsBest}
-use Rattle.goal_reach.specs.inner.Rings.{place_on, line_on, cell_on, IsInRun}
+use Rattle.nav_types.specs.Lines.{place_on, line_on, cell_on}
+use Rattle.goal_reach.specs.inner.Rings.{IsInRun}
 use Rattle.goal_reach.proofs.Choosing.{both_best, best_stays}
 
 place_of_cell : (axis : Axis) (line place : ℕ) → place_on axis (cell_on axis line place) ≡ place

@@ -2,8 +2,7 @@
 ghost use Rattle.std.specs.Prelude.{◌≡◌, ◌⊎◌};
 ghost use Rattle.goal_reach.specs.inner.Ranking.{IsPreferred, IsNoWorse};
 
-use crate::axes::Axis;
-use nav_types::{Cell, Rect, Size};
+use nav_types::{Axis, Cell, Rect, Size};
 
 /// Cells of a map to choose from, a rank for each of them, and where to look first.
 pub(crate) trait Choice {
@@ -11,8 +10,10 @@ pub(crate) trait Choice {
     ghost use Rattle.nav_types.specs.declared.cells.Cell.{Cell};
     ghost use Rattle.nav_types.specs.declared.cells.Rect.{Rect};
     ghost use Rattle.nav_types.specs.declared.cells.Size.{Size};
+    ghost use Rattle.nav_types.specs.declared.limits.TheConstants.{MAX_SIDE};
     ghost use Rattle.nav_types.specs.Cells.{IsInside, IsInRect, IsRectInside};
-    ghost use Rattle.goal_reach.specs.inner.Rings.{widened, place_on, line_on, cell_on};
+    ghost use Rattle.nav_types.specs.Lines.{place_on, line_on, cell_on};
+    ghost use Rattle.goal_reach.specs.inner.Rings.{widened};
 
     ghost extent: { Self → Size };
 
@@ -57,7 +58,7 @@ pub(crate) trait Choice {
     /// A rank that no cell of the map is below which lies beyond so many rings round the core.
     fn least_beyond(&self, rings: u16) -> u128
         requires sound { sound self.now }
-        requires rings { rings ≤ 2048 }
+        requires rings { rings ≤ MAX_SIDE }
         ensures { (cell : Cell) → IsInside (extent self.now) cell
             → (IsInRect (widened rings (core_of self.now)) cell → ⊥) → result ≤ rank_of self.now cell };
 }

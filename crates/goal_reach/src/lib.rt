@@ -4,7 +4,6 @@
 //! Nothing here takes memory.
 #![tactic(auto)]
 
-mod axes;
 mod choices;
 mod laws;
 mod reaching;

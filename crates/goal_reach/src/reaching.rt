@@ -9,13 +9,12 @@ ghost use Rattle.goal_reach.specs.Targets.{hit_by, IsSoundTarget, AreTargets};
 ghost use Rattle.goal_reach.specs.inner.StartAreas.{IsAreaOf};
 ghost use Rattle.nav_types.specs.Walks.{CanReach};
 
-use crate::axes::{Axis, next_free};
 use crate::choices::Choice;
 use crate::remote::least_remoteness;
 use crate::rings::least_cell;
 use crate::targets::Target;
 use goal_shapes::{Goal, cell_box, contains, remoteness};
-use nav_types::{Areas, Cell, Class, FreeCells, Rect, Size};
+use nav_types::{Areas, Axis, Cell, Class, FreeCells, Rect, Size};
 
 /// The targets of a goal that can be walked to from a start cell (`AreTargets`): the goal itself exactly
 /// where a legal walk joins one of its cells to the start. Else the near cell: of the cells that are
@@ -117,7 +116,7 @@ impl<M: Areas + FreeCells> AreaCells<'_, M> {
         let end = self.frame.i1 + 1;
         let mut i = self.frame.i0;
         'row: while i < end {
-            let next = self.map.next_free_east(self.class, Cell::new(i, j));
+            let next = self.map.next_free(self.class, Axis::Row, Cell::new(i, j));
             i = next.min(end);
             if i < end {
                 let cell = Cell::new(i, j);
@@ -169,7 +168,7 @@ impl<M: Areas + FreeCells> Choice for AreaCells<'_, M> {
 
     // A cell joined to the start is passable.
     fn next_along(&self, axis: Axis, cell: Cell) -> u16 {
-        next_free(self.map, self.class, axis, cell)
+        self.map.next_free(self.class, axis, cell)
     }
 
     fn least_beyond(&self, rings: u16) -> u128 {

@@ -1,5 +1,6 @@
 //! How remote a cell is at least that lies outside a goal's box.
 ghost use Rattle.std.specs.Prelude.{◌≡◌, ◌≤◌, ◌+◌, ◌*◌, ◌^◌};
+ghost use Rattle.nav_types.specs.declared.limits.TheConstants.{MAX_SIDE};
 ghost use Rattle.fixed_point.specs.Plane.{square, IsUnitVector};
 ghost use Rattle.goal_shapes.specs.Goals.{squared_length};
 ghost use Rattle.goal_shapes.specs.Limits.{IsWellFormed};
@@ -13,7 +14,7 @@ use goal_shapes::Goal;
 #[tactic(auto, unfolding(goal_shapes::specs::Goals::remoteness))]
 pub(crate) fn least_remoteness(goal: &Goal, rings: u16) -> u128
     requires goal { IsWellFormed goal.now }
-    requires rings { rings ≤ 2048 }
+    requires rings { rings ≤ MAX_SIDE }
     ensures { IsLeastBeyond goal.now rings result }
 {
     match *goal {
@@ -28,7 +29,7 @@ pub(crate) fn least_remoteness(goal: &Goal, rings: u16) -> u128
 
 /// Half a navcell and so many rings, as a raw number.
 fn width(rings: u16) -> u64
-    requires { rings ≤ 2048 }
+    requires { rings ≤ MAX_SIDE }
     ensures value { result ≡ 65536 * rings + 32768 }
     ensures bounded { result ≤ 2 ^ 28 }
 {

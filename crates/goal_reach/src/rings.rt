@@ -1,15 +1,15 @@
 //! The search for the best cell of a map, by square rings round a rectangle.
 ghost use Rattle.std.specs.Prelude.{◌≡◌, ◌≤◌, ◌<◌, ◌↔◌, IsTrue, IfSome, IfNone, Some};
 ghost use Rattle.nav_types.specs.declared.cells.Cell.{Cell};
+ghost use Rattle.nav_types.specs.declared.limits.TheConstants.{MAX_SIDE};
 ghost use Rattle.nav_types.specs.Cells.{IsInside, IsInRect, IsRectInside};
 ghost use Rattle.goal_reach.specs.declared.choices.Ranked.{Ranked};
 ghost use Rattle.goal_reach.specs.Choices.{IsLeastBy};
 ghost use Rattle.goal_reach.specs.inner.Ranking.{IsBest};
-ghost use Rattle.goal_reach.specs.inner.Rings.{rect_of, whole_map, clipped, widened, cell_on, IsInRun, IsInBlock, IsBlockInside, IsOnRing, Encloses};
+ghost use Rattle.goal_reach.specs.inner.Rings.{clipped, widened, IsInRun, IsInBlock, IsBlockInside, IsOnRing, Encloses};
 
-use crate::axes::{Axis, cell_on};
 use crate::choices::{Choice, Ranked, better};
-use nav_types::{Cell, Rect, Size};
+use nav_types::{Axis, Cell, Rect, Size, cell_on};
 
 /// The cells of rows, or of columns, that lie side by side: of the lines from `first_line` up to `past_line` those
 /// at the places from `from` up to `end`. `past_line` and `end` are the first that no longer belong to it.
@@ -47,11 +47,12 @@ fn best_by_rings<C: Choice>(choice: &C) -> Option<Ranked>
     ensures { IsBest (C.rank_of choice.now) (C.offered choice.now) result }
 {
     let size = choice.size();
+    let whole = Rect::of_map(size);
     let core = choice.core();
     let mut best = best_in_rect(choice, core);
     for ring in 0..size.w.max(size.h) {
         let inner = widened(core, ring, size);
-        if is_whole(inner, size) || is_below(best, choice.least_beyond(ring)) {
+        if inner == whole || is_below(best, choice.least_beyond(ring)) {
             return best;
         }
         let outer = widened(core, ring + 1, size);
@@ -60,22 +61,10 @@ fn best_by_rings<C: Choice>(choice: &C) -> Option<Ranked>
     best
 }
 
-/// The rectangle of one cell.
-pub(crate) fn rect_of(cell: Cell) -> Rect
-    ensures { result ≡ rect_of cell }
-{
-    Rect {
-        i0: cell.i,
-        j0: cell.j,
-        i1: cell.i,
-        j1: cell.j,
-    }
-}
-
 /// The part of the map that a rectangle and so many rings round it cover.
 fn widened(rect: Rect, rings: u16, size: Size) -> Rect
     requires inside { IsRectInside size rect }
-    requires rings { rings ≤ 2048 }
+    requires rings { rings ≤ MAX_SIDE }
     ensures inside { IsRectInside size result }
     ensures value { result ≡ clipped size (widened rings rect) }
 {
@@ -85,19 +74,6 @@ fn widened(rect: Rect, rings: u16, size: Size) -> Rect
         i1: (rect.i1 + rings).min(size.w - 1),
         j1: (rect.j1 + rings).min(size.h - 1),
     }
-}
-
-/// Whether the rectangle is the whole map.
-fn is_whole(rect: Rect, size: Size) -> bool
-    ensures { IsTrue result ↔ (rect ≡ whole_map size) }
-{
-    let map = Rect {
-        i0: 0,
-        j0: 0,
-        i1: size.w - 1,
-        j1: size.h - 1,
-    };
-    rect == map
 }
 
 /// Whether there is a best cell of less rank.

@@ -4,12 +4,11 @@ ghost use Rattle.fixed_point.specs.Plane.{IsOnAxis};
 ghost use Rattle.goal_shapes.specs.Goals.{HoldsPoint, squared_distance};
 ghost use Rattle.goal_reach.specs.Starts.{IsStartCell};
 
-use crate::axes::{Axis, next_free};
 use crate::choices::Choice;
-use crate::rings::{least_cell, rect_of};
+use crate::rings::least_cell;
 use fixed_point::{Fixed, squared};
 use goal_shapes::{cell_of_point, squared_distance};
-use nav_types::{Cell, Class, FreeCells, Rect, Size, View};
+use nav_types::{Axis, Cell, Class, FreeCells, Rect, Size, View};
 
 /// The start cell of the point (`x`, `z`) for a class (`IsStartCell`): the cell that holds the point, where
 /// that is passable, else the passable cell whose middle is nearest to the point, the first in cell order
@@ -54,7 +53,7 @@ impl<V: FreeCells> Choice for PassableCells<'_, V> {
     ghost use Rattle.std.specs.Prelude.{◌<◌, IsTrue};
     ghost use Rattle.nav_types.specs.Cells.{IsInside};
     ghost use Rattle.goal_shapes.specs.Goals.{HoldsPoint, squared_distance};
-    ghost use Rattle.goal_reach.specs.inner.Rings.{rect_of};
+    ghost use Rattle.nav_types.specs.Rects.{cell_rect};
 
     ghost extent = { λ c. V.extent c.view.now };
 
@@ -65,14 +64,14 @@ impl<V: FreeCells> Choice for PassableCells<'_, V> {
 
     ghost rank_of = { λ c cell. squared_distance c.x c.z cell };
 
-    ghost core_of = { λ c. rect_of c.holder };
+    ghost core_of = { λ c. cell_rect c.holder };
 
     fn size(&self) -> Size {
         self.view.size()
     }
 
     fn core(&self) -> Rect {
-        rect_of(self.holder)
+        Rect::of_cell(self.holder)
     }
 
     fn rank(&self, cell: Cell) -> Option<u128> {
@@ -84,7 +83,7 @@ impl<V: FreeCells> Choice for PassableCells<'_, V> {
     }
 
     fn next_along(&self, axis: Axis, cell: Cell) -> u16 {
-        next_free(self.view, self.class, axis, cell)
+        self.view.next_free(self.class, axis, cell)
     }
 
     // The point is at most half a navcell from the middle of the cell that holds it, so the middle of a cell beyond

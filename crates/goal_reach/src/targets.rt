@@ -1,4 +1,3 @@
-use crate::rings::rect_of;
 use goal_shapes::Goal;
 use nav_types::{Aim, Cell, Rect, Size};
 
@@ -43,7 +42,7 @@ impl Aim for Target {
     fn bounds(&self, size: Size) -> Rect {
         match self {
             Target::Goal(goal) => goal.bounds(size),
-            Target::Near(near) => rect_of(*near),
+            Target::Near(near) => Rect::of_cell(*near),
         }
     }
 }

@@ -1,4 +1,4 @@
-ghost use Rattle.std.specs.Prelude.{◌≤◌, ◌<◌, ◌^◌, ◌↔◌, ℕ, true, unsigned_abs};
+ghost use Rattle.std.specs.Prelude.{◌≤◌, ◌<◌, ◌^◌, ◌↔◌, ℕ, unsigned_abs};
 ghost use Rattle.nav_types.specs.declared.cells.Cell.{Cell};
 ghost use Rattle.nav_types.specs.Cells.{IsInside, IsInRect, IsRectInside};
 ghost use Rattle.nav_types.specs.Frames.{IsFrame};
@@ -18,12 +18,7 @@ pub(crate) fn point_box(x: Fixed, z: Fixed, size: Size) -> Rect
     ensures { IsFrame (holds_point x z) size result }
 {
     match cell_of_point(x, z, size) {
-        Some(cell) => Rect {
-            i0: cell.i,
-            j0: cell.j,
-            i1: cell.i,
-            j1: cell.j,
-        },
+        Some(cell) => Rect::of_cell(cell),
         None => unreachable!(),
     }
 }
@@ -92,17 +87,5 @@ fn reached(x: Fixed, reach: u64, count: u16) -> (u16, u16)
         Some(span) => span,
         // The column that holds the coordinate is within its reach, which is half a navcell or more.
         None => unreachable!(),
-    }
-}
-
-/// The whole map.
-pub(crate) fn whole_map(size: Size) -> Rect
-    ensures { IsFrame (λ _. true) size result }
-{
-    Rect {
-        i0: 0,
-        j0: 0,
-        i1: size.w - 1,
-        j1: size.h - 1,
     }
 }

@@ -3,7 +3,7 @@ ghost use Rattle.nav_types.specs.Frames.{IsFrame};
 ghost use Rattle.goal_shapes.specs.Limits.{IsWellFormed, IsSoundGoal};
 ghost use Rattle.goal_shapes.specs.Goals.{contains, remoteness, framed};
 
-use crate::boxes::{circle_box, point_box, square_box, whole_map};
+use crate::boxes::{circle_box, point_box, square_box};
 use crate::circles::{circle_meets, leaves_circle, squared_distance};
 use crate::goals::Goal;
 use crate::points::{is_held, squared_cells_from};
@@ -58,8 +58,8 @@ pub fn cell_box(goal: &Goal, size: Size) -> Rect
     match *goal {
         Goal::Point { x, z } => point_box(x, z, size),
         Goal::Circle { x, z, r } => circle_box(x, z, r, size),
-        Goal::NotCircle { .. } => whole_map(size),
+        Goal::NotCircle { .. } => Rect::of_map(size),
         Goal::Square(rectangle) => square_box(&rectangle, size),
-        Goal::NotSquare { .. } => whole_map(size),
+        Goal::NotSquare { .. } => Rect::of_map(size),
     }
 }

@@ -14,7 +14,8 @@ use Rattle.nav_types.specs.declared.cells.Size.{Size}
 use Rattle.nav_types.specs.Cells.{IsInside, IsInRect}
 use Rattle.nav_types.specs.Regions.{passes_in, HasRegion, IsNextChunk, IsEdge}
 use Rattle.nav_types.specs.Numbering.{number_of}
-use Rattle.chunk_regions.specs.Labelling.{Labelling, AreLabels, chunk_rect}
+use Rattle.chunk_regions.specs.Labelling.{Labelling, AreLabels}
+use Rattle.nav_types.specs.Rects.{chunk_rect}
 use Rattle.nav_types.proofs.CellOrder.{same_chunk}
 use Rattle.chunk_regions.proofs.LabelLemmas.{in_rect, AreLabels-placed, AreLabels-at_most}
 use Rattle.region_edges.specs.declared.neighbours.Side.{Side}

@@ -6,14 +6,15 @@ use Rattle.obstruction_shapes.specs.declared.shapes.Obstruction.{Obstruction}
 use Rattle.obstruction_shapes.specs.Shapes.{FitsMap, moved_to}
 use Rattle.obstruction_store.specs.Standing.{Standing, AllFit, moved, with_placed}
 use Rattle.obstruction_store.proofs.Fitting.{AllFit-insert, AllFit-remove, AllFit-moved}
-use Rattle.grid_versions.specs.declared.edits.Edit.{Edit}
-use Rattle.grid_versions.specs.declared.edits.Edit.TheVariants.{Add, Remove, Move}
-use Rattle.grid_versions.specs.declared.edits.EditReply.{EditReply}
-use Rattle.grid_versions.specs.declared.edits.EditReply.TheVariants.{Added, Removed, Moved, Refused}
-use Rattle.grid_versions.specs.declared.edits.Refusal.TheVariants.{BadShape, DuplicateId, StoreFull, UnknownId}
-use Rattle.grid_versions.specs.Maps.{Map}
+use Rattle.posts.specs.declared.edits.Edit.{Edit}
+use Rattle.posts.specs.declared.edits.Edit.TheVariants.{Add, Remove, Move}
+use Rattle.posts.specs.declared.edits.EditReply.{EditReply}
+use Rattle.posts.specs.declared.edits.EditReply.TheVariants.{Added, Removed, Moved, Refused}
+use Rattle.posts.specs.declared.edits.Refusal.TheVariants.{BadShape, DuplicateId, StoreFull, UnknownId}
+use Rattle.posts.specs.Maps.{Map}
+use Rattle.posts.specs.Edits.{is_refused}
 use Rattle.grid_versions.specs.Fitting.{fits}
-use Rattle.grid_versions.specs.Editing.{edit_reply, after_edit, after_edits, is_refused, move_reply}
+use Rattle.grid_versions.specs.Editing.{edit_reply, after_edit, after_edits, move_reply}
 use Rattle.grid_versions.proofs.FittingLemmas.{fits_decides}
 
 -- what an add leaves is what stood, or what stands with a shape that fits

@@ -19,3 +19,4 @@ pub mod BitLemmas
 pub mod NextLemmas
 pub mod PlanePartLemmas
 pub mod RowLemmas
+pub mod PlaneLines

@@ -7,15 +7,14 @@ use Rattle.std.proofs.lemmas.Bool.{cases_Bool, both_ways, false_from_ne_true}
 use Rattle.nav_types.specs.declared.cells.Cell.{Cell}
 use Rattle.nav_types.specs.declared.cells.Chunk.{Chunk}
 use Rattle.nav_types.specs.declared.cells.Rect.{Rect}
-use Rattle.nav_types.specs.Cells.{IsInRect, IsRectInside}
-use Rattle.nav_types.specs.declared.cells.Size.{Size}
+use Rattle.nav_types.specs.Cells.{IsInRect}
 use Rattle.nav_types.specs.Numbering.{Numbering, columns, rows, number_of}
 use Rattle.lane_rows.specs.Rows.{has_class}
-use Rattle.navcell_grid.specs.Patches.{DiffersIn, IsPartOf}
+use Rattle.navcell_grid.specs.Patches.{DiffersIn}
+use Rattle.nav_types.specs.Rects.{IsPartOf}
 use Rattle.clearance_raster.proofs.Rastering.{in_whole}
-use Rattle.chunk_regions.specs.Labelling.{chunk_rect}
 use Rattle.obstruction_store.specs.Standing.{Standing}
-use Rattle.grid_versions.specs.Maps.{Map}
+use Rattle.posts.specs.Maps.{Map}
 use Rattle.grid_versions.specs.Passing.{is_in_rect, has_base, is_blocked}
 use Rattle.grid_versions.specs.inner.Painting.{is_covered, IsPaintedChunk}
 use Rattle.grid_versions.specs.inner.Reaching.{is_in_some, CoverChanges}
@@ -114,14 +113,6 @@ differs_nowhere k rect a b same = (
   λ set. let none = bit_at-zero k in absurd (omega arith),
   λ differs. absurd (differs.apart (ap (λ (n : Numbering). has_class k (number_of n differs.cell)) same)),
 )
-
--- a part of a chunk's cells lies in the map
-pub part_inside : (size : Size) (chunk : Chunk) (part : Rect) → IsPartOf (chunk_rect size chunk) part
-    → IsRectInside size part
-part_inside size chunk part within =
-    let east = within.last.east in let north = within.last.north in
-    let wide = size.wide.some in let high = size.high.some in
-    record { columns = within.columns; rows = within.rows; last_column = omega arith; last_row = omega arith }
 
 -- a rectangle is a part of itself
 pub whole_part : (rect : Rect) → rect.i0 ≤ rect.i1 → rect.j0 ≤ rect.j1 → IsPartOf rect rect

@@ -11,15 +11,14 @@ use Rattle.nav_types.specs.declared.cells.Chunk.{Chunk}
 use Rattle.nav_types.specs.declared.cells.Size.{Size}
 use Rattle.nav_types.specs.Cells.{IsInside, IsInRect, IsRectInside, chunk_of}
 use Rattle.nav_types.specs.Numbering.{Numbering, number_of}
-use Rattle.navcell_grid.specs.Patches.{IsPartOf}
+use Rattle.nav_types.specs.Rects.{cell_rect, chunk_rect, IsPartOf}
 use Rattle.lane_rows.specs.Rows.{has_class}
 use Rattle.class_planes.specs.declared.changed_parts.ChangedPart.{ChangedPart}
 use Rattle.class_planes.specs.Planes.{IsKept}
-use Rattle.chunk_regions.specs.Labelling.{chunk_rect}
 use Rattle.chunk_regions.proofs.LabelLemmas.{in_rect}
 use Rattle.obstruction_store.specs.Standing.{Standing}
+use Rattle.posts.specs.Maps.{Map}
 use Rattle.grid_versions.specs.Chunks.{chunk_count, chunk_place}
-use Rattle.grid_versions.specs.Maps.{Map}
 use Rattle.grid_versions.specs.Passing.{has_base, passable_at}
 use Rattle.grid_versions.specs.inner.ChunkLists.{chunk_numbered, IsChunkInside}
 use Rattle.grid_versions.specs.inner.Painting.{IsPaintedChunk, ArePaintedChunks}
@@ -62,22 +61,15 @@ one_number a b same = elim (cases_lt a b) [
   ]
 ]
 
--- the rectangle of one cell
-abbrev pub lone : Cell → Rect
-lone cell = record { i0 = cell.i; j0 = cell.j; i1 = cell.i; j1 = cell.j }
+-- a cell lies in its own rectangle
+pub in_cell_rect : (rect : Rect) (cell : Cell) → rect ≡ cell_rect cell → IsInRect rect cell
+in_cell_rect rect cell is = subst (λ (r : Rect). IsInRect r cell) (sym is)
+    (record { west = omega arith; east = omega arith; south = omega arith; north = omega arith })
 
-pub in_lone : (cell : Cell) → IsInRect (lone cell) cell
-in_lone cell = record { west = omega arith; east = omega arith; south = omega arith; north = omega arith }
-
-pub lone_part : (rect : Rect) (cell : Cell) → IsInRect rect cell → IsPartOf rect (lone cell)
-lone_part rect cell inside =
-    let west = inside.west in let east = inside.east in let south = inside.south in let north = inside.north in
-    record {
-      first = record { west = west; east = east; south = south; north = north };
-      last = record { west = west; east = east; south = south; north = north };
-      columns = omega arith;
-      rows = omega arith;
-    }
+-- the rectangle of a cell is a part of each that holds the cell
+pub cell_rect_part : (whole rect : Rect) (cell : Cell) → rect ≡ cell_rect cell → IsInRect whole cell → IsPartOf whole rect
+cell_rect_part whole rect cell is inside = subst (IsPartOf whole) (sym is)
+    (record { first = inside; last = inside; columns = omega arith; rows = omega arith })
 
 -- a chunk's cells lie in the map
 pub chunk_in_map : (size : Size) (chunk : Chunk) → IsChunkInside size chunk → IsRectInside size (chunk_rect size chunk)

@@ -18,14 +18,15 @@ use Rattle.obstruction_shapes.specs.declared.shapes.Obstruction.{Obstruction}
 use Rattle.clearance_raster.specs.Rasters.{blocks_class}
 use Rattle.obstruction_store.specs.Standing.{Standing, with_placed, placed_at}
 use Rattle.obstruction_store.proofs.Listing.{Contains-entries}
-use Rattle.grid_versions.specs.declared.edits.Edit.{Edit}
-use Rattle.grid_versions.specs.declared.edits.Edit.TheVariants.{Add, Remove, Move}
-use Rattle.grid_versions.specs.declared.edits.EditReply.{EditReply}
-use Rattle.grid_versions.specs.Maps.{Map}
+use Rattle.posts.specs.declared.edits.Edit.{Edit}
+use Rattle.posts.specs.declared.edits.Edit.TheVariants.{Add, Remove, Move}
+use Rattle.posts.specs.declared.edits.EditReply.{EditReply}
+use Rattle.posts.specs.Maps.{Map}
+use Rattle.posts.specs.Edits.{is_refused, edited_id}
 use Rattle.grid_versions.specs.Passing.{is_in_rect, is_blocked}
 use Rattle.grid_versions.specs.Fitting.{fits}
-use Rattle.grid_versions.specs.Editing.{edit_reply, after_edit, is_refused, with_edit}
-use Rattle.grid_versions.specs.inner.Reaching.{edited_id, is_in_some, HoldsReach, CoverChanges, NameChanges}
+use Rattle.grid_versions.specs.Editing.{edit_reply, after_edit, with_edit}
+use Rattle.grid_versions.specs.inner.Reaching.{is_in_some, HoldsReach, CoverChanges, NameChanges}
 use Rattle.grid_versions.proofs.EditingLemmas.{after_add, after_remove, after_move}
 use Rattle.grid_versions.proofs.PassingLemmas.{in_rect_to, none_meets, any_none}
 

@@ -10,15 +10,15 @@ use Rattle.nav_types.specs.declared.cells.Cell.{Cell}
 use Rattle.nav_types.specs.declared.cells.Rect.{Rect}
 use Rattle.nav_types.specs.Cells.{IsInRect, IsRectInside}
 use Rattle.lane_rows.specs.Rows.{has_class}
-use Rattle.navcell_grid.specs.Patches.{IsPartOf}
+use Rattle.nav_types.specs.Rects.{IsPartOf}
 use Rattle.obstruction_shapes.specs.declared.shapes.Obstruction.{Obstruction}
 use Rattle.clearance_raster.specs.Rasters.{blocks_class}
 use Rattle.clearance_raster.proofs.Rastering.{in_whole}
 use Rattle.clearance_raster.proofs.Reaching.{inside_map}
 use Rattle.obstruction_store.specs.Standing.{Standing}
 use Rattle.obstruction_store.proofs.Listing.{Contains-entries}
+use Rattle.posts.specs.Maps.{Map}
 use Rattle.grid_versions.specs.declared.reachers.Reacher.{Reacher}
-use Rattle.grid_versions.specs.Maps.{Map}
 use Rattle.grid_versions.specs.Passing.{has_base, is_blocked}
 use Rattle.grid_versions.specs.inner.Painting.{is_covered}
 use Rattle.grid_versions.specs.inner.Reaching.{is_in_some, LiesWithin, NameChanges, OnlyAdds}

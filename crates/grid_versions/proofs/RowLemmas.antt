@@ -13,7 +13,7 @@ use Rattle.nav_types.specs.Numbering.{Numbering, columns, number_of}
 use Rattle.nav_types.specs.Rows.{bit_of}
 use Rattle.nav_types.proofs.CellOrder.{same_chunk}
 use Rattle.obstruction_store.specs.Standing.{Standing}
-use Rattle.grid_versions.specs.Maps.{Map}
+use Rattle.posts.specs.Maps.{Map}
 use Rattle.grid_versions.specs.Passing.{passable_at}
 use Rattle.grid_versions.specs.Chunks.{chunk_columns, chunk_count, chunk_place}
 use Rattle.grid_versions.specs.inner.ChunkLists.{IsChunkInside}

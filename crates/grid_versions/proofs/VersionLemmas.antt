@@ -18,13 +18,13 @@ use Rattle.nav_types.specs.Regions.{HasRelabelled}
 use Rattle.lane_rows.specs.Rows.{has_class}
 use Rattle.navcell_grid.specs.Patches.{DiffersIn, free_count}
 use Rattle.nav_types.specs.Numbering.{Numbering, number_of}
-use Rattle.chunk_regions.specs.Labelling.{chunk_rect}
+use Rattle.nav_types.specs.Rects.{chunk_rect}
 use Rattle.nav_types.proofs.CellOrder.{same_chunk}
 use Rattle.chunk_regions.proofs.LabelLemmas.{in_rect, in_chunk}
 use Rattle.region_edges.specs.Edges.{PassesInside}
 use Rattle.class_planes.specs.Planes.{PlaneCells, ArePlanes}
 use Rattle.obstruction_store.specs.Standing.{Standing, AllFit}
-use Rattle.grid_versions.specs.Maps.{Map}
+use Rattle.posts.specs.Maps.{Map}
 use Rattle.grid_versions.specs.Passing.{passable_at, is_inside}
 use Rattle.grid_versions.specs.Versions.{MapState, map_state, passes_of}
 use Rattle.grid_versions.specs.inner.Painting.{is_covered, IsPaintedChunk, AreBaseChunks, ArePaintedChunks, AreDiffering}

@@ -1,15 +1,16 @@
--- The chunks of a map: 96 by 96 navcells each, in the order chunk row, chunk column.
-use Rattle.std.specs.Prelude.{ℕ, ◌+◌, ◌*◌, ◌/◌}
+-- The chunks of a map, in the order chunk row, chunk column.
+use Rattle.std.specs.Prelude.{ℕ, ◌+◌, ◌-◌, ◌*◌, ◌/◌}
+use Rattle.nav_types.specs.declared.limits.TheConstants.{CHUNK_SIDE}
 use Rattle.nav_types.specs.declared.cells.Chunk.{Chunk}
 use Rattle.nav_types.specs.declared.cells.Size.{Size}
 
--- how many columns of chunks a map of this size has; the last may be narrower than 96 navcells
+-- how many columns of chunks a map of this size has; the last may be narrower than a whole chunk
 abbrev pub chunk_columns : Size → ℕ
-chunk_columns size = (size.w + 95) / 96
+chunk_columns size = (size.w + (CHUNK_SIDE - 1)) / CHUNK_SIDE
 
--- how many rows of chunks a map of this size has; the last may be lower than 96 navcells
+-- how many rows of chunks a map of this size has; the last may be lower than a whole chunk
 abbrev pub chunk_rows : Size → ℕ
-chunk_rows size = (size.h + 95) / 96
+chunk_rows size = (size.h + (CHUNK_SIDE - 1)) / CHUNK_SIDE
 
 -- how many chunks a map of this size has
 abbrev pub chunk_count : Size → ℕ

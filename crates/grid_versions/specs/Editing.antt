@@ -1,16 +1,17 @@
 -- What an edit of the standing obstructions is answered, and what stands after it.
-use Rattle.std.specs.Prelude.{ℕ, ℤ, ◌==◌, Bool, true, false, not, if◌then◌else◌, List, [], ◌∷◌, Option, None, Some}
+use Rattle.std.specs.Prelude.{ℕ, ℤ, ◌==◌, not, if◌then◌else◌, List, [], ◌∷◌, Option, None, Some}
 use Rattle.std.specs.FinMap as fin_map
 use Rattle.nav_types.specs.declared.limits.TheConstants.{MAX_OBSTRUCTIONS}
 use Rattle.obstruction_shapes.specs.declared.shapes.Obstruction.{Obstruction}
 use Rattle.obstruction_shapes.specs.Shapes.{moved_to}
 use Rattle.obstruction_store.specs.Standing.{Standing, moved}
-use Rattle.grid_versions.specs.declared.edits.Edit.{Edit}
-use Rattle.grid_versions.specs.declared.edits.Edit.TheVariants.{Add, Remove, Move}
-use Rattle.grid_versions.specs.declared.edits.EditReply.{EditReply}
-use Rattle.grid_versions.specs.declared.edits.EditReply.TheVariants.{Added, Removed, Moved, Refused}
-use Rattle.grid_versions.specs.declared.edits.Refusal.TheVariants.{BadShape, DuplicateId, StoreFull, UnknownId}
-use Rattle.grid_versions.specs.Maps.{Map}
+use Rattle.posts.specs.declared.edits.Edit.{Edit}
+use Rattle.posts.specs.declared.edits.Edit.TheVariants.{Add, Remove, Move}
+use Rattle.posts.specs.declared.edits.EditReply.{EditReply}
+use Rattle.posts.specs.declared.edits.EditReply.TheVariants.{Added, Removed, Moved, Refused}
+use Rattle.posts.specs.declared.edits.Refusal.TheVariants.{BadShape, DuplicateId, StoreFull, UnknownId}
+use Rattle.posts.specs.Maps.{Map}
+use Rattle.posts.specs.Edits.{is_refused}
 use Rattle.grid_versions.specs.Fitting.{fits}
 
 -- an add is refused where the shape does not fit the map, else where its number stands, else where 65,536 obstructions
@@ -35,12 +36,6 @@ abbrev pub edit_reply : Map → Standing → Edit → EditReply
 edit_reply map standing (Add id obstruction) = add_reply map standing id obstruction
 edit_reply map standing (Remove id) = remove_reply standing id
 edit_reply map standing (Move id x z) = move_reply map (fin_map.get standing id) id x z
-
-abbrev pub is_refused : EditReply → Bool
-is_refused (Added id) = false
-is_refused (Removed id) = false
-is_refused (Moved id) = false
-is_refused (Refused refusal) = true
 
 -- what stands after an edit that is not refused: the added obstruction stands too, the removed one no longer, and the
 -- moved one with its middle at (x, z) and its old mask

@@ -1,9 +1,7 @@
-pub mod Maps
 pub mod Fitting
 pub mod Passing
 pub mod Editing
 pub mod Chunks
 pub mod Versions
 pub mod PassingLaws
-pub mod Words
 pub mod inner

@@ -10,7 +10,7 @@ use Rattle.lane_rows.specs.Rows.{has_class}
 use Rattle.obstruction_shapes.specs.declared.shapes.Obstruction.{Obstruction}
 use Rattle.clearance_raster.specs.Rasters.{blocks_class}
 use Rattle.obstruction_store.specs.Standing.{Standing}
-use Rattle.grid_versions.specs.Maps.{Map}
+use Rattle.posts.specs.Maps.{Map}
 
 -- the cell lies in a map of this size
 abbrev pub is_inside : Size → Cell → Bool

@@ -3,7 +3,7 @@ use Rattle.std.specs.Prelude.{ℕ, Bool, refl}
 use Rattle.std.specs.Coded.{Coded, code_by, coded×}
 use Rattle.nav_types.specs.declared.cells.Cell.{Cell}
 use Rattle.obstruction_store.specs.Standing.{Standing}
-use Rattle.grid_versions.specs.Maps.{Map}
+use Rattle.posts.specs.Maps.{Map}
 use Rattle.grid_versions.specs.Passing.{passable_at}
 
 -- a map and its standing obstructions

@@ -4,7 +4,7 @@ ghost use Rattle.nav_types.specs.declared.cells.Cell.{Cell};
 ghost use Rattle.nav_types.specs.declared.cells.Size.{Size};
 ghost use Rattle.nav_types.specs.Cells.{IsInside, IsInRect, IsRectInside, chunk_of};
 ghost use Rattle.nav_types.specs.Numbering.{IsPatch, number_of};
-ghost use Rattle.navcell_grid.specs.Patches.{IsPartOf};
+ghost use Rattle.nav_types.specs.Rects.{IsPartOf};
 ghost use Rattle.lane_rows.specs.Rows.{has_class};
 ghost use Rattle.class_planes.specs.Planes.{IsKept};
 ghost use Rattle.grid_versions.specs.Chunks.{chunk_count, chunk_place};
@@ -12,7 +12,7 @@ ghost use Rattle.grid_versions.specs.inner.SameNumbers.{AreChunksOf, IsSameAt};
 ghost use Rattle.grid_versions.specs.inner.Reaching.{is_in_some};
 
 use crate::chunk_cells::ChunkCells;
-use crate::parts::{dirty_part, hull};
+use crate::dirty_parts::dirty_part;
 use crate::shared_list::SharedList;
 use class_planes::ChangedPart;
 use nav_types::{Cell, NoMemory, Rect, Size};
@@ -132,14 +132,9 @@ fn with_cell(held: Option<Rect>, before: &Patch, after: &Patch, cell: Cell) -> O
     if earlier == later {
         return held;
     }
-    let only = Rect {
-        i0: cell.i,
-        j0: cell.j,
-        i1: cell.i,
-        j1: cell.j,
-    };
+    let only = Rect::of_cell(cell);
     match held {
-        Some(rect) => Some(hull(rect, only)),
+        Some(rect) => Some(rect.union(only)),
         None => Some(only),
     }
 }

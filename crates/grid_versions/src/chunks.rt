@@ -1,4 +1,5 @@
 ghost use Rattle.std.specs.Prelude.{ℕ, ◌≡◌, ◌+◌, ◌<◌, ◌≤◌, IfSome, IfNone};
+ghost use Rattle.nav_types.specs.declared.limits.TheConstants.{MAX_CHUNKS_ALONG, MAX_CHUNKS};
 ghost use Rattle.grid_versions.specs.Chunks.{chunk_columns, chunk_rows, chunk_count, chunk_place};
 ghost use Rattle.grid_versions.specs.inner.ChunkLists.{chunk_numbered, neighbour_on, IsChunkInside};
 
@@ -6,28 +7,28 @@ use nav_types::limits::CHUNK_SIDE;
 use nav_types::{Chunk, Size};
 use region_edges::Side;
 
-/// How many columns of chunks a map of this size has, from 1 to 22.
+/// How many columns of chunks a map of this size has, from 1 to `MAX_CHUNKS_ALONG`.
 pub fn columns(size: Size) -> u16
     ensures value { result ≡ chunk_columns size }
     ensures some { 1 ≤ result }
-    ensures few { result ≤ 22 }
+    ensures few { result ≤ MAX_CHUNKS_ALONG }
 {
     (size.w + (CHUNK_SIDE - 1)) / CHUNK_SIDE
 }
 
-/// How many rows of chunks a map of this size has, from 1 to 22.
+/// How many rows of chunks a map of this size has, from 1 to `MAX_CHUNKS_ALONG`.
 pub fn rows(size: Size) -> u16
     ensures value { result ≡ chunk_rows size }
     ensures some { 1 ≤ result }
-    ensures few { result ≤ 22 }
+    ensures few { result ≤ MAX_CHUNKS_ALONG }
 {
     (size.h + (CHUNK_SIDE - 1)) / CHUNK_SIDE
 }
 
-/// How many chunks a map of this size has, from 1 to 484.
+/// How many chunks a map of this size has, from 1 to `MAX_CHUNKS`.
 pub fn count(size: Size) -> u32
     ensures value { result ≡ chunk_count size }
-    ensures few { result ≤ 484 }
+    ensures few { result ≤ MAX_CHUNKS }
 {
     u32::from(rows(size)) * u32::from(columns(size))
 }
@@ -72,10 +73,10 @@ pub fn neighbour(size: Size, chunk: Chunk, side: Side) -> Option<Chunk>
     }
 }
 
-/// By how much the place of a neighbour on that side is above a chunk's own, at most 22.
+/// By how much the place of a neighbour on that side is above a chunk's own, at most `MAX_CHUNKS_ALONG`.
 pub fn step_to(size: Size, side: Side) -> u32
     ensures value { (place : ℕ) → chunk_place size (neighbour_on side (chunk_numbered size place)) ≡ place + result }
-    ensures few { result ≤ 22 }
+    ensures few { result ≤ MAX_CHUNKS_ALONG }
 {
     match side {
         Side::East => 1,

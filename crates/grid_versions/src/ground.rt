@@ -6,7 +6,6 @@ ghost use Rattle.grid_versions.specs.inner.Reachers.{AreReachers};
 ghost use Rattle.grid_versions.specs.inner.Reaching.{CoverChanges, NameChanges};
 
 use crate::chunk_cells::ChunkCells;
-use crate::maps::MapSpec;
 use crate::next_cells::next_patches;
 use crate::painting::{base_patches, painted_patches};
 use crate::reachers::{all_reachers, next_reachers};
@@ -15,6 +14,7 @@ use crate::standing_edits::numbers_added;
 use nav_types::{NoMemory, Rect};
 use navcell_grid::Patch;
 use obstruction_store::{Ids, Store};
+use posts::MapSpec;
 use std::alloc::Global;
 
 /// What a version keeps of its cells chunk by chunk.

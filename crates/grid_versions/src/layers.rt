@@ -13,7 +13,6 @@ use crate::changed_parts::changed_parts;
 use crate::chunk_cells::ChunkCells;
 use crate::class_tables::{class_tables, next_tables};
 use crate::ground::Ground;
-use crate::maps::MapSpec;
 use crate::painted_map::PaintedMap;
 use crate::planed_map::PlanedMap;
 use crate::relabelling::marks_below;
@@ -22,6 +21,7 @@ use crate::tables::ClassTables;
 use class_planes::Planes;
 use nav_types::{NoMemory, Rect, Ticks};
 use obstruction_store::Store;
+use posts::MapSpec;
 use std::alloc::Global;
 use std::sync::ledger::Ledger;
 

@@ -8,15 +8,13 @@ mod chunk_bits;
 mod chunk_cells;
 mod chunks;
 mod class_tables;
-mod edits;
+mod dirty_parts;
 mod ground;
 mod laws;
 mod layers;
-mod maps;
 mod next_cells;
 mod painted_map;
 mod painting;
-mod parts;
 mod planed_map;
 mod reachers;
 mod relabelling;
@@ -26,10 +24,9 @@ mod tables;
 mod version_parts;
 mod versions;
 
-pub use edits::{Edit, EditReplies, EditReply, Edits, Refusal};
 pub use laws::{
     all_fit_after_edits, fits_where_it_fits, one_number_of_cells, one_relabelled, one_tally,
     passable_where_nothing_covers,
 };
-pub use maps::{BaseRects, MapSpec};
-pub use versions::{Next, Tallies, Version};
+pub use posts::{BaseRects, Edit, EditReplies, EditReply, Edits, MapSpec, Refusal, Tallies};
+pub use versions::{Next, Version};

@@ -6,7 +6,8 @@ ghost use Rattle.nav_types.specs.declared.cells.Cell.{Cell};
 ghost use Rattle.nav_types.specs.Cells.{IsInRect, IsRectInside};
 ghost use Rattle.nav_types.specs.Numbering.{Numbering, columns, rows, number_of};
 ghost use Rattle.lane_rows.specs.Rows.{has_class};
-ghost use Rattle.navcell_grid.specs.Patches.{DiffersIn, IsPartOf};
+ghost use Rattle.navcell_grid.specs.Patches.{DiffersIn};
+ghost use Rattle.nav_types.specs.Rects.{IsPartOf};
 ghost use Rattle.obstruction_store.specs.Standing.{AllFit};
 ghost use Rattle.grid_versions.specs.Chunks.{chunk_count};
 ghost use Rattle.grid_versions.specs.inner.ChunkLists.{chunk_numbered};
@@ -16,13 +17,13 @@ ghost use Rattle.grid_versions.specs.inner.Reachers.{AreReachers, HoldReachers};
 ghost use Rattle.grid_versions.specs.inner.Reaching.{AreBefore, IsCoveredBefore};
 
 use crate::chunk_cells::ChunkCells;
-use crate::maps::MapSpec;
+use crate::dirty_parts::dirty_part;
 use crate::painting::repainted;
-use crate::parts::dirty_part;
 use crate::shared_list::SharedList;
 use nav_types::{NoMemory, Rect};
 use navcell_grid::Patch;
 use obstruction_store::{Ids, Store};
+use posts::MapSpec;
 use std::alloc::Global;
 use std::sync::Arc;
 

@@ -5,11 +5,11 @@ ghost use Rattle.grid_versions.specs.inner.Painting.{ArePaintedChunks};
 
 use crate::chunk_cells::ChunkCells;
 use crate::chunks;
-use crate::maps::MapSpec;
 use crate::shared_list::SharedList;
 use nav_types::limits::CHUNK_SIDE;
 use nav_types::{Cell, Chunk, Class, Rows, Size, View};
 use obstruction_store::Store;
+use posts::MapSpec;
 use std::marker::Model;
 
 /// A map, its obstructions and the numbers of its chunks' cells. Contracts see the map and the obstructions.
@@ -24,7 +24,7 @@ impl<'a> Model for PaintedMap<'a> {
     ghost use Rattle.std.specs.FinMap as fin_map;
     ghost use Rattle.std.specs.Coded.{coded_ℕ};
     ghost use Rattle.obstruction_shapes.specs.contracts.shapes.Obstruction.{the_row as obstruction_row};
-    ghost use Rattle.grid_versions.specs.contracts.maps.MapSpec.{the_row as map_row};
+    ghost use Rattle.posts.specs.contracts.maps.MapSpec.{the_row as map_row};
     ghost use Rattle.grid_versions.specs.Versions.{MapState, map_state, state_code};
     ghost use Rattle.grid_versions.specs.inner.Painting.{ArePaintedChunks};
 

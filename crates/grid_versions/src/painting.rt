@@ -4,7 +4,7 @@ ghost use Rattle.nav_types.specs.declared.cells.Cell.{Cell};
 ghost use Rattle.nav_types.specs.Cells.{IsInRect, IsRectInside};
 ghost use Rattle.nav_types.specs.Numbering.{IsPatch, columns, rows, number_of};
 ghost use Rattle.lane_rows.specs.Rows.{has_class};
-ghost use Rattle.navcell_grid.specs.Patches.{IsPartOf};
+ghost use Rattle.nav_types.specs.Rects.{IsPartOf};
 ghost use Rattle.obstruction_shapes.specs.Shapes.{FitsMap};
 ghost use Rattle.clearance_raster.specs.Rasters.{blocks_class};
 ghost use Rattle.clearance_raster.specs.inner.TestRasters.{IsRasterIn};
@@ -16,14 +16,13 @@ ghost use Rattle.grid_versions.specs.inner.Reachers.{blocks_under, HoldUnpainted
 use crate::base_bands::BaseBand;
 use crate::chunk_cells::ChunkCells;
 use crate::chunks;
-use crate::maps::MapSpec;
 use crate::shared_list::SharedList;
-use chunk_regions::cells_of;
 use clearance_raster::{raster_in, reach_of};
 use nav_types::{NoMemory, Rect};
-use navcell_grid::{Patch, common};
+use navcell_grid::Patch;
 use obstruction_shapes::Obstruction;
 use obstruction_store::{Ids, Store};
+use posts::MapSpec;
 use std::alloc::Global;
 
 /// The numbers of each chunk's cells under the base rectangles alone: bit k is set exactly where a base rectangle
@@ -37,7 +36,7 @@ pub fn base_patches(alloc: Global, map: &MapSpec) -> Result<SharedList<Patch>, N
     let mut all = SharedList::with_capacity(alloc, count as usize)?;
     let mut band = BaseBand::of_no_row(alloc);
     for place in 0..count {
-        let rect = cells_of(size, chunks::numbered(size, place));
+        let rect = Rect::of_chunk(size, chunks::numbered(size, place));
         // Chunks side by side have one band.
         if !band.is_of(rect.j0, rect.j1) {
             band = BaseBand::of_rows(alloc, base, rect.j0, rect.j1)?;
@@ -66,7 +65,7 @@ pub fn painted_patches(
     let mut all = SharedList::with_capacity(alloc, count as usize)?;
     for place in 0..count {
         let under = base.at(place as usize);
-        let rect = cells_of(size, chunks::numbered(size, place));
+        let rect = Rect::of_chunk(size, chunks::numbered(size, place));
         let near = reachers.at(place as usize);
         let patch = repainted(alloc, map, shapes, near.as_slice(), under, under, rect)?;
         all.push(alloc, ChunkCells::new(alloc, patch, map.classes().count())?)?;
@@ -108,7 +107,7 @@ fn paint_area(patch: &mut Patch, rect: Rect, area: Rect, mask: u16)
     ensures set { IsRasterIn rect rect (λ k cell. has_class k mask && is_in_rect area cell)
         (number_of patch.old) (number_of patch.new) }
 {
-    if let Some(part) = common(area, rect) {
+    if let Some(part) = area.intersection(rect) {
         paint_part(patch, rect, part, mask);
     }
 }
@@ -201,8 +200,8 @@ fn paint_shape(patch: &mut Patch, part: Rect, obstruction: &Obstruction, map: &M
     let Some(reach) = reach_of(obstruction, map.classes(), map.size()) else {
         return;
     };
-    let Some(_) = common(reach, part) else {
+    if !reach.meets(part) {
         return;
-    };
+    }
     raster_in(patch, part, obstruction, map.classes(), map.size());
 }

@@ -5,11 +5,11 @@ ghost use Rattle.grid_versions.specs.Passing.{passable_at};
 ghost use Rattle.grid_versions.specs.Versions.{map_state, passes_of};
 
 use crate::chunk_bits::{BitView, passable_cells};
-use crate::maps::MapSpec;
 use chunk_regions::ChunkBits;
 use class_planes::{ClassPlane, Planes};
 use nav_types::{Cell, Chunk, Class, Size, View};
 use obstruction_store::Store;
+use posts::MapSpec;
 use std::marker::Model;
 
 /// A map, its obstructions and the planes of all its classes. Contracts see the map and the obstructions.
@@ -26,7 +26,7 @@ impl<'a> Model for PlanedMap<'a> {
     ghost use Rattle.std.specs.Coded.{coded_ℕ};
     ghost use Rattle.obstruction_shapes.specs.contracts.shapes.Obstruction.{the_row as obstruction_row};
     ghost use Rattle.class_planes.specs.Planes.{ArePlanes};
-    ghost use Rattle.grid_versions.specs.contracts.maps.MapSpec.{the_row as map_row};
+    ghost use Rattle.posts.specs.contracts.maps.MapSpec.{the_row as map_row};
     ghost use Rattle.grid_versions.specs.Passing.{passable_at};
     ghost use Rattle.grid_versions.specs.Versions.{MapState, map_state, state_code};
 

@@ -6,20 +6,18 @@ ghost use Rattle.nav_types.specs.declared.cells.Cell.{Cell};
 ghost use Rattle.nav_types.specs.Cells.{IsInRect};
 ghost use Rattle.obstruction_shapes.specs.declared.shapes.Obstruction.{Obstruction};
 ghost use Rattle.obstruction_store.specs.Standing.{Standing, AllFit};
-ghost use Rattle.grid_versions.specs.Maps.{Map};
+ghost use Rattle.posts.specs.Maps.{Map};
 ghost use Rattle.grid_versions.specs.Chunks.{chunk_count};
 ghost use Rattle.grid_versions.specs.inner.ChunkLists.{chunk_numbered};
 ghost use Rattle.grid_versions.specs.inner.Reachers.{HoldChunkReachers, AreReachers, AreReachersBefore, AreReachersSince, IsReachNoted, HoldReached};
 
 use crate::chunks;
-use crate::maps::MapSpec;
-use crate::parts::dirty_part;
+use crate::dirty_parts::dirty_part;
 use crate::shared_list::SharedList;
 use crate::standing_edits::reach_under;
-use chunk_regions::cells_of;
 use nav_types::{NoMemory, Rect, Size};
-use navcell_grid::common;
 use obstruction_store::{Ids, Store};
+use posts::MapSpec;
 use std::alloc::Global;
 use std::sync::Arc;
 
@@ -73,9 +71,9 @@ fn list_reacher(rect: Rect, reacher: Reacher, ids: &mut Ids) -> Result<(), NoMem
     ensures listed { OnOk result ((cell : Cell) → IsInRect reacher.rect cell → IsInRect rect cell
         → Contains ids.new reacher.id) }
 {
-    let Some(_) = common(reacher.rect, rect) else {
+    if !reacher.rect.meets(rect) {
         return Ok(());
-    };
+    }
     if ids.as_slice().contains(&reacher.id) {
         return Ok(());
     }
@@ -156,7 +154,7 @@ pub fn all_reachers(
     let reachers = reachers_of(alloc, map, shapes, ids.as_slice())?;
     let mut all = SharedList::with_capacity(alloc, count as usize)?;
     for place in 0..count {
-        let rect = cells_of(size, chunks::numbered(size, place));
+        let rect = Rect::of_chunk(size, chunks::numbered(size, place));
         let made = reachers_in(alloc, &reachers, rect)?;
         all.push(alloc, made)?;
     }
@@ -180,7 +178,7 @@ fn reachers_at(
         → AreReachersSince map now before.now reaches.now ids.now changed.now
         → HoldChunkReachers map now (chunk_numbered size place) (arc_value made)) }
 {
-    let rect = cells_of(size, chunks::numbered(size, place));
+    let rect = Rect::of_chunk(size, chunks::numbered(size, place));
     let Some(_) = dirty_part(reaches, rect) else {
         let shared = before.shared(place as usize)?;
         return Ok(shared);

@@ -1,6 +1,7 @@
 //! Which chunks differ between two versions of a map.
 ghost use Rattle.std.specs.Prelude.{◌≡◌, ◌≤◌, ◌<◌, length, map, sum_by, count_by, slice_get, Some};
 ghost use Rattle.std.specs.List.{range_with_len};
+ghost use Rattle.nav_types.specs.declared.limits.TheConstants.{MAX_CHUNKS};
 ghost use Rattle.lane_rows.specs.Rows.{has_class};
 
 use nav_types::Class;
@@ -8,7 +9,7 @@ use nav_types::Class;
 /// How many of the bits below `classes` are set in all numbers together.
 pub fn marks_below(bits: &[u16], classes: u8) -> u32
     requires few { classes ≤ 16 }
-    requires chunks { length bits.now ≤ 484 }
+    requires chunks { length bits.now ≤ MAX_CHUNKS }
     ensures { result ≡ sum_by (λ k. count_by (has_class k) bits.now) (range_with_len 0 classes) }
 {
     let mut count = 0;

@@ -7,12 +7,11 @@ ghost use Rattle.grid_versions.specs.Editing.{edit_reply, after_edit};
 ghost use Rattle.grid_versions.specs.Editing.{after_edits, edit_replies};
 ghost use Rattle.grid_versions.specs.inner.Reaching.{CoverChanges, HoldsReach, NameChanges};
 
-use crate::edits::{Edit, EditReplies, EditReply, Refusal};
-use crate::maps::MapSpec;
 use clearance_raster::reach_of;
 use nav_types::{NoMemory, Rect, Sequence, Size};
 use obstruction_shapes::{Shape, check};
 use obstruction_store::{AddRefusal, Ids, MoveRefusal, Store};
+use posts::{Edit, EditReplies, EditReply, MapSpec, Refusal};
 use std::alloc::Global;
 
 /// Rectangles in which obstructions can block cells.

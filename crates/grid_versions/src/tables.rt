@@ -1,4 +1,5 @@
-ghost use Rattle.std.specs.Prelude.{Bool, ◌≡◌, ◌+◌, ◌^◌, ◌<◌, ◌≤◌, count_by, OnOk, IfOk};
+ghost use Rattle.std.specs.Prelude.{Bool, ◌≡◌, ◌+◌, ◌*◌, ◌^◌, ◌<◌, ◌≤◌, count_by, OnOk, IfOk};
+ghost use Rattle.nav_types.specs.declared.limits.TheConstants.{MAX_CHUNKS, CHUNK_CELLS};
 ghost use Rattle.nav_types.specs.declared.cells.Cell.{Cell};
 ghost use Rattle.nav_types.specs.Cells.{IsInside};
 ghost use Rattle.lane_rows.specs.Rows.{has_class};
@@ -202,7 +203,7 @@ impl ClassTables {
     /// How many regions all chunks have together.
     pub fn regions(&self) -> u64
         ensures total { result ≡ region_total self.now }
-        ensures few { result ≤ 4460544 }
+        ensures few { result ≤ MAX_CHUNKS * CHUNK_CELLS }
     {
         self.regions
     }

@@ -11,13 +11,12 @@ ghost use Rattle.grid_versions.specs.Chunks.{chunk_count, chunk_place};
 ghost use Rattle.grid_versions.specs.inner.Tables.{AreTables};
 
 use crate::layers::Layers;
-use crate::maps::MapSpec;
 use crate::planed_map::PlanedMap;
 use crate::tables::ClassTables;
-use crate::versions::Tallies;
 use class_planes::{ClassPlane, Planes};
 use nav_types::{Cell, Class, NoMemory, Rect, Ticks};
 use obstruction_store::Store;
+use posts::{MapSpec, Tallies};
 use reach_sets::RegionId;
 use std::alloc::Global;
 use std::marker::Model;
@@ -37,7 +36,7 @@ impl Model for VersionParts {
     ghost use Rattle.std.specs.FinMap as fin_map;
     ghost use Rattle.std.specs.Coded.{coded_ℕ};
     ghost use Rattle.obstruction_shapes.specs.contracts.shapes.Obstruction.{the_row as obstruction_row};
-    ghost use Rattle.grid_versions.specs.contracts.maps.MapSpec.{the_row as map_row};
+    ghost use Rattle.posts.specs.contracts.maps.MapSpec.{the_row as map_row};
     ghost use Rattle.grid_versions.specs.Versions.{MapState, map_state, state_code};
     ghost use Rattle.std.specs.Arc.{arc_value};
 

@@ -8,26 +8,17 @@ ghost use Rattle.class_planes.specs.Planes.{AreOf};
 ghost use Rattle.obstruction_store.specs.Standing.{AllFit};
 ghost use Rattle.grid_versions.specs.Chunks.{chunk_count, chunk_place};
 
-use crate::edits::{EditReplies, Edits};
-use crate::maps::MapSpec;
 use crate::standing_edits::{Edited, edited_copy};
 use crate::version_parts::VersionParts;
 use class_planes::Planes;
-use nav_types::{Areas, Cell, Class, FreeCells, NoMemory, Size, Ticks, View};
+use nav_types::{Areas, Axis, Cell, Class, FreeCells, NoMemory, Size, Ticks, View};
 use obstruction_store::Store;
+use posts::{EditReplies, Edits, MapSpec, Tallies};
 use reach_sets::RegionId;
 use std::alloc::Global;
 use std::marker::Model;
 use std::sync::Arc;
 use std::sync::ledger::Ledger;
-
-/// How many regions, region edges and areas all classes of a version have together.
-#[derive(Clone, Copy, Debug, PartialEq, Eq)]
-pub struct Tallies {
-    pub regions: u64,
-    pub edges: u64,
-    pub areas: u64,
-}
 
 /// A map with the obstructions that stand on it: which cells are passable for each class, and the regions, region
 /// edges and areas. Contracts see the map and the standing obstructions (`MapState`).
@@ -54,7 +45,7 @@ impl Model for Version {
     ghost use Rattle.std.specs.FinMap as fin_map;
     ghost use Rattle.std.specs.Coded.{coded_ℕ};
     ghost use Rattle.obstruction_shapes.specs.contracts.shapes.Obstruction.{the_row as obstruction_row};
-    ghost use Rattle.grid_versions.specs.contracts.maps.MapSpec.{the_row as map_row};
+    ghost use Rattle.posts.specs.contracts.maps.MapSpec.{the_row as map_row};
     ghost use Rattle.grid_versions.specs.Versions.{MapState, state_code};
     ghost use Rattle.std.specs.Arc.{arc_value};
 
@@ -236,16 +227,16 @@ impl View for Version {
 }
 
 impl FreeCells for Version {
-    /// The column of the first passable cell of the row, from this one to the east (`IsFirstFree`); the width of the map
-    /// where there is none.
-    fn next_free_east(&self, class: Class, cell: Cell) -> u16 {
-        self.parts.plane(class).next_free_east(cell)
+    /// The place of the first passable cell of the line, from this one up (`IsFirstFree`); the length of the line where
+    /// there is none.
+    fn next_free(&self, class: Class, axis: Axis, cell: Cell) -> u16 {
+        self.parts.plane(class).next_free(axis, cell)
     }
 
-    /// The row of the first passable cell of the column, from this one to the north (`IsFirstFree`); the height of the
-    /// map where there is none.
-    fn next_free_north(&self, class: Class, cell: Cell) -> u16 {
-        self.parts.plane(class).next_free_north(cell)
+    /// The place of the first impassable cell of the line, from this one up (`IsFirstBlocked`); the length of the line
+    /// where there is none.
+    fn next_blocked(&self, class: Class, axis: Axis, cell: Cell) -> u16 {
+        self.parts.plane(class).next_blocked(axis, cell)
     }
 }
 

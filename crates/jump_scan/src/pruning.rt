@@ -9,7 +9,7 @@ ghost use Rattle.jump_scan.specs.Turns.{aside_to};
 ghost use Rattle.jump_scan.specs.Successors.{IsForcing, IsSuccessor, HasForced};
 ghost use Rattle.jump_scan.specs.inner.Turning.{IsLegalTurn};
 
-use crate::turns::{Side, ahead_to, aside_to, column_part, row_part};
+use crate::turns::{Side, ahead_to, aside_to};
 use nav_types::{Cell, Class, Dir, DirSet, View, is_free_beside, legal_steps};
 
 /// Whether the step that came to the cell is straight and the cell to that side of the one just before is blocked.
@@ -81,8 +81,8 @@ fn after_diagonal<V: View>(view: &V, class: Class, cell: Cell, arrived: Dir) -> 
     ensures { (dir : Dir) → IsTrue (holds result dir)
         ↔ IsSuccessor (V.passes view.now class) cell (Some arrived) dir }
 {
-    let row = row_part(arrived);
-    let column = column_part(arrived);
+    let row = arrived.row_part();
+    let column = arrived.column_part();
     let is_row = is_free_beside(view, class, cell, row);
     let is_column = is_free_beside(view, class, cell, column);
     let is_onward = is_legal_between(view, class, cell, arrived, is_row && is_column);

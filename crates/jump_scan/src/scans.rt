@@ -6,7 +6,6 @@ ghost use Rattle.nav_types.specs.Directions.{is_straight, row_part, column_part}
 ghost use Rattle.jump_scan.specs.Stops.{HaltsStraight, HaltsDiagonal, IsStraightStop, HasStraightStop, IsDiagonalStop};
 
 use crate::pruning::has_forced;
-use crate::turns::{column_part, row_part};
 use nav_types::{Aim, Cell, Class, Dir, View, step};
 
 /// Whether a straight run in the direction stops at the cell.
@@ -68,8 +67,8 @@ fn has_stop_aside<V: View, A: Aim>(view: &V, class: Class, cell: Cell, dir: Dir,
         ↔ (HasStraightStop (V.passes view.now class) (A.hit aim.now (V.extent view.now)) (row_part dir) cell
         ⊎ HasStraightStop (V.passes view.now class) (A.hit aim.now (V.extent view.now)) (column_part dir) cell) }
 {
-    has_straight_stop(view, class, cell, row_part(dir), aim)
-        || has_straight_stop(view, class, cell, column_part(dir), aim)
+    has_straight_stop(view, class, cell, dir.row_part(), aim)
+        || has_straight_stop(view, class, cell, dir.column_part(), aim)
 }
 
 /// Whether a diagonal run in the direction stops at the cell.

@@ -1,6 +1,5 @@
 //! Directions beside a direction.
 ghost use Rattle.std.specs.Prelude.{◌≡◌};
-ghost use Rattle.nav_types.specs.Directions.{row_part, column_part};
 ghost use Rattle.jump_scan.specs.declared.turns.Side.TheVariants as Side;
 ghost use Rattle.jump_scan.specs.Turns.{ahead_to, aside_to};
 
@@ -58,26 +57,4 @@ pub fn aside_to(side: Side, dir: Dir) -> Dir
     ensures { result ≡ aside_to side dir }
 {
     ahead_to(side, ahead_to(side, dir))
-}
-
-/// The straight part of the direction along the row; a straight direction is its own.
-pub fn row_part(dir: Dir) -> Dir
-    ensures { result ≡ row_part dir }
-{
-    match dir {
-        Dir::NE | Dir::SE => Dir::E,
-        Dir::NW | Dir::SW => Dir::W,
-        Dir::N | Dir::E | Dir::S | Dir::W => dir,
-    }
-}
-
-/// The straight part of the direction along the column; a straight direction is its own.
-pub fn column_part(dir: Dir) -> Dir
-    ensures { result ≡ column_part dir }
-{
-    match dir {
-        Dir::NE | Dir::NW => Dir::N,
-        Dir::SE | Dir::SW => Dir::S,
-        Dir::N | Dir::E | Dir::S | Dir::W => dir,
-    }
 }

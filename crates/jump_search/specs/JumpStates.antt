@@ -2,6 +2,7 @@
 -- 2011.
 use Rattle.std.specs.Prelude.{ℕ, Bool, ◌≡◌, ◌+◌, ◌-◌, ◌*◌, ◌≤◌, ◌⊎◌, List, [], ◌∷◌, None, Some, IsTrue, IsFalse, min}
 use Rattle.std.specs.Prelude.{max}
+use Rattle.nav_types.specs.declared.limits.TheConstants.{STRAIGHT_COST, DIAGONAL_COST}
 use Rattle.nav_types.specs.declared.cells.Cell.{Cell}
 use Rattle.nav_types.specs.declared.cells.Rect.{Rect}
 use Rattle.nav_types.specs.declared.cells.Size.{Size}
@@ -26,9 +27,9 @@ pub record IsJump (passes hit : Cell → Bool) (from to : JumpState) : Type 0 wh
   pub successor : IsSuccessor passes from.cell from.arrived dir
   pub stop : IsStopOf passes hit dir from.cell to.cell
 
--- the least cost of steps on an open map over so many columns and rows, in units of 65536 for a straight step
+-- the least cost of steps on an open map over so many columns and rows
 abbrev pub octile : ℕ → ℕ → ℕ
-octile columns rows = 92682 * min columns rows + 65536 * (max columns rows - min columns rows)
+octile columns rows = DIAGONAL_COST * min columns rows + STRAIGHT_COST * (max columns rows - min columns rows)
 
 -- the octile distance of two cells, which is the cost of a run from one to the other
 abbrev pub octile_between : Cell → Cell → ℕ

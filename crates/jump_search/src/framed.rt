@@ -1,6 +1,3 @@
-ghost use Rattle.std.specs.Prelude.{IsFalse};
-ghost use Rattle.nav_types.specs.Cells.{IsInRect};
-
 use nav_types::{Aim, Cell, Rect, Size};
 
 /// An aim with its rectangle, so that neither the rectangle nor a cell outside of it is asked for again.
@@ -8,13 +5,6 @@ use nav_types::{Aim, Cell, Rect, Size};
 pub(crate) struct Framed<'a, A: Aim> {
     pub aim: &'a A,
     pub rect: Rect,
-}
-
-/// Whether the rectangle has the cell.
-fn has(rect: Rect, cell: Cell) -> bool
-    ensures { IsFalse result → ¬ IsInRect rect cell }
-{
-    rect.i0 <= cell.i && cell.i <= rect.i1 && rect.j0 <= cell.j && cell.j <= rect.j1
 }
 
 impl<'a, A: Aim> Aim for Framed<'a, A> {
@@ -28,7 +18,7 @@ impl<'a, A: Aim> Aim for Framed<'a, A> {
     ghost framed = { λ framed size. A.framed framed.aim.now size };
 
     fn hits(&self, size: Size, cell: Cell) -> bool {
-        if !has(self.rect, cell) {
+        if !self.rect.contains(cell) {
             return false;
         }
         self.aim.hits(size, cell)

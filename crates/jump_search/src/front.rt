@@ -1,5 +1,5 @@
 //! The nodes that a search has met, and those of them that wait.
-ghost use Rattle.std.specs.Prelude.{◌≡◌, ◌↔◌, ◌<◌, ◌≤◌, ◌⊎◌, ◌++◌, ◌∷◌, ◌+◌, [], ℕ, Bool, Some, None, length};
+ghost use Rattle.std.specs.Prelude.{◌≡◌, ◌↔◌, ◌<◌, ◌≤◌, ◌⊎◌, ◌++◌, ◌∷◌, ◌+◌, ◌^◌, [], ℕ, Bool, Some, None, length};
 ghost use Rattle.std.specs.Prelude.{slice_set, IsTrue, IsFalse, IsSomeAnd, IfSome, IfNone, OnOk, IfOk};
 ghost use Rattle.std.specs.FinMap as map;
 ghost use Rattle.nav_types.specs.declared.cells.Cell.{Cell};
@@ -46,7 +46,7 @@ fn steps_along(dir: Dir, from: Cell, to: Cell) -> u16
 /// The node to which a run leads.
 #[inline(always)]
 fn landed(node: &Node, dir: Dir, stop: Cell) -> Node
-    requires low { node.now.cost < 4611686018427387904 }
+    requires low { node.now.cost < 2 ^ 62 }
     requires moves { (count : ℕ) × Moves dir count node.now.state.cell stop }
     ensures cell { result.state.cell ≡ stop }
     ensures arrived { result.state.arrived ≡ Some dir }
@@ -105,7 +105,7 @@ fn stop_of<R: Runs, A: Aim>(runs: &R, class: Class, from: Cell, dir: Dir, aim: &
 
 /// When a node is taken from the open list: nodes of a lesser estimate come first.
 fn priority_of(rect: &Rect, node: &Node) -> Priority
-    requires { node.now.cost < 9223372036854775808 }
+    requires { node.now.cost < 2 ^ 63 }
     ensures { result ≡ priority_of rect.now node.now }
 {
     Priority {
@@ -130,7 +130,7 @@ impl Front {
     pub(crate) fn meet(&mut self, rect: &Rect, node: Node) -> Result<(), NoMemory>
         requires lacks { LacksState self.old.nodes node.state }
         requires waits { map.get self.old.waiting (length self.old.nodes) ≡ None }
-        requires low { node.cost < 9223372036854775808 }
+        requires low { node.cost < 2 ^ 63 }
         ensures nodes { OnOk result (self.new.nodes ≡ self.old.nodes ++ node ∷ []) }
         ensures waiting { OnOk result (self.new.waiting ≡ map.insert self.old.waiting (length self.old.nodes)
             (priority_of rect.now node)) }
@@ -145,7 +145,7 @@ impl Front {
     fn lower(&mut self, rect: &Rect, number: u32, node: Node)
         requires same { HasState self.old.nodes node.state number }
         requires waits { IsSomeAnd (map.get self.old.waiting number) (IsNotMore (priority_of rect.now node)) }
-        requires low { node.cost < 9223372036854775808 }
+        requires low { node.cost < 2 ^ 63 }
         ensures nodes { self.new.nodes ≡ slice_set self.old.nodes number node }
         ensures waiting { self.new.waiting ≡ map.insert self.old.waiting number (priority_of rect.now node) }
     {
@@ -158,7 +158,7 @@ impl Front {
         requires has { HasState self.old.nodes node.state number }
         requires arrived { node.state.arrived ≡ Some dir }
         requires waiting { IsFalse node.opened }
-        requires low { node.cost < 9223372036854775808 }
+        requires low { node.cost < 2 ^ 63 }
         requires queued { (all : Bool) × ((floor : ℕ)
             × (IsQueued all rect.now floor self.old.nodes self.old.waiting × (floor ≤ estimate_of rect.now node))) }
         ensures { Relaxes rect.now node self.old.nodes self.new.nodes self.old.waiting self.new.waiting }
@@ -181,7 +181,7 @@ impl Front {
     fn note(&mut self, rect: &Rect, dir: Dir, all: bool, node: Node) -> Result<(), NoMemory>
         requires arrived { node.state.arrived ≡ Some dir }
         requires waiting { IsFalse node.opened }
-        requires low { node.cost < 9223372036854775808 }
+        requires low { node.cost < 2 ^ 63 }
         requires queued { (all : Bool) × ((floor : ℕ)
             × (IsQueued all rect.now floor self.old.nodes self.old.waiting × (floor ≤ estimate_of rect.now node))) }
         ensures { OnOk result (Notes all rect.now node self.old.nodes self.new.nodes self.old.waiting

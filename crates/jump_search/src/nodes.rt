@@ -77,7 +77,8 @@ fn arrival_number(arrived: Option<Dir>) -> u8
     }
 }
 
-/// Whether the two states are the same.
+/// Whether the two states are the same. Arrivals are compared by their numbers, so that none needs to be asked first
+/// whether it is there.
 fn is_same(one: JumpState, other: JumpState) -> bool
     ensures { result ≡ same_key (key_of one) (key_of other) }
 {

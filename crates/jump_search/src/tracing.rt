@@ -5,6 +5,7 @@
 
 ghost use Rattle.std.specs.Prelude.{ℕ, Bool, Option, None, Some, ◌≡◌, ◌+◌, ◌*◌, ◌<◌, ◌≤◌, ◌++◌, replicate, IfSome};
 ghost use Rattle.std.specs.Prelude.{IfNone, IfOk, OnOk};
+ghost use Rattle.nav_types.specs.declared.limits.TheConstants.{MAX_SIDE};
 ghost use Rattle.nav_types.specs.declared.cells.Cell.{Cell};
 ghost use Rattle.nav_types.specs.declared.cells.Rect.{Rect};
 ghost use Rattle.nav_types.specs.declared.directions.Dir.{Dir};
@@ -97,7 +98,7 @@ fn picked(nodes: &Nodes, cell: Cell, cost: u64, next: Option<Dir>) -> LastRun
 fn place_before(place: u16, gained: u16, lost: u16, run: u16) -> u16
     requires gains { gained ≤ 1 }
     requires loses { lost ≤ 1 }
-    requires some { (from : ℕ) × ((place + run * lost ≡ from + run * gained) × (from < 2048)) }
+    requires some { (from : ℕ) × ((place + run * lost ≡ from + run * gained) × (from < MAX_SIDE)) }
     ensures { place + run * lost ≡ result + run * gained }
 {
     let ahead = place as u32 + run as u32 * lost as u32;

@@ -69,10 +69,9 @@ fn texts_have_their_classes(rt: HostRuntime) -> Result<(), Fail> {
     Ok(())
 }
 
-/// The class of a name, which is copied first.
-fn found_in(alloc: Global, table: &ClassTable, name: &str) -> Option<Class> {
-    let name = ClassName::new(alloc, name.as_bytes()).ok()?;
-    table.find(&name.copy(alloc).ok()?)
+/// The class of a name.
+fn found_in(table: &ClassTable, name: &str) -> Option<Class> {
+    table.find(&ClassName::new(name.as_bytes())?)
 }
 
 #[test]
@@ -81,7 +80,7 @@ fn classes_are_found(rt: HostRuntime) {
         panic!(rt; "no classes");
     };
     for (name, wanted) in [("ca", Some(0)), ("cc", Some(2)), ("cd", None), ("c", None)] {
-        let found = found_in(rt.alloc(), &table, name);
+        let found = found_in(&table, name);
         assert!(rt; found.map(Class::number) == wanted, "{name}");
     }
 }

@@ -30,13 +30,7 @@ fn blocked(alloc: Global) -> Option<Version> {
     for j in 0..SIDES[1] {
         for i in 0..SIDES[0] {
             if !is_open(i, j) {
-                let cell = Rect {
-                    i0: i,
-                    j0: j,
-                    i1: i,
-                    j1: j,
-                };
-                cells.push((cell, 1)).ok()?;
+                cells.push((Rect::of_cell(Cell::new(i, j)), 1)).ok()?;
             }
         }
     }

@@ -1,12 +1,14 @@
 //! Start cells and targets on small maps, and how much of a wide one is looked at for them.
 use crate::fixtures::counted::Counted;
 use crate::fixtures::figures::goal_of;
+use crate::fixtures::maps::drawn;
 use crate::fixtures::texts::{fields_of, parsed_cell};
 use crate::fixtures::versions::{drawn_version, version_of};
 use fixed_point::{Fixed, is_on_axis};
 use goal_reach::{Target, made_reachable, nearest_passable};
 use goal_shapes::check;
-use nav_types::{Areas, Cell, Class, FreeCells, Rect};
+use grid_versions::Version;
+use nav_types::{Areas, Cell, CellByCell, Class, FreeCells, Rect};
 use std::alloc::Global;
 
 /// In each line the rows of a map from the first up, `#` impassable, a point in halves of a navcell, and
@@ -110,14 +112,47 @@ const ROOMS: [(Cell, &str, Option<Cell>); 4] = [
     ),
 ];
 
+/// The map of the two rooms.
+fn two_rooms(alloc: Global) -> Option<Version> {
+    let walls = [(rect(3, 0, 3, 2), 1), (rect(1, 1, 1, 1), 1)];
+    version_of(alloc, [5, 3], (1, "0"), &walls)
+}
+
 #[test]
 fn a_goal_out_of_reach_has_a_near_cell(rt: HostRuntime) {
-    let walls = [(rect(3, 0, 3, 2), 1), (rect(1, 1, 1, 1), 1)];
-    let Some(map) = version_of(rt.alloc(), [5, 3], (1, "0"), &walls) else {
+    let Some(map) = two_rooms(rt.alloc()) else {
         panic!(rt; "no map");
     };
     for (start, goal, near) in ROOMS {
         assert!(rt; is_target(&map, start, goal, near) == Some(true), "{goal}");
+    }
+}
+
+/// Whether a line of `STARTS` says what the start cell is on a map that is a view alone, asked cell by cell.
+fn starts_cell_by_cell(alloc: Global, line: &str) -> Option<bool> {
+    let [map, point, start, ..] = fields_of(line);
+    let point = parsed_cell(point)?;
+    let map = drawn(alloc, map)?;
+    starts_at(&CellByCell { view: &map }, point, parsed_cell(start))
+}
+
+#[test]
+fn any_view_has_starts_and_targets(rt: HostRuntime) {
+    for line in STARTS.lines() {
+        assert!(rt;
+            starts_cell_by_cell(rt.alloc(), line) == Some(true),
+            "{line}"
+        );
+    }
+    let Some(map) = two_rooms(rt.alloc()) else {
+        panic!(rt; "no map");
+    };
+    let cells = CellByCell { view: &map };
+    for (start, goal, near) in ROOMS {
+        assert!(rt;
+            is_target(&cells, start, goal, near) == Some(true),
+            "{goal}"
+        );
     }
 }
 

@@ -1,7 +1,7 @@
 //! Stops and successors on small maps that are drawn as text.
 
 use crate::fixtures::aims::parsed_targets;
-use crate::fixtures::maps::{drawn, is_rect_inside};
+use crate::fixtures::maps::drawn;
 use crate::fixtures::texts::{fields_of, parsed_cell};
 use crate::fixtures::views::stop_of;
 use jump_scan::{CellRuns, successors};
@@ -76,10 +76,7 @@ fn stops_as_the_line_says(alloc: Global, line: &str) -> Option<bool> {
     let dir = parsed_dir(dir)?;
     let targets = parsed_targets(alloc, cells)?;
     let map = drawn(alloc, map)?;
-    if !map.size().has(from)
-        || !map.passable(class, from)
-        || !is_rect_inside(map.size(), targets.rect)
-    {
+    if !map.size().has(from) || !map.passable(class, from) || !targets.rect.is_inside(map.size()) {
         return None;
     }
     let runs = CellRuns::new(&map);

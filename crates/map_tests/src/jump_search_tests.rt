@@ -3,7 +3,7 @@
 ghost use Rattle.std.specs.Prelude.{◌≡◌, ◌<◌};
 
 use crate::fixtures::counted::Counted;
-use crate::fixtures::maps::{drawn, is_rect_inside};
+use crate::fixtures::maps::drawn;
 use crate::fixtures::searches::{Search, is_fit, is_found, search_of};
 use crate::fixtures::texts::fields_of;
 use jump_search::{jump_find, jump_find_with, jump_search, jump_search_with};
@@ -87,6 +87,7 @@ const TABLE: &str = "\
 #..#./#.##./..#../#..../...#./...../#..#./#..../#..#./...##/##.##/\
     .#..#;2,0;4,8;4,8;748042;1,0 1,3 2,4 2,5 4,5 4,8;13
 #..#/..../..../..../..../..#./..../..../..../..../....;1,6;1,1 0,2 0,3 0,9;0,3;223754;0,5 0,3;6
+#....../.####../###..../###.#../.#....#/....###/....###;5,0;2,4;2,4;458752;5,4 2,4;7
 ";
 
 /// Whether both searches answer as they should, and so many jump states are opened, where they are counted in a ledger.
@@ -103,7 +104,7 @@ fn answers_counted<L: Ledger>(
 {
     let class = Class::new(0);
     let (start, aim) = (search.start, &search.targets);
-    if !is_rect_inside(map.size(), aim.rect) || !is_fit(map, class, start, search.points, aim) {
+    if !aim.rect.is_inside(map.size()) || !is_fit(map, class, start, search.points, aim) {
         return Ok(false);
     }
     let mut ticks = Ticks::<L>::new(blank);
@@ -148,7 +149,7 @@ fn answers_over<L: Ledger>(
 {
     let class = Class::new(0);
     let (start, aim) = (search.start, &search.targets);
-    if !is_rect_inside(runs.size(), aim.rect) || !is_fit(runs, class, start, search.points, aim) {
+    if !aim.rect.is_inside(runs.size()) || !is_fit(runs, class, start, search.points, aim) {
         return Ok(false);
     }
     runs.reset();

@@ -1,6 +1,6 @@
 //! The plain search over small maps that are drawn as text.
 
-use crate::fixtures::maps::{drawn, is_rect_inside};
+use crate::fixtures::maps::drawn;
 use crate::fixtures::searches::{is_fit, is_found, search_of};
 use crate::fixtures::texts::fields_of;
 use nav_types::Class;
@@ -59,7 +59,7 @@ fn answers_as_the_line_says(alloc: Global, line: &str) -> Option<bool> {
     let search = search_of(alloc, [start, targets, end, cost, points])?;
     let map = drawn(alloc, map)?;
     let (start, aim) = (search.start, &search.targets);
-    if !is_rect_inside(map.size(), aim.rect) || !is_fit(&map, class, start, points, aim) {
+    if !aim.rect.is_inside(map.size()) || !is_fit(&map, class, start, points, aim) {
         return None;
     }
     let found = plain_search(alloc, &map, class, start, aim).ok()?;

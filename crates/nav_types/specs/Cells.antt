@@ -1,5 +1,6 @@
 -- Where cells lie: in a map, in a rectangle, in a chunk, before another cell.
 use Rattle.std.specs.Prelude.{ℕ, ◌<◌, ◌≤◌, ◌/◌, ◌≡◌, ◌⊎◌}
+use Rattle.nav_types.specs.declared.limits.TheConstants.{CHUNK_SIDE}
 use Rattle.nav_types.specs.declared.cells.Cell.{Cell}
 use Rattle.nav_types.specs.declared.cells.Chunk.{Chunk}
 use Rattle.nav_types.specs.declared.cells.Rect.{Rect}
@@ -32,9 +33,9 @@ pub record IsRectInside (size : Size) (rect : Rect) : Type 0 where
 abbrev pub chunk_at : ℕ → ℕ → Chunk
 chunk_at ci cj = record { cj = cj; ci = ci }
 
--- the chunk of 96 by 96 navcells that holds the cell
+-- the chunk that holds the cell
 abbrev pub chunk_of : Cell → Chunk
-chunk_of cell = chunk_at (cell.i / 96) (cell.j / 96)
+chunk_of cell = chunk_at (cell.i / CHUNK_SIDE) (cell.j / CHUNK_SIDE)
 
 -- the order of cells: by row, then by column
 abbrev pub IsBefore : Cell → Cell → Type 0

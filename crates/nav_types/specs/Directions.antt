@@ -1,5 +1,6 @@
 -- What a direction is: how far it goes in each of the four straight ones, and what its step costs.
 use Rattle.std.specs.Prelude.{ℕ, Bool, true, false, ◌≡◌, ◌+◌}
+use Rattle.nav_types.specs.declared.limits.TheConstants.{STRAIGHT_COST, DIAGONAL_COST}
 use Rattle.nav_types.specs.declared.cells.Cell.{Cell}
 use Rattle.nav_types.specs.declared.directions.Dir.{Dir}
 use Rattle.nav_types.specs.declared.directions.Dir.TheVariants.{N, E, S, W, NE, SE, SW, NW}
@@ -91,16 +92,16 @@ column_part SE = S
 column_part SW = S
 column_part NW = N
 
--- the cost of one step, in units of 65536 for a straight one
+-- the cost of one step
 abbrev pub step_cost : Dir → ℕ
-step_cost N = 65536
-step_cost E = 65536
-step_cost S = 65536
-step_cost W = 65536
-step_cost NE = 92682
-step_cost SE = 92682
-step_cost SW = 92682
-step_cost NW = 92682
+step_cost N = STRAIGHT_COST
+step_cost E = STRAIGHT_COST
+step_cost S = STRAIGHT_COST
+step_cost W = STRAIGHT_COST
+step_cost NE = DIAGONAL_COST
+step_cost SE = DIAGONAL_COST
+step_cost SW = DIAGONAL_COST
+step_cost NW = DIAGONAL_COST
 
 -- one step in the direction leads from one cell to the other
 pub record Leads (dir : Dir) (from to : Cell) : Type 0 where

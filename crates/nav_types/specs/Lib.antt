@@ -1,8 +1,10 @@
 pub mod Side
 pub mod Cells
 pub mod Places
+pub mod Rects
 pub mod Directions
 pub mod DirSets
+pub mod Straights
 pub mod Walks
 pub mod Counting
 pub mod Regions

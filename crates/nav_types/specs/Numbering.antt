@@ -1,5 +1,6 @@
 -- Numbers of the cells of a rectangle of navcells.
 use Rattle.std.specs.Prelude.{ℕ, ◌+◌, ◌-◌, ◌*◌, ◌≤◌, ◌<◌, List, slice_index}
+use Rattle.nav_types.specs.declared.limits.TheConstants.{CHUNK_SIDE, MAX_SIDE}
 use Rattle.nav_types.specs.declared.cells.Cell.{Cell}
 use Rattle.nav_types.specs.declared.cells.Rect.{Rect}
 
@@ -24,11 +25,11 @@ place_in rect cell = (cell.j - rect.j0) * columns rect + (cell.i - rect.i0)
 unfoldable pub number_of : Numbering → Cell → ℕ
 number_of cells cell = slice_index cells.numbers (place_in cells.rect cell)
 
--- a rectangle of 1 to 96 columns and 1 to 96 rows, as those of a map's chunks are
+-- a rectangle of a cell or more that is no wider and no higher than a chunk, as those of a map's chunks are
 pub record IsPatch (rect : Rect) : Type 0 where
   pub columns : rect.i0 ≤ rect.i1
   pub rows : rect.j0 ≤ rect.j1
-  pub wide : rect.i1 ≤ rect.i0 + 95
-  pub high : rect.j1 ≤ rect.j0 + 95
-  pub east : rect.i1 < 2048
-  pub north : rect.j1 < 2048
+  pub wide : rect.i1 < rect.i0 + CHUNK_SIDE
+  pub high : rect.j1 < rect.j0 + CHUNK_SIDE
+  pub east : rect.i1 < MAX_SIDE
+  pub north : rect.j1 < MAX_SIDE

@@ -1,6 +1,7 @@
 -- Regions of a chunk, region edges and areas of a class, and how many of them a map has.
 use Rattle.std.specs.Prelude.{ℕ, Bool, ◌≡◌, ◌≢◌, ◌+◌, ◌/◌, ◌<◌, ◌⊎◌, ◌&&◌, ◌==◌, List, IsTrue}
 use Rattle.std.specs.List.{AllPass}
+use Rattle.nav_types.specs.declared.limits.TheConstants.{CHUNK_SIDE}
 use Rattle.nav_types.specs.declared.cells.Cell.{Cell}
 use Rattle.nav_types.specs.declared.cells.Chunk.{Chunk}
 use Rattle.nav_types.specs.declared.directions.Dir.{Dir}
@@ -11,7 +12,7 @@ use Rattle.nav_types.specs.Counting.{IsFirst, HasNumber, Counts}
 
 -- the cell is passable and in the chunk
 abbrev pub passes_in : (Cell → Bool) → Chunk → Cell → Bool
-passes_in passes chunk cell = (cell.i / 96 == chunk.ci) && (cell.j / 96 == chunk.cj) && passes cell
+passes_in passes chunk cell = (cell.i / CHUNK_SIDE == chunk.ci) && (cell.j / CHUNK_SIDE == chunk.cj) && passes cell
 
 -- a legal walk of straight steps joins the two cells
 abbrev pub JoinedStraight : (Cell → Bool) → Cell → Cell → Type 0

@@ -22,7 +22,7 @@ pub struct Rect {
     pub j1: u16,
 }
 
-/// The size of a map: `w` columns and `h` rows, each from 1 to 2048.
+/// The size of a map: `w` columns and `h` rows, each from 1 to [`MAX_SIDE`].
 #[derive(Clone, Copy, Debug, PartialEq, Eq)]
 pub struct Size {
     pub w: u16,
@@ -31,7 +31,7 @@ pub struct Size {
     pub ghost high: { IsSide h },
 }
 
-/// A chunk of 96 by 96 navcells by its column `ci` and its row `cj` among the chunks.
+/// A chunk of [`CHUNK_SIDE`] by as many navcells by its column `ci` and its row `cj` among the chunks.
 ///
 /// Chunks are ordered by row, then by column.
 #[derive(Clone, Copy, Debug, PartialEq, Eq, PartialOrd, Ord, Hash)]
@@ -40,7 +40,7 @@ pub struct Chunk {
     pub ci: u16,
 }
 
-/// A cost in units of 65536 for each straight step.
+/// A cost, in units of which a straight step costs `STRAIGHT_COST`.
 #[derive(Clone, Copy, Debug, PartialEq, Eq, PartialOrd, Ord)]
 pub struct Cost(pub u64);
 
@@ -105,7 +105,7 @@ impl Size {
     ghost use Rattle.std.specs.Prelude.{◌↔◌, IsTrue, IsSome, IfSome};
     ghost use Rattle.nav_types.specs.Cells.{IsInside};
 
-    /// The size of `w` columns and `h` rows. None exactly where one of them is not from 1 to 2048.
+    /// The size of `w` columns and `h` rows. None exactly where one of them is not from 1 to [`MAX_SIDE`].
     pub fn new(w: u16, h: u16) -> Option<Size>
         ensures some { IsSome result ↔ (IsSide w × IsSide h) }
         ensures columns { IfSome result (λ size. size.w ≡ w) }

@@ -1,6 +1,8 @@
 ghost use Rattle.std.specs.Prelude.{◌≡◌, ◌≤◌, IsTrue, false, ◌&&◌};
+ghost use Rattle.nav_types.specs.declared.limits.TheConstants.{STRAIGHT_COST, DIAGONAL_COST};
 
 use crate::cells::Cost;
+use crate::limits::{DIAGONAL_COST, STRAIGHT_COST};
 use std::marker::Model;
 
 /// The eight directions: E is one column on, N one row on.
@@ -107,13 +109,17 @@ impl Dir {
         }
     }
 
-    /// The cost of one step: 65536 for a straight one, 92682 for a diagonal one.
+    /// The cost of one step: [`STRAIGHT_COST`] or [`DIAGONAL_COST`].
     pub fn cost(self) -> u64
         ensures value { result ≡ step_cost self }
-        ensures least { 65536 ≤ result }
-        ensures most { result ≤ 92682 }
+        ensures least { STRAIGHT_COST ≤ result }
+        ensures most { result ≤ DIAGONAL_COST }
     {
-        if self.is_straight() { 65_536 } else { 92_682 }
+        if self.is_straight() {
+            STRAIGHT_COST
+        } else {
+            DIAGONAL_COST
+        }
     }
 }
 

@@ -1,13 +1,28 @@
-//! The limits of the service.
+//! The limits of the service, the sides of its chunks and the costs of its steps: each of these numbers stands here alone.
 
 /// The most navcells along one side of a map.
 pub const MAX_SIDE: u16 = 2048;
 
-/// The most passability classes of a map.
-pub const MAX_CLASSES: u8 = 16;
-
 /// The navcells along one side of a chunk.
 pub const CHUNK_SIDE: u16 = 96;
+
+/// The most chunks along one side of a map.
+pub const MAX_CHUNKS_ALONG: u16 = (MAX_SIDE + CHUNK_SIDE - 1) / CHUNK_SIDE;
+
+/// The most chunks of a map.
+pub const MAX_CHUNKS: u16 = MAX_CHUNKS_ALONG * MAX_CHUNKS_ALONG;
+
+/// The navcells of a whole chunk.
+pub const CHUNK_CELLS: u16 = CHUNK_SIDE * CHUNK_SIDE;
+
+/// The cost of a straight step: the unit of costs is 1/65536 of it.
+pub const STRAIGHT_COST: u64 = 65_536;
+
+/// The cost of a diagonal step: the square root of 2 straight steps, rounded to the nearest unit.
+pub const DIAGONAL_COST: u64 = 92_682;
+
+/// The most passability classes of a map.
+pub const MAX_CLASSES: u8 = 16;
 
 /// The most callers of a script.
 pub const MAX_CALLERS: u8 = 64;

@@ -1,4 +1,5 @@
 ghost use Rattle.std.specs.Prelude.{◌≡◌, ◌+◌, ◌<◌, ◌≤◌, IfSome, IfNone, IsTrue, ◌↔◌, ℕ};
+ghost use Rattle.nav_types.specs.declared.limits.TheConstants.{MAX_SIDE};
 ghost use Rattle.nav_types.specs.Cells.{IsInside};
 ghost use Rattle.nav_types.specs.Directions.{Leads};
 ghost use Rattle.nav_types.specs.Walks.{Step};
@@ -8,6 +9,7 @@ ghost use Rattle.nav_types.specs.declared.directions.Dir.{Dir};
 
 use crate::cells::{Cell, Class, Rect, Size};
 use crate::directions::{Dir, DirSet};
+use crate::straights::Axis;
 
 /// A map as a search sees it: for each class, which cells are passable.
 pub trait View {
@@ -55,27 +57,28 @@ pub trait Rows: View {
         ensures { AreRowBits (Self.extent self.now) (Self.class_count self.now) (Self.passes self.now) j out.new };
 }
 
-/// A map that finds the passable cells along its rows and columns.
+/// A map that finds the passable and the impassable cells along its rows and columns. Any view is one by
+/// [`CellByCell`](crate::CellByCell).
 pub trait FreeCells: View {
     ghost use Rattle.std.specs.Prelude.{◌<◌};
-    ghost use Rattle.nav_types.specs.Cells.{IsInside, cell_at};
-    ghost use Rattle.nav_types.specs.Lines.{IsFirstFree};
+    ghost use Rattle.nav_types.specs.Cells.{IsInside};
+    ghost use Rattle.nav_types.specs.Lines.{IsFirstFree, IsFirstBlocked, cell_on, line_on, place_on, side_along};
 
-    /// The column of the first cell of the row, from this one to the east, that is passable for the class; the width of
-    /// the map where there is none.
-    fn next_free_east(&self, class: Class, cell: Cell) -> u16
+    /// The place of the first cell of the line, from this one up, that is passable for the class; the length of the line
+    /// where there is none.
+    fn next_free(&self, class: Class, axis: Axis, cell: Cell) -> u16
         requires class { class < Self.class_count self.now }
         requires inside { IsInside (Self.extent self.now) cell }
-        ensures { IsFirstFree (λ i. Self.passes self.now class (cell_at i cell.j)) cell.i (Self.extent self.now).w
-            result };
+        ensures { IsFirstFree (λ k. Self.passes self.now class (cell_on axis (line_on axis cell) k)) (place_on axis cell)
+            (side_along axis (Self.extent self.now)) result };
 
-    /// The row of the first cell of the column, from this one to the north, that is passable for the class; the height
-    /// of the map where there is none.
-    fn next_free_north(&self, class: Class, cell: Cell) -> u16
+    /// The place of the first cell of the line, from this one up, that is impassable for the class; the length of the line
+    /// where there is none.
+    fn next_blocked(&self, class: Class, axis: Axis, cell: Cell) -> u16
         requires class { class < Self.class_count self.now }
         requires inside { IsInside (Self.extent self.now) cell }
-        ensures { IsFirstFree (λ j. Self.passes self.now class (cell_at cell.i j)) cell.j (Self.extent self.now).h
-            result };
+        ensures { IsFirstBlocked (λ k. Self.passes self.now class (cell_on axis (line_on axis cell) k))
+            (place_on axis cell) (side_along axis (Self.extent self.now)) result };
 }
 
 /// A map whose areas are numbered.
@@ -137,7 +140,7 @@ pub trait Aim {
 fn shifted(place: u16, gained: u16, lost: u16, side: u16) -> Option<u16>
     requires inside { place < side }
     requires gains { gained ≤ 1 }
-    requires side { side ≤ 2048 }
+    requires side { side ≤ MAX_SIDE }
     ensures some { IfSome result (λ next. (next + lost ≡ place + gained) × (next < side)) }
     ensures none { IfNone result ((next : ℕ) → next + lost ≡ place + gained → side ≤ next) }
 {

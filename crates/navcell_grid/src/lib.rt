@@ -5,9 +5,7 @@
 #![tactic(auto)]
 
 mod grids;
-mod parts;
 mod patches;
 
 pub use grids::{Grid, one_grid};
-pub use parts::common;
 pub use patches::Patch;

@@ -6,7 +6,8 @@ ghost use Rattle.nav_types.specs.Cells.{cell_at, IsInRect};
 ghost use Rattle.nav_types.specs.Numbering.{Numbering, IsPatch, columns, rows, number_of};
 ghost use Rattle.lane_rows.specs.Rows.{has_class};
 ghost use Rattle.navcell_grid.specs.Grids.{IsInSpan};
-ghost use Rattle.navcell_grid.specs.Patches.{IsWholePatch, IsPartOf, DiffersIn, free_count};
+ghost use Rattle.navcell_grid.specs.Patches.{IsWholePatch, DiffersIn, free_count};
+ghost use Rattle.nav_types.specs.Rects.{IsPartOf};
 ghost use Rattle.navcell_grid.specs.inner.Framing.{IsFramed};
 
 use crate::grids::Grid;
@@ -14,9 +15,9 @@ use nav_types::{Cell, Class, NoMemory, Rect, Size};
 use std::alloc::Global;
 use std::marker::Model;
 
-/// The numbers of the navcells of a rectangle of at most 96 by 96 of them, as a chunk of a map is: bit k of a number
-/// is set where the navcell is impassable for class k. Contracts see the rectangle and the list of the numbers in the
-/// order of cells (`Numbering`).
+/// The numbers of the navcells of a rectangle no larger than a chunk of a map: bit k of a number is set where the
+/// navcell is impassable for class k. Contracts see the rectangle and the list of the numbers in the order of cells
+/// (`Numbering`).
 #[derive(Debug, Drop)]
 pub struct Patch {
     rect: Rect,

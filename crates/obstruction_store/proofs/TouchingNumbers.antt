@@ -1,5 +1,5 @@
 -- The numbers of the entries that touch a rectangle.
-use Rattle.std.proofs.Common.{◌≡◌, ◌⊎◌, ℕ, ◌≤◌, ℤ, T, min, max, List, [], ◌∷◌, ◌++◌, Option, IsSomeAnd, Contains, refl, sym, ap, subst, inl, inr, arith}
+use Rattle.std.proofs.Common.{◌≡◌, ◌⊎◌, ℕ, ℤ, T, List, [], ◌∷◌, ◌++◌, Option, IsSomeAnd, Contains, refl, sym, ap, subst, inl, inr, arith}
 use Rattle.std.proofs.lemmas.List.{append_assoc, append-nil}
 use Rattle.std.proofs.lemmas.Map.Keys.{IsStrictlyIncreasing-from_sorted}
 use Rattle.std.specs.FinMap as map
@@ -9,8 +9,6 @@ use Rattle.std.specs.List.{AllByRecursion}
 use Rattle.std.specs.List.Sorted.{IsStrictlySortedBy}
 use Rattle.std.specs.Ordering.{nat_cmp}
 use Rattle.std.specs.declared.cmp.Ordering.TheVariants.{Less}
-use Rattle.nav_types.specs.Cells.{cell_at, IsInRect}
-use Rattle.nav_types.specs.declared.cells.Cell.{Cell}
 use Rattle.nav_types.specs.declared.cells.Rect.{Rect}
 use Rattle.nav_types.specs.declared.cells.Size.{Size}
 use Rattle.obstruction_shapes.specs.declared.shapes.Obstruction.{Obstruction}
@@ -20,17 +18,6 @@ use Rattle.nav_types.proofs.Options.{value_of}
 use Rattle.obstruction_store.specs.Standing.{Standing, AllFit}
 use Rattle.obstruction_store.specs.Touching.{Touches, AreTouching}
 use Rattle.obstruction_store.proofs.Listing.{first, second, less_than, Contains-entries}
-
--- two rectangles whose columns and rows meet have the first of both in common
-pub common_cell : (a b : Rect) → max a.i0 b.i0 ≤ min a.i1 b.i1 → max a.j0 b.j0 ≤ min a.j1 b.j1
-    → (cell : Cell) × (IsInRect a cell × IsInRect b cell)
-common_cell a b columns rows = (
-  cell_at (max a.i0 b.i0) (max a.j0 b.j0),
-  (
-    record { west = omega arith; east = omega arith; south = omega arith; north = omega arith },
-    record { west = omega arith; east = omega arith; south = omega arith; north = omega arith },
-  ),
-)
 
 -- each shape of the entries fits
 abbrev pub FitEach : Size → List (ℕ × Obstruction) → Type 0

@@ -1,7 +1,5 @@
 //! The standing obstructions that reach into a rectangle.
 ghost use Rattle.std.specs.Prelude.{◌↔◌, IsTrue, IfOk};
-ghost use Rattle.nav_types.specs.declared.cells.Cell.{Cell};
-ghost use Rattle.nav_types.specs.Cells.{IsInRect};
 ghost use Rattle.obstruction_shapes.specs.Shapes.{FitsMap};
 ghost use Rattle.obstruction_store.specs.Standing.{AllFit};
 ghost use Rattle.obstruction_store.specs.Touching.{Touches, AreTouching};
@@ -46,14 +44,7 @@ fn touches(shape: &Shape, rect: Rect, clearance: Fixed, size: Size) -> bool
     ensures { IsTrue result ↔ Touches size rect clearance shape.now }
 {
     match reach_rect(shape, clearance, size) {
-        Some(reach) => have_common_cell(reach, rect),
+        Some(reach) => reach.meets(rect),
         None => false,
     }
-}
-
-/// Whether a cell lies in both rectangles.
-fn have_common_cell(a: Rect, b: Rect) -> bool
-    ensures { IsTrue result ↔ ((cell : Cell) × (IsInRect a cell × IsInRect b cell)) }
-{
-    a.i0.max(b.i0) <= a.i1.min(b.i1) && a.j0.max(b.j0) <= a.j1.min(b.j1)
 }

@@ -1,10 +1,10 @@
 -- Services whose lanes are closed.
 use Rattle.std.proofs.Common.{◌≡◌, ℕ, suc, ◌+◌, List, [], ◌∷◌, ◌++◌, All, length, map, take, slice_index, refl, sym, ap, ◌∙◌, subst, arith, append-nil, append_assoc}
 use Rattle.std.proofs.lemmas.List.{length-map, take-append-drop}
-use Rattle.turn_core.specs.declared.posts.Post.{Post}
-use Rattle.turn_core.specs.declared.replies.Reply.{Reply}
-use Rattle.turn_core.specs.Turns.{of_caller}
-use Rattle.turn_core.specs.States.{State, list_of}
+use Rattle.posts.specs.declared.posts.Post.{Post}
+use Rattle.posts.specs.declared.replies.Reply.{Reply}
+use Rattle.posts.specs.Callers.{of_caller, list_of}
+use Rattle.turn_core.specs.States.{State}
 use Rattle.turn_core.specs.Facts.{running_turns, staged_turns, all_turns, Facts}
 use Rattle.turn_core.proofs.Keeping.{lists_front}
 use Rattle.path_service.specs.declared.ports.Port.{Port}

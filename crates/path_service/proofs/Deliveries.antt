@@ -3,16 +3,18 @@ use Rattle.std.proofs.Common.{◌≡◌, ℕ, zero, suc, ◌≤◌, ◌^◌, Boo
 use Rattle.std.specs.Prelude.{slice_get}
 use Rattle.std.proofs.lemmas.List.{length-map}
 use Rattle.nav_types.specs.declared.limits.TheConstants.{MAX_STAGED_POSTS}
-use Rattle.grid_versions.specs.Maps.{Map}
+use Rattle.posts.specs.declared.posts.Post.{Post}
+use Rattle.posts.specs.declared.replies.Reply.{Reply}
+use Rattle.posts.specs.declared.replies.TurnReplies.{TurnReplies}
+use Rattle.posts.specs.Maps.{Map}
+use Rattle.posts.specs.Posts.{jobs, post_count}
+use Rattle.posts.specs.Callers.{of_caller, list_of}
 use Rattle.turn_core.specs.declared.events.Event.TheVariants.{Deliver}
-use Rattle.turn_core.specs.declared.posts.Post.{Post}
-use Rattle.turn_core.specs.declared.replies.Reply.{Reply}
-use Rattle.turn_core.specs.declared.replies.TurnReplies.{TurnReplies}
 use Rattle.turn_core.specs.Solving.{AreAnswersTo}
 use Rattle.turn_core.specs.Words.{Standing, MapState, bare}
-use Rattle.turn_core.specs.Turns.{after, after_turn, jobs, standing, of_caller, replies_in, AreTurnReplies, IsTurnTold, IsOneThread, post_count}
+use Rattle.turn_core.specs.Turns.{after, after_turn, standing, replies_in, AreTurnReplies, IsTurnTold, IsOneThread}
 use Rattle.turn_core.specs.ReadyTurns.{Ready}
-use Rattle.turn_core.specs.States.{State, Run, list_of}
+use Rattle.turn_core.specs.States.{State, Run}
 use Rattle.turn_core.specs.Effects.{IsStep, joined_up}
 use Rattle.turn_core.specs.Facts.{running_turns, staged_turns, HaveLists, Facts}
 use Rattle.turn_core.specs.Arrival.{answered_run, at_end}

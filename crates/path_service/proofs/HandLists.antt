@@ -2,9 +2,9 @@
 use Rattle.std.proofs.Common.{◌≡◌, ℕ, zero, suc, ◌+◌, ◌-◌, List, [], ◌∷◌, ◌++◌, length, map, drop, replicate, slice_index, refl, sym, ap, ◌∙◌, arith, append-nil, append_assoc, length-append}
 use Rattle.std.proofs.lemmas.List.Sums.{sum_by-cons}
 use Rattle.std.proofs.lemmas.List.{drop_at}
-use Rattle.turn_core.specs.declared.posts.Post.{Post}
-use Rattle.turn_core.specs.Turns.{post_count}
-use Rattle.turn_core.specs.States.{list_of}
+use Rattle.posts.specs.declared.posts.Post.{Post}
+use Rattle.posts.specs.Posts.{post_count}
+use Rattle.posts.specs.Callers.{list_of}
 use Rattle.turn_core.specs.Effects.{joined_up, added_up}
 use Rattle.turn_core.proofs.CallerLists.{first_at, rest_at}
 use Rattle.path_service.specs.Services.{past_first}

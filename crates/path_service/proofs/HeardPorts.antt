@@ -1,13 +1,13 @@
 -- Ports that hear notices and give them.
 use Rattle.std.proofs.Common.{◌≡◌, ℕ, zero, suc, ◌+◌, ◌<◌, max, List, [], ◌∷◌, Some, All, length, map, set, slice_index, refl, sym, ap, ◌∙◌, subst, arith}
 use Rattle.std.specs.Prelude.{slice_get}
+use Rattle.posts.specs.declared.posts.Post.{Post}
+use Rattle.posts.specs.declared.replies.Reply.{Reply}
+use Rattle.posts.specs.Callers.{list_of}
 use Rattle.request_lanes.specs.Ends.{LaneId, Posting}
-use Rattle.turn_core.specs.declared.posts.Post.{Post}
-use Rattle.turn_core.specs.declared.replies.Reply.{Reply}
 use Rattle.path_service.specs.declared.ports.Port.{Port}
 use Rattle.path_service.specs.Callers.{CallerId, HasPostLane, HasReplyLane}
 use Rattle.path_service.specs.inner.Ports.{posted_in, told_in, sent_in, ids_from, id_of, IsInRoom}
-use Rattle.turn_core.specs.States.{list_of}
 use Rattle.turn_core.specs.Facts.{Facts}
 use Rattle.path_service.specs.declared.drivers.Driver.TheInside.{Inside}
 use Rattle.path_service.specs.Services.{DriverState, told_of}

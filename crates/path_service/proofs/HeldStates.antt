@@ -1,13 +1,13 @@
 -- The states that drivers stand for, and what is taken into them.
 use Rattle.std.proofs.Common.{◌≡◌, ℕ, zero, suc, ◌<◌, List, [], ◌∷◌, ◌++◌, Option, None, Some, length, map, take, replicate, slice_index, refl, sym, ap, ◌∙◌, subst, arith, append-nil}
 use Rattle.std.proofs.lemmas.List.{take-append-drop}
-use Rattle.grid_versions.specs.Maps.{Map}
+use Rattle.posts.specs.declared.posts.Post.{Post}
+use Rattle.posts.specs.declared.replies.TurnReplies.{TurnReplies}
+use Rattle.posts.specs.Maps.{Map}
+use Rattle.posts.specs.Callers.{of_caller, list_of}
 use Rattle.turn_core.specs.declared.events.Event.{Event}
 use Rattle.turn_core.specs.declared.events.Event.TheVariants.{Stage}
-use Rattle.turn_core.specs.declared.posts.Post.{Post}
-use Rattle.turn_core.specs.declared.replies.TurnReplies.{TurnReplies}
-use Rattle.turn_core.specs.Turns.{of_caller}
-use Rattle.turn_core.specs.States.{State, Run, list_of}
+use Rattle.turn_core.specs.States.{State, Run}
 use Rattle.turn_core.specs.Effects.{IsStep, joined_up, Reaches}
 use Rattle.turn_core.specs.Facts.{all_turns, Facts}
 use Rattle.turn_core.specs.Arrival.{post_events, CanStage, in_stage}

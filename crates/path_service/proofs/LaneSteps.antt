@@ -3,10 +3,10 @@ use Rattle.std.proofs.Common.{◌≡◌, ℕ, zero, suc, ◌+◌, ◌-◌, ◌<�
 use Rattle.std.specs.Prelude.{slice_get}
 use Rattle.std.proofs.lemmas.List.{take_more, take_all, take-append-drop, get_or_default}
 use Rattle.nav_types.specs.declared.sequences.NoMemory.{NoMemory}
+use Rattle.posts.specs.declared.posts.Post.{Post}
+use Rattle.posts.specs.declared.replies.Reply.{Reply}
+use Rattle.posts.specs.Callers.{list_of}
 use Rattle.request_lanes.specs.Ends.{Posting, Taking}
-use Rattle.turn_core.specs.declared.posts.Post.{Post}
-use Rattle.turn_core.specs.declared.replies.Reply.{Reply}
-use Rattle.turn_core.specs.States.{list_of}
 use Rattle.path_service.specs.declared.ports.Port.{Port}
 use Rattle.path_service.specs.inner.Zips.{zipped, AllPaired}
 use Rattle.path_service.specs.inner.Ports.{takes, gained, puts, sends, joins, PortHasLooked, FillAll, HasRoom, IsInRoom, Took, TakesPosts, FillsPort, FillsAt, FillsPorts, HasRoomOn, HasRoomFor, SendsPart, SendsAt, SendsParts}

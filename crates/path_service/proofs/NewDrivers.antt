@@ -1,13 +1,16 @@
 -- Drivers of services that start.
 use Rattle.std.proofs.Common.{◌≡◌, ℕ, zero, suc, ◌+◌, false, List, [], ◌∷◌, ◌++◌, Option, None, All, length, map, replicate, refl, sym, ap, ◌∙◌, subst, inl, arith, length-append}
 use Rattle.std.proofs.lemmas.List.{map-append}
-use Rattle.grid_versions.specs.Maps.{Map}
-use Rattle.turn_core.specs.declared.posts.Post.{Post}
-use Rattle.turn_core.specs.declared.replies.Reply.{Reply}
-use Rattle.turn_core.specs.declared.replies.TurnReplies.{TurnReplies}
+use Rattle.posts.specs.declared.posts.Post.{Post}
+use Rattle.posts.specs.declared.replies.Reply.{Reply}
+use Rattle.posts.specs.declared.replies.TurnReplies.{TurnReplies}
+use Rattle.posts.specs.Maps.{Map}
+use Rattle.posts.specs.Callers.{of_caller, list_of}
+use Rattle.posts.specs.Posts.{post_count}
+use Rattle.posts.proofs.PostCounts.{count_none}
 use Rattle.turn_core.specs.Words.{bare}
-use Rattle.turn_core.specs.Turns.{standing, of_caller, replies_in, IsOneThread, post_count}
-use Rattle.turn_core.specs.States.{opening, list_of}
+use Rattle.turn_core.specs.Turns.{standing, replies_in, IsOneThread}
+use Rattle.turn_core.specs.States.{opening}
 use Rattle.turn_core.specs.Facts.{Facts}
 use Rattle.turn_core.proofs.Keeping.{opened}
 use Rattle.turn_core.proofs.CallerLists.{none_at}
@@ -22,7 +25,6 @@ use Rattle.path_service.specs.inner.Running.{version_for_next, HoldsRunning}
 use Rattle.path_service.specs.inner.Holding.{taken_before, AreLast, told_up, turn_of, run_of, machine_of, driver_of, HoldsStaged, HoldsBroken, HoldsDriver}
 use Rattle.std.proofs.lemmas.List.Elements.{All-nil, All-cons, All-head, All-tail}
 use Rattle.path_service.proofs.HandLists.{no_posts}
-use Rattle.turn_core.proofs.PostCounts.{count_none}
 
 abbrev no_replies : List Reply
 no_replies = []

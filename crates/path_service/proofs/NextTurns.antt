@@ -4,14 +4,17 @@ use Rattle.std.specs.Prelude.{IsSome, ◌↔◌}
 use Rattle.std.proofs.lemmas.List.{length-map}
 use Rattle.nav_types.specs.declared.limits.TheConstants.{MAX_STAGED_POSTS}
 use Rattle.nav_types.specs.declared.sequences.NoMemory.{NoMemory}
-use Rattle.grid_versions.specs.Maps.{Map}
+use Rattle.posts.specs.declared.posts.Post.{Post}
+use Rattle.posts.specs.declared.replies.Reply.{Reply}
+use Rattle.posts.specs.Maps.{Map}
+use Rattle.posts.specs.Callers.{list_of}
+use Rattle.posts.specs.Posts.{post_count}
+use Rattle.posts.proofs.PostCounts.{count_none}
 use Rattle.turn_core.specs.declared.events.Event.{Event}
 use Rattle.turn_core.specs.declared.events.Event.TheVariants.{Stage}
-use Rattle.turn_core.specs.declared.posts.Post.{Post}
-use Rattle.turn_core.specs.declared.replies.Reply.{Reply}
 use Rattle.turn_core.specs.Words.{Standing, MapState}
 use Rattle.turn_core.specs.ReadyTurns.{Ready}
-use Rattle.turn_core.specs.States.{State, list_of}
+use Rattle.turn_core.specs.States.{State}
 use Rattle.turn_core.specs.Effects.{joined_up, Reaches}
 use Rattle.turn_core.specs.Facts.{Facts}
 use Rattle.turn_core.specs.Arrival.{post_events}
@@ -21,7 +24,6 @@ use Rattle.path_service.specs.declared.ports.Port.{Port}
 use Rattle.path_service.specs.declared.intakes.Intake.{Intake}
 use Rattle.path_service.specs.declared.drivers.Driver.TheInside.{Inside}
 use Rattle.path_service.specs.Services.{in_hand, with_machine}
-use Rattle.turn_core.specs.Turns.{post_count}
 use Rattle.path_service.specs.Steps.{staging, HasReceived, HasStaged}
 use Rattle.path_service.specs.inner.Zips.{zipped, AllPaired}
 use Rattle.path_service.specs.inner.Ports.{gained, joins, posted_in, told_in, sent_in, ids_from, IsInRoom, PortHasLooked}
@@ -30,7 +32,6 @@ use Rattle.path_service.specs.inner.Running.{version_for_next}
 use Rattle.path_service.specs.inner.Holding.{AreLast, turn_of, run_of, state_with, machine_of, driver_of, HoldsStaged, HoldsDriver}
 use Rattle.path_service.proofs.PortLists.{posted_gained, told_gained, sent_gained, ids_gained, room_gained, looked_at, joins_are}
 use Rattle.path_service.proofs.HandLists.{last_joined, last_wide, hands_are, last_staged, none_counted, no_posts}
-use Rattle.turn_core.proofs.PostCounts.{count_none}
 use Rattle.std.proofs.lemmas.Bool.{both_ways}
 use Rattle.path_service.proofs.HeldStates.{received, facts_after, staged_hands, staging_some, staging_none}
 

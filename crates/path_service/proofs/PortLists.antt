@@ -2,12 +2,12 @@
 use Rattle.std.proofs.Common.{◌≡◌, ℕ, zero, suc, ◌+◌, ◌≤◌, List, [], ◌∷◌, ◌++◌, Some, Ok, Err, Result, All, length, slice_index, refl, sym, ap, arith}
 use Rattle.std.specs.Prelude.{slice_get}
 use Rattle.nav_types.specs.declared.sequences.NoMemory.{NoMemory}
-use Rattle.turn_core.specs.declared.posts.Post.{Post}
-use Rattle.turn_core.specs.declared.replies.Reply.{Reply}
-use Rattle.turn_core.specs.States.{list_of}
+use Rattle.posts.specs.declared.posts.Post.{Post}
+use Rattle.posts.specs.declared.replies.Reply.{Reply}
+use Rattle.posts.specs.Callers.{list_of}
+use Rattle.posts.proofs.PostCounts.{count_more}
 use Rattle.turn_core.specs.Effects.{joined_up}
 use Rattle.turn_core.proofs.CallerLists.{joined_nothing}
-use Rattle.turn_core.proofs.PostCounts.{count_more}
 use Rattle.path_service.specs.declared.ports.Port.{Port}
 use Rattle.path_service.specs.inner.Zips.{zipped, AllPaired}
 use Rattle.path_service.specs.inner.Ports.{gained, sends, joins, posted_in, told_in, sent_in, ids_from, id_of, HasRoom, IsInRoom, PortHasLooked, Fills, FillAll}

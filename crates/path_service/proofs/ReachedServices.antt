@@ -2,10 +2,11 @@
 use Rattle.std.proofs.Common.{◌≡◌, ℕ, zero, suc, ◌+◌, ◌<◌, ◌≤◌, false, List, [], ◌∷◌, ◌++◌, All, length, map, slice_index, sym, ap, ◌∙◌, subst, arith, append-nil, append_assoc, length-append, refl, inl, inr}
 use Rattle.std.proofs.lemmas.Bool.{cases_lt}
 use Rattle.std.proofs.lemmas.List.{length-map}
-use Rattle.turn_core.specs.declared.posts.Post.{Post}
+use Rattle.posts.specs.declared.posts.Post.{Post}
+use Rattle.posts.specs.Callers.{of_caller, list_of}
 use Rattle.turn_core.specs.Words.{bare}
-use Rattle.turn_core.specs.Turns.{of_caller, replies_in}
-use Rattle.turn_core.specs.States.{State, list_of}
+use Rattle.turn_core.specs.Turns.{replies_in}
+use Rattle.turn_core.specs.States.{State}
 use Rattle.turn_core.specs.Facts.{running_turns, staged_turns, all_turns, HaveLists}
 use Rattle.turn_core.specs.Arrival.{CanArrive}
 use Rattle.turn_core.proofs.CallerLists.{of_caller-append}

@@ -1,15 +1,17 @@
 -- Drivers that start the staged turn.
 use Rattle.std.proofs.Common.{◌≡◌, ℕ, true, false, List, [], ◌++◌, Option, None, Some, refl, sym, ap, ◌∙◌, subst, inl, inr}
 use Rattle.std.proofs.lemmas.Bool.{both_ways}
+use Rattle.posts.specs.declared.posts.Post.{Post}
+use Rattle.posts.specs.declared.replies.TurnReplies.{TurnReplies}
+use Rattle.posts.specs.Posts.{jobs}
+use Rattle.posts.specs.Callers.{of_caller, list_of}
 use Rattle.grid_versions.specs.Versions.{map_state}
 use Rattle.turn_core.specs.declared.events.Event.TheVariants.{Start}
-use Rattle.turn_core.specs.declared.posts.Post.{Post}
-use Rattle.turn_core.specs.declared.replies.TurnReplies.{TurnReplies}
 use Rattle.turn_core.specs.Solving.{AreAnswersTo}
 use Rattle.turn_core.specs.Words.{MapState, bare}
-use Rattle.turn_core.specs.Turns.{after_turn, jobs, standing, of_caller, replies_in}
+use Rattle.turn_core.specs.Turns.{after_turn, standing, replies_in}
 use Rattle.turn_core.specs.ReadyTurns.{Ready}
-use Rattle.turn_core.specs.States.{State, list_of, stands_after_done}
+use Rattle.turn_core.specs.States.{State, stands_after_done}
 use Rattle.turn_core.specs.Effects.{IsStep, Reaches, begun}
 use Rattle.turn_core.specs.Facts.{Facts}
 use Rattle.turn_core.specs.Arrival.{answering, answered_run, in_run}

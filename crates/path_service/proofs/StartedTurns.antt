@@ -2,9 +2,9 @@
 use Rattle.std.proofs.Common.{◌≡◌, ℕ, true, false, List, None, Some, Result, Ok, Err, refl, sym, ap, ◌∙◌, subst, inl, inr, ◌⊎◌, IfOk}
 use Rattle.std.specs.Prelude.{OnErr}
 use Rattle.nav_types.specs.declared.sequences.NoMemory.{NoMemory}
-use Rattle.grid_versions.specs.Maps.{Map}
+use Rattle.posts.specs.declared.posts.Post.{Post}
+use Rattle.posts.specs.Maps.{Map}
 use Rattle.grid_versions.specs.Versions.{map_state}
-use Rattle.turn_core.specs.declared.posts.Post.{Post}
 use Rattle.turn_core.specs.Words.{Standing, MapState}
 use Rattle.turn_core.specs.Turns.{after_turn}
 use Rattle.turn_core.specs.ReadyTurns.{Ready, after_edits_of}

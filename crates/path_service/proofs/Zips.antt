@@ -1,7 +1,7 @@
 -- Two lists, item by item.
 use Rattle.std.proofs.Common.{◌≡◌, ℕ, zero, suc, List, [], ◌∷◌, ◌++◌, Some, length, set, refl, sym, ap, ◌∙◌, subst, arith}
 use Rattle.std.specs.Prelude.{slice_get}
-use Rattle.turn_core.specs.States.{list_of}
+use Rattle.posts.specs.Callers.{list_of}
 use Rattle.path_service.specs.inner.Zips.{zipped, AllPaired}
 
 pub zipped_none : {A B : Type 0} (give : A → B → A) (xs : List A) → zipped give xs [] ≡ xs

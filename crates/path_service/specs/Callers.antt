@@ -1,8 +1,8 @@
 -- Callers as a clause sees them.
 use Rattle.std.specs.Prelude.{ℕ, ◌≡◌, ◌+◌, List, [], ◌∷◌, Some, slice_get}
+use Rattle.posts.specs.declared.posts.Post.{Post}
+use Rattle.posts.specs.declared.replies.Reply.{Reply}
 use Rattle.request_lanes.specs.Ends.{LaneId}
-use Rattle.turn_core.specs.declared.posts.Post.{Post}
-use Rattle.turn_core.specs.declared.replies.Reply.{Reply}
 
 -- which caller of which service: its number, and the lanes of its posts and of the replies to it
 pub record CallerId : Type 0 where

@@ -1,11 +1,12 @@
 -- A service that has ended: what its callers posted and collected, and what is left.
 use Rattle.std.specs.Prelude.{ℕ, ◌≡◌, ◌⊎◌, true, Option, List, [], ◌++◌, All, length, map}
-use Rattle.grid_versions.specs.Maps.{Map}
-use Rattle.turn_core.specs.declared.posts.Post.{Post}
-use Rattle.turn_core.specs.declared.replies.Reply.{Reply}
-use Rattle.turn_core.specs.declared.replies.TurnReplies.{TurnReplies}
-use Rattle.turn_core.specs.Turns.{of_caller, replies_in, IsOneThread}
-use Rattle.turn_core.specs.States.{State, opening, list_of}
+use Rattle.posts.specs.declared.posts.Post.{Post}
+use Rattle.posts.specs.declared.replies.Reply.{Reply}
+use Rattle.posts.specs.declared.replies.TurnReplies.{TurnReplies}
+use Rattle.posts.specs.Maps.{Map}
+use Rattle.posts.specs.Callers.{of_caller, list_of}
+use Rattle.turn_core.specs.Turns.{replies_in, IsOneThread}
+use Rattle.turn_core.specs.States.{State, opening}
 use Rattle.turn_core.specs.Effects.{IsMachineRun}
 use Rattle.turn_core.specs.Arrival.{arrival, HasArrived}
 use Rattle.turn_core.specs.Facts.{all_turns, HaveLists}

@@ -1,8 +1,8 @@
 -- What a driver is seen as.
 use Rattle.std.specs.Prelude.{ℕ, Bool, false, List, [], ◌∷◌, drop, replicate, slice_index, slice_set, max}
-use Rattle.grid_versions.specs.Maps.{Map}
-use Rattle.turn_core.specs.declared.posts.Post.{Post}
-use Rattle.turn_core.specs.declared.replies.Reply.{Reply}
+use Rattle.posts.specs.declared.posts.Post.{Post}
+use Rattle.posts.specs.declared.replies.Reply.{Reply}
+use Rattle.posts.specs.Maps.{Map}
 use Rattle.turn_core.specs.Table.{first}
 use Rattle.turn_core.specs.States.{State, opening}
 use Rattle.path_service.specs.Callers.{CallerId}

@@ -1,15 +1,17 @@
 -- What the calls of a driver are: runs of the turn machine.
 use Rattle.std.specs.Prelude.{ℕ, zero, suc, ◌≡◌, ◌⊎◌, ◌<◌, ◌≤◌, true, Option, None, Some, List, [], ◌∷◌, ◌++◌, length, map, slice_index, IsSome, ◌↔◌}
 use Rattle.nav_types.specs.declared.limits.TheConstants.{MAX_STAGED_POSTS}
-use Rattle.grid_versions.specs.Maps.{Map}
+use Rattle.posts.specs.declared.posts.Post.{Post}
+use Rattle.posts.specs.declared.replies.Answer.{Answer}
+use Rattle.posts.specs.declared.replies.Reply.{Reply}
+use Rattle.posts.specs.Maps.{Map}
+use Rattle.posts.specs.Posts.{post_count}
+use Rattle.posts.specs.Callers.{list_of}
 use Rattle.turn_core.specs.declared.events.Event.{Event}
 use Rattle.turn_core.specs.declared.events.Event.TheVariants.{Stage, Start, Deliver}
-use Rattle.turn_core.specs.declared.posts.Post.{Post}
-use Rattle.turn_core.specs.declared.replies.Answer.{Answer}
-use Rattle.turn_core.specs.declared.replies.Reply.{Reply}
 use Rattle.turn_core.specs.Words.{Standing}
-use Rattle.turn_core.specs.Turns.{after_turn, AreTurnReplies, post_count}
-use Rattle.turn_core.specs.States.{State, Run, list_of, stands_after_done}
+use Rattle.turn_core.specs.Turns.{after_turn, AreTurnReplies}
+use Rattle.turn_core.specs.States.{State, Run, stands_after_done}
 use Rattle.turn_core.specs.Effects.{IsStep, Reaches, begun, joined_up}
 use Rattle.turn_core.specs.Arrival.{post_events, answering, answered_run, in_run}
 use Rattle.path_service.specs.Services.{DriverState, in_hand}

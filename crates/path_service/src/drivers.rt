@@ -1,8 +1,8 @@
 //! Drivers.
 ghost use Rattle.std.specs.Prelude.{◌≡◌, ◌<◌, [], false, true, All, IfOk, IfErr, IfSome, IsSome, IsTrue, None, OnOk, OnErr, length, map, replicate, vec_capacity, vec_len, ◌↔◌, List};
-ghost use Rattle.turn_core.specs.declared.replies.Reply.{Reply as AReply};
+ghost use Rattle.posts.specs.declared.replies.Reply.{Reply as AReply};
+ghost use Rattle.posts.specs.Callers.{list_of};
 ghost use Rattle.turn_core.specs.Words.{bare};
-ghost use Rattle.turn_core.specs.States.{list_of};
 ghost use Rattle.turn_core.specs.Table.{last_turn, running_turn};
 ghost use Rattle.path_service.specs.Callers.{ended_id, HasPostLane, HasReplyLane};
 ghost use Rattle.path_service.specs.Services.{started_on, told_of, with_machine};

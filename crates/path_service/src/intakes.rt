@@ -1,7 +1,7 @@
 //! The next turn, made of the posts in hand and of those on the lanes.
 ghost use Rattle.std.specs.Prelude.{◌≡◌, ◌≤◌, [], All, IfOk, IfErr, length, replicate};
 ghost use Rattle.nav_types.specs.declared.limits.TheConstants.{MAX_STAGED_POSTS as MOST};
-ghost use Rattle.turn_core.specs.Turns.{post_count};
+ghost use Rattle.posts.specs.Posts.{post_count};
 ghost use Rattle.path_service.specs.inner.Ports.{IsInRoom};
 ghost use Rattle.path_service.specs.inner.Intakes.{HasTakenIn};
 

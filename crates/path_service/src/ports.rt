@@ -1,7 +1,7 @@
 //! The driver's ends of the lanes of its callers.
 ghost use Rattle.std.specs.Prelude.{◌≡◌, ◌^◌, ◌<◌, ◌≤◌, ◌++◌, List, Ok, length, All};
-ghost use Rattle.turn_core.specs.declared.posts.Post.{Post as APost};
-ghost use Rattle.turn_core.specs.declared.replies.Reply.{Reply as AReply};
+ghost use Rattle.posts.specs.declared.posts.Post.{Post as APost};
+ghost use Rattle.posts.specs.declared.replies.Reply.{Reply as AReply};
 ghost use Rattle.path_service.specs.inner.Zips.{AllPaired};
 ghost use Rattle.path_service.specs.inner.Ports.{IsInRoom, HasRoomFor, TakesPosts, FillsPort, FillsAt, FillsPorts};
 ghost use Rattle.path_service.specs.inner.Ports.{HasRoomOn, SendsPart, SendsAt, SendsParts};

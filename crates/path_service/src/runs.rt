@@ -2,9 +2,9 @@
 ghost use Rattle.std.specs.Prelude.{◌≡◌, ◌≤◌, ◌^◌, ◌<◌, All, IfOk, Ok, length};
 ghost use denote.Param.Send.{IsSync};
 ghost use Rattle.nav_types.specs.declared.limits.TheConstants.{MAX_STAGED_POSTS as MOST};
+ghost use Rattle.posts.specs.Posts.{jobs, post_count};
 ghost use Rattle.grid_versions.specs.Versions.{map_state};
 ghost use Rattle.turn_core.specs.Solving.{AreAnswersTo};
-ghost use Rattle.turn_core.specs.Turns.{jobs, post_count};
 ghost use Rattle.turn_core.specs.ReadyTurns.{after_edits_of};
 ghost use Rattle.path_service.specs.inner.Ports.{IsInRoom};
 ghost use Rattle.path_service.specs.inner.Intakes.{HasTakenIn};

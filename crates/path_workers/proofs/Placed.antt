@@ -1,4 +1,4 @@
--- Answers and opened numbers that are put in the places of their jobs.
+-- Answers and notes that are put in the places of their jobs.
 use Rattle.std.proofs.Common.{◌≡◌, ℕ, ◌<◌, List, [], ◌∷◌, ◌++◌, length, get_or, set, Some, refl, sym, ap, ◌∙◌, subst, inl, inr, arith}
 use Rattle.std.specs.List.{All, Contains, slice_get}
 use Rattle.std.proofs.lemmas.Bool.{cases_eq}
@@ -8,19 +8,19 @@ use Rattle.std.proofs.lemmas.List.Elements.{All-head, All-tail, All-pop, Contain
 use Rattle.std.proofs.lemmas.Option.{get_or_from_slice_get, slice_get_within}
 use Rattle.nav_types.specs.Counting.{Lists}
 use Rattle.nav_types.proofs.Items.{Contains-none, Contains-cons_cases, Contains-map}
-use Rattle.grid_versions.specs.Maps.{Map}
-use Rattle.turn_core.specs.declared.posts.Request.{Request}
-use Rattle.turn_core.specs.declared.replies.Answer.{Answer}
+use Rattle.posts.specs.declared.posts.Request.{Request}
+use Rattle.posts.specs.declared.replies.Answer.{Answer}
+use Rattle.posts.specs.Maps.{Map}
+use Rattle.posts.specs.declared.notes.Note.{Note}
+use Rattle.posts.specs.declared.notes.Report.{Report}
 use Rattle.turn_core.specs.Words.{Standing}
 use Rattle.turn_core.specs.Solving.{IsAnswerTo, AreAnswersTo}
-use Rattle.turn_core.specs.Opening.{IsOpenedNumber, AreOpenedNumbers}
+use Rattle.turn_core.specs.Notes.{IsNote, AreNotes}
 use Rattle.turn_core.proofs.TurnByTurn.{by_place}
-use Rattle.turn_core.proofs.OneOpenedNumber.{numbers_by_place}
-use Rattle.path_workers.specs.declared.asking.Asked.{Asked}
-use Rattle.path_workers.specs.declared.asking.Asked.TheVariants.{OpenedNumbers}
+use Rattle.turn_core.proofs.OneNote.{notes_by_place}
 use Rattle.path_workers.specs.declared.placing.Answered.{Answered}
 use Rattle.path_workers.specs.inner.Working.{job_numbers, AnswerTheirJobs}
-use Rattle.path_workers.specs.inner.Placing.{IsBelow, answer_of, opened_of, placed}
+use Rattle.path_workers.specs.inner.Placing.{IsBelow, answer_of, note_of, placed}
 
 -- what is told of the last job is put in its place first
 pub placed-push : {T : Type 0} (told_of : Answered → T) (places : List T) (front : List Answered) (last : Answered)
@@ -101,23 +101,23 @@ placed_right {T} told_of Is blank answered count jobs wide lists many right = (
 
 -- so each place has the answer to its job
 pub placed_are : (blank : List Answer) (answered : List Answered) (count : ℕ) → length blank ≡ count → Lists (λ job. job < count) (job_numbers answered)
-    → (map : Map) (standing : Standing) (asked : Asked) (jobs : List Request) → length jobs ≡ count → AnswerTheirJobs map standing asked jobs answered
+    → (map : Map) (standing : Standing) (report : Report) (jobs : List Request) → length jobs ≡ count → AnswerTheirJobs map standing report jobs answered
     → AreAnswersTo map standing jobs (placed answer_of blank answered)
-placed_are blank answered count wide lists map standing asked jobs many answers =
+placed_are blank answered count wide lists map standing report jobs many answers =
     (by_place map standing jobs (placed answer_of blank answered)).1
     (placed_right answer_of (IsAnswerTo map standing) blank answered count jobs wide lists many
     (λ k d inside. let one = answers k d inside in (one.0, (one.1.0, one.1.1.answered))))
 
--- and its opened number, where that is asked for
-pub placed_numbers : (blank : List ℕ) (answered : List Answered) (count : ℕ) → length blank ≡ count → Lists (λ job. job < count) (job_numbers answered)
-    → (map : Map) (standing : Standing) (jobs : List Request) → length jobs ≡ count → AnswerTheirJobs map standing OpenedNumbers jobs answered
-    → AreOpenedNumbers map standing jobs (placed opened_of blank answered)
-unfolding IsOpenedNumber
-placed_numbers blank answered count wide lists map standing jobs many answers =
-    (numbers_by_place map standing jobs (placed opened_of blank answered)).1
-    (placed_right opened_of (IsOpenedNumber map standing) blank answered count jobs wide lists many
+-- and its note
+pub placed_notes : (blank : List Note) (answered : List Answered) (count : ℕ) → length blank ≡ count → Lists (λ job. job < count) (job_numbers answered)
+    → (map : Map) (standing : Standing) (report : Report) (jobs : List Request) → length jobs ≡ count → AnswerTheirJobs map standing report jobs answered
+    → AreNotes map standing report jobs (placed note_of blank answered)
+unfolding IsNote
+placed_notes blank answered count wide lists map standing report jobs many answers =
+    (notes_by_place map standing report jobs (placed note_of blank answered)).1
+    (placed_right note_of (IsNote map standing report) blank answered count jobs wide lists many
     (λ k d inside. let one = answers k d inside in
-    (one.0, (one.1.0, ((get_or answered k d).answer, (one.1.1.answered, one.1.1.number refl))))))
+    (one.0, (one.1.0, ((get_or answered k d).noted.answer, (one.1.1.answered, one.1.1.told))))))
 
 -- and nothing goes out of the places
 pub below_all : {T : Type 0} (blank : List T) (answered : List Answered) (count : ℕ) → length blank ≡ count → Lists (λ job. job < count) (job_numbers answered)

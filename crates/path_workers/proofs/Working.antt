@@ -5,24 +5,24 @@ use Rattle.std.proofs.lemmas.List.{map-append}
 use Rattle.std.proofs.lemmas.List.Elements.{All-append, All-push}
 use Rattle.nav_types.specs.Counting.{Lists}
 use Rattle.nav_types.specs.declared.sequences.NoMemory.{NoMemory}
+use Rattle.posts.specs.declared.posts.Request.{Request}
+use Rattle.posts.specs.Maps.{Map}
 use Rattle.claim_board.specs.Boards.{Board, SeatState}
-use Rattle.grid_versions.specs.Maps.{Map}
-use Rattle.turn_core.specs.declared.posts.Request.{Request}
+use Rattle.posts.specs.declared.notes.Report.{Report}
 use Rattle.turn_core.specs.Words.{Standing}
-use Rattle.path_workers.specs.declared.asking.Asked.{Asked}
 use Rattle.path_workers.specs.declared.placing.Answered.{Answered}
 use Rattle.path_workers.specs.declared.drawing.Worked.{Worked}
 use Rattle.path_workers.specs.inner.Working.{job_numbers, AnswersItsJob, AnswerTheirJobs, HasOneMore, HasWorked}
 
 -- one more job is answered
-pub one_more : (map : Map) (standing : Standing) (asked : Asked) (jobs : List Request) (job : ℕ) (before after : List Answered) (drawn : List ℕ)
-    → HasOneMore map standing asked jobs job before after → job_numbers before ≡ drawn → AnswerTheirJobs map standing asked jobs before
-    → (job_numbers after ≡ drawn ++ job ∷ []) × AnswerTheirJobs map standing asked jobs after
-one_more map standing asked jobs job before after drawn more numbers answers =
+pub one_more : (map : Map) (standing : Standing) (report : Report) (jobs : List Request) (job : ℕ) (before after : List Answered) (drawn : List ℕ)
+    → HasOneMore map standing report jobs job before after → job_numbers before ≡ drawn → AnswerTheirJobs map standing report jobs before
+    → (job_numbers after ≡ drawn ++ job ∷ []) × AnswerTheirJobs map standing report jobs after
+one_more map standing report jobs job before after drawn more numbers answers =
     let number : Answered → ℕ = λ one. one.job in (
       ap job_numbers more.1.0 ∙ map-append number before (more.0 ∷ []) ∙ ap (λ (ns : List ℕ). ns ++ number more.0 ∷ []) numbers ∙ ap (λ (n : ℕ). drawn ++ n ∷ []) more.1.1.0,
-      subst (AnswerTheirJobs map standing asked jobs) (sym more.1.0)
-          (All-push (AnswersItsJob map standing asked jobs) before more.0 answers more.1.1.1),
+      subst (AnswerTheirJobs map standing report jobs) (sym more.1.0)
+          (All-push (AnswersItsJob map standing report jobs) before more.0 answers more.1.1.1),
     )
 
 -- all answers are those of the one, and behind them those of the other
@@ -45,22 +45,22 @@ both_numbered (Ok front) (Ok back) (Ok whole) xs ys zs are p q is =
     let number : Answered → ℕ = λ one. one.job in
     ap job_numbers are ∙ map-append number front back ∙ ap (λ (ns : List ℕ). ns ++ job_numbers back) p ∙ ap (λ (ns : List ℕ). xs ++ ns) q ∙ sym is
 
-both_answered : (map : Map) (standing : Standing) (asked : Asked) (jobs : List Request) (first second all : Result (List Answered) NoMemory) → AreBoth first second all
-    → IfOk first (AnswerTheirJobs map standing asked jobs) → IfOk second (AnswerTheirJobs map standing asked jobs) → IfOk all (AnswerTheirJobs map standing asked jobs)
-both_answered map standing asked jobs first second (Err e) are p q = tt
-both_answered map standing asked jobs (Err e) second (Ok whole) are p q = absurd are
-both_answered map standing asked jobs (Ok front) (Err e) (Ok whole) are p q = absurd are
-both_answered map standing asked jobs (Ok front) (Ok back) (Ok whole) are p q =
-    subst (AnswerTheirJobs map standing asked jobs) (sym are) (All-append (AnswersItsJob map standing asked jobs) front back p q)
+both_answered : (map : Map) (standing : Standing) (report : Report) (jobs : List Request) (first second all : Result (List Answered) NoMemory) → AreBoth first second all
+    → IfOk first (AnswerTheirJobs map standing report jobs) → IfOk second (AnswerTheirJobs map standing report jobs) → IfOk all (AnswerTheirJobs map standing report jobs)
+both_answered map standing report jobs first second (Err e) are p q = tt
+both_answered map standing report jobs (Err e) second (Ok whole) are p q = absurd are
+both_answered map standing report jobs (Ok front) (Err e) (Ok whole) are p q = absurd are
+both_answered map standing report jobs (Ok front) (Ok back) (Ok whole) are p q =
+    subst (AnswerTheirJobs map standing report jobs) (sym are) (All-append (AnswersItsJob map standing report jobs) front back p q)
 
 -- what the workers of two halves of a seat hand back together
-pub both_worked : (map : Map) (standing : Standing) (asked : Asked) (jobs : List Request) (board : Board) (seat one other joined : SeatState) (first second : Worked)
+pub both_worked : (map : Map) (standing : Standing) (report : Report) (jobs : List Request) (board : Board) (seat one other joined : SeatState) (first second : Worked)
     (all : Result (List Answered) NoMemory) → one ≡ record seat { credit = seat.credit - seat.credit / 2 } → other ≡ record seat { credit = seat.credit / 2; drawn = [] }
-    → HasWorked map standing asked jobs one first → HasWorked map standing asked jobs other second → seat.board ≡ board
+    → HasWorked map standing report jobs one first → HasWorked map standing report jobs other second → seat.board ≡ board
     → joined.board ≡ board → joined.credit ≡ first.seat.credit + second.seat.credit → joined.drawn ≡ first.seat.drawn ++ second.seat.drawn
     → joined.ended ≡ (first.seat.ended || second.seat.ended) → AreBoth first.answered second.answered all
-    → HasWorked map standing asked jobs seat (record { seat = joined; answered = all })
-both_worked map standing asked jobs board seat one other joined first second all first_half second_half p q own home credit drawn ended are =
+    → HasWorked map standing report jobs seat (record { seat = joined; answered = all })
+both_worked map standing report jobs board seat one other joined first second all first_half second_half p q own home credit drawn ended are =
     let more : one.credit ≡ seat.credit - seat.credit / 2 = ap (λ (s : SeatState). s.credit) first_half in
     let less : other.credit ≡ seat.credit / 2 = ap (λ (s : SeatState). s.credit) second_half in
     let here : first.seat.credit ≡ one.credit = p.credit in
@@ -70,7 +70,7 @@ both_worked map standing asked jobs board seat one other joined first second all
       credit = omega (arith, credit, here, there, more, less);
       ended = both_ended first.answered second.answered all first.seat.ended second.seat.ended joined.ended are p.ended ended;
       numbers = both_numbered first.answered second.answered all first.seat.drawn second.seat.drawn joined.drawn are p.numbers q.numbers drawn;
-      answers = both_answered map standing asked jobs first.answered second.answered all are p.answers q.answers;
+      answers = both_answered map standing report jobs first.answered second.answered all are p.answers q.answers;
     }
 
 -- the answered jobs are all jobs of the board, each once

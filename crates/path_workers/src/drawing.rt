@@ -3,7 +3,6 @@ ghost use Rattle.std.specs.Prelude.{◌≡◌, ◌-◌, ◌<◌, ◌≤◌, ◌+
 ghost use denote.Param.Send.{IsSync};
 ghost use Rattle.path_workers.specs.inner.Working.{HasOneMore, HasWorked};
 
-use crate::asking::{Asked, solved};
 use crate::placing::Answered;
 use claim_board::{Claims, Drawn, Seat};
 use grid_versions::Version;
@@ -11,7 +10,16 @@ use io_edges::Gate;
 use nav_types::{NoMemory, Sequence};
 use std::alloc::Global;
 use std::thread::{Threads, join};
-use turn_core::{Request, TracedAnswer};
+use turn_core::{Report, Request, solve_noted};
+
+/// The jobs of a turn on a version, the gate that is passed before each, and what is told beside the answers.
+#[derive(Drop)]
+pub(crate) struct Turn<'a, G> {
+    pub version: &'a Version,
+    pub jobs: &'a [Request],
+    pub gate: &'a G,
+    pub report: Report,
+}
 
 /// What workers hand back: their seat, and their answers with the jobs' numbers.
 #[derive(Drop)]
@@ -21,27 +29,20 @@ pub(crate) struct Worked {
 }
 
 /// Draws jobs and solves each, until none is left. The gate is passed once before each job.
-fn draw_all<G: Gate>(
-    alloc: Global,
-    version: &Version,
-    jobs: &[Request],
-    gate: &G,
-    claims: &Claims,
-    mut seat: Seat,
-    asked: Asked,
-) -> Worked
-    requires jobs { claims.now.jobs ≡ length jobs.now }
+fn draw_all<G: Gate>(alloc: Global, turn: &Turn<'_, G>, claims: &Claims, mut seat: Seat) -> Worked
+    requires jobs { claims.now.jobs ≡ length turn.now.jobs.now }
     requires own { seat.board ≡ claims.now }
     requires list { seat.drawn ≡ [] }
     requires live { seat.ended ≡ false }
-    ensures { HasWorked version.now.map version.now.standing asked jobs.now seat result }
+    ensures { HasWorked turn.now.version.now.map turn.now.version.now.standing turn.now.report turn.now.jobs.now seat
+        result }
 {
     let mut answered = Sequence::new(alloc);
     'drawing: loop {
         match claims.claim(seat) {
             Drawn::Job(job, next) => {
                 seat = next;
-                let Ok(()) = solve_job(alloc, version, jobs, gate, job, asked, &mut answered) else {
+                let Ok(()) = solve_job(alloc, turn, job, &mut answered) else {
                     return Worked {
                         seat,
                         answered: Err(NoMemory),
@@ -61,23 +62,17 @@ fn draw_all<G: Gate>(
 /// Passes the gate, solves one job and appends its answer.
 fn solve_job<G: Gate>(
     alloc: Global,
-    version: &Version,
-    jobs: &[Request],
-    gate: &G,
+    turn: &Turn<'_, G>,
     job: u64,
-    asked: Asked,
     answered: &mut Sequence<Answered>,
 ) -> Result<(), NoMemory>
-    requires { job < length jobs.now }
-    ensures { OnOk result (HasOneMore version.now.map version.now.standing asked jobs.now job answered.old answered.new) }
+    requires { job < length turn.now.jobs.now }
+    ensures { OnOk result (HasOneMore turn.now.version.now.map turn.now.version.now.standing turn.now.report
+        turn.now.jobs.now job answered.old answered.new) }
 {
-    gate.pass(job);
-    let TracedAnswer { answer, opened } = solved(alloc, version, &jobs[job as usize], asked)?;
-    answered.push(Answered {
-        job,
-        answer,
-        opened,
-    })?;
+    turn.gate.pass(job);
+    let noted = solve_noted(alloc, turn.version, &turn.jobs[job as usize], turn.report)?;
+    answered.push(Answered { job, noted })?;
     Ok(())
 }
 
@@ -85,25 +80,29 @@ fn solve_job<G: Gate>(
 pub(crate) fn draw_by<R: Threads + Sync, G: Gate + Sync>(
     rt: &R,
     alloc: Global,
-    version: &Version,
-    jobs: &[Request],
-    gate: &G,
+    turn: &Turn<'_, G>,
     claims: &Claims,
     seat: Seat,
     workers: u64,
-    asked: Asked,
 ) -> Worked
-    requires jobs { claims.now.jobs ≡ length jobs.now }
+    requires jobs { claims.now.jobs ≡ length turn.now.jobs.now }
     requires own { seat.board ≡ claims.now }
     requires list { seat.drawn ≡ [] }
     requires live { seat.ended ≡ false }
     requires some { 1 ≤ workers }
     requires credit { workers ≤ seat.credit }
-    ensures { HasWorked version.now.map version.now.standing asked jobs.now seat result }
+    ensures { HasWorked turn.now.version.now.map turn.now.version.now.standing turn.now.report turn.now.jobs.now seat
+        result }
 {
     if workers == 1 {
-        return draw_all(alloc, version, jobs, gate, claims, seat, asked);
+        return draw_all(alloc, turn, claims, seat);
     }
+    let Turn {
+        version,
+        jobs,
+        gate,
+        report,
+    } = *turn;
     let half = workers / 2;
     let (one, other) = claims.split(seat);
     let (first, second) = join(
@@ -111,25 +110,29 @@ pub(crate) fn draw_by<R: Threads + Sync, G: Gate + Sync>(
         || -> Worked
             requires { IsSync R.row × (claims.now.jobs ≡ length jobs.now) × (one.board ≡ claims.now)
                 × (one.drawn ≡ []) × (one.ended ≡ false) × (1 ≤ workers - half) × (workers - half ≤ one.credit) }
-            ensures { HasWorked version.entry.now.map version.entry.now.standing asked jobs.entry.now one result }
+            ensures { HasWorked version.entry.now.map version.entry.now.standing report jobs.entry.now one result }
         {
-            draw_by(
-                rt,
-                alloc,
+            let turn = Turn {
                 version,
                 jobs,
                 gate,
-                claims,
-                one,
-                workers - half,
-                asked,
-            )
+                report,
+            };
+            draw_by(rt, alloc, &turn, claims, one, workers - half)
         },
         || -> Worked
             requires { IsSync R.row × (claims.now.jobs ≡ length jobs.now) × (other.board ≡ claims.now)
                 × (other.drawn ≡ []) × (other.ended ≡ false) × (1 ≤ half) × (half ≤ other.credit) }
-            ensures { HasWorked version.entry.now.map version.entry.now.standing asked jobs.entry.now other result }
-        { draw_by(rt, alloc, version, jobs, gate, claims, other, half, asked) },
+            ensures { HasWorked version.entry.now.map version.entry.now.standing report jobs.entry.now other result }
+        {
+            let turn = Turn {
+                version,
+                jobs,
+                gate,
+                report,
+            };
+            draw_by(rt, alloc, &turn, claims, other, half)
+        },
     );
     Worked {
         seat: claims.join(first.seat, second.seat),

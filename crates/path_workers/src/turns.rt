@@ -1,12 +1,10 @@
 //! Turns whose jobs are solved by many workers.
 ghost use Rattle.std.specs.Prelude.{◌≡◌, ◌^◌, ◌<◌, ◌≤◌, IfOk, length};
 ghost use Rattle.turn_core.specs.Solving.{AreAnswersTo};
-ghost use Rattle.turn_core.specs.Opening.{AreOpenedNumbers};
-ghost use Rattle.path_workers.specs.declared.asking.Asked.TheVariants.{OpenedNumbers};
+ghost use Rattle.turn_core.specs.Notes.{AreNotes};
 
-use crate::asking::Asked;
-use crate::drawing::{Worked, draw_by};
-use crate::placing::{TracedAnswers, in_order};
+use crate::drawing::{Turn, Worked, draw_by};
+use crate::placing::{NotedAnswers, in_order};
 use claim_board::Claims;
 use grid_versions::Version;
 use io_edges::Gate;
@@ -15,7 +13,7 @@ use nav_types::limits::MAX_WORKERS;
 use std::alloc::Global;
 use std::marker::Model;
 use std::thread::Threads;
-use turn_core::{Answers, Jobs};
+use turn_core::{Answers, Jobs, Report};
 
 /// The answers to the jobs on a version, each in the place of its job (`AreAnswersTo`), whatever the gate, the number
 /// of workers and the order in which they come to their jobs. There are fewer than 2^32 jobs. It refuses for want of
@@ -37,64 +35,37 @@ pub fn run_turn<R: Threads + Sync, G: Gate + Sync>(
     requires few { length jobs.now < 2 ^ 32 }
     ensures { IfOk result (AreAnswersTo version.now.map version.now.standing jobs.now) }
 {
-    let traced = run_asked(rt, alloc, version, jobs, workers, gate, Asked::Answers)?;
-    Ok(traced.answers)
+    let noted = run_turn_noted(rt, alloc, version, jobs, workers, gate, Report::Answers)?;
+    Ok(noted.answers)
 }
 
-/// The answers that [`run_turn`] gives, with their opened numbers (`AreOpenedNumbers`), on the same conditions: of a
-/// path, how many jump states are opened within its cost, as `turn_core::solve_traced` counts them, and 0 of any other
-/// answer. It refuses for want of memory alone.
-///
-/// It takes longer, since all jump states within the cost of a path are opened.
-pub fn run_turn_traced<R: Threads + Sync, G: Gate + Sync>(
+/// The answers that [`run_turn`] gives, with what the report tells of each (`AreNotes`), on the same conditions. It
+/// refuses for want of memory alone.
+pub fn run_turn_noted<R: Threads + Sync, G: Gate + Sync>(
     rt: &R,
     alloc: Global,
     version: &Version,
     jobs: &Jobs,
     workers: u8,
     gate: &G,
-) -> Result<TracedAnswers, NoMemory>
+    report: Report,
+) -> Result<NotedAnswers, NoMemory>
     requires some { 1 ≤ workers }
     requires most { workers ≤ MAX_WORKERS }
     requires few { length jobs.now < 2 ^ 32 }
-    ensures answers { IfOk result (λ traced. AreAnswersTo version.now.map version.now.standing jobs.now traced.answers) }
-    ensures opened { IfOk result (λ traced. AreOpenedNumbers version.now.map version.now.standing jobs.now traced.opened) }
+    ensures answers { IfOk result (λ noted. AreAnswersTo version.now.map version.now.standing jobs.now noted.answers) }
+    ensures notes { IfOk result (λ noted. AreNotes version.now.map version.now.standing report jobs.now noted.notes) }
 {
-    run_asked(
-        rt,
-        alloc,
+    let turn = Turn {
         version,
-        jobs,
-        workers,
+        jobs: jobs.as_slice(),
         gate,
-        Asked::OpenedNumbers,
-    )
-}
-
-/// The answers to the jobs, with their opened numbers where these are asked for.
-fn run_asked<R: Threads + Sync, G: Gate + Sync>(
-    rt: &R,
-    alloc: Global,
-    version: &Version,
-    jobs: &Jobs,
-    workers: u8,
-    gate: &G,
-    asked: Asked,
-) -> Result<TracedAnswers, NoMemory>
-    requires some { 1 ≤ workers }
-    requires most { workers ≤ MAX_WORKERS }
-    requires few { length jobs.now < 2 ^ 32 }
-    ensures answers { IfOk result (λ traced. AreAnswersTo version.now.map version.now.standing jobs.now traced.answers) }
-    ensures opened { IfOk result (λ traced. asked ≡ OpenedNumbers
-        → AreOpenedNumbers version.now.map version.now.standing jobs.now traced.opened) }
-{
-    let requests = jobs.as_slice();
-    let count = requests.len();
+        report,
+    };
+    let count = turn.jobs.len();
     let (claims, seat) = Claims::start(alloc, count as u64)?;
     let workers = u64::from(workers).min(count as u64).max(1);
-    let Worked { seat, answered } = draw_by(
-        rt, alloc, version, requests, gate, &claims, seat, workers, asked,
-    );
+    let Worked { seat, answered } = draw_by(rt, alloc, &turn, &claims, seat, workers);
     let answered = answered?;
     // Of the jobs that were drawn, each was answered: so all of them have their answer, and none has two.
     let _drawings = claims.close(seat);

@@ -2,9 +2,9 @@
 use Rattle.std.proofs.Common.{◌≡◌, ℕ, zero, suc, ◌+◌, ◌<◌, List, [], ◌∷◌, ◌++◌, length, take, get_or, sym, subst, arith}
 use Rattle.std.specs.List.{AllByRecursion}
 use Rattle.std.proofs.lemmas.List.{length-append}
-use Rattle.grid_versions.specs.Maps.{Map}
-use Rattle.turn_core.specs.declared.posts.Post.{Post}
-use Rattle.turn_core.specs.declared.replies.TurnReplies.{TurnReplies}
+use Rattle.posts.specs.declared.posts.Post.{Post}
+use Rattle.posts.specs.declared.replies.TurnReplies.{TurnReplies}
+use Rattle.posts.specs.Maps.{Map}
 use Rattle.turn_core.specs.Words.{MapState}
 use Rattle.turn_core.specs.Turns.{after_turn, IsTurnTold}
 use Rattle.turn_core.proofs.TurnByTurn.{HasAnswered, answered_more}

@@ -1,6 +1,6 @@
 -- The works of callers, begun and ended one by one.
 use Rattle.std.proofs.Common.{◌≡◌, List, [], ◌∷◌, ◌++◌, map, sym, ap, ◌∙◌, subst, append_assoc, append-nil}
-use Rattle.turn_core.specs.declared.posts.Post.{Post}
+use Rattle.posts.specs.declared.posts.Post.{Post}
 use Rattle.path_service.specs.Callers.{CallerId, CallerState, EndedState, caller_id}
 use Rattle.pathserve.specs.declared.works.Begun.{Begun}
 use Rattle.pathserve.specs.inner.Works.{HasPosted, HaveAllPosted}

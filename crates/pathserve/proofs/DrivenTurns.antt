@@ -4,15 +4,15 @@ use Rattle.std.specs.Prelude.{IsSome, ◌↔◌}
 use Rattle.std.proofs.lemmas.List.Elements.{All-push}
 use Rattle.std.proofs.lemmas.List.Sums.{sum_by_push}
 use Rattle.nav_types.specs.declared.limits.TheConstants.{MAX_STAGED_POSTS}
+use Rattle.posts.specs.declared.posts.Post.{Post}
+use Rattle.posts.specs.declared.replies.Reply.{Reply}
+use Rattle.posts.specs.Posts.{post_count}
 use Rattle.turn_core.specs.declared.events.Event.{Event}
 use Rattle.turn_core.specs.declared.events.Event.TheVariants.{Post as Posting, Stage, Start, Claim, Finish, Deliver, Collect}
-use Rattle.turn_core.specs.declared.posts.Post.{Post}
-use Rattle.turn_core.specs.declared.replies.Reply.{Reply}
 use Rattle.turn_core.specs.States.{State, Run}
 use Rattle.turn_core.specs.Effects.{IsStep, IsMachineRun, joined_up, delivered}
 use Rattle.turn_core.specs.Arrival.{posts_of, post_events, answered_run, in_run}
 use Rattle.path_service.specs.Services.{DriverState, in_hand, with_machine}
-use Rattle.turn_core.specs.Turns.{post_count}
 use Rattle.path_service.specs.Steps.{staging, HasStaged, HasStarted, HasDelivered}
 use Rattle.std.proofs.lemmas.Bool.{both_ways}
 use Rattle.pathserve.specs.Serving.{HasPost}

@@ -5,19 +5,19 @@ use Rattle.std.proofs.lemmas.List.{length-append}
 use Rattle.std.proofs.lemmas.List.Sums.{sum_by-cons, sum_by-append}
 use Rattle.nav_types.specs.declared.cells.Cell.{Cell}
 use Rattle.goal_shapes.specs.declared.goals.Goal.{Goal}
-use Rattle.grid_versions.specs.declared.edits.Refusal.{Refusal}
-use Rattle.grid_versions.specs.Maps.{Map}
+use Rattle.posts.specs.declared.edits.Refusal.{Refusal}
+use Rattle.posts.specs.declared.posts.Post.{Post}
+use Rattle.posts.specs.declared.posts.Post.TheVariants.{Edit as Editing, Ask as Asking}
+use Rattle.posts.specs.declared.posts.Request.{Request}
+use Rattle.posts.specs.declared.posts.Request.TheVariants.{Path as AsksPath, Region as AsksRegion}
+use Rattle.posts.specs.declared.replies.Answer.{Answer}
+use Rattle.posts.specs.declared.replies.Answer.TheVariants as answer
+use Rattle.posts.specs.declared.replies.Reply.{Reply}
+use Rattle.posts.specs.declared.replies.Reply.TheVariants.{Answer as Answered}
+use Rattle.posts.specs.declared.replies.TurnReplies.{TurnReplies}
+use Rattle.posts.specs.Maps.{Map}
 use Rattle.grid_versions.specs.Passing.{passable_at}
 use Rattle.grid_versions.proofs.PassingLemmas.{passable_in_words}
-use Rattle.turn_core.specs.declared.posts.Post.{Post}
-use Rattle.turn_core.specs.declared.posts.Post.TheVariants.{Edit as Editing, Ask as Asking}
-use Rattle.turn_core.specs.declared.posts.Request.{Request}
-use Rattle.turn_core.specs.declared.posts.Request.TheVariants.{Path as AsksPath, Region as AsksRegion}
-use Rattle.turn_core.specs.declared.replies.Answer.{Answer}
-use Rattle.turn_core.specs.declared.replies.Answer.TheVariants as answer
-use Rattle.turn_core.specs.declared.replies.Reply.{Reply}
-use Rattle.turn_core.specs.declared.replies.Reply.TheVariants.{Answer as Answered}
-use Rattle.turn_core.specs.declared.replies.TurnReplies.{TurnReplies}
 use Rattle.turn_core.specs.NamedGoals.{class_named, is_on_map, goal_found}
 use Rattle.turn_core.specs.Solving.{IsAnswerTo, IsAnswerAt, IsPathFound, IsPathTo, IsRegionAt}
 use Rattle.turn_core.specs.Words.{Standing, bare, edited}

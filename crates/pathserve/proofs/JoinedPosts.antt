@@ -1,7 +1,7 @@
 -- Turns that are joined caller by caller.
 use Rattle.std.proofs.Common.{◌≡◌, ℕ, suc, ◌+◌, ◌<◌, ◌≤◌, List, [], ◌∷◌, ◌++◌, length, set, refl, sym, ap, ◌∙◌, arith, append-nil, append_assoc, length-append}
-use Rattle.turn_core.specs.declared.posts.Post.{Post}
-use Rattle.turn_core.specs.States.{list_of}
+use Rattle.posts.specs.declared.posts.Post.{Post}
+use Rattle.posts.specs.Callers.{list_of}
 use Rattle.turn_core.specs.Effects.{joined_up}
 use Rattle.turn_core.proofs.CallerLists.{joined_nothing}
 

@@ -1,9 +1,9 @@
 -- The posts of each caller in a journal, counted over all callers.
 use Rattle.std.proofs.Common.{◌≡◌, ℕ, zero, suc, ◌+◌, ◌≤◌, List, [], ◌∷◌, ◌++◌, length, drop, sum_by, refl, ap, ◌∙◌, arith, length-append}
 use Rattle.std.proofs.lemmas.List.Sums.{sum_by-cons}
-use Rattle.turn_core.specs.declared.posts.Post.{Post}
-use Rattle.turn_core.specs.States.{list_of}
-use Rattle.turn_core.specs.Turns.{of_caller, post_count}
+use Rattle.posts.specs.declared.posts.Post.{Post}
+use Rattle.posts.specs.Callers.{list_of, of_caller}
+use Rattle.posts.specs.Posts.{post_count}
 use Rattle.turn_core.specs.Effects.{first_list, joined_up}
 use Rattle.turn_core.proofs.CallerLists.{joined_up_at}
 

@@ -1,21 +1,21 @@
 -- There is one text of each report for a turn, for items, and for an input.
 use Rattle.std.proofs.Common.{◌≡◌, ℕ, ◌+◌, inl, inr, List, [], ◌∷◌, ◌++◌, take, drop, Option, Some, refl, sym, ap, ◌∙◌, subst, append_assoc, append-nil, take-append-drop}
 use Rattle.std.proofs.lemmas.List.{append_cancel_right}
-use Rattle.grid_versions.specs.Maps.{Map}
-use Rattle.turn_core.specs.declared.posts.Post.{Post}
-use Rattle.turn_core.specs.declared.replies.TurnReplies.{TurnReplies}
+use Rattle.posts.specs.declared.posts.Post.{Post}
+use Rattle.posts.specs.declared.replies.TurnReplies.{TurnReplies}
+use Rattle.posts.specs.Maps.{Map}
+use Rattle.posts.specs.Posts.{jobs}
+use Rattle.posts.specs.declared.notes.Note.{Note}
 use Rattle.turn_core.specs.Words.{Standing}
-use Rattle.turn_core.specs.Turns.{after_turn, jobs}
+use Rattle.turn_core.specs.Turns.{after_turn}
 use Rattle.turn_core.proofs.Threads.{one_turn_told}
-use Rattle.turn_core.proofs.OneOpenedNumber.{one_list_of_numbers}
+use Rattle.turn_core.proofs.OneNote.{one_list_of_notes}
 use Rattle.script_text.specs.Lines.{full_lines, tail_of}
 use Rattle.script_text.specs.Script.{Item, begins, adds_base, ends_turn, Place, beginning, Ends, Walk, arrived, chain, walk, last_line, reading}
 use Rattle.script_text.proofs.ReadWalk.{chain-assoc, walk-append}
 use Rattle.pathserve.proofs.Lines.{full_lines-append}
-use Rattle.answer_text.specs.Answers.{turn_text}
-use Rattle.answer_text.specs.Profiles.{profile_text}
-use Rattle.pathserve.specs.declared.reports.Report.{Report}
-use Rattle.pathserve.specs.declared.reports.Report.TheVariants.{Answers, OpenedNumbers}
+use Rattle.answer_text.specs.Noted.{noted_text}
+use Rattle.posts.specs.declared.notes.Report.{Report}
 use Rattle.pathserve.specs.Output.{Said, unsaid, IsTurnText, with_turn, Says, Gives, ends_text, IsOut, IsPiece, IsBeginning, IsTakenText}
 
 joined : (a b c d : List ℕ) → a ≡ b → c ≡ d → a ++ c ≡ b ++ d
@@ -26,12 +26,10 @@ joined a b c d p q = ap (λ (l : List ℕ). l ++ c) p ∙ ap (λ (l : List ℕ).
 -- the text of a turn is one
 pub one_turn_text : (report : Report) (m : Map) (s : Standing) (turn : ℕ) (posts : List (List Post)) (a b : List ℕ)
     → IsTurnText report m s turn posts a → IsTurnText report m s turn posts b → a ≡ b
-one_turn_text Answers m s turn posts a b (told, (is, text)) (told', (is', text')) =
-    text ∙ (ap (λ (t : TurnReplies). turn_text turn t) (one_turn_told m s posts told told' is is') ∙ sym text')
-one_turn_text OpenedNumbers m s turn posts a b (told, (opened, (is, (numbers, text)))) (told', (opened', (is', (numbers', text')))) =
-    let same : opened ≡ opened' = one_list_of_numbers m (after_turn m s posts) (jobs posts) opened opened' numbers numbers' in
-    text ∙ (ap (λ (t : TurnReplies). profile_text turn t opened) (one_turn_told m s posts told told' is is')
-    ∙ (ap (λ (l : List ℕ). profile_text turn told' l) same ∙ sym text'))
+one_turn_text report m s turn posts a b (told, (notes, (is, (are, text)))) (told', (notes', (is', (are', text')))) =
+    let same : notes ≡ notes' = one_list_of_notes m (after_turn m s posts) report (jobs posts) notes notes' are are' in
+    text ∙ (ap (λ (t : TurnReplies). noted_text turn t notes) (one_turn_told m s posts told told' is is')
+    ∙ (ap (λ (l : List Note). noted_text turn told' l) same ∙ sym text'))
 
 pub some_same : (m n : Map) (o : Option Map) → o ≡ Some m → o ≡ Some n → m ≡ n
 some_same m n o p q = let both : Some m ≡ Some n = sym p ∙ q in cc

@@ -1,17 +1,24 @@
--- The text of an input's turns is that of the replies of one thread, with the opened numbers where they are told: in a
--- reading the map is first, then only turns.
+-- The text of an input's turns is that of the replies of one thread, with what is told beside them: in a reading the map
+-- is first, then only turns.
 use Rattle.std.proofs.Common.{◌≡◌, ℕ, ◌+◌, List, [], ◌∷◌, ◌++◌, length, Bool, true, false, Option, Some, None, refl, sym, ap, ◌∙◌, subst, append_assoc, append-nil}
 use Rattle.std.specs.Prelude.{if◌then◌else◌, ⊤, ◌==◌, option_and_then}
 use Rattle.std.specs.List.{list_all}
 use Rattle.serde_json.specs.Data.{Data}
 use Rattle.nav_types.specs.declared.cells.Rect.{Rect}
-use Rattle.grid_versions.specs.Maps.{Map}
-use Rattle.turn_core.specs.declared.replies.TurnReplies.{TurnReplies}
-use Rattle.turn_core.specs.declared.posts.Post.{Post}
+use Rattle.posts.specs.declared.replies.TurnReplies.{TurnReplies}
+use Rattle.posts.specs.declared.posts.Post.{Post}
+use Rattle.posts.specs.Maps.{Map}
+use Rattle.posts.specs.declared.notes.Note.{Note}
+use Rattle.posts.specs.declared.notes.Report.{Report}
+use Rattle.posts.specs.declared.notes.Report.TheVariants.{Answers}
 use Rattle.turn_core.specs.Words.{Standing, bare}
+use Rattle.posts.specs.Posts.{jobs}
 use Rattle.turn_core.specs.Turns.{after_turn, OneThread, TellNumbers, IsTurnTold, IsOneThread, replies_in}
+use Rattle.turn_core.proofs.Arriving.{answers_turn}
+use Rattle.turn_core.proofs.OneNote.{answers_tell_nothing, notes_of_answers}
 use Rattle.answer_text.specs.Answers.{turn_text}
-use Rattle.answer_text.specs.Profiles.{profile_text}
+use Rattle.answer_text.specs.Noted.{noted_text}
+use Rattle.answer_text.proofs.NotesOfNothing.{text_of_nothing}
 use Rattle.script_text.specs.declared.forms.CallerPost.{CallerPost}
 use Rattle.script_text.specs.Lines.{full_lines, tail_of}
 use Rattle.script_text.specs.Forms.{map_of, base_of, post_of, end_of}
@@ -19,9 +26,7 @@ use Rattle.script_text.specs.declared.parts.Rules.{Rules}
 use Rattle.script_text.specs.declared.parts.Part.{Part}
 use Rattle.script_text.specs.declared.parts.Part.TheVariants.{BeforeMap as before_map, InBase as in_base, InTurns as in_turns}
 use Rattle.script_text.specs.Script.{Place, beginning, Item, begins, adds_base, ends_turn, map_after, turns_of, Ends, at_place, stuck_by, Walk, chain, chain_from, counted, reading_of, map_line, end_line, turn_line, placed_in_turn, base_line, placed_in, is_long, accept, walk, is_empty, finish_in, finish, last_line, reading}
-use Rattle.pathserve.specs.declared.reports.Report.{Report}
-use Rattle.pathserve.specs.declared.reports.Report.TheVariants.{Answers, OpenedNumbers}
-use Rattle.pathserve.specs.Output.{Said, unsaid, with_map, with_turn, IsTurnText, Gives, IsText, turn_texts, profile_texts, AreOpenedInTurns}
+use Rattle.pathserve.specs.Output.{Said, unsaid, with_map, with_turn, IsTurnText, Gives, IsText, turn_texts, noted_texts, AreNotesInTurns}
 use Rattle.pathserve.proofs.OneText.{some_same}
 
 -- ---- the order of items
@@ -238,90 +243,95 @@ Threads m s journal all = OneThread m s journal (replies_in all) × TellNumbers 
 two_parts : (text piece more first rest : List ℕ) → text ≡ piece ++ more → piece ≡ first → more ≡ rest → text ≡ first ++ rest
 two_parts text piece more first rest parts p q = parts ∙ (ap (λ (l : List ℕ). l ++ more) p ∙ ap (λ (l : List ℕ). first ++ l) q)
 
-answers_told : (m : Map) (s : Standing) (number : ℕ) (journal : List (List (List Post))) (text : List ℕ)
-    → AreTurnTexts Answers m s number journal text → (all : List TurnReplies) × (Threads m s journal all × (text ≡ turn_texts number all))
-answers_told m s number [] text none = ([], ((tt, tt), none))
-answers_told m s number (turn ∷ journal) text (piece, (more, ((told, (is, says)), (texts, parts)))) =
-    let (all, ((threads, numbers), rest)) = answers_told m (after_turn m s turn) (number + 1) journal more texts in (
+notes_told_from : (report : Report) (m : Map) (s : Standing) (number : ℕ) (journal : List (List (List Post))) (text : List ℕ)
+    → AreTurnTexts report m s number journal text
+    → (all : List TurnReplies) × ((lists : List (List Note)) × (Threads m s journal all × (AreNotesInTurns m s report journal lists × (text ≡ noted_texts number all lists))))
+notes_told_from report m s number [] text none = ([], ([], ((tt, tt), (tt, none))))
+notes_told_from report m s number (turn ∷ journal) text (piece, (more, ((told, (notes, (is, (are, says)))), (texts, parts)))) =
+    let (all, (lists, ((threads, numbers), (others, rest)))) = notes_told_from report m (after_turn m s turn) (number + 1) journal more texts in (
       told ∷ all,
       (
-        ((is.replies, threads), (is.numbers, numbers)),
-        two_parts text piece more (turn_text number told) (turn_texts (number + 1) all) parts says rest,
+        notes ∷ lists,
+        (
+          ((is.replies, threads), (is.numbers, numbers)),
+          (
+            (are, others),
+            two_parts text piece more (noted_text number told notes) (noted_texts (number + 1) all lists) parts says rest,
+          ),
+        ),
       ),
     )
 
-answers_give : (m : Map) (s : Standing) (number : ℕ) (journal : List (List (List Post))) (all : List TurnReplies)
-    → Threads m s journal all → AreTurnTexts Answers m s number journal (turn_texts number all)
-answers_give m s number [] [] threads = refl
-answers_give m s number [] (told ∷ all) threads = absurd threads.0
-answers_give m s number (turn ∷ journal) [] threads = absurd threads.0
-answers_give m s number (turn ∷ journal) (told ∷ all) ((replies, threads), (numbers, more)) =
-    let here : IsTurnTold m s turn told = record { replies = replies; numbers = numbers } in
-    let rest = answers_give m (after_turn m s turn) (number + 1) journal all (threads, more) in
-    (turn_text number told, (turn_texts (number + 1) all, ((told, (here, refl)), (rest, refl))))
+notes_give_from : (report : Report) (m : Map) (s : Standing) (number : ℕ) (journal : List (List (List Post))) (all : List TurnReplies) (lists : List (List Note))
+    → Threads m s journal all → AreNotesInTurns m s report journal lists → AreTurnTexts report m s number journal (noted_texts number all lists)
+notes_give_from report m s number [] [] lists threads are = refl
+notes_give_from report m s number [] (told ∷ all) lists threads are = absurd threads.0
+notes_give_from report m s number (turn ∷ journal) [] lists threads are = absurd threads.0
+notes_give_from report m s number (turn ∷ journal) (told ∷ all) [] threads are = absurd are
+notes_give_from report m s number (turn ∷ journal) (told ∷ all) (notes ∷ lists) ((replies, threads), (numbers, more)) (here, others) =
+    let is : IsTurnTold m s turn told = record { replies = replies; numbers = numbers } in
+    let rest = notes_give_from report m (after_turn m s turn) (number + 1) journal all lists (threads, more) others in
+    (noted_text number told notes, (noted_texts (number + 1) all lists, ((told, (notes, (is, (here, refl)))), (rest, refl))))
+
+-- the text is that of the replies of one thread and of the notes of its requests
+pub notes_told : (report : Report) (bytes text : List ℕ) (m : Map) → map_after None (reading bytes beginning).items ≡ Some m
+    → IsText report (reading bytes beginning).items text
+    → (all : List TurnReplies) × ((lists : List (List Note)) × (IsOneThread m (turns_of (reading bytes beginning).items) all
+    × (AreNotesInTurns m bare report (turns_of (reading bytes beginning).items) lists × (text ≡ noted_texts 1 all lists))))
+notes_told report bytes text m map is =
+    let (all, (lists, ((threads, numbers), rest))) =
+    notes_told_from report m bare 1 (turns_of (reading bytes beginning).items) text (input_told report bytes text m map is) in
+    (all, (lists, (record { replies = threads; numbers = numbers }, rest)))
+
+-- and these give the text
+pub notes_give : (report : Report) (bytes : List ℕ) (m : Map) (all : List TurnReplies) (lists : List (List Note)) → map_after None (reading bytes beginning).items ≡ Some m
+    → IsOneThread m (turns_of (reading bytes beginning).items) all → AreNotesInTurns m bare report (turns_of (reading bytes beginning).items) lists
+    → IsText report (reading bytes beginning).items (noted_texts 1 all lists)
+notes_give report bytes m all lists map threads are =
+    input_gives report bytes (noted_texts 1 all lists) m map
+    (notes_give_from report m bare 1 (turns_of (reading bytes beginning).items) all lists (threads.replies, threads.numbers) are)
+
+-- ---- one thread, where nothing is told beside the answers
+
+-- the texts are those of the replies alone
+texts_of_answers : (m : Map) (s : Standing) (number : ℕ) (journal : List (List (List Post))) (all : List TurnReplies) (lists : List (List Note))
+    → Threads m s journal all → AreNotesInTurns m s Answers journal lists → noted_texts number all lists ≡ turn_texts number all
+texts_of_answers m s number [] [] lists threads are = refl
+texts_of_answers m s number [] (told ∷ all) lists threads are = absurd threads.0
+texts_of_answers m s number (turn ∷ journal) [] lists threads are = absurd threads.0
+texts_of_answers m s number (turn ∷ journal) (told ∷ all) [] threads are = absurd are
+texts_of_answers m s number (turn ∷ journal) (told ∷ all) (notes ∷ lists) ((replies, threads), (numbers, more)) (here, others) =
+    let none = answers_tell_nothing m (after_turn m s turn) (jobs turn) notes here in
+    two_parts (noted_text number told notes ++ noted_texts (number + 1) all lists) (noted_text number told notes) (noted_texts (number + 1) all lists)
+    (turn_text number told) (turn_texts (number + 1) all) refl (text_of_nothing number told notes none)
+    (texts_of_answers m (after_turn m s turn) (number + 1) journal all lists (threads, more) others)
+
+-- there are notes that tell nothing
+notes_in_turns : (m : Map) (s : Standing) (journal : List (List (List Post))) (all : List TurnReplies)
+    → OneThread m s journal (replies_in all) → (lists : List (List Note)) × AreNotesInTurns m s Answers journal lists
+notes_in_turns m s [] all threads = ([], tt)
+notes_in_turns m s (turn ∷ journal) [] threads = absurd threads
+notes_in_turns m s (turn ∷ journal) (told ∷ all) (replies, threads) =
+    let final = after_turn m s turn in
+    let answers = answers_turn m final s turn told.replies replies in
+    let notes = notes_of_answers m final (jobs turn) answers.0 answers.1 in
+    let more = notes_in_turns m final journal all threads in
+    (notes.0 ∷ more.0, (notes.1, more.1))
 
 -- the text is that of the replies of one thread
 pub one_thread_told : (bytes text : List ℕ) (m : Map) → map_after None (reading bytes beginning).items ≡ Some m
     → IsText Answers (reading bytes beginning).items text
     → (all : List TurnReplies) × (IsOneThread m (turns_of (reading bytes beginning).items) all × (text ≡ turn_texts 1 all))
 one_thread_told bytes text m map is =
-    let (all, ((threads, numbers), texts)) =
-    answers_told m bare 1 (turns_of (reading bytes beginning).items) text (input_told Answers bytes text m map is) in
-    (all, (record { replies = threads; numbers = numbers }, texts))
+    let (all, (lists, (threads, (are, texts)))) = notes_told Answers bytes text m map is in
+    (all, (threads, texts ∙ texts_of_answers m bare 1 (turns_of (reading bytes beginning).items) all lists (threads.replies, threads.numbers) are))
 
 -- the replies of one thread give the text
 pub one_thread_gives : (bytes : List ℕ) (m : Map) (all : List TurnReplies) → map_after None (reading bytes beginning).items ≡ Some m
     → IsOneThread m (turns_of (reading bytes beginning).items) all → IsText Answers (reading bytes beginning).items (turn_texts 1 all)
 one_thread_gives bytes m all map threads =
-    input_gives Answers bytes (turn_texts 1 all) m map
-    (answers_give m bare 1 (turns_of (reading bytes beginning).items) all (threads.replies, threads.numbers))
-
--- ---- one thread, with opened numbers
-
-profiles_told : (m : Map) (s : Standing) (number : ℕ) (journal : List (List (List Post))) (text : List ℕ)
-    → AreTurnTexts OpenedNumbers m s number journal text
-    → (all : List TurnReplies) × ((lists : List (List ℕ)) × (Threads m s journal all × (AreOpenedInTurns m s journal lists × (text ≡ profile_texts number all lists))))
-profiles_told m s number [] text none = ([], ([], ((tt, tt), (tt, none))))
-profiles_told m s number (turn ∷ journal) text (piece, (more, ((told, (opened, (is, (counted, says)))), (texts, parts)))) =
-    let (all, (lists, ((threads, numbers), (others, rest)))) = profiles_told m (after_turn m s turn) (number + 1) journal more texts in (
-      told ∷ all,
-      (
-        opened ∷ lists,
-        (
-          ((is.replies, threads), (is.numbers, numbers)),
-          (
-            (counted, others),
-            two_parts text piece more (profile_text number told opened) (profile_texts (number + 1) all lists) parts says rest,
-          ),
-        ),
-      ),
-    )
-
-profiles_give : (m : Map) (s : Standing) (number : ℕ) (journal : List (List (List Post))) (all : List TurnReplies) (lists : List (List ℕ))
-    → Threads m s journal all → AreOpenedInTurns m s journal lists → AreTurnTexts OpenedNumbers m s number journal (profile_texts number all lists)
-profiles_give m s number [] [] lists threads opened = refl
-profiles_give m s number [] (told ∷ all) lists threads opened = absurd threads.0
-profiles_give m s number (turn ∷ journal) [] lists threads opened = absurd threads.0
-profiles_give m s number (turn ∷ journal) (told ∷ all) [] threads opened = absurd opened
-profiles_give m s number (turn ∷ journal) (told ∷ all) (list ∷ lists) ((replies, threads), (numbers, more)) (counted, others) =
-    let here : IsTurnTold m s turn told = record { replies = replies; numbers = numbers } in
-    let rest = profiles_give m (after_turn m s turn) (number + 1) journal all lists (threads, more) others in
-    (profile_text number told list, (profile_texts (number + 1) all lists, ((told, (list, (here, (counted, refl)))), (rest, refl))))
-
--- the text with opened numbers is that of the replies of one thread and of the opened numbers of its requests
-pub profile_told : (bytes text : List ℕ) (m : Map) → map_after None (reading bytes beginning).items ≡ Some m
-    → IsText OpenedNumbers (reading bytes beginning).items text
-    → (all : List TurnReplies) × ((lists : List (List ℕ)) × (IsOneThread m (turns_of (reading bytes beginning).items) all
-    × (AreOpenedInTurns m bare (turns_of (reading bytes beginning).items) lists × (text ≡ profile_texts 1 all lists))))
-profile_told bytes text m map is =
-    let (all, (lists, ((threads, numbers), rest))) =
-    profiles_told m bare 1 (turns_of (reading bytes beginning).items) text (input_told OpenedNumbers bytes text m map is) in
-    (all, (lists, (record { replies = threads; numbers = numbers }, rest)))
-
--- and these give the text
-pub profile_gives : (bytes : List ℕ) (m : Map) (all : List TurnReplies) (lists : List (List ℕ)) → map_after None (reading bytes beginning).items ≡ Some m
-    → IsOneThread m (turns_of (reading bytes beginning).items) all → AreOpenedInTurns m bare (turns_of (reading bytes beginning).items) lists
-    → IsText OpenedNumbers (reading bytes beginning).items (profile_texts 1 all lists)
-profile_gives bytes m all lists map threads opened =
-    input_gives OpenedNumbers bytes (profile_texts 1 all lists) m map
-    (profiles_give m bare 1 (turns_of (reading bytes beginning).items) all lists (threads.replies, threads.numbers) opened)
+    let journal = turns_of (reading bytes beginning).items in
+    let (lists, are) = notes_in_turns m bare journal all threads.replies in
+    subst (λ (text : List ℕ). IsText Answers (reading bytes beginning).items text)
+    (texts_of_answers m bare 1 journal all lists (threads.replies, threads.numbers) are)
+    (notes_give Answers bytes m all lists map threads are)

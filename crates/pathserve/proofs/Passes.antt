@@ -7,7 +7,7 @@ use Rattle.script_text.specs.declared.faults.ScriptFault.TheVariants as fault
 use Rattle.script_text.specs.Script.{Item, bad_line}
 use Rattle.pathserve.specs.declared.status.Status.{Status}
 use Rattle.pathserve.specs.inner.Writing.{WritesPiece, WritesSome, StopsWith, EndsWith}
-use Rattle.pathserve.specs.declared.reports.Report.{Report}
+use Rattle.posts.specs.declared.notes.Report.{Report}
 use Rattle.pathserve.specs.Output.{Said, stop_text}
 use Rattle.script_text.specs.Reader.{Held}
 use Rattle.pathserve.proofs.Replaying.{Stands, WentTold}

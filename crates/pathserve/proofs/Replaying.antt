@@ -6,8 +6,8 @@ use Rattle.std.proofs.KnownBytes.{Appends-nil, Appends-trans}
 use Rattle.io_edges.specs.Faults.{Rose}
 use Rattle.io_edges.specs.declared.edges.WriteRefusal.{WriteRefusal}
 use Rattle.io_edges.specs.declared.edges.WriteRefusal.TheVariants as refusal
-use Rattle.grid_versions.specs.Maps.{Map}
-use Rattle.turn_core.specs.declared.posts.Post.{Post}
+use Rattle.posts.specs.declared.posts.Post.{Post}
+use Rattle.posts.specs.Maps.{Map}
 use Rattle.script_text.specs.declared.faults.ScriptFault.{ScriptFault}
 use Rattle.script_text.specs.declared.faults.ScriptFault.TheVariants as fault
 use Rattle.script_text.specs.Reader.{WhereTold, Held, unread, GoesOn, IsRead, stuck_after, RefusesMap, MapAnswers, MapTold, TurnAnswers, TurnTold}
@@ -16,7 +16,7 @@ use Rattle.script_text.proofs.ReadTold.{told-same, told-then}
 use Rattle.script_text.proofs.ReadCalls.{goes_then, stuck_then}
 use Rattle.pathserve.specs.declared.status.Status.{Status}
 use Rattle.pathserve.specs.declared.status.Status.TheVariants.{Done, Usage, BadLine, ReadFault, WriteFault, NoMemory, TooLong}
-use Rattle.pathserve.specs.declared.reports.Report.{Report}
+use Rattle.posts.specs.declared.notes.Report.{Report}
 use Rattle.pathserve.specs.Output.{Said, unsaid, with_map, with_turn, IsTurnText, Says, Gives, stop_text, IsOut, IsBeginning, Replays, ReplaysTold, stop_status, ComesByStop}
 use Rattle.pathserve.specs.declared.bad_lines.BadLine as reason
 use Rattle.pathserve.specs.Reasons.{IsWhyBad}

@@ -9,11 +9,11 @@ use Rattle.std.proofs.lemmas.List.Sums.{AllPass-from_list_all}
 use Rattle.io_edges.specs.Faults.{Rose}
 use Rattle.io_edges.specs.declared.edges.WriteRefusal.{WriteRefusal}
 use Rattle.io_edges.specs.declared.edges.WriteRefusal.TheVariants as refusal
-use Rattle.grid_versions.specs.Maps.{Map}
-use Rattle.turn_core.specs.declared.posts.Post.{Post}
-use Rattle.turn_core.specs.declared.replies.TurnReplies.{TurnReplies}
-use Rattle.turn_core.specs.Turns.{of_caller, IsOneThread}
-use Rattle.turn_core.specs.States.{list_of}
+use Rattle.posts.specs.declared.posts.Post.{Post}
+use Rattle.posts.specs.declared.replies.TurnReplies.{TurnReplies}
+use Rattle.posts.specs.Maps.{Map}
+use Rattle.posts.specs.Callers.{of_caller, list_of}
+use Rattle.turn_core.specs.Turns.{IsOneThread}
 use Rattle.script_text.specs.declared.faults.ScriptFault.{ScriptFault}
 use Rattle.script_text.specs.declared.faults.ScriptFault.TheVariants as fault
 use Rattle.script_text.specs.Canon.{is_post_of, HaveLines}

@@ -1,12 +1,14 @@
 -- Sessions that have ended: all that callers were to post was posted, taken and delivered.
 use Rattle.std.proofs.Common.{◌≡◌, ◌⊎◌, ℕ, zero, suc, ◌+◌, ◌≤◌, false, List, [], ◌∷◌, ◌++◌, All, length, map, take, drop, sum_by, slice_index, refl, sym, ap, ◌∙◌, subst, inl, inr, arith, append-nil, length-append}
 use Rattle.std.proofs.lemmas.List.{nil_from_length, take-append-drop}
-use Rattle.grid_versions.specs.Maps.{Map}
-use Rattle.turn_core.specs.declared.posts.Post.{Post}
-use Rattle.turn_core.specs.declared.replies.Reply.{Reply}
+use Rattle.posts.specs.declared.posts.Post.{Post}
+use Rattle.posts.specs.declared.replies.Reply.{Reply}
+use Rattle.posts.specs.Maps.{Map}
+use Rattle.posts.specs.Callers.{of_caller, list_of}
+use Rattle.posts.specs.Posts.{post_count}
 use Rattle.turn_core.specs.Words.{bare}
-use Rattle.turn_core.specs.Turns.{of_caller, replies_in, IsOneThread, post_count}
-use Rattle.turn_core.specs.States.{State, opening, list_of}
+use Rattle.turn_core.specs.Turns.{replies_in, IsOneThread}
+use Rattle.turn_core.specs.States.{State, opening}
 use Rattle.turn_core.specs.Facts.{Facts, HaveLists, running_turns, staged_turns, all_turns}
 use Rattle.turn_core.specs.Arrival.{arrival}
 use Rattle.turn_core.proofs.CallerLists.{of_caller-append}

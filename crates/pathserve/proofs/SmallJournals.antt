@@ -4,12 +4,13 @@ use Rattle.std.specs.Prelude.{if◌then◌else◌, ◌==◌}
 use Rattle.std.specs.List.{AllByRecursion}
 use Rattle.std.proofs.lemmas.List.{length-append}
 use Rattle.std.proofs.lemmas.List.Sums.{sum_by-cons}
-use Rattle.turn_core.specs.declared.posts.Post.{Post}
-use Rattle.turn_core.specs.declared.replies.TurnReplies.{TurnReplies}
-use Rattle.turn_core.specs.Turns.{jobs, IsOneThread, post_count}
-use Rattle.grid_versions.specs.Maps.{Map}
+use Rattle.posts.specs.declared.posts.Post.{Post}
+use Rattle.posts.specs.declared.replies.TurnReplies.{TurnReplies}
+use Rattle.posts.specs.Posts.{jobs, post_count}
+use Rattle.posts.specs.Maps.{Map}
+use Rattle.posts.proofs.PostCounts.{few_jobs}
+use Rattle.turn_core.specs.Turns.{IsOneThread}
 use Rattle.pathserve.specs.Making.{Draw, draw_each, one_in_four, draw_first_posts, draw_first_post, draw_removal, draw_addition, draw_path, draw_later_posts, draw_posts, draw_turn, base_drawn, made_map, made_journal, draw}
-use Rattle.turn_core.proofs.PostCounts.{few_jobs}
 use Rattle.pathserve.proofs.FewReplies.{AreUpTo, IsSmallTurn, CanBeSummed, summed}
 
 -- ---- things drawn one after another

@@ -4,7 +4,7 @@ use Rattle.std.specs.Prelude.{if◌then◌else◌, ⊤, ◌==◌, option_and_the
 use Rattle.std.specs.List.{list_all}
 use Rattle.serde_json.specs.Data.{Data}
 use Rattle.nav_types.specs.declared.cells.Rect.{Rect}
-use Rattle.grid_versions.specs.Maps.{Map}
+use Rattle.posts.specs.Maps.{Map}
 use Rattle.script_text.specs.declared.forms.CallerPost.{CallerPost}
 use Rattle.script_text.specs.Lines.{full_lines, tail_of}
 use Rattle.script_text.specs.Forms.{map_of, base_of, post_of, end_of}
@@ -12,7 +12,7 @@ use Rattle.script_text.specs.declared.parts.Rules.{Rules}
 use Rattle.script_text.specs.declared.parts.Part.{Part}
 use Rattle.script_text.specs.declared.parts.Part.TheVariants.{BeforeMap as before_map, InBase as in_base, InTurns as in_turns}
 use Rattle.script_text.specs.Script.{Place, beginning, Item, Stop, whole_input, too_long, bad_line, Ends, at_place, stuck_by, Walk, chain_from, counted, reading_of, map_line, end_line, turn_line, placed_in_turn, base_line, placed_in, is_long, accept, walk, is_empty, finish_in, finish, last_line, reading}
-use Rattle.pathserve.specs.declared.reports.Report.{Report}
+use Rattle.posts.specs.declared.notes.Report.{Report}
 use Rattle.pathserve.specs.Output.{IsTakenText}
 use Rattle.script_text.proofs.ReadWalk.{walk-append}
 use Rattle.pathserve.proofs.OneText.{taken_reading}

@@ -3,9 +3,8 @@ use Rattle.std.proofs.Common.{◌≡◌, ℕ, zero, suc, List, [], ◌∷◌, �
 use Rattle.std.specs.List.{list_all}
 use Rattle.std.proofs.lemmas.Bool.{and_parts, and_from}
 use Rattle.std.proofs.lemmas.List.Folds.{list_all-append}
-use Rattle.turn_core.specs.declared.posts.Post.{Post}
-use Rattle.turn_core.specs.Turns.{of_caller}
-use Rattle.turn_core.specs.States.{list_of}
+use Rattle.posts.specs.declared.posts.Post.{Post}
+use Rattle.posts.specs.Callers.{of_caller, list_of}
 use Rattle.turn_core.specs.Effects.{joined_up}
 use Rattle.turn_core.proofs.CallerLists.{joined_up_at, none_at, of_caller_push}
 use Rattle.script_text.specs.declared.faults.ScriptFault.{ScriptFault}

@@ -7,9 +7,9 @@ use Rattle.std.proofs.lemmas.List.{at_drop_all, drop_more}
 use Rattle.io_edges.specs.declared.edges.WriteRefusal.{WriteRefusal}
 use Rattle.io_edges.specs.declared.edges.WriteRefusal.TheVariants as refusal
 use Rattle.nav_types.specs.declared.sequences.NoMemory as memory
-use Rattle.grid_versions.specs.Maps.{Map}
-use Rattle.turn_core.specs.declared.posts.Post.{Post}
-use Rattle.turn_core.specs.declared.replies.TurnReplies.{TurnReplies}
+use Rattle.posts.specs.declared.posts.Post.{Post}
+use Rattle.posts.specs.declared.replies.TurnReplies.{TurnReplies}
+use Rattle.posts.specs.Maps.{Map}
 use Rattle.script_text.specs.Canon.{canon_journal}
 use Rattle.script_text.specs.ReadsBack.{canon_turns}
 use Rattle.answer_text.specs.Answers.{turn_text}

@@ -4,7 +4,8 @@ use Rattle.std.specs.Int.{is_in_range}
 use Rattle.std.specs.Str.Parse.{digits_value}
 use Rattle.fixed_point.specs.Text.{is_digits}
 use Rattle.pathserve.specs.declared.commands.Command.{Command}
-use Rattle.pathserve.specs.declared.commands.Command.TheVariants.{Replay, Profile, Serve, Make}
+use Rattle.pathserve.specs.declared.commands.Command.TheVariants.{Replay, Serve, Make}
+use Rattle.posts.specs.declared.notes.Report.TheVariants.{Answers, OpenedNumbers}
 
 -- the number of two digits, if it is at most 64
 abbrev pub up_to_64 : ℕ → ℕ → Option ℕ
@@ -28,8 +29,8 @@ seed_of word = let seed = digits_value 10 word in if is_whole_number word && nat
 -- the command of one word, by so many workers
 abbrev pub command_by : List ℕ → ℕ → Option Command
 command_by word workers =
-    if bytes_eq word (codes "replay") then Some (Replay workers)
-    else if bytes_eq word (codes "profile") then Some (Profile workers)
+    if bytes_eq word (codes "replay") then Some (Replay Answers workers)
+    else if bytes_eq word (codes "profile") then Some (Replay OpenedNumbers workers)
     else if bytes_eq word (codes "serve") then Some (Serve workers)
     else None
 
@@ -52,7 +53,6 @@ command_of (word ∷ (number ∷ (option ∷ (count ∷ (next ∷ words))))) = N
 
 -- the number of workers in a command
 abbrev pub workers_in : Command → ℕ
-workers_in (Replay workers) = workers
-workers_in (Profile workers) = workers
+workers_in (Replay report workers) = workers
 workers_in (Serve workers) = workers
 workers_in (Make seed workers) = workers

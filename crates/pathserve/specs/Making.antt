@@ -2,6 +2,7 @@
 -- 65536 are one navcell.
 use Rattle.std.specs.Prelude.{ℕ, zero, suc, ◌+◌, ◌-◌, ◌*◌, ◌/◌, ◌%◌, ◌^◌, ◌==◌, ◌&&◌, List, [], ◌∷◌, ◌++◌, map, min, pos, if◌then◌else◌, codes, decimal, slice_index_or}
 use Rattle.std.proofs.Common.{leb-true, refl}
+use Rattle.nav_types.specs.declared.limits.TheConstants.{MAX_SIDE}
 use Rattle.nav_types.specs.Side.{IsSide}
 use Rattle.nav_types.specs.declared.cells.Rect.{Rect}
 use Rattle.nav_types.specs.declared.cells.Size.{Size}
@@ -12,11 +13,11 @@ use Rattle.obstruction_shapes.specs.declared.shapes.Shape.TheVariants as shape
 use Rattle.goal_shapes.specs.declared.goals.Goal.{Goal}
 use Rattle.goal_shapes.specs.declared.goals.Goal.TheVariants as goal
 use Rattle.goal_shapes.specs.declared.goals.GoalSpec.TheVariants.{Plain}
-use Rattle.grid_versions.specs.declared.edits.Edit.TheVariants.{Add, Remove}
-use Rattle.grid_versions.specs.Maps.{Map}
-use Rattle.turn_core.specs.declared.posts.Post.{Post}
-use Rattle.turn_core.specs.declared.posts.Post.TheVariants.{Edit as Editing, Ask as Asking}
-use Rattle.turn_core.specs.declared.posts.Request.TheVariants.{Path as AsksPath}
+use Rattle.posts.specs.declared.edits.Edit.TheVariants.{Add, Remove}
+use Rattle.posts.specs.declared.posts.Post.{Post}
+use Rattle.posts.specs.declared.posts.Post.TheVariants.{Edit as Editing, Ask as Asking}
+use Rattle.posts.specs.declared.posts.Request.TheVariants.{Path as AsksPath}
+use Rattle.posts.specs.Maps.{Map}
 
 -- ---- draws
 
@@ -222,7 +223,7 @@ base_drawn number = draw_each (λ n. draw_base_rect) 24 number
 
 -- 512 navcells are a side of a map
 abbrev pub made_side : IsSide 512
-made_side = record { some = leb-true 1 512 refl; few = leb-true 512 2048 refl }
+made_side = record { some = leb-true 1 512 refl; few = leb-true 512 MAX_SIDE refl }
 
 abbrev pub map_size : Size
 map_size = record { w = 512; h = 512; wide = made_side; high = made_side }

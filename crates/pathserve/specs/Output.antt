@@ -1,20 +1,21 @@
 -- What is written for an input.
 use Rattle.std.specs.Prelude.{ℕ, ◌≡◌, ◌+◌, ◌⊎◌, List, [], ◌∷◌, ◌++◌, take, Option, Some, None, ⊤}
 use Rattle.io_edges.specs.Faults.{Rose}
-use Rattle.grid_versions.specs.Maps.{Map}
-use Rattle.turn_core.specs.declared.posts.Post.{Post}
-use Rattle.turn_core.specs.declared.replies.TurnReplies.{TurnReplies}
+use Rattle.posts.specs.declared.posts.Post.{Post}
+use Rattle.posts.specs.declared.replies.TurnReplies.{TurnReplies}
+use Rattle.posts.specs.Maps.{Map}
+use Rattle.posts.specs.Posts.{jobs}
 use Rattle.turn_core.specs.Words.{Standing, bare}
-use Rattle.turn_core.specs.Turns.{after_turn, jobs, IsTurnTold, IsOneThread}
-use Rattle.turn_core.specs.Opening.{AreOpenedNumbers}
+use Rattle.turn_core.specs.Turns.{after_turn, IsTurnTold, IsOneThread}
+use Rattle.posts.specs.declared.notes.Note.{Note}
+use Rattle.posts.specs.declared.notes.Report.{Report}
+use Rattle.turn_core.specs.Notes.{AreNotes}
 use Rattle.script_text.specs.Lines.{full_lines}
 use Rattle.script_text.specs.Script.{Item, begins, adds_base, ends_turn, map_after_item, Place, beginning, Stop, whole_input, too_long, bad_line, Ends, at_place, stuck_by, arrived, walk, reading}
 use Rattle.answer_text.specs.Answers.{turn_text, bad_line_text}
-use Rattle.answer_text.specs.Profiles.{profile_text}
+use Rattle.answer_text.specs.Noted.{noted_text}
 use Rattle.answer_text.specs.Summaries.{summary_text}
 use Rattle.pathserve.specs.Making.{made_map, made_journal}
-use Rattle.pathserve.specs.declared.reports.Report.{Report}
-use Rattle.pathserve.specs.declared.reports.Report.TheVariants.{Answers, OpenedNumbers}
 use Rattle.pathserve.specs.declared.status.Status.{Status}
 use Rattle.pathserve.specs.declared.status.Status.TheVariants.{Done, Usage, BadLine, ReadFault, WriteFault, NoMemory, TooLong}
 
@@ -35,12 +36,11 @@ with_map s item = record s { map = map_after_item s.map item }
 abbrev pub with_turn : Said → Map → List (List Post) → Said
 with_turn s m posts = record s { standing = after_turn m s.standing posts; turns = s.turns + 1 }
 
--- The text of the turn of a number, before which this stands: that of the replies of one thread, with the turn's numbers.
--- With the opened numbers, these are those of the turn's requests on what stands after its edits.
+-- The text of the turn of a number, before which this stands: that of the replies of one thread, with the turn's numbers,
+-- and with the notes of the turn's requests on what stands after its edits.
 abbrev pub IsTurnText : Report → Map → Standing → ℕ → List (List Post) → List ℕ → Type 0
-IsTurnText Answers m standing turn posts text = (told : TurnReplies) × (IsTurnTold m standing posts told × (text ≡ turn_text turn told))
-IsTurnText OpenedNumbers m standing turn posts text = (told : TurnReplies) × ((opened : List ℕ) × (IsTurnTold m standing posts told
-    × (AreOpenedNumbers m (after_turn m standing posts) (jobs posts) opened × (text ≡ profile_text turn told opened))))
+IsTurnText report m standing turn posts text = (told : TurnReplies) × ((notes : List Note) × (IsTurnTold m standing posts told
+    × (AreNotes m (after_turn m standing posts) report (jobs posts) notes × (text ≡ noted_text turn told notes))))
 
 -- what is written for one item: nothing for a part of the map, and for a turn the text of its answers
 abbrev pub Says : Report → Said → Item → List ℕ → Said → Type 0
@@ -63,19 +63,19 @@ abbrev pub turn_texts : ℕ → List TurnReplies → List ℕ
 turn_texts number [] = []
 turn_texts number (told ∷ others) = turn_text number told ++ turn_texts (number + 1) others
 
--- the opened numbers of the requests of each turn of a journal, before which this stands
-abbrev pub AreOpenedInTurns : Map → Standing → List (List (List Post)) → List (List ℕ) → Type 0
-AreOpenedInTurns m s [] [] = Unit {0}
-AreOpenedInTurns m s [] (opened ∷ lists) = ⊥
-AreOpenedInTurns m s (turn ∷ journal) [] = ⊥
-AreOpenedInTurns m s (turn ∷ journal) (opened ∷ lists) =
-    AreOpenedNumbers m (after_turn m s turn) (jobs turn) opened × AreOpenedInTurns m (after_turn m s turn) journal lists
+-- the notes of the requests of each turn of a journal, before which this stands
+abbrev pub AreNotesInTurns : Map → Standing → Report → List (List (List Post)) → List (List Note) → Type 0
+AreNotesInTurns m s report [] [] = Unit {0}
+AreNotesInTurns m s report [] (notes ∷ lists) = ⊥
+AreNotesInTurns m s report (turn ∷ journal) [] = ⊥
+AreNotesInTurns m s report (turn ∷ journal) (notes ∷ lists) =
+    AreNotes m (after_turn m s turn) report (jobs turn) notes × AreNotesInTurns m (after_turn m s turn) report journal lists
 
--- the texts of turns with their opened numbers, from one of this number on
-abbrev pub profile_texts : ℕ → List TurnReplies → List (List ℕ) → List ℕ
-profile_texts number [] lists = []
-profile_texts number (told ∷ others) [] = []
-profile_texts number (told ∷ others) (opened ∷ lists) = profile_text number told opened ++ profile_texts (number + 1) others lists
+-- the texts of turns with their notes, from one of this number on
+abbrev pub noted_texts : ℕ → List TurnReplies → List (List Note) → List ℕ
+noted_texts number [] lists = []
+noted_texts number (told ∷ others) [] = []
+noted_texts number (told ∷ others) (notes ∷ lists) = noted_text number told notes ++ noted_texts (number + 1) others lists
 
 -- what is written for a stop: a bad line is named
 abbrev pub stop_text : Stop → List ℕ

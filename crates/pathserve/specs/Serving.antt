@@ -1,10 +1,12 @@
 -- What is written for an input that is served: its callers post by themselves, and a journal is made out of what came.
 use Rattle.std.specs.Prelude.{ℕ, ◌≡◌, ◌<◌, ◌⊎◌, List, [], ◌++◌, All, take, Option, Some, None, ⊤}
-use Rattle.grid_versions.specs.Maps.{Map}
-use Rattle.turn_core.specs.declared.posts.Post.{Post}
-use Rattle.turn_core.specs.declared.replies.Reply.{Reply}
-use Rattle.turn_core.specs.declared.replies.TurnReplies.{TurnReplies}
-use Rattle.turn_core.specs.Turns.{of_caller, IsOneThread, post_count}
+use Rattle.posts.specs.declared.posts.Post.{Post}
+use Rattle.posts.specs.declared.replies.Reply.{Reply}
+use Rattle.posts.specs.declared.replies.TurnReplies.{TurnReplies}
+use Rattle.posts.specs.Maps.{Map}
+use Rattle.posts.specs.Callers.{of_caller}
+use Rattle.posts.specs.Posts.{post_count}
+use Rattle.turn_core.specs.Turns.{IsOneThread}
 use Rattle.turn_core.specs.Facts.{HaveLists}
 use Rattle.request_lanes.specs.Ends.{Closing}
 use Rattle.path_service.specs.declared.closing.ClosedCaller.{ClosedCaller}

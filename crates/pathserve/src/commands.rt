@@ -7,6 +7,7 @@ ghost use Rattle.pathserve.specs.Commands.{command_of, command_by, make_by, is_w
 
 use nav_types::Words;
 use nav_types::limits::MAX_WORKERS;
+use turn_core::Report;
 
 /// The workers where the words name no number of them.
 const DEFAULT_WORKERS: u8 = 4;
@@ -14,10 +15,8 @@ const DEFAULT_WORKERS: u8 = 4;
 /// What the program is asked to do, with so many workers, 1 to 64.
 #[derive(Clone, Copy, Debug, PartialEq, Eq)]
 pub enum Command {
-    /// Answers a script turn by turn.
-    Replay { workers: u8 },
-    /// The same, and tells the opened number of each path.
-    Profile { workers: u8 },
+    /// Answers a script turn by turn, with what the report tells beside the answers.
+    Replay { report: Report, workers: u8 },
     /// Serves the callers of a script, and writes the journal that comes of it with its answers.
     Serve { workers: u8 },
     /// Makes a match out of a number, answers it and sums it up.
@@ -64,9 +63,15 @@ fn command_by(word: &[u8], workers: u8) -> Option<Command>
     ensures workers { IfSome result (λ command. workers_in command ≡ workers) }
 {
     if word == b"replay".as_slice() {
-        Some(Command::Replay { workers })
+        Some(Command::Replay {
+            report: Report::Answers,
+            workers,
+        })
     } else if word == b"profile".as_slice() {
-        Some(Command::Profile { workers })
+        Some(Command::Replay {
+            report: Report::OpenedNumbers,
+            workers,
+        })
     } else if word == b"serve".as_slice() {
         Some(Command::Serve { workers })
     } else {

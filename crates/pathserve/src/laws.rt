@@ -1,15 +1,16 @@
 //! Laws of the output texts: there is one of each report, what a run that stops early has written is a prefix of it,
 //! and the text of the turns is that of the replies of one thread.
 ghost use Rattle.std.specs.Prelude.{◌≡◌, ◌≢◌, ◌++◌, ◌<◌, ℕ, List, length, None, Some};
-ghost use Rattle.grid_versions.specs.Maps.{Map};
+ghost use Rattle.posts.specs.declared.replies.TurnReplies.{TurnReplies};
+ghost use Rattle.posts.specs.Maps.{Map};
 ghost use Rattle.script_text.specs.Lines.{full_lines};
 ghost use Rattle.script_text.specs.Script.{Stop, bad_line, stuck_by, beginning, walk, reading, map_after, turns_of};
-ghost use Rattle.turn_core.specs.declared.replies.TurnReplies.{TurnReplies};
+ghost use Rattle.posts.specs.declared.notes.Note.{Note};
+ghost use Rattle.posts.specs.declared.notes.Report.{Report};
+ghost use Rattle.posts.specs.declared.notes.Report.TheVariants.{Answers};
 ghost use Rattle.turn_core.specs.Words.{bare};
 ghost use Rattle.turn_core.specs.Turns.{IsOneThread};
-ghost use Rattle.pathserve.specs.declared.reports.Report.{Report};
-ghost use Rattle.pathserve.specs.declared.reports.Report.TheVariants.{Answers, OpenedNumbers};
-ghost use Rattle.pathserve.specs.Output.{IsOut, IsBeginning, IsTakenText, IsText, IsSummary, turn_texts, profile_texts, AreOpenedInTurns};
+ghost use Rattle.pathserve.specs.Output.{IsOut, IsBeginning, IsTakenText, IsText, IsSummary, turn_texts, noted_texts, AreNotesInTurns};
 
 /// An input has at most one output text of a report.
 pub fn one_out()
@@ -45,7 +46,8 @@ pub fn stop_is_not_taken()
         → (reading bytes beginning).ends ≡ stuck_by (bad_line n) → length (full_lines text.taken) < n }
 {}
 
-/// A law: where an input gives a map, the text of its turns is that of the replies of one thread to its journal.
+/// A law: where an input gives a map, the text of its turns is that of the replies of one thread to its journal, where
+/// nothing is told beside the answers.
 pub fn text_is_one_thread()
     ensures told { (bytes text : List ℕ) (m : Map) → map_after None (reading bytes beginning).items ≡ Some m
         → IsText Answers (reading bytes beginning).items text
@@ -57,18 +59,19 @@ pub fn text_is_one_thread()
         → IsText Answers (reading bytes beginning).items (turn_texts 1 all) }
 {}
 
-/// A law: where an input gives a map, the profile of its turns is that of the replies of one thread to its journal and
-/// of the opened numbers of the requests of each turn.
-pub fn profile_is_one_thread()
-    ensures told { (bytes text : List ℕ) (m : Map) → map_after None (reading bytes beginning).items ≡ Some m
-        → IsText OpenedNumbers (reading bytes beginning).items text
-        → (all : List TurnReplies) × ((lists : List (List ℕ))
+/// A law: where an input gives a map, the text of its turns under a report is that of the replies of one thread to its
+/// journal and of the notes of the requests of each turn.
+pub fn notes_are_one_thread()
+    ensures told { (report : Report) (bytes text : List ℕ) (m : Map)
+        → map_after None (reading bytes beginning).items ≡ Some m
+        → IsText report (reading bytes beginning).items text
+        → (all : List TurnReplies) × ((lists : List (List Note))
         × (IsOneThread m (turns_of (reading bytes beginning).items) all
-        × (AreOpenedInTurns m bare (turns_of (reading bytes beginning).items) lists
-        × (text ≡ profile_texts 1 all lists)))) }
-    ensures text { (bytes : List ℕ) (m : Map) (all : List TurnReplies) (lists : List (List ℕ))
+        × (AreNotesInTurns m bare report (turns_of (reading bytes beginning).items) lists
+        × (text ≡ noted_texts 1 all lists)))) }
+    ensures text { (report : Report) (bytes : List ℕ) (m : Map) (all : List TurnReplies) (lists : List (List Note))
         → map_after None (reading bytes beginning).items ≡ Some m
         → IsOneThread m (turns_of (reading bytes beginning).items) all
-        → AreOpenedInTurns m bare (turns_of (reading bytes beginning).items) lists
-        → IsText OpenedNumbers (reading bytes beginning).items (profile_texts 1 all lists) }
+        → AreNotesInTurns m bare report (turns_of (reading bytes beginning).items) lists
+        → IsText report (reading bytes beginning).items (noted_texts 1 all lists) }
 {}

@@ -6,7 +6,6 @@ mod commands;
 mod laws;
 mod making;
 mod replay;
-mod reports;
 mod serving;
 mod sessions;
 mod status;
@@ -18,12 +17,11 @@ mod writing;
 pub use bad_lines::BadLine;
 pub use commands::{Command, NotWords, read_words};
 pub use laws::{
-    beginning_is_prefix, one_out, one_summary, profile_is_one_thread, stop_is_not_taken,
-    taken_text, text_is_one_thread,
+    beginning_is_prefix, notes_are_one_thread, one_out, one_summary, stop_is_not_taken, taken_text,
+    text_is_one_thread,
 };
 pub use making::{Made, make_script};
-pub use replay::{run, run_profile, run_replay};
-pub use reports::Report;
+pub use replay::{run, run_replay};
 pub use serving::run_serve;
 pub use sessions::serve_session;
 pub use status::Status;

@@ -8,10 +8,10 @@ use nav_types::NoMemory;
 use std::alloc::Global;
 use turn_core::Journal;
 
+mod drawn_posts;
 mod draws;
 mod maps;
 mod places;
-mod posts;
 mod turns;
 
 /// A match: its map, and what is posted in its turns.

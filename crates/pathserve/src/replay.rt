@@ -3,11 +3,12 @@ ghost use Rattle.std.specs.Prelude.{◌≡◌, ◌≢◌, ◌<◌, ◌≤◌, �
 ghost use Rattle.nav_types.specs.declared.limits.TheConstants.{MAX_WORKERS};
 ghost use Rattle.io_edges.specs.Faults.{Rose};
 ghost use Rattle.io_edges.specs.Passing.{HasGiven, HasTaken};
-ghost use Rattle.pathserve.specs.declared.commands.Command.TheVariants.{Replay, Profile, Serve, Make};
+ghost use Rattle.posts.specs.Posts.{jobs};
+ghost use Rattle.pathserve.specs.declared.commands.Command.TheVariants.{Replay, Serve, Make};
 ghost use Rattle.pathserve.specs.Commands.{command_of};
 ghost use Rattle.script_text.specs.Script.{reading, beginning};
 ghost use Rattle.script_text.specs.Reader.{HoldsRefused, MapTold, rules_at, unread};
-ghost use Rattle.turn_core.specs.Turns.{after_turn, jobs};
+ghost use Rattle.turn_core.specs.Turns.{after_turn};
 ghost use Rattle.turn_core.specs.Words.{bare};
 ghost use Rattle.pathserve.specs.Output.{IsTurnText, ReplaysTold, ComesByStop, MakesTold, ComesByMaking};
 ghost use Rattle.pathserve.specs.Serving.{ServesTold};
@@ -17,11 +18,10 @@ ghost use Rattle.pathserve.specs.inner.Writing.{StopsWith, WritesSome};
 
 use crate::bad_lines::{BadLine, why_bad};
 use crate::commands::{Command, NotWords, read_words};
-use crate::reports::Report;
 use crate::serving::run_serve;
 use crate::status::Status;
 use crate::summing::run_make;
-use crate::told_turns::{Told, answered};
+use crate::told_turns::{Teller, Told, tell};
 use crate::writing::{status_of, write_all, write_stop};
 use grid_versions::Version;
 use io_edges::{Gate, Sink, Source, WriteRefusal};
@@ -30,7 +30,7 @@ use script_text::{ScriptFault, ScriptReader};
 use std::alloc::Global;
 use std::sync::Wait;
 use std::thread::Threads;
-use turn_core::{TurnPosts, bare_version};
+use turn_core::{Report, TurnPosts, bare_version};
 
 /// All that the program does: reads the words, and does what they ask for. Where the words are not in the grammar the
 /// status is Usage, and nothing is read or written. `make` reads nothing. Under `serve` it may wait.
@@ -58,18 +58,10 @@ pub fn run<R: Threads + Wait + Sync, S: Source, K: Sink, G: Gate + Sync>(
 ) -> Status
     ensures usage { (result ≡ Status.Usage) ↔ (command_of words.now ≡ None) }
     ensures untouched { result ≡ Status.Usage → (source.new ≡ source.old) × (sink.new ≡ sink.old) }
-    ensures replay { (workers : ℕ) → command_of words.now ≡ Some (Replay workers)
-        → ReplaysTold Report.Answers (S.left source.old) (S.left source.new) (K.kept sink.old) (K.kept sink.new)
-        result }
-    ensures stop { (workers : ℕ) (bytes : List ℕ) → command_of words.now ≡ Some (Replay workers)
-        → S.left source.old ≡ Some bytes
-        → ComesByStop (S.faults source.old) (S.faults source.new) (K.faults sink.old) (K.faults sink.new)
-        (reading bytes beginning).ends result }
-    ensures profile { (workers : ℕ) → command_of words.now ≡ Some (Profile workers)
-        → ReplaysTold Report.OpenedNumbers (S.left source.old) (S.left source.new) (K.kept sink.old) (K.kept sink.new)
-        result }
-    ensures profile_stop { (workers : ℕ) (bytes : List ℕ) → command_of words.now ≡ Some (Profile workers)
-        → S.left source.old ≡ Some bytes
+    ensures replay { (report : Report) (workers : ℕ) → command_of words.now ≡ Some (Replay report workers)
+        → ReplaysTold report (S.left source.old) (S.left source.new) (K.kept sink.old) (K.kept sink.new) result }
+    ensures stop { (report : Report) (workers : ℕ) (bytes : List ℕ)
+        → command_of words.now ≡ Some (Replay report workers) → S.left source.old ≡ Some bytes
         → ComesByStop (S.faults source.old) (S.faults source.new) (K.faults sink.old) (K.faults sink.new)
         (reading bytes beginning).ends result }
     ensures serve { (workers : ℕ) → command_of words.now ≡ Some (Serve workers)
@@ -94,9 +86,8 @@ pub fn run<R: Threads + Wait + Sync, S: Source, K: Sink, G: Gate + Sync>(
     ensures only { IsSome why.new → result ≡ Status.BadLine }
 {
     match read_words(words) {
-        Ok(Command::Replay { workers }) => run_replay(rt, alloc, workers, source, sink, gate, why),
-        Ok(Command::Profile { workers }) => {
-            run_profile(rt, alloc, workers, source, sink, gate, why)
+        Ok(Command::Replay { report, workers }) => {
+            run_replay(rt, alloc, report, workers, source, sink, gate, why)
         }
         Ok(Command::Serve { workers }) => run_serve(rt, alloc, workers, source, sink, gate, why),
         Ok(Command::Make { seed, workers }) => {
@@ -110,87 +101,15 @@ pub fn run<R: Threads + Wait + Sync, S: Source, K: Sink, G: Gate + Sync>(
     }
 }
 
-/// Answers a script turn by turn: the text of a turn is written as one piece when its end line was read. It waits for
-/// nobody. What was written is the output text of the input (`IsOut`) where the reading of it stops, and else a
-/// beginning of that (`IsBeginning`).
+/// Answers a script turn by turn: the text of a turn, with what the report tells beside the answers, is written as one
+/// piece when its end line was read. It waits for nobody. What was written is the output text of the input (`IsOut`)
+/// where the reading of it stops, and else a beginning of that (`IsBeginning`).
 ///
 /// So many workers, 1 to 64, answer the jobs of a turn, and each passes the gate once before it solves a job. The
-/// answers are the same for any number of them. It returns where the gate returns.
+/// text is the same for any number of them. It returns where the gate returns.
 ///
 /// `why` has at the end what it has behind `run`.
 pub fn run_replay<R: Threads + Sync, S: Source, K: Sink, G: Gate + Sync>(
-    rt: &R,
-    alloc: Global,
-    workers: u8,
-    source: &mut S,
-    sink: &mut K,
-    gate: &G,
-    why: &mut Option<BadLine>,
-) -> Status
-    requires some { 1 ≤ workers }
-    requires few { workers ≤ MAX_WORKERS }
-    ensures told { ReplaysTold Report.Answers (S.left source.old) (S.left source.new) (K.kept sink.old)
-        (K.kept sink.new) result }
-    ensures stop { (bytes : List ℕ) → S.left source.old ≡ Some bytes
-        → ComesByStop (S.faults source.old) (S.faults source.new) (K.faults sink.old) (K.faults sink.new)
-        (reading bytes beginning).ends result }
-    ensures usage { result ≢ Status.Usage }
-    ensures given { HasGiven (S.left source.old) (S.left source.new) }
-    ensures taken { HasTaken (K.kept sink.old) (K.kept sink.new) }
-    ensures source_later { S.faults source.old ≤ S.faults source.new }
-    ensures sink_later { K.faults sink.old ≤ K.faults sink.new }
-    ensures read { result ≡ Status.ReadFault → Rose (S.faults source.old) (S.faults source.new) }
-    ensures write { result ≡ Status.WriteFault → Rose (K.faults sink.old) (K.faults sink.new) }
-    ensures why { (bytes : List ℕ) → S.left source.old ≡ Some bytes → IfSome why.new (IsWhyBad bytes) }
-    ensures only { IsSome why.new → result ≡ Status.BadLine }
-{
-    run_report(rt, alloc, Report::Answers, workers, source, sink, gate, why)
-}
-
-/// Answers a script as [`run_replay`] does, and tells behind the line of each path how many jump states the search for
-/// it opened, on a line of its own.
-///
-/// `why` has at the end what it has behind `run`.
-pub fn run_profile<R: Threads + Sync, S: Source, K: Sink, G: Gate + Sync>(
-    rt: &R,
-    alloc: Global,
-    workers: u8,
-    source: &mut S,
-    sink: &mut K,
-    gate: &G,
-    why: &mut Option<BadLine>,
-) -> Status
-    requires some { 1 ≤ workers }
-    requires few { workers ≤ MAX_WORKERS }
-    ensures told { ReplaysTold Report.OpenedNumbers (S.left source.old) (S.left source.new) (K.kept sink.old)
-        (K.kept sink.new) result }
-    ensures stop { (bytes : List ℕ) → S.left source.old ≡ Some bytes
-        → ComesByStop (S.faults source.old) (S.faults source.new) (K.faults sink.old) (K.faults sink.new)
-        (reading bytes beginning).ends result }
-    ensures usage { result ≢ Status.Usage }
-    ensures given { HasGiven (S.left source.old) (S.left source.new) }
-    ensures taken { HasTaken (K.kept sink.old) (K.kept sink.new) }
-    ensures source_later { S.faults source.old ≤ S.faults source.new }
-    ensures sink_later { K.faults sink.old ≤ K.faults sink.new }
-    ensures read { result ≡ Status.ReadFault → Rose (S.faults source.old) (S.faults source.new) }
-    ensures write { result ≡ Status.WriteFault → Rose (K.faults sink.old) (K.faults sink.new) }
-    ensures why { (bytes : List ℕ) → S.left source.old ≡ Some bytes → IfSome why.new (IsWhyBad bytes) }
-    ensures only { IsSome why.new → result ≡ Status.BadLine }
-{
-    run_report(
-        rt,
-        alloc,
-        Report::OpenedNumbers,
-        workers,
-        source,
-        sink,
-        gate,
-        why,
-    )
-}
-
-/// Answers a script turn by turn, and tells each turn by the text of the report.
-fn run_report<R: Threads + Sync, S: Source, K: Sink, G: Gate + Sync>(
     rt: &R,
     alloc: Global,
     report: Report,
@@ -218,6 +137,12 @@ fn run_report<R: Threads + Sync, S: Source, K: Sink, G: Gate + Sync>(
     ensures only { IsSome why.new → result ≡ Status.BadLine }
 {
     *why = None;
+    let teller = Teller {
+        rt,
+        workers,
+        gate,
+        report,
+    };
     let mut reader = match ScriptReader::new(alloc) {
         Ok(reader) => reader,
         Err(NoMemory) => return Status::NoMemory,
@@ -231,17 +156,7 @@ fn run_report<R: Threads + Sync, S: Source, K: Sink, G: Gate + Sync>(
         match reader.next_turn(alloc, source) {
             Ok(Some(posts)) => {
                 turns += 1;
-                match tell_turn(
-                    rt,
-                    alloc,
-                    report,
-                    &mut version,
-                    turns,
-                    posts,
-                    workers,
-                    sink,
-                    gate,
-                ) {
+                match tell_turn(alloc, &teller, &mut version, turns, posts, sink) {
                     Ok(()) => {}
                     Err(refusal) => return status_of(refusal),
                 }
@@ -277,27 +192,24 @@ fn read_version<S: Source>(
 
 /// Answers a turn, and writes its text. What was the version before it is then the one after it.
 fn tell_turn<R: Threads + Sync, K: Sink, G: Gate + Sync>(
-    rt: &R,
     alloc: Global,
-    report: Report,
+    teller: &Teller<'_, R, G>,
     version: &mut Version,
     turn: u64,
     posts: TurnPosts,
-    workers: u8,
     sink: &mut K,
-    gate: &G,
 ) -> Result<(), WriteRefusal>
-    requires some { 1 ≤ workers }
-    requires most { workers ≤ MAX_WORKERS }
+    requires some { 1 ≤ teller.now.workers }
+    requires most { teller.now.workers ≤ MAX_WORKERS }
     requires few { length (jobs posts) < 2 ^ 32 }
-    ensures written { WritesSome (IsTurnText report version.old.map version.old.standing turn posts) (K.kept sink.old)
-        (K.kept sink.new) result }
+    ensures written { WritesSome (IsTurnText teller.now.report version.old.map version.old.standing turn posts)
+        (K.kept sink.old) (K.kept sink.new) result }
     ensures map { OnOk result (version.new.map ≡ version.old.map) }
     ensures standing { OnOk result (version.new.standing ≡ after_turn version.old.map version.old.standing posts) }
     ensures later { K.faults sink.old ≤ K.faults sink.new }
     ensures fault { IsErrOf result WriteRefusal.Failed → Rose (K.faults sink.old) (K.faults sink.new) }
 {
-    match answered(rt, alloc, report, version, turn, posts, workers, gate) {
+    match tell(alloc, teller, version, turn, posts) {
         Ok(Told { text, after }) => {
             write_all(sink, text.as_slice())?;
             *version = after;

@@ -4,12 +4,12 @@ ghost use Rattle.std.specs.Prelude.{◌≡◌, ◌≢◌, ◌<◌, ◌≤◌, �
 ghost use Rattle.nav_types.specs.declared.limits.TheConstants.{MAX_WORKERS};
 ghost use Rattle.io_edges.specs.Faults.{Rose};
 ghost use Rattle.io_edges.specs.Passing.{HasGiven, HasTaken};
-ghost use Rattle.turn_core.specs.States.{list_of};
+ghost use Rattle.posts.specs.Callers.{list_of};
+ghost use Rattle.posts.specs.Posts.{post_count};
 ghost use Rattle.turn_core.specs.Effects.{joined_up};
 ghost use Rattle.script_text.specs.Canon.{HaveLines};
 ghost use Rattle.script_text.specs.ReadsBack.{canon_script};
 ghost use Rattle.script_text.specs.Reader.{HaveLinesAt, HoldsRefused, callers_of, rules_at, unread};
-ghost use Rattle.turn_core.specs.Turns.{post_count};
 ghost use Rattle.script_text.specs.Script.{reading, beginning};
 ghost use Rattle.pathserve.specs.Output.{ComesByStop, turn_texts};
 ghost use Rattle.pathserve.specs.Reasons.{IsWhyBad};

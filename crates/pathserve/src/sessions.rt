@@ -1,9 +1,10 @@
 //! Sessions: callers that post by themselves, and a driver that makes turns out of what has come and has them answered.
 ghost use Rattle.std.specs.Prelude.{ℕ, ◌≡◌, ◌<◌, ◌≤◌, ◌^◌, All, IfOk, OnOk, length, map};
 ghost use Rattle.nav_types.specs.declared.limits.TheConstants.{MAX_WORKERS};
+ghost use Rattle.posts.specs.Callers.{list_of, of_caller};
+ghost use Rattle.posts.specs.Posts.{post_count};
 ghost use Rattle.turn_core.specs.Solving.{AreAnswersTo};
-ghost use Rattle.turn_core.specs.States.{list_of};
-ghost use Rattle.turn_core.specs.Turns.{of_caller, replies_in, IsOneThread, post_count};
+ghost use Rattle.turn_core.specs.Turns.{replies_in, IsOneThread};
 ghost use Rattle.path_service.specs.Callers.{caller_id, ended_id};
 ghost use Rattle.path_service.specs.Closings.{IsClosedBy};
 ghost use Rattle.pathserve.specs.Serving.{IsJournalOf, all_taken, post_lane, sent_to};

@@ -4,7 +4,8 @@ ghost use Rattle.std.specs.List.{AllByRecursion};
 ghost use Rattle.nav_types.specs.declared.limits.TheConstants.{MAX_WORKERS};
 ghost use Rattle.io_edges.specs.Faults.{Rose};
 ghost use Rattle.io_edges.specs.Passing.{HasTaken};
-ghost use Rattle.turn_core.specs.Turns.{jobs, IsOneThread};
+ghost use Rattle.posts.specs.Posts.{jobs};
+ghost use Rattle.turn_core.specs.Turns.{IsOneThread};
 ghost use Rattle.pathserve.specs.Output.{IsSummary, MakesTold, ComesByMaking};
 
 use crate::making::{Made, make_script};

@@ -1,6 +1,6 @@
 //! The works of callers: each posts its posts by itself, on a thread of its own.
 ghost use Rattle.std.specs.Prelude.{◌≡◌, ◌++◌, ◌≤◌, ◌^◌, All, IfOk, List, length, map};
-ghost use Rattle.turn_core.specs.declared.posts.Post.{Post as APost};
+ghost use Rattle.posts.specs.declared.posts.Post.{Post as APost};
 ghost use Rattle.path_service.specs.Callers.{CallerId, caller_id};
 ghost use Rattle.pathserve.specs.inner.Works.{HasPosted, HasPostedNone, HaveAllPosted, IsShort};
 ghost use Rattle.pathserve.specs.inner.Begun.{Begins, BeginAll};
@@ -59,7 +59,7 @@ pub(crate) fn begin_all<'s, E, R: Wait + Sync, G: Gate + Sync>(
         let Some(caller) = callers.next() else {
             unreachable!();
         };
-        works.push_reserved(begin(scope, rt, alloc, gate, short, caller, list));
+        works.push_reserved(begin(scope, rt, gate, short, caller, list));
     }
     Ok(works)
 }
@@ -68,7 +68,6 @@ pub(crate) fn begin_all<'s, E, R: Wait + Sync, G: Gate + Sync>(
 fn begin<'s, E, R: Wait + Sync, G: Gate + Sync>(
     scope: &'s Scope<'s, E>,
     rt: &'s R,
-    alloc: Global,
     gate: &'s G,
     short: &'s AtomicBool,
     caller: Caller,
@@ -87,7 +86,7 @@ fn begin<'s, E, R: Wait + Sync, G: Gate + Sync>(
         move || -> EndedCaller
             requires { HasPostedNone caller × IsShort posts.now }
             ensures { HasPosted caller.id posts.entry.now result }
-        { work(rt, alloc, gate, short, caller, posts) },
+        { work(rt, gate, short, caller, posts) },
     );
     match begun {
         Ok(handle) => Begun::There(handle),
@@ -99,7 +98,6 @@ fn begin<'s, E, R: Wait + Sync, G: Gate + Sync>(
 /// flag and posts no more. It waits for no reply.
 fn work<R: Wait, G: Gate>(
     rt: &R,
-    alloc: Global,
     gate: &G,
     short: &AtomicBool,
     caller: Caller,
@@ -111,25 +109,20 @@ fn work<R: Wait, G: Gate>(
 {
     let mut caller = caller;
     gate.begun(caller.number());
-    if post_all(rt, alloc, &mut caller, posts.as_slice()).is_err() {
+    if post_all(rt, &mut caller, posts.as_slice()).is_err() {
         short.store(true, Ordering::SeqCst);
     }
     caller.end()
 }
 
 /// Posts the posts in their order, and collects once after each.
-fn post_all(
-    rt: &impl Wait,
-    alloc: Global,
-    caller: &mut Caller,
-    posts: &[Post],
-) -> Result<(), NoMemory>
+fn post_all(rt: &impl Wait, caller: &mut Caller, posts: &[Post]) -> Result<(), NoMemory>
     requires { length (caller.old.posted ++ posts.now) ≤ 2 ^ 62 }
     ensures caller { caller.new.id ≡ caller.old.id }
     ensures first { (rest : List APost) × (caller.new.posted ++ rest ≡ caller.old.posted ++ posts.now) }
 {
     for post in posts {
-        caller.post(rt, post.copy(alloc)?)?;
+        caller.post(rt, post.copy())?;
         let _reply = caller.collect(rt);
     }
     Ok(())

@@ -12,7 +12,8 @@ use Rattle.nav_types.specs.Cells.{IsInside, IsInRect}
 use Rattle.nav_types.specs.Directions.{is_straight, Leads}
 use Rattle.nav_types.specs.Regions.{passes_in, HasRegion, IsBeside, IsEdge}
 use Rattle.nav_types.specs.Numbering.{number_of}
-use Rattle.chunk_regions.specs.Labelling.{Labelling, AreLabels, chunk_rect}
+use Rattle.chunk_regions.specs.Labelling.{Labelling, AreLabels}
+use Rattle.nav_types.specs.Rects.{chunk_rect}
 use Rattle.nav_types.proofs.CellOrder.{same_cell}
 use Rattle.nav_types.proofs.Regions.{LiesIn, lies_in}
 use Rattle.chunk_regions.proofs.LabelLemmas.{in_rect}

@@ -1,11 +1,13 @@
 -- The region edges of two neighbouring chunks.
 use Rattle.std.specs.Prelude.{ℕ, Bool, ◌≡◌, ◌+◌, ◌*◌, ◌<◌, ◌⊎◌, List, IsTrue, AllPairs, Contains}
+use Rattle.nav_types.specs.declared.limits.TheConstants.{CHUNK_SIDE}
 use Rattle.nav_types.specs.declared.cells.Cell.{Cell}
 use Rattle.nav_types.specs.declared.cells.Chunk.{Chunk}
 use Rattle.nav_types.specs.declared.cells.Size.{Size}
 use Rattle.nav_types.specs.Cells.{IsInside}
+use Rattle.nav_types.specs.Rects.{chunk_rect}
 use Rattle.nav_types.specs.Regions.{IsEdge}
-use Rattle.chunk_regions.specs.Labelling.{Labelling, chunk_rect}
+use Rattle.chunk_regions.specs.Labelling.{Labelling}
 use Rattle.region_edges.specs.declared.neighbours.Side.{Side}
 use Rattle.region_edges.specs.declared.neighbours.Side.TheVariants.{East, North}
 
@@ -18,8 +20,8 @@ LiesOn North here there = (there.ci ≡ here.ci) × (there.cj ≡ here.cj + 1)
 pub record AreNeighbours (side : Side) (here there : Labelling) : Type 0 where
   pub size : Size
   pub lies : LiesOn side here.chunk there.chunk
-  pub columns : 96 * there.chunk.ci < size.w
-  pub rows : 96 * there.chunk.cj < size.h
+  pub columns : CHUNK_SIDE * there.chunk.ci < size.w
+  pub rows : CHUNK_SIDE * there.chunk.cj < size.h
   pub here_extent : here.cells.rect ≡ chunk_rect size here.chunk
   pub there_extent : there.cells.rect ≡ chunk_rect size there.chunk
 

@@ -8,7 +8,7 @@ use chunk_regions::Labels;
 use nav_types::{Cell, NoMemory, Rect};
 use std::alloc::Global;
 
-/// How many cells a chunk has along that side, from 1 to 96.
+/// How many cells a chunk has along that side, from 1 to `CHUNK_SIDE`.
 fn length(rect: Rect, side: Side) -> u16
     requires { IsPatch rect }
     ensures { result ≡ border_length side rect }
@@ -60,7 +60,7 @@ fn part_at(here: &Labels, there: &Labels, side: Side, at: u16) -> Part
     }
 }
 
-/// The pairs of regions that meet along the border, at most 96, in the order of its cells.
+/// The pairs of regions that meet along the border, at most `CHUNK_SIDE`, in the order of its cells.
 pub fn meetings(
     alloc: Global,
     here: &Labels,

@@ -24,7 +24,8 @@ pub type Edges = Sequence<(u16, u16)>;
 /// The region edges across the border of two neighbouring chunks of one class and map: the pairs (region here,
 /// region there) that have passable cells side by side, each once, by the region here and then by the region there
 /// (`AreEdges`). The chunk there lies on that side of the chunk here (`AreNeighbours`). It looks at each cell
-/// along the border at most once, so at 96 on each side or fewer. It refuses for want of memory alone.
+/// along the border at most once, so at a chunk's side of them or fewer on each side. It refuses for want of memory
+/// alone.
 pub fn between(alloc: Global, here: &Labels, there: &Labels, side: Side) -> Result<Edges, NoMemory>
     requires neighbours { AreNeighbours side here.now there.now }
     ensures edges { IfOk result (λ edges. (passes : Cell → Bool) (size : Size) → PassesInside passes size

@@ -1,7 +1,7 @@
 -- Each canonical line reads back as what it was written from.
 use Rattle.std.proofs.Common.{refl}
 use Rattle.std.specs.Prelude.{◌≡◌, ℕ, ◌<◌, ◌≤◌, ◌^◌, Some, IsTrue, codes}
-use Rattle.turn_core.specs.declared.posts.Post.{Post}
+use Rattle.posts.specs.declared.posts.Post.{Post}
 use Rattle.script_text.specs.Forms.{post_of, end_of}
 use Rattle.script_text.specs.Canon.{whole_json, post_json, end_json, is_post_of}
 use Rattle.script_text.specs.ReadsBack.{IsPostValue}

@@ -15,7 +15,7 @@ use Rattle.fixed_point.specs.Text.{some_if}
 use Rattle.class_config.specs.Forms.{is_class_name}
 use Rattle.class_config.specs.Classes.{is_clearance, is_class, is_table, are_distinct, class_with, class_of, list_of, are_classes, classes_of}
 use Rattle.class_config.specs.declared.table.PassabilityClass.{PassabilityClass}
-use Rattle.grid_versions.specs.Maps.{Map}
+use Rattle.posts.specs.Maps.{Map}
 use Rattle.script_text.specs.Canon.{whole_json, list_json, wholes_json, class_json, map_json, entry_json, base_json}
 use Rattle.script_text.specs.Forms.{map_of, base_of}
 use Rattle.script_text.specs.Grammar.{IsObject, IsMapLine, IsEntry}

@@ -14,10 +14,10 @@ use Rattle.obstruction_shapes.specs.declared.shapes.Shape.TheVariants.{Unit as U
 use Rattle.goal_shapes.specs.declared.goals.Goal.TheVariants.{Point, Circle, NotCircle, Square, NotSquare}
 use Rattle.goal_shapes.specs.declared.goals.GoalSpec.{GoalSpec}
 use Rattle.goal_shapes.specs.declared.goals.GoalSpec.TheVariants.{Plain, Obstruction as ByObstruction}
-use Rattle.turn_core.specs.declared.posts.Post.{Post}
-use Rattle.grid_versions.specs.declared.edits.Edit.TheVariants.{Add, Remove, Move}
-use Rattle.turn_core.specs.declared.posts.Post.TheVariants.{Edit as Edits, Ask as Asks}
-use Rattle.turn_core.specs.declared.posts.Request.TheVariants.{Path, Region}
+use Rattle.posts.specs.declared.posts.Post.{Post}
+use Rattle.posts.specs.declared.edits.Edit.TheVariants.{Add, Remove, Move}
+use Rattle.posts.specs.declared.posts.Post.TheVariants.{Edit as Edits, Ask as Asks}
+use Rattle.posts.specs.declared.posts.Request.TheVariants.{Path, Region}
 use Rattle.script_text.specs.Canon.{whole_json, decimal_json, list_json, decimals_json, object_json, shape_json, goal_json, post_json, is_goal_of, is_post_of}
 use Rattle.script_text.specs.Forms.{post_of}
 use Rattle.script_text.specs.Grammar.{IsObject, IsDecimal, SayEach, IsArray, HasDecimals, IsGoal, IsPostLine, rectangle_decimals, shape_key, shape_decimals}

@@ -4,14 +4,14 @@ use Rattle.std.specs.List.{list_all}
 use Rattle.std.proofs.Math.Seq.{get_or-append_seam, set-append_seam}
 use Rattle.std.proofs.lemmas.Bool.{and_parts, cond-true}
 use Rattle.std.proofs.lemmas.List.Elements.{All-head, All-tail, All-take, All-drop}
+use Rattle.posts.specs.declared.posts.Post.{Post}
+use Rattle.posts.specs.Maps.{Map, with_base}
+use Rattle.posts.specs.Callers.{list_of}
 use Rattle.script_text.proofs.ReadCalls.{map_after-append}
 use Rattle.serde_json.specs.Data.{Data}
 use Rattle.nav_types.specs.declared.cells.Rect.{Rect}
 use Rattle.nav_types.specs.declared.cells.Size.{Size}
 use Rattle.nav_types.specs.Cells.{IsRectInside}
-use Rattle.grid_versions.specs.Maps.{Map, with_base}
-use Rattle.turn_core.specs.declared.posts.Post.{Post}
-use Rattle.turn_core.specs.States.{list_of}
 use Rattle.script_text.specs.declared.forms.CallerPost.{CallerPost}
 use Rattle.script_text.specs.Forms.{base_of, post_of, end_of}
 use Rattle.script_text.specs.Grammar.{base_line as says_base, post_line as says_post, end_line as says_end}

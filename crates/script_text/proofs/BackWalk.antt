@@ -4,7 +4,7 @@ use Rattle.std.proofs.lemmas.List.Elements.{All-head, All-tail}
 use Rattle.std.proofs.lemmas.Bool.{le-ltb, or_from}
 use Rattle.serde_json.specs.Data.{Data}
 use Rattle.serde_json.specs.Written.{compact_text}
-use Rattle.turn_core.specs.declared.posts.Post.{Post}
+use Rattle.posts.specs.declared.posts.Post.{Post}
 use Rattle.script_text.specs.Lines.{full_lines}
 use Rattle.script_text.specs.declared.parts.Part.{Part}
 use Rattle.script_text.specs.Script.{Place, Item, Walk, too_long, arrived, stuck, chain, reading_of, counted, placed, is_long, accept, reading}

@@ -13,8 +13,8 @@ use Rattle.fixed_point.specs.Text.{some_if}
 use Rattle.class_config.specs.Forms.{has_keys}
 use Rattle.class_config.specs.Classes.{classes_of}
 use Rattle.class_config.specs.declared.table.PassabilityClass.{PassabilityClass}
-use Rattle.grid_versions.specs.Maps.{Map, map_of as map_with}
 use Rattle.fixed_point.specs.declared.plane.Rectangle.{Rectangle}
+use Rattle.posts.specs.Maps.{Map, map_of as map_with}
 use Rattle.script_text.specs.Values.{whole, whole_in, decimal, under, array_items, has_items, whole_at, decimal_at, both, all_three, point_of, round_of, rectangle_with, rectangle_of, is_side, size_by, size_with, size_of}
 use Rattle.script_text.specs.Forms.{map_by, map_of, entry_by, entry_of, each, base_of, end_of}
 use Rattle.script_text.specs.Grammar.{IsWholeNumber, IsDecimal, IsArray, rectangle_decimals, IsMapLine, IsEntry, IsBaseLine, IsEndLine}

@@ -11,12 +11,12 @@ use Rattle.obstruction_shapes.specs.declared.shapes.Obstruction.{Obstruction}
 use Rattle.obstruction_shapes.specs.declared.shapes.Shape.{Shape}
 use Rattle.obstruction_shapes.specs.declared.shapes.Shape.TheVariants.{Unit as UnitShape, Square as SquareShape}
 use Rattle.goal_shapes.specs.declared.goals.GoalSpec.{GoalSpec}
-use Rattle.turn_core.specs.declared.posts.Post.{Post}
-use Rattle.grid_versions.specs.declared.edits.Edit.{Edit}
-use Rattle.grid_versions.specs.declared.edits.Edit.TheVariants.{Add, Remove, Move}
-use Rattle.turn_core.specs.declared.posts.Post.TheVariants.{Edit as Edits, Ask as Asks}
-use Rattle.turn_core.specs.declared.posts.Request.{Request}
-use Rattle.turn_core.specs.declared.posts.Request.TheVariants.{Path, Region}
+use Rattle.posts.specs.declared.posts.Post.{Post}
+use Rattle.posts.specs.declared.edits.Edit.{Edit}
+use Rattle.posts.specs.declared.edits.Edit.TheVariants.{Add, Remove, Move}
+use Rattle.posts.specs.declared.posts.Post.TheVariants.{Edit as Edits, Ask as Asks}
+use Rattle.posts.specs.declared.posts.Request.{Request}
+use Rattle.posts.specs.declared.posts.Request.TheVariants.{Path, Region}
 use Rattle.script_text.specs.declared.forms.CallerPost.{CallerPost}
 use Rattle.script_text.specs.Values.{whole_in, whole_below, obstruction_number, class_name, under, both, all_three, point_of, round_of, rectangle_of}
 use Rattle.script_text.specs.Forms.{map_of, base_of, goal_of, add_keys, mask_of, shape_of, add_of, remove_of, move_of, path_of, region_of, edit_of, request_of, post_of, end_of}

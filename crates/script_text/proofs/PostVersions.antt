@@ -9,11 +9,12 @@ use Rattle.serde_json.specs.Data.{Data}
 use Rattle.nav_types.specs.declared.cells.Rect.{Rect}
 use Rattle.goal_shapes.specs.declared.goals.GoalSpec.{GoalSpec}
 use Rattle.goal_shapes.specs.declared.goals.GoalSpec.TheVariants.{Plain, Obstruction as ByObstruction}
-use Rattle.grid_versions.specs.declared.edits.Edit.TheVariants.{Add, Remove, Move}
-use Rattle.turn_core.specs.declared.posts.Post.{Post}
-use Rattle.turn_core.specs.declared.posts.Post.TheVariants.{Edit as Edits, Ask as Asks}
-use Rattle.turn_core.specs.declared.posts.Request.TheVariants.{Path, Region}
-use Rattle.turn_core.specs.States.{list_of}
+use Rattle.posts.specs.declared.edits.Edit.TheVariants.{Add, Remove, Move}
+use Rattle.posts.specs.declared.posts.Post.{Post}
+use Rattle.posts.specs.declared.posts.Post.TheVariants.{Edit as Edits, Ask as Asks}
+use Rattle.posts.specs.declared.posts.Request.TheVariants.{Path, Region}
+use Rattle.posts.specs.Callers.{list_of}
+use Rattle.posts.specs.Posts.{post_count}
 use Rattle.script_text.specs.declared.forms.CallerPost.{CallerPost}
 use Rattle.script_text.specs.declared.parts.Rules.{Rules}
 use Rattle.script_text.specs.declared.parts.Part.{Part}
@@ -23,7 +24,6 @@ use Rattle.script_text.specs.Grammar.{IsGoal, HasAddKeys, IsPostLine, shape_key}
 use Rattle.script_text.specs.Script.{Place, Item, Ends, at_place, stuck_by, ends_turn, too_long, Walk, arrived, stuck, reading_of, counted, bad, no_posts, with_post, end_line, turn_line, placed_in_turn, base_line, placed_in, placed, is_long, accept}
 use Rattle.script_text.specs.Canon.{is_goal_of, is_post_of, HaveLines}
 use Rattle.script_text.specs.Reader.{HaveLinesAt, rules_at}
-use Rattle.turn_core.specs.Turns.{post_count}
 use Rattle.script_text.specs.inner.Judging.{GivesTurn}
 use Rattle.script_text.proofs.GrammarPosts.{post-is}
 

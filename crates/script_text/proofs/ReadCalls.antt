@@ -1,20 +1,20 @@
 -- The calls of the reader over a source that tells its bytes.
 use Rattle.std.proofs.Common.{◌≡◌, ◌≢◌, ℕ, ◌+◌, List, [], ◌∷◌, ◌++◌, Option, Some, None, Result, Ok, Err, IfErr, OnErr, OnOk, IsTrue, IsSome, option_and_then, refl, ap, sym, subst, ◌∙◌, append_assoc}
 use Rattle.std.proofs.lemmas.List.Elements.{All-nil, All-append}
+use Rattle.posts.specs.declared.posts.Post.{Post}
+use Rattle.posts.specs.Maps.{Map, with_base}
+use Rattle.posts.specs.Posts.{post_count}
 use Rattle.script_text.specs.declared.faults.ScriptFault.{ScriptFault}
 use Rattle.script_text.specs.declared.faults.ScriptFault.TheVariants.{BadLine, TooLong, ReadFault, NoMemory}
 use Rattle.script_text.specs.declared.intake.LineEnd.{LineEnd}
 use Rattle.script_text.specs.declared.intake.LineEnd.TheVariants.{Newline, Input}
 use Rattle.nav_types.specs.declared.cells.Rect.{Rect}
-use Rattle.grid_versions.specs.Maps.{Map, with_base}
-use Rattle.turn_core.specs.declared.posts.Post.{Post}
 use Rattle.script_text.specs.Lines.{unlines, IsPlain}
 use Rattle.script_text.specs.declared.parts.Rules.{Rules}
 use Rattle.script_text.specs.declared.parts.Part.{Part}
 use Rattle.script_text.specs.declared.parts.Part.TheVariants.{BeforeMap, InBase, InTurns}
 use Rattle.script_text.specs.Script.{Place, beginning, Item, begins, adds_base, ends_turn, Stop, whole_input, too_long, arrived, stuck, chain, map_after, map_after_item, turns_of, counted, accept, walk, finish, reading}
 use Rattle.script_text.specs.Reader.{Held, UsesLines, GoesOn, StopsAtFault, Refuses, GivesMap, MapAnswers, MapTold, TurnTold, stuck_after, WhereTold}
-use Rattle.turn_core.specs.Turns.{post_count}
 use Rattle.script_text.specs.inner.Taking.{Taken, HeldLine, newline_of, HasEnd, IsWholeLine, IsUsedUp, TakesNext, NextAnswer, NextTold}
 use Rattle.script_text.specs.inner.Judging.{IsBadAt, IsStuckBy, BeginsMap, UsesBase, KeepsLine, TakesBase, AddsToMap, BaseAnswers, BaseTold, IsInTurns, IsBetweenTurns, IsNoBaseAt, IsNoBaseLine, IsNoBaseNext, after_line, held_at}
 use Rattle.script_text.specs.Forms.{base_of}

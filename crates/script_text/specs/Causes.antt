@@ -3,9 +3,9 @@ use Rattle.std.specs.Prelude.{ℕ, ◌≡◌, ◌⊎◌, ◌+◌, ◌==◌, ◌&
 use Rattle.std.specs.List.{list_all}
 use Rattle.serde_json.specs.Data.{Data}
 use Rattle.serde_json.specs.Find.{get}
-use Rattle.turn_core.specs.declared.posts.Post.{Post}
 use Rattle.class_config.specs.Forms.{has_keys}
 use Rattle.class_config.specs.Classes.{classes_of}
+use Rattle.posts.specs.declared.posts.Post.{Post}
 use Rattle.script_text.specs.declared.causes.Cause.{Cause}
 use Rattle.script_text.specs.declared.causes.Cause.TheVariants.{NotJson, NoSuchForm, WrongValue, MissingMask, LaterVersion, NotHere, EndsInsideTurn, NoLine}
 use Rattle.script_text.specs.declared.causes.keys.Key.{Key}

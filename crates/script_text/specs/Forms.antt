@@ -16,12 +16,12 @@ use Rattle.goal_shapes.specs.declared.goals.Goal.{Goal}
 use Rattle.goal_shapes.specs.declared.goals.Goal.TheVariants.{Point, Circle, NotCircle, Square, NotSquare}
 use Rattle.goal_shapes.specs.declared.goals.GoalSpec.{GoalSpec}
 use Rattle.goal_shapes.specs.declared.goals.GoalSpec.TheVariants.{Plain, Obstruction as ByObstruction}
-use Rattle.grid_versions.specs.Maps.{Map, map_of as map_with}
-use Rattle.grid_versions.specs.declared.edits.Edit.{Edit}
-use Rattle.grid_versions.specs.declared.edits.Edit.TheVariants.{Add, Remove, Move}
-use Rattle.turn_core.specs.declared.posts.Post.TheVariants.{Edit as Edits, Ask as Asks}
-use Rattle.turn_core.specs.declared.posts.Request.{Request}
-use Rattle.turn_core.specs.declared.posts.Request.TheVariants.{Path, Region}
+use Rattle.posts.specs.declared.edits.Edit.{Edit}
+use Rattle.posts.specs.declared.edits.Edit.TheVariants.{Add, Remove, Move}
+use Rattle.posts.specs.declared.posts.Post.TheVariants.{Edit as Edits, Ask as Asks}
+use Rattle.posts.specs.declared.posts.Request.{Request}
+use Rattle.posts.specs.declared.posts.Request.TheVariants.{Path, Region}
+use Rattle.posts.specs.Maps.{Map, map_of as map_with}
 use Rattle.script_text.specs.declared.forms.CallerPost.{CallerPost}
 use Rattle.script_text.specs.Values.{whole, whole_in, whole_below, obstruction_number, class_name, under, array_items, has_items, whole_at, decimal_at, both, all_three, point_of, round_of, rectangle_of, size_of}
 

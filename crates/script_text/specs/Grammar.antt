@@ -16,11 +16,11 @@ use Rattle.goal_shapes.specs.declared.goals.Goal.{Goal}
 use Rattle.goal_shapes.specs.declared.goals.Goal.TheVariants.{Point, Circle, NotCircle, Square, NotSquare}
 use Rattle.goal_shapes.specs.declared.goals.GoalSpec.{GoalSpec}
 use Rattle.goal_shapes.specs.declared.goals.GoalSpec.TheVariants.{Plain, Obstruction as ByObstruction}
-use Rattle.grid_versions.specs.Maps.{Map}
-use Rattle.turn_core.specs.declared.posts.Post.{Post}
-use Rattle.grid_versions.specs.declared.edits.Edit.TheVariants.{Add, Remove, Move}
-use Rattle.turn_core.specs.declared.posts.Post.TheVariants.{Edit as Edits, Ask as Asks}
-use Rattle.turn_core.specs.declared.posts.Request.TheVariants.{Path, Region}
+use Rattle.posts.specs.declared.posts.Post.{Post}
+use Rattle.posts.specs.declared.edits.Edit.TheVariants.{Add, Remove, Move}
+use Rattle.posts.specs.declared.posts.Post.TheVariants.{Edit as Edits, Ask as Asks}
+use Rattle.posts.specs.declared.posts.Request.TheVariants.{Path, Region}
+use Rattle.posts.specs.Maps.{Map}
 use Rattle.script_text.specs.declared.forms.CallerPost.{CallerPost}
 
 -- ---- objects

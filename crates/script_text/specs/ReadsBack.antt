@@ -9,11 +9,11 @@ use Rattle.goal_shapes.specs.declared.goals.Goal.{Goal}
 use Rattle.goal_shapes.specs.declared.goals.Goal.TheVariants.{Point, Circle, NotCircle, Square, NotSquare}
 use Rattle.goal_shapes.specs.declared.goals.GoalSpec.{GoalSpec}
 use Rattle.goal_shapes.specs.declared.goals.GoalSpec.TheVariants.{Plain, Obstruction as ByObstruction}
-use Rattle.grid_versions.specs.Maps.{Map, IsMap}
-use Rattle.turn_core.specs.declared.posts.Post.{Post}
-use Rattle.grid_versions.specs.declared.edits.Edit.TheVariants.{Add, Remove, Move}
-use Rattle.turn_core.specs.declared.posts.Post.TheVariants.{Edit as Edits, Ask as Asks}
-use Rattle.turn_core.specs.declared.posts.Request.TheVariants.{Path, Region}
+use Rattle.posts.specs.declared.posts.Post.{Post}
+use Rattle.posts.specs.declared.edits.Edit.TheVariants.{Add, Remove, Move}
+use Rattle.posts.specs.declared.posts.Post.TheVariants.{Edit as Edits, Ask as Asks}
+use Rattle.posts.specs.declared.posts.Request.TheVariants.{Path, Region}
+use Rattle.posts.specs.Maps.{Map, IsMap}
 use Rattle.script_text.specs.Lines.{full_lines}
 use Rattle.script_text.specs.Script.{beginning, Item, whole_input, map_after, turns_of, reading}
 use Rattle.script_text.specs.Reader.{stuck_after}

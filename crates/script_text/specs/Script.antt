@@ -6,9 +6,9 @@ use Rattle.serde_json.specs.Data.{Data}
 use Rattle.serde_json.specs.Read.{read}
 use Rattle.nav_types.specs.declared.cells.Rect.{Rect}
 use Rattle.nav_types.specs.declared.limits.TheConstants.{MAX_INPUT_BYTES, MAX_LINE_BYTES}
-use Rattle.grid_versions.specs.Maps.{Map, with_base}
-use Rattle.turn_core.specs.declared.posts.Post.{Post}
-use Rattle.turn_core.specs.States.{list_of}
+use Rattle.posts.specs.declared.posts.Post.{Post}
+use Rattle.posts.specs.Maps.{Map, with_base}
+use Rattle.posts.specs.Callers.{list_of}
 use Rattle.script_text.specs.declared.forms.CallerPost.{CallerPost}
 use Rattle.script_text.specs.declared.parts.Rules.{Rules}
 use Rattle.script_text.specs.declared.parts.Part.{Part}

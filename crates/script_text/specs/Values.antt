@@ -5,6 +5,7 @@ use Rattle.std.specs.Option.{option_map_or}
 use Rattle.std.proofs.Math.Decide.{dec_le}
 use Rattle.serde_json.specs.Data.{Data}
 use Rattle.serde_json.specs.Find.{get, at, as_number, as_u64, as_str, as_array}
+use Rattle.nav_types.specs.declared.limits.TheConstants.{MAX_SIDE}
 use Rattle.nav_types.specs.declared.cells.Size.{Size}
 use Rattle.nav_types.specs.Side.{IsSide}
 use Rattle.fixed_point.specs.Text.{fixed_value, some_if}
@@ -88,14 +89,14 @@ rectangle_of d = if has_items 6 d
 
 -- ---- sizes
 
--- whether a number is a side of a map, 1 to 2048
-abbrev pub side_by : (side : ℕ) → Dec (1 ≤ side) → Dec (side ≤ 2048) → Dec (IsSide side)
+-- whether a number is a side of a map
+abbrev pub side_by : (side : ℕ) → Dec (1 ≤ side) → Dec (side ≤ MAX_SIDE) → Dec (IsSide side)
 side_by side (yes some) (yes few) = yes (record { some = some; few = few })
 side_by side (yes some) (no many) = no (λ is. many is.few)
 side_by side (no none) few = no (λ is. none is.some)
 
 abbrev pub is_side : (side : ℕ) → Dec (IsSide side)
-is_side side = side_by side (dec_le 1 side) (dec_le side 2048)
+is_side side = side_by side (dec_le 1 side) (dec_le side MAX_SIDE)
 
 -- the size of two numbers, where each is a side
 abbrev pub size_by : (w h : ℕ) → Dec (IsSide w) → Dec (IsSide h) → Option Size

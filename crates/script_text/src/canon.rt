@@ -5,12 +5,11 @@ ghost use Rattle.script_text.specs.ReadsBack.{IsMapValue, IsPostValue, ArePostVa
 
 mod maps;
 mod pieces;
-mod posts;
+mod post_lines;
 
-use grid_versions::MapSpec;
 use nav_types::{Bytes, NoMemory};
+use posts::{MapSpec, Post, TurnPosts};
 use std::alloc::Global;
-use turn_core::{Post, TurnPosts};
 
 /// The canonical text of a map (`canon_map`): the map line and the base lines, with 65,536 rectangles to a line.
 #[tactic(auto, unfolding(crate::specs::Canon::canon_map, crate::specs::Canon::line))]
@@ -41,7 +40,7 @@ pub fn write_journal(
 {
     let mut text = Bytes::new(alloc);
     push_callers(&mut text, map.version(), posts)?;
-    posts::push_end(&mut text, turn)?;
+    post_lines::push_end(&mut text, turn)?;
     text.push(b'\n')?;
     Ok(text)
 }
@@ -65,7 +64,7 @@ fn push_posts(text: &mut Bytes, version: u8, caller: u64, posts: &[Post]) -> Res
     ensures values { OnOk result (All IsPostValue posts.now) }
 {
     for post in posts {
-        posts::push_post(text, version, caller, post)?;
+        post_lines::push_post(text, version, caller, post)?;
         text.push(b'\n')?;
     }
     Ok(())

@@ -8,16 +8,15 @@ ghost use Rattle.script_text.specs.Forms as form;
 
 pub(crate) mod bases;
 pub(crate) mod goals;
-pub(crate) mod posts;
+pub(crate) mod post_lines;
 pub(crate) mod values;
 
 use class_config::{ClassRefusal, ClassTable, has_keys};
-use grid_versions::{BaseRects, MapSpec};
 use nav_types::limits::MAX_CALLERS;
 use nav_types::{NoMemory, Size};
+use posts::{BaseRects, MapSpec, Post};
 use serde_json::Value;
 use std::alloc::Global;
-use turn_core::Post;
 
 /// A post, and the number of the caller that posts it.
 #[derive(Debug, Drop)]
@@ -90,28 +89,23 @@ pub(crate) fn base_of(
 
 /// The post of a post line of a script of this version with so many callers. None where the value is no such line.
 #[tactic(auto, unfolding(crate::specs::Forms::post_of))]
-pub(crate) fn post_of(
-    alloc: Global,
-    version: u8,
-    callers: u8,
-    value: &Value,
-) -> Result<Option<CallerPost>, NoMemory>
-    ensures post { IfOk result (λ made. made ≡ form.post_of version callers (view value.now)) }
-    ensures caller { IfOk result (λ made. IfSome made (λ said. said.caller < callers)) }
+pub(crate) fn post_of(version: u8, callers: u8, value: &Value) -> Option<CallerPost>
+    ensures post { result ≡ form.post_of version callers (view value.now) }
+    ensures caller { IfSome result (λ said. said.caller < callers) }
 {
     let Some(caller) = values::caller_under(callers, value, "caller") else {
-        return Ok(None);
+        return None;
     };
-    if let Some(edit) = posts::edit_of(version, value) {
+    if let Some(edit) = post_lines::edit_of(version, value) {
         let post = Post::Edit(edit);
-        return Ok(Some(CallerPost { caller, post }));
+        return Some(CallerPost { caller, post });
     }
-    match posts::request_of(alloc, version, value)? {
+    match post_lines::request_of(version, value) {
         Some(request) => {
             let post = Post::Ask(request);
-            Ok(Some(CallerPost { caller, post }))
+            Some(CallerPost { caller, post })
         }
-        None => Ok(None),
+        None => None,
     }
 }
 

@@ -4,8 +4,8 @@ ghost use Rattle.std.specs.Prelude.{◌≡◌, ◌↔◌, ◌+◌, ℕ, IsSome, 
 ghost use Rattle.nav_types.specs.declared.cells.Rect.{Rect};
 ghost use Rattle.nav_types.specs.declared.cells.Size.{Size};
 ghost use Rattle.serde_json.specs.Data.{Data};
-ghost use Rattle.grid_versions.specs.Maps.{Map};
-ghost use Rattle.turn_core.specs.declared.posts.Post.{Post};
+ghost use Rattle.posts.specs.declared.posts.Post.{Post};
+ghost use Rattle.posts.specs.Maps.{Map};
 ghost use Rattle.script_text.specs.declared.forms.CallerPost.{CallerPost};
 ghost use Rattle.script_text.specs.Forms as form;
 ghost use Rattle.script_text.specs.Grammar.{Line, IsLine, IsMapLine, IsBaseLine, IsPostLine, IsEndLine};

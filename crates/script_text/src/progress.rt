@@ -11,14 +11,13 @@ use crate::causes::{self, Cause};
 use crate::faults::ScriptFault;
 use crate::forms::{self, CallerPost};
 use crate::parts::{Part, Rules};
-use grid_versions::{BaseRects, MapSpec};
 use nav_types::limits::{MAX_INPUT_BYTES, MAX_LINE_BYTES};
 use nav_types::{NoMemory, Size};
+use posts::{BaseRects, MapSpec, Posts, TurnPosts, empty_lists, push_post};
 use serde_json::Value;
 use std::alloc::Global;
 use std::marker::Model;
 use std::mem;
-use turn_core::{Posts, TurnPosts, empty_lists, push_post};
 
 /// The place that the reading of a script has come to.
 #[derive(Drop)]
@@ -44,10 +43,10 @@ impl Model for Progress {
 }
 
 impl Progress {
+    ghost use Rattle.posts.specs.Posts.{post_count};
     ghost use Rattle.script_text.specs.Script.{beginning, rules_of, accept, counted, end_line, finish, is_long};
     ghost use Rattle.script_text.specs.Script.{arrived, begins, map_line, placed_in_turn, with_post};
     ghost use Rattle.script_text.specs.Reader.{callers_of, rules_at};
-    ghost use Rattle.turn_core.specs.Turns.{post_count};
     ghost use Rattle.script_text.specs.Causes.{cause, end_cause};
     ghost use Rattle.script_text.specs.inner.Judging.{AddsBase, BeginsMap, CountsPosts, GivesTurn, IsBadAt, IsBase};
     ghost use Rattle.script_text.specs.inner.Judging.{IsInTurns, IsInsideAt, IsNoBaseAt, IsObject, Stops};
@@ -265,7 +264,7 @@ impl Progress {
         ensures bad { IfErr result (IsBadAt self.new self.old) }
     {
         let rules = self.rules();
-        match forms::post_of(alloc, rules.version, rules.callers, value)? {
+        match forms::post_of(rules.version, rules.callers, value) {
             Some(said) => {
                 self.keep_post(rules, said)?;
                 Ok(None)

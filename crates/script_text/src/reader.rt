@@ -4,13 +4,13 @@ ghost use Rattle.std.specs.Prelude.{OnErr, OnOk, Some, is_err, length, [], â—Œâˆ
 ghost use Rattle.nav_types.specs.declared.limits.TheConstants.{MAX_INPUT_BYTES, MAX_LINE_BYTES};
 ghost use Rattle.io_edges.specs.Faults.{Rose};
 ghost use Rattle.io_edges.specs.Passing.{HasGiven};
+ghost use Rattle.posts.specs.Posts.{post_count};
 ghost use Rattle.script_text.specs.declared.intake.TheConstants.{READ_SIZE};
 ghost use Rattle.script_text.specs.declared.parts.Part.TheVariants.{InBase};
 ghost use Rattle.script_text.specs.Script.{accept, beginning, counted, rules_of};
 ghost use Rattle.script_text.specs.Reader.{HaveLinesAt, HoldsRefused, HoldsTurn, IsWholeMap, MapTold, TakesNoneAhead};
 ghost use Rattle.script_text.specs.Reader.{TurnTold};
 ghost use Rattle.script_text.specs.Reader.{callers_of, held_cause, is_last, rules_at};
-ghost use Rattle.turn_core.specs.Turns.{post_count};
 ghost use Rattle.script_text.specs.inner.Judging.{BaseTold, BeginsMap, CountsPosts, GivesTurn, IsBadAt};
 ghost use Rattle.script_text.specs.inner.Judging.{IsBetweenTurns, IsInTurns, IsNoBaseAt, TakesBase};
 ghost use Rattle.script_text.specs.inner.Judging.{held_at};
@@ -20,12 +20,11 @@ use crate::causes::Cause;
 use crate::faults::ScriptFault;
 use crate::held_lines::HeldLines;
 use crate::progress::Progress;
-use grid_versions::MapSpec;
 use io_edges::Source;
 use nav_types::NoMemory;
+use posts::{MapSpec, TurnPosts};
 use std::alloc::Global;
 use std::marker::Model;
-use turn_core::TurnPosts;
 
 /// Reads a script: first its map, then turn after turn. It keeps only the bytes that no line has used yet.
 ///

@@ -4,8 +4,7 @@ ghost use Rattle.std.specs.List.{list_all};
 ghost use Rattle.script_text.specs.Canon as canon;
 
 use goal_shapes::GoalSpec;
-use grid_versions::{Edit, MapSpec};
-use turn_core::{Post, Posts, Request, TurnPosts};
+use posts::{Edit, MapSpec, Post, Posts, Request, TurnPosts};
 
 /// The first version with a mask in each add line.
 pub(crate) const FIRST_WITH_MASKS: u8 = 2;

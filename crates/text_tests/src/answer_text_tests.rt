@@ -1,12 +1,12 @@
 //! Replies of every kind with their lines, the text of a turn, and the summary of no turn.
-use answer_text::{profile_text, summary_text, turn_text, write_reply};
-use grid_versions::{EditReply, Refusal, Tallies};
+use answer_text::{noted_text, summary_text, turn_text, write_reply};
 use nav_types::{Bytes, Cell, Cost, NoMemory};
+use posts::{
+    AllReplies, Answer, CallerReplies, EditReply, Note, PathAnswer, Refusal, RegionAnswer, Replies,
+    Reply, Tallies, TurnReplies,
+};
 use std::alloc::Global;
 use std::test::*;
-use turn_core::{
-    AllReplies, Answer, CallerReplies, PathAnswer, RegionAnswer, Replies, Reply, TurnReplies,
-};
 use walks::Waypoints;
 
 /// The text of the first turn.
@@ -215,10 +215,12 @@ fn turns_are_written_caller_by_caller(rt: HostRuntime) {
     let alloc = rt.alloc();
     let turn = first_turn(alloc).expect(&rt, "memory");
     assert!(rt; is_text(turn_text(alloc, 1, &turn), FIRST));
-    assert!(rt; is_text(profile_text(alloc, 1, &turn, &[5, 7, 0]), FIRST_PROFILE));
+    let notes = [Note::Opened(5), Note::Opened(7)];
+    assert!(rt; is_text(noted_text(alloc, 1, &turn, &notes), FIRST_PROFILE));
     let turn = second_turn(alloc).expect(&rt, "memory");
     assert!(rt; is_text(turn_text(alloc, 2, &turn), SECOND));
-    assert!(rt; is_text(profile_text(alloc, 2, &turn, &[0, 0, 12]), SECOND_PROFILE));
+    let notes = [Note::Nothing, Note::Nothing, Note::Opened(12)];
+    assert!(rt; is_text(noted_text(alloc, 2, &turn, &notes), SECOND_PROFILE));
 }
 
 #[test]

@@ -2,12 +2,11 @@
 ghost use Rattle.std.specs.Prelude.{IsFalse, IsSome};
 ghost use Rattle.script_text.specs.Reader.{HoldsRefused, rules_at};
 
-use grid_versions::MapSpec;
 use io_edges::MemorySource;
 use nav_types::{Bytes, NoMemory};
+use posts::{Journal, MapSpec};
 use script_text::{Cause, ScriptFault, ScriptReader, have_lines, write_journal, write_map};
 use std::alloc::Global;
-use turn_core::Journal;
 
 mod causes;
 mod lines;

@@ -1,4 +1,4 @@
--- Replies that answer a request, with their opened numbers.
+-- Replies that answer a request, with their notes.
 use Rattle.std.proofs.Common.{◌≡◌, ◌<◌, ℕ, ℤ, Bool, true, false, List, Option, Some, None, Result, Ok, Err, IfOk, is_some, length, refl, sym, ap, ◌∙◌, subst}
 use Rattle.std.specs.Prelude.{◌↔◌, IsSome, position, bytes_eq}
 use Rattle.std.proofs.lemmas.Bool.{false_from_ne_true}
@@ -13,21 +13,28 @@ use Rattle.fixed_point.specs.Plane.{IsOnAxis}
 use Rattle.class_config.specs.declared.table.PassabilityClass.{PassabilityClass}
 use Rattle.goal_shapes.specs.Goals.{HoldsPoint}
 use Rattle.goal_shapes.specs.declared.goals.Goal.{Goal}
-use Rattle.jump_search.specs.declared.search.Traced.{Traced}
+use Rattle.goal_shapes.specs.declared.goals.GoalSpec.{GoalSpec}
+use Rattle.goal_reach.specs.declared.targets.Target.{Target}
+use Rattle.goal_reach.specs.Targets.{hit_by, framed_by, AreTargets}
 use Rattle.jump_search.specs.JumpStates.{IsOpened}
-use Rattle.grid_versions.specs.declared.edits.Refusal.{Refusal}
-use Rattle.grid_versions.specs.declared.edits.Refusal.TheVariants.{StartOutside}
-use Rattle.grid_versions.specs.Maps.{Map}
-use Rattle.turn_core.specs.declared.posts.Request.{Request}
-use Rattle.turn_core.specs.declared.replies.TracedAnswer.{TracedAnswer}
-use Rattle.turn_core.specs.declared.solving.Wanted.{Wanted}
-use Rattle.turn_core.specs.declared.solving.Wanted.TheVariants.{OpenedNumber}
-use Rattle.turn_core.specs.declared.replies.Answer.{Answer}
-use Rattle.turn_core.specs.declared.replies.Answer.TheVariants.{Refused}
+use Rattle.posts.specs.declared.edits.Refusal.{Refusal}
+use Rattle.posts.specs.declared.edits.Refusal.TheVariants.{StartOutside}
+use Rattle.posts.specs.declared.posts.Request.{Request}
+use Rattle.posts.specs.declared.replies.Answer.{Answer}
+use Rattle.posts.specs.declared.replies.Answer.TheVariants.{Refused}
+use Rattle.posts.specs.Maps.{Map}
+use Rattle.grid_versions.specs.Passing.{passable_at}
+use Rattle.posts.specs.declared.notes.Note.{Note}
+use Rattle.posts.specs.declared.notes.Noted.{Noted}
+use Rattle.posts.specs.declared.notes.Report.{Report}
+use Rattle.posts.specs.declared.notes.Report.TheVariants.{Answers as Alone, OpenedNumbers}
+use Rattle.posts.specs.declared.replies.PathAnswer.{PathAnswer}
+use Rattle.posts.specs.declared.replies.Answer.TheVariants.{Refused, Nowhere, Path as IsPath, Region as IsRegion}
 use Rattle.turn_core.specs.Words.{Standing}
-use Rattle.turn_core.specs.NamedGoals.{class_named, is_on_map}
+use Rattle.turn_core.specs.NamedGoals.{class_named, is_on_map, goal_found}
 use Rattle.turn_core.specs.Solving.{IsPathTo, IsPathFound, IsAnswerAt, IsAnswerTo}
-use Rattle.turn_core.specs.Opening.{HasOpened, IsTracedAnswerTo}
+use Rattle.turn_core.specs.Opening.{IsOpenedTo, IsOpenedFor}
+use Rattle.turn_core.specs.Notes.{IsPathNote, IsNoteBy, IsNoteOf, IsNotedTo}
 use Rattle.turn_core.specs.inner.Asked.{IsAskedAt}
 use Rattle.turn_core.specs.inner.Opened.{IsCountedBy}
 use Rattle.turn_core.proofs.FoundGoals.{on_map_decides}
@@ -51,10 +58,10 @@ answered_at named on_map Answers answer class has on is =
     (subst (λ (o : Bool). IsAnswerAt (Some class) o Answers answer) (sym on) is)
 
 -- the same, where it comes with memory
-pub answered_ok : (named : Option ℕ) (on_map : Bool) (Answers : ℕ → Answer → Type 0) (result : Result TracedAnswer NoMemory) (class : ℕ)
-    → named ≡ Some class → on_map ≡ true → IfOk result (λ (traced : TracedAnswer). Answers class traced.answer)
-    → IfOk result (λ (traced : TracedAnswer). IsAnswerAt named on_map Answers traced.answer)
-answered_ok named on_map Answers (Ok traced) class has on is = answered_at named on_map Answers traced.answer class has on is
+pub answered_ok : (named : Option ℕ) (on_map : Bool) (Answers : ℕ → Answer → Type 0) (result : Result Noted NoMemory) (class : ℕ)
+    → named ≡ Some class → on_map ≡ true → IfOk result (λ (noted : Noted). Answers class noted.answer)
+    → IfOk result (λ (noted : Noted). IsAnswerAt named on_map Answers noted.answer)
+answered_ok named on_map Answers (Ok noted) class has on is = answered_at named on_map Answers noted.answer class has on is
 answered_ok named on_map Answers (Err refused) class has on is = tt
 
 -- what is asked at a point of the map
@@ -88,11 +95,11 @@ outside_at named on_map Answers class has off =
     (subst (λ (o : Bool). IsAnswerAt (Some class) o Answers answer) (sym off) refl)
 
 -- the answer to a path to a goal that is found
-pub found_ok : (passes : Cell → Bool) (x z : ℤ) (goal : Goal) (found : Result Goal Refusal) (result : Result TracedAnswer NoMemory)
-    → Ok goal ≡ found → IfOk result (λ (traced : TracedAnswer). IsPathTo passes x z goal traced.answer)
-    → IfOk result (λ (traced : TracedAnswer). IsPathFound passes x z found traced.answer)
+pub found_ok : (passes : Cell → Bool) (x z : ℤ) (goal : Goal) (found : Result Goal Refusal) (result : Result Noted NoMemory)
+    → Ok goal ≡ found → IfOk result (λ (noted : Noted). IsPathTo passes x z goal noted.answer)
+    → IfOk result (λ (noted : Noted). IsPathFound passes x z found noted.answer)
 found_ok passes x z goal found result is answers =
-    subst (λ (f : Result Goal Refusal). IfOk result (λ (traced : TracedAnswer). IsPathFound passes x z f traced.answer)) is answers
+    subst (λ (f : Result Goal Refusal). IfOk result (λ (noted : Noted). IsPathFound passes x z f noted.answer)) is answers
 
 -- the answer to a path to a goal that is refused
 pub found_err : (passes : Cell → Bool) (x z : ℤ) (refusal : Refusal) (found : Result Goal Refusal) → Err refusal ≡ found → IsPathFound passes x z found (Refused refusal)
@@ -100,22 +107,52 @@ found_err passes x z refusal found is =
     let answer : Answer = Refused refusal in
     subst (λ (f : Result Goal Refusal). IsPathFound passes x z f answer) is refl
 
--- ---- opened numbers
+-- ---- notes
 
--- the opened number of a search, by the rectangle of its aim in a map of its size
-pub counted_ok : (passes hit : Cell → Bool) (framed : Size → Cell → Bool) (size side : Size) (start : Cell) (wanted : Wanted) (rect : Rect) (result : Result Traced NoMemory)
+-- a note by other numbers
+path_note_by : (report : Report) (IsNumber IsOther : ℕ → Type 0) (note : Note) → ((n : ℕ) → IsNumber n → IsOther n)
+    → IsPathNote report IsNumber note → IsPathNote report IsOther note
+path_note_by Alone IsNumber IsOther note other is = is
+path_note_by OpenedNumbers IsNumber IsOther note other is = (is.0, (is.1.0, other is.0 is.1.1))
+
+note_by : (report : Report) (IsNumber IsOther : PathAnswer → ℕ → Type 0) (answer : Answer) (note : Note)
+    → ((path : PathAnswer) (n : ℕ) → IsNumber path n → IsOther path n) → IsNoteBy report IsNumber answer note → IsNoteBy report IsOther answer note
+note_by report IsNumber IsOther (IsPath path) note other is = path_note_by report (IsNumber path) (IsOther path) note (other path) is
+note_by report IsNumber IsOther (IsRegion region) note other is = is
+note_by report IsNumber IsOther (Refused refusal) note other is = is
+note_by report IsNumber IsOther Nowhere note other is = is
+
+-- the note of a search, by the rectangle of its aim in a map of its size
+pub counted_note : (passes hit : Cell → Bool) (framed : Size → Cell → Bool) (size side : Size) (start : Cell) (cost opened : ℕ) (rect : Rect)
     → side ≡ size → IsFrame (framed side) side rect
-    → IfOk result (λ (traced : Traced). (r : Rect) → IsFrame (framed size) size r → Counts (IsOpened passes hit start r traced.found.cost.0) traced.opened)
-    → IfOk result (λ (traced : Traced). wanted ≡ OpenedNumber → IsCountedBy passes hit (framed size) size start traced.found.cost.0 traced.opened)
-counted_ok passes hit framed size side start wanted rect (Ok traced) same frame counted = λ want.
+    → ((r : Rect) → IsFrame (framed size) size r → Counts (IsOpened passes hit start r cost) opened)
+    → IsCountedBy passes hit (framed size) size start cost opened
+counted_note passes hit framed size side start cost opened rect same frame counted =
     let here : IsFrame (framed size) size rect = subst (λ (s : Size). IsFrame (framed s) s rect) same frame in
     (rect, (here, counted rect here))
-counted_ok passes hit framed size side start wanted rect (Err refused) same frame counted = tt
 
--- an answer with its opened number, where that is wanted
-pub traced_ok : (map : Map) (standing : Standing) (request : Request) (wanted : Wanted) (result : Result TracedAnswer NoMemory)
-    → wanted ≡ OpenedNumber → IfOk result (λ (traced : TracedAnswer). IsAnswerTo map standing request traced.answer)
-    → IfOk result (λ (traced : TracedAnswer). wanted ≡ OpenedNumber → HasOpened map standing request traced.answer traced.opened)
-    → IfOk result (IsTracedAnswerTo map standing request)
-traced_ok map standing request wanted (Ok traced) want answer number = record { answered = answer; number = number want }
-traced_ok map standing request wanted (Err refused) want answer number = tt
+-- the note of a path to the targets of a goal
+pub note_to : (report : Report) (passes : Cell → Bool) (size : Size) (goal : Goal) (path : PathAnswer) (target : Target) (note : Note)
+    → AreTargets passes path.start goal target → IsPathNote report (IsCountedBy passes (hit_by target) (framed_by target) size path.start path.cost.0) note
+    → IsPathNote report (IsOpenedTo passes size goal path) note
+note_to report passes size goal path target note targets is =
+    path_note_by report (IsCountedBy passes (hit_by target) (framed_by target) size path.start path.cost.0) (IsOpenedTo passes size goal path) note
+    (λ n counted. record { target = target; targets = targets; box = counted.0; frame = counted.1.0; counted = counted.1.1 }) is
+
+-- the note of a path of a class by its name to a goal as it is named
+pub note_for : (map : Map) (standing : Standing) (report : Report) (name : List ℕ) (spec : GoalSpec) (class : ℕ) (goal : Goal) (result : Result Noted NoMemory)
+    → class_named map name ≡ Some class → Ok goal ≡ goal_found map standing spec
+    → IfOk result (λ (noted : Noted). IsNoteBy report (IsOpenedTo (passable_at map standing class) map.size goal) noted.answer noted.note)
+    → IfOk result (λ (noted : Noted). IsNoteBy report (IsOpenedFor map standing name spec) noted.answer noted.note)
+note_for map standing report name spec class goal (Err refused) named found is = tt
+note_for map standing report name spec class goal (Ok noted) named found is =
+    note_by report (IsOpenedTo (passable_at map standing class) map.size goal) (IsOpenedFor map standing name spec) noted.answer noted.note
+    (λ path n number. record { class = class; named = named; goal = goal; found = sym found; number = number }) is
+
+-- an answer with its note
+pub noted_ok : (map : Map) (standing : Standing) (report : Report) (request : Request) (result : Result Noted NoMemory)
+    → IfOk result (λ (noted : Noted). IsAnswerTo map standing request noted.answer)
+    → IfOk result (λ (noted : Noted). IsNoteOf map standing report request noted.answer noted.note)
+    → IfOk result (IsNotedTo map standing report request)
+noted_ok map standing report request (Ok noted) answer note = record { answered = answer; told = note }
+noted_ok map standing report request (Err refused) answer note = tt

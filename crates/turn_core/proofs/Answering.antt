@@ -1,14 +1,15 @@
 -- The answers to the jobs of a turn, and the replies that they make.
 use Rattle.std.proofs.Common.{◌≡◌, ℕ, zero, suc, ◌+◌, List, [], ◌∷◌, ◌++◌, Option, None, Some, length, drop, set, replicate, slice_index_or, refl, ap, subst}
 use Rattle.std.specs.Prelude.{slice_get}
-use Rattle.grid_versions.specs.Maps.{Map}
-use Rattle.turn_core.specs.declared.posts.Post.{Post}
-use Rattle.turn_core.specs.declared.posts.Post.TheVariants.{Edit as Editing, Ask as Asking}
-use Rattle.turn_core.specs.declared.posts.Request.{Request}
-use Rattle.turn_core.specs.declared.replies.Answer.{Answer}
+use Rattle.posts.specs.declared.posts.Post.{Post}
+use Rattle.posts.specs.declared.posts.Post.TheVariants.{Edit as Editing, Ask as Asking}
+use Rattle.posts.specs.declared.posts.Request.{Request}
+use Rattle.posts.specs.declared.replies.Answer.{Answer}
+use Rattle.posts.specs.Maps.{Map}
+use Rattle.posts.specs.Posts.{requests, jobs}
 use Rattle.turn_core.specs.Solving.{IsAnswerTo, AreAnswersTo}
 use Rattle.turn_core.specs.Words.{Standing, edited}
-use Rattle.turn_core.specs.Turns.{after, requests, jobs, AreReplies, AreTurnReplies}
+use Rattle.turn_core.specs.Turns.{after, AreReplies, AreTurnReplies}
 use Rattle.turn_core.specs.Table.{why_unanswered}
 use Rattle.turn_core.specs.Effects.{known, given, given_turn}
 use Rattle.turn_core.specs.Facts.{AreAnswers}

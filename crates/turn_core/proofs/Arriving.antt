@@ -2,18 +2,20 @@
 use Rattle.std.proofs.Common.{◌≡◌, ℕ, zero, suc, ◌+◌, ◌<◌, ◌≤◌, List, [], ◌∷◌, ◌++◌, Option, None, length, map, set, replicate, slice_index, refl, sym, ap, ◌∙◌, subst, arith, append_assoc, append-nil, length-append}
 use Rattle.std.specs.Prelude.{nat_lt, slice_get}
 use Rattle.std.proofs.lemmas.List.{get_or_at, set_at, length-replicate}
-use Rattle.grid_versions.specs.Maps.{Map}
+use Rattle.posts.specs.declared.posts.Post.{Post}
+use Rattle.posts.specs.declared.posts.Post.TheVariants.{Edit as Editing, Ask as Asking}
+use Rattle.posts.specs.declared.posts.Request.{Request}
+use Rattle.posts.specs.declared.replies.Answer.{Answer}
+use Rattle.posts.specs.declared.replies.Reply.{Reply}
+use Rattle.posts.specs.Maps.{Map}
+use Rattle.posts.specs.Posts.{requests, jobs}
+use Rattle.posts.specs.Callers.{of_caller, list_of}
 use Rattle.turn_core.specs.declared.events.Event.TheVariants.{Stage, Deliver, Collect}
 use Rattle.turn_core.specs.declared.events.Why.TheVariants.{Callers, Collected}
-use Rattle.turn_core.specs.declared.posts.Post.{Post}
-use Rattle.turn_core.specs.declared.posts.Post.TheVariants.{Edit as Editing, Ask as Asking}
-use Rattle.turn_core.specs.declared.posts.Request.{Request}
-use Rattle.turn_core.specs.declared.replies.Answer.{Answer}
-use Rattle.turn_core.specs.declared.replies.Reply.{Reply}
 use Rattle.turn_core.specs.Solving.{AreAnswersTo}
 use Rattle.turn_core.specs.Words.{Standing, bare, edited}
-use Rattle.turn_core.specs.Turns.{after, after_turn, requests, jobs, of_caller, AreReplies, AreTurnReplies, OneThread}
-use Rattle.turn_core.specs.States.{State, opening, list_of, stands_after_done}
+use Rattle.turn_core.specs.Turns.{after, after_turn, AreReplies, AreTurnReplies, OneThread}
+use Rattle.turn_core.specs.States.{State, opening, stands_after_done}
 use Rattle.turn_core.specs.Table.{why_no_caller, why_collected}
 use Rattle.turn_core.specs.Effects.{joined_up, IsStep, IsMachineRun, Reaches}
 use Rattle.turn_core.specs.Facts.{HaveLists, Facts}
@@ -43,7 +45,8 @@ answers_in m final s (Asking q ∷ ps) (r ∷ rs) x =
     let more = answers_in m final (edited m s (Asking q)) ps rs x.1 in
     (x.0.0 ∷ more.0, (x.0.1.1, more.1))
 
-answers_turn : (m : Map) (final s : Standing) (turn : List (List Post)) (rss : List (List Reply)) → AreTurnReplies m final s turn rss → (ts : List Answer) × AreAnswersTo m final (jobs turn) ts
+-- where a turn has its replies, its jobs have their answers
+pub answers_turn : (m : Map) (final s : Standing) (turn : List (List Post)) (rss : List (List Reply)) → AreTurnReplies m final s turn rss → (ts : List Answer) × AreAnswersTo m final (jobs turn) ts
 answers_turn m final s [] [] x = ([], tt)
 answers_turn m final s [] (rs ∷ rss) x = absurd x
 answers_turn m final s (ps ∷ turn) [] x = absurd x

@@ -1,9 +1,8 @@
 -- Lists with one item for each caller, place by place.
 use Rattle.std.proofs.Common.{◌≡◌, ◌⊎◌, ℕ, zero, suc, ◌+◌, ◌≤◌, List, [], ◌∷◌, ◌++◌, length, map, take, drop, get_or, set, replicate, slice_index, slice_index_or, refl, sym, ap, ◌∙◌, inl, inr, arith, append-nil, length-take}
 use Rattle.std.proofs.lemmas.Grind.{flat_map-append}
-use Rattle.turn_core.specs.declared.posts.Post.{Post}
-use Rattle.turn_core.specs.Turns.{of_caller}
-use Rattle.turn_core.specs.States.{list_of}
+use Rattle.posts.specs.declared.posts.Post.{Post}
+use Rattle.posts.specs.Callers.{of_caller, list_of}
 use Rattle.turn_core.specs.Table.{first}
 use Rattle.turn_core.specs.Effects.{first_list, next_posts, added_up, joined_up}
 

@@ -1,17 +1,18 @@
 -- The replies to a turn: those made before its requests are answered, filled with the answers.
 use Rattle.std.proofs.Common.{◌≡◌, ℕ, zero, suc, List, [], ◌∷◌, ◌++◌, length, drop, refl, sym, ap, ◌∙◌, subst, arith}
-use Rattle.grid_versions.specs.Maps.{Map}
+use Rattle.posts.specs.declared.edits.EditReply.{EditReply}
+use Rattle.posts.specs.declared.posts.Post.{Post}
+use Rattle.posts.specs.declared.posts.Post.TheVariants.{Edit as Editing, Ask as Asking}
+use Rattle.posts.specs.declared.posts.Request.{Request}
+use Rattle.posts.specs.declared.replies.Answer.{Answer}
+use Rattle.posts.specs.declared.replies.Reply.{Reply}
+use Rattle.posts.specs.declared.replies.Reply.TheVariants.{Edit as Edited, Answer as Answered}
+use Rattle.posts.specs.Maps.{Map}
+use Rattle.posts.specs.Posts.{requests, jobs}
 use Rattle.grid_versions.specs.Editing.{edit_reply}
-use Rattle.grid_versions.specs.declared.edits.EditReply.{EditReply}
-use Rattle.turn_core.specs.declared.posts.Post.{Post}
-use Rattle.turn_core.specs.declared.posts.Post.TheVariants.{Edit as Editing, Ask as Asking}
-use Rattle.turn_core.specs.declared.posts.Request.{Request}
-use Rattle.turn_core.specs.declared.replies.Answer.{Answer}
-use Rattle.turn_core.specs.declared.replies.Reply.{Reply}
-use Rattle.turn_core.specs.declared.replies.Reply.TheVariants.{Edit as Edited, Answer as Answered}
 use Rattle.turn_core.specs.Solving.{AreAnswersTo}
 use Rattle.turn_core.specs.Words.{Standing, edited}
-use Rattle.turn_core.specs.Turns.{after, after_turn, requests, jobs, AreTurnReplies}
+use Rattle.turn_core.specs.Turns.{after, after_turn, AreTurnReplies}
 use Rattle.turn_core.specs.Effects.{first_answer, given, given_turn}
 use Rattle.turn_core.specs.inner.ReplyLists.{edits_told, edits_told_in, list_ahead, edits_past_list, HaveEdits, lists_ahead, AllHaveEdits, list_filled, answers_past_list, HaveAnswers, lists_filled, AllHaveAnswers}
 use Rattle.turn_core.proofs.Answering.{given_turn_are}

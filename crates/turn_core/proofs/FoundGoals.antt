@@ -14,8 +14,8 @@ use Rattle.goal_shapes.specs.declared.goals.Goal.{Goal}
 use Rattle.goal_shapes.specs.declared.goals.GoalSpec.TheVariants.{Obstruction}
 use Rattle.goal_shapes.specs.declared.goals.Goal.TheVariants.{Point, Circle, NotCircle, Square, NotSquare}
 use Rattle.goal_shapes.specs.Limits.{middle_x, middle_z, IsWellFormedSquare, IsWellFormed, IsGoalInside, IsSoundGoal}
-use Rattle.grid_versions.specs.declared.edits.Refusal.TheVariants.{BadShape, GoalOutside}
-use Rattle.grid_versions.specs.Maps.{Map}
+use Rattle.posts.specs.declared.edits.Refusal.TheVariants.{BadShape, GoalOutside}
+use Rattle.posts.specs.Maps.{Map}
 use Rattle.turn_core.specs.Words.{Standing}
 use Rattle.turn_core.specs.NamedGoals.{is_on_map, is_well_formed_square, is_well_formed, plain_goal, goal_about, goal_found}
 

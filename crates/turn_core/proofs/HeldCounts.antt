@@ -1,9 +1,8 @@
 -- How many replies there are to a caller, by what the machine of the code holds.
 use Rattle.std.proofs.Common.{◌≡◌, ℕ, ◌+◌, List, Option, None, Some, length, slice_index, refl, sym, ap, ◌∙◌, append-nil, arith}
+use Rattle.posts.specs.Callers.{of_caller, list_of}
 use Rattle.turn_core.specs.declared.machines.running.RunningTurn.{RunningTurn}
 use Rattle.turn_core.specs.declared.machines.Machine.TheInside.{Inside}
-use Rattle.turn_core.specs.Turns.{of_caller}
-use Rattle.turn_core.specs.States.{list_of}
 use Rattle.turn_core.specs.Facts.{running_turns, staged_turns, Facts}
 use Rattle.turn_core.specs.inner.Runs.{option_run_of, option_posts_of, posts_held}
 use Rattle.turn_core.specs.inner.Machines.{state_of}

@@ -3,16 +3,18 @@ use Rattle.std.proofs.Common.{◌≡◌, ℕ, ◌+◌, ◌<◌, ◌≤◌, Bool,
 use Rattle.std.specs.Prelude.{nat_lt, nat_le}
 use Rattle.std.proofs.lemmas.List.{get_or-set_other, take-append-le, length-map, length-replicate}
 use Rattle.std.proofs.lemmas.Bool.{ltb-true}
-use Rattle.grid_versions.specs.Maps.{Map}
+use Rattle.posts.specs.declared.posts.Post.{Post}
+use Rattle.posts.specs.declared.replies.Answer.{Answer}
+use Rattle.posts.specs.declared.replies.Reply.{Reply}
+use Rattle.posts.specs.Maps.{Map}
+use Rattle.posts.specs.Posts.{jobs}
+use Rattle.posts.specs.Callers.{of_caller, list_of}
 use Rattle.turn_core.specs.declared.events.Event.{Event}
 use Rattle.turn_core.specs.declared.events.Event.TheVariants.{Post as Posting, Stage, Start, Claim, Finish, Deliver, Collect}
 use Rattle.turn_core.specs.declared.events.Why.{Why}
-use Rattle.turn_core.specs.declared.posts.Post.{Post}
-use Rattle.turn_core.specs.declared.replies.Answer.{Answer}
-use Rattle.turn_core.specs.declared.replies.Reply.{Reply}
 use Rattle.turn_core.specs.Words.{Standing, bare}
-use Rattle.turn_core.specs.Turns.{after_turn, jobs, of_caller}
-use Rattle.turn_core.specs.States.{State, Run, opening, list_of, stands_after_done, stands_in_run}
+use Rattle.turn_core.specs.Turns.{after_turn}
+use Rattle.turn_core.specs.States.{State, Run, opening, stands_after_done, stands_in_run}
 use Rattle.turn_core.specs.Table.{unless, or_else, why_no_caller, why_staged, why_none_staged, why_running, why_no_claim, why_no_finish, why_unanswered, why_no_delivery, last_turn, running_turn}
 use Rattle.turn_core.specs.Effects.{next_posts, added_up, known, given_turn, posted, staged, started, claimed, finished, delivered, collected, AnswersJob, IsStep, IsMachineRun}
 use Rattle.turn_core.specs.Facts.{running_turns, staged_turns, all_turns, HaveLists, IsRunning, WhileRunning, Facts}

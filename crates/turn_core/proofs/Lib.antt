@@ -2,7 +2,7 @@ pub mod FoundGoals
 pub mod Answered
 pub mod Itemwise
 pub mod OneAnswer
-pub mod OneOpenedNumber
+pub mod OneNote
 pub mod TurnByTurn
 pub mod Threads
 pub mod CallerLists
@@ -20,4 +20,3 @@ pub mod Reaching
 pub mod Arriving
 pub mod MachineSteps
 pub mod HeldCounts
-pub mod PostCounts

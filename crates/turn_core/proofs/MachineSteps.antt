@@ -4,27 +4,29 @@ use Rattle.std.proofs.Common.{slice_index_or, refl, sym, ap, ◌∙◌, subst, a
 use Rattle.std.specs.Prelude.{nat_lt, slice_get, IsSome, ◌↔◌}
 use Rattle.std.proofs.lemmas.List.{map_push}
 use Rattle.std.proofs.lemmas.Option.{slice_get-get_or}
-use Rattle.grid_versions.specs.Maps.{Map}
+use Rattle.posts.specs.declared.posts.Post.{Post}
+use Rattle.posts.specs.declared.posts.Request.{Request}
+use Rattle.posts.specs.declared.replies.Answer.{Answer}
+use Rattle.posts.specs.declared.replies.Answer.TheVariants.{Nowhere}
+use Rattle.posts.specs.declared.replies.Reply.{Reply}
+use Rattle.posts.specs.declared.replies.Reply.TheVariants.{Answer as Answered}
+use Rattle.posts.specs.declared.replies.TurnReplies.{TurnReplies}
+use Rattle.posts.specs.Maps.{Map}
+use Rattle.posts.specs.Posts.{jobs}
+use Rattle.posts.specs.Callers.{list_of}
 use Rattle.grid_versions.specs.Versions.{map_state}
 use Rattle.turn_core.specs.declared.events.Event.{Event}
 use Rattle.turn_core.specs.declared.events.Event.TheVariants.{Post as Posting, Stage, Start, Claim, Finish, Deliver}
 use Rattle.turn_core.specs.declared.events.Event.TheVariants.{Collect}
 use Rattle.turn_core.specs.declared.events.Why.{Why}
-use Rattle.turn_core.specs.declared.posts.Post.{Post}
-use Rattle.turn_core.specs.declared.posts.Request.{Request}
-use Rattle.turn_core.specs.declared.replies.Answer.{Answer}
-use Rattle.turn_core.specs.declared.replies.Answer.TheVariants.{Nowhere}
-use Rattle.turn_core.specs.declared.replies.Reply.{Reply}
-use Rattle.turn_core.specs.declared.replies.Reply.TheVariants.{Answer as Answered}
 use Rattle.turn_core.specs.declared.machines.running.RunningTurn.{RunningTurn}
 use Rattle.turn_core.specs.declared.machines.delivered.DeliveredTurn.{DeliveredTurn}
 use Rattle.turn_core.specs.declared.machines.Machine.TheInside.{Inside}
-use Rattle.turn_core.specs.declared.replies.TurnReplies.{TurnReplies}
 use Rattle.turn_core.specs.Solving.{IsAnswerTo, AreAnswersTo}
 use Rattle.turn_core.specs.Words.{Standing, MapState, bare}
-use Rattle.turn_core.specs.Turns.{after_turn, standing, jobs, IsTurnTold}
+use Rattle.turn_core.specs.Turns.{after_turn, standing, IsTurnTold}
 use Rattle.turn_core.specs.ReadyTurns.{Ready, after_edits_of}
-use Rattle.turn_core.specs.States.{State, Run, list_of, stands_after_done, stands_in_run}
+use Rattle.turn_core.specs.States.{State, Run, stands_after_done, stands_in_run}
 use Rattle.turn_core.specs.Table.{unless, or_else, why_not, why_none_staged, why_running, running_turn, why_no_caller}
 use Rattle.turn_core.specs.Table.{why_no_claim, why_no_finish, why_unanswered, why_no_delivery, why_collected}
 use Rattle.turn_core.specs.Table.{last_turn}

@@ -12,15 +12,15 @@ use Rattle.goal_reach.proofs.Targeting.{one_target}
 use Rattle.goal_reach.proofs.Starting.{one_holder, one_start}
 use Rattle.walks.specs.Chosen.{IsAnswer}
 use Rattle.walks.proofs.OneAnswer.{one_answer}
-use Rattle.grid_versions.specs.declared.edits.Refusal.{Refusal}
-use Rattle.grid_versions.specs.Maps.{Map}
+use Rattle.posts.specs.declared.edits.Refusal.{Refusal}
+use Rattle.posts.specs.declared.posts.Request.{Request}
+use Rattle.posts.specs.declared.posts.Request.TheVariants.{Path as AsksPath, Region as AsksRegion}
+use Rattle.posts.specs.declared.replies.PathAnswer.{PathAnswer}
+use Rattle.posts.specs.declared.replies.RegionAnswer.{RegionAnswer}
+use Rattle.posts.specs.declared.replies.Answer.{Answer}
+use Rattle.posts.specs.declared.replies.Answer.TheVariants.{Path as IsPath, Region as IsRegion}
+use Rattle.posts.specs.Maps.{Map}
 use Rattle.grid_versions.specs.Passing.{passable_at}
-use Rattle.turn_core.specs.declared.posts.Request.{Request}
-use Rattle.turn_core.specs.declared.posts.Request.TheVariants.{Path as AsksPath, Region as AsksRegion}
-use Rattle.turn_core.specs.declared.replies.PathAnswer.{PathAnswer}
-use Rattle.turn_core.specs.declared.replies.RegionAnswer.{RegionAnswer}
-use Rattle.turn_core.specs.declared.replies.Answer.{Answer}
-use Rattle.turn_core.specs.declared.replies.Answer.TheVariants.{Path as IsPath, Region as IsRegion}
 use Rattle.turn_core.specs.Words.{Standing}
 use Rattle.turn_core.specs.NamedGoals.{class_named, is_on_map, goal_found}
 use Rattle.turn_core.specs.Solving.{IsImpassable, is_near, IsPathAnswer, IsPathTo, IsPathFound, IsRegionAnswer, IsRegionAt, IsAnswerAt, IsAnswerTo, AreAnswersTo}

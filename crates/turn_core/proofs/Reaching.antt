@@ -3,19 +3,21 @@ use Rattle.std.proofs.Common.{◌≡◌, ℕ, zero, suc, ◌+◌, ◌-◌, ◌<�
 use Rattle.std.specs.Prelude.{nat_lt, nat_le, slice_get, ◌==◌}
 use Rattle.std.proofs.lemmas.List.{get_or_at, set_at, map_push, length-map, take_at, drop_at, ext_get_or}
 use Rattle.std.proofs.lemmas.Bool.{lt-ltb, le-leb}
-use Rattle.grid_versions.specs.Maps.{Map}
+use Rattle.posts.specs.declared.posts.Post.{Post}
+use Rattle.posts.specs.declared.posts.Request.{Request}
+use Rattle.posts.specs.declared.replies.Answer.{Answer}
+use Rattle.posts.specs.declared.replies.Reply.{Reply}
+use Rattle.posts.specs.Maps.{Map}
+use Rattle.posts.specs.Posts.{jobs}
+use Rattle.posts.specs.Callers.{of_caller, list_of}
 use Rattle.turn_core.specs.declared.events.Event.{Event}
 use Rattle.turn_core.specs.declared.events.Event.TheVariants.{Post as Posting, Stage, Start, Claim, Finish, Deliver}
 use Rattle.turn_core.specs.declared.events.Why.{Why}
 use Rattle.turn_core.specs.declared.events.Why.TheVariants.{Callers, Posted, AllClaimed, Claimed, Unclaimed}
-use Rattle.turn_core.specs.declared.posts.Post.{Post}
-use Rattle.turn_core.specs.declared.posts.Request.{Request}
-use Rattle.turn_core.specs.declared.replies.Answer.{Answer}
-use Rattle.turn_core.specs.declared.replies.Reply.{Reply}
 use Rattle.turn_core.specs.Solving.{IsAnswerTo, AreAnswersTo}
 use Rattle.turn_core.specs.Words.{Standing}
-use Rattle.turn_core.specs.Turns.{after_turn, jobs, of_caller, AreTurnReplies}
-use Rattle.turn_core.specs.States.{State, Run, list_of, stands_after_done}
+use Rattle.turn_core.specs.Turns.{after_turn, AreTurnReplies}
+use Rattle.turn_core.specs.States.{State, Run, stands_after_done}
 use Rattle.turn_core.specs.Table.{first, unless, or_else, why_not_each, why_staged, why_few, why_none_staged, why_running, why_answered, why_unanswered, why_no_delivery, last_turn, running_turn}
 use Rattle.turn_core.specs.Effects.{next_posts, added_up, joined_up, begun, known, given_turn, started, delivered, IsStep, IsMachineRun, Reaches}
 use Rattle.turn_core.specs.Facts.{all_turns, Facts}

@@ -9,10 +9,10 @@ use Rattle.std.proofs.lemmas.Bool.{cases_eq}
 use Rattle.std.proofs.lemmas.Grind.{flat_map-append}
 use Rattle.std.proofs.lemmas.Option.{slice_get_past, slice_get_read}
 use Rattle.nav_types.proofs.Items.{slice_get-before}
+use Rattle.posts.specs.declared.replies.Reply.{Reply}
+use Rattle.posts.specs.Callers.{list_of}
 use Rattle.turn_core.specs.declared.machines.delivered.DeliveredTurn.{DeliveredTurn}
 use Rattle.turn_core.specs.declared.machines.delivered.ReplyPlace.{ReplyPlace}
-use Rattle.turn_core.specs.declared.replies.Reply.{Reply}
-use Rattle.turn_core.specs.States.{list_of}
 use Rattle.turn_core.specs.inner.Runs.{replies_to, beginning, HasCome, HaveCome}
 use Rattle.turn_core.proofs.CallerLists.{zeros_at}
 

@@ -1,11 +1,12 @@
 -- Where nothing is staged or running, each post that is taken has one reply.
 use Rattle.std.proofs.Common.{◌≡◌, ℕ, zero, suc, ◌+◌, List, [], ◌∷◌, ◌++◌, Option, None, length, slice_index, refl, sym, ap, ◌∙◌, arith, append-nil, length-append, length-take-le}
-use Rattle.grid_versions.specs.Maps.{Map}
-use Rattle.turn_core.specs.declared.posts.Post.{Post}
-use Rattle.turn_core.specs.declared.replies.Reply.{Reply}
+use Rattle.posts.specs.declared.posts.Post.{Post}
+use Rattle.posts.specs.declared.replies.Reply.{Reply}
+use Rattle.posts.specs.Maps.{Map}
+use Rattle.posts.specs.Callers.{of_caller, list_of}
 use Rattle.turn_core.specs.Words.{Standing, bare, edited}
-use Rattle.turn_core.specs.Turns.{after, after_turn, of_caller, AreReplies, AreTurnReplies, OneThread}
-use Rattle.turn_core.specs.States.{State, Run, list_of}
+use Rattle.turn_core.specs.Turns.{after, after_turn, AreReplies, AreTurnReplies, OneThread}
+use Rattle.turn_core.specs.States.{State, Run}
 use Rattle.turn_core.specs.Facts.{running_turns, staged_turns, all_turns, Facts}
 use Rattle.turn_core.proofs.CallerLists.{of_caller-append}
 

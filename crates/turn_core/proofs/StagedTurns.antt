@@ -2,9 +2,9 @@
 use Rattle.std.proofs.Common.{◌≡◌, ℕ, ◌+◌, ◌-◌, ◌<◌, ◌≤◌, Bool, List, [], ◌∷◌, ◌++◌, None, Some, length, map, take, drop, get_or, slice_index, sym, ap, ◌∙◌, arith, append_assoc, append-nil, add-zero}
 use Rattle.std.specs.Prelude.{nat_le}
 use Rattle.std.proofs.lemmas.Bool.{le-leb, lt-leb}
-use Rattle.std.proofs.lemmas.List.{drop_all, drop_more, get_or-drop, drop-drop, take_more}
+use Rattle.std.proofs.lemmas.List.{drop_all, drop_more, get_or-drop, drop-drop}
+use Rattle.posts.specs.declared.posts.Post.{Post}
 use Rattle.turn_core.specs.declared.events.Why.TheVariants.{Posted}
-use Rattle.turn_core.specs.declared.posts.Post.{Post}
 use Rattle.turn_core.specs.Table.{first, or_else, unless, why_few}
 use Rattle.turn_core.specs.Effects.{next_posts, added_up}
 use Rattle.turn_core.proofs.CallerLists.{first_at}
@@ -99,9 +99,3 @@ why_few_here pss ts ks i ps taken wanted left lt is at_taken at_wanted at_left f
 -- no caller is left
 pub why_few_none : (pss : List (List Post)) (ts ks : List ℕ) (i : ℕ) → length pss ≤ i → why_few i (drop i pss) (drop i ts) (drop i ks) ≡ None
 why_few_none pss ts ks i past = ap (λ (rest : List (List Post)). why_few i rest (drop i ts) (drop i ks)) (drop_all i pss past)
-
--- one item more that is copied
-pub copied_more : {A : Type 0} (xs made now : List A) (i : ℕ) (x y : A) → i < length xs → x ≡ get_or xs i x → made ≡ take i xs → y ≡ x → now ≡ made ++ y ∷ []
-    → now ≡ take (i + 1) xs
-copied_more xs made now i x y lt is before same pushed =
-    pushed ∙ ap (λ (l : List _). l ++ y ∷ []) before ∙ ap (λ (z : _). take i xs ++ z ∷ []) (same ∙ is) ∙ sym (take_more xs i x lt)

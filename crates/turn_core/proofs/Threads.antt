@@ -5,14 +5,14 @@ use Rattle.nav_types.specs.declared.cells.Cell.{Cell}
 use Rattle.nav_types.specs.declared.cells.Chunk.{Chunk}
 use Rattle.nav_types.specs.Cells.{chunk_of}
 use Rattle.nav_types.specs.Regions.{IsRegionFirst, IsNextChunk, IsEdge, IsAreaFirst}
-use Rattle.grid_versions.specs.Maps.{Map}
+use Rattle.posts.specs.declared.posts.Post.{Post}
+use Rattle.posts.specs.declared.posts.Post.TheVariants.{Edit as Editing, Ask as Asking}
+use Rattle.posts.specs.declared.replies.Reply.{Reply}
+use Rattle.posts.specs.declared.replies.Reply.TheVariants.{Answer as Answered}
+use Rattle.posts.specs.declared.replies.TurnReplies.{TurnReplies}
+use Rattle.posts.specs.Maps.{Map}
 use Rattle.grid_versions.specs.Passing.{passable_at}
 use Rattle.nav_types.proofs.Counting.{Counts-unique}
-use Rattle.turn_core.specs.declared.posts.Post.{Post}
-use Rattle.turn_core.specs.declared.posts.Post.TheVariants.{Edit as Editing, Ask as Asking}
-use Rattle.turn_core.specs.declared.replies.Reply.{Reply}
-use Rattle.turn_core.specs.declared.replies.Reply.TheVariants.{Answer as Answered}
-use Rattle.turn_core.specs.declared.replies.TurnReplies.{TurnReplies}
 use Rattle.turn_core.specs.Words.{Standing, bare, edited, TellsNumbers}
 use Rattle.turn_core.proofs.OneAnswer.{one_answer_to}
 use Rattle.turn_core.specs.Turns.{after, after_turn, standing, Gets, AreReplies, AreTurnReplies, OneThread, TellNumbers, IsTurnTold, replies_in, IsOneThread}

@@ -3,14 +3,14 @@ use Rattle.std.proofs.Common.{◌≡◌, ℕ, ◌+◌, ◌<◌, List, [], ◌∷
 use Rattle.std.specs.Prelude.{◌↔◌, slice_get}
 use Rattle.std.proofs.lemmas.List.{take_more}
 use Rattle.nav_types.specs.Regions.{HasTallies, HasRelabelled}
-use Rattle.grid_versions.specs.Maps.{Map}
+use Rattle.posts.specs.declared.posts.Post.{Post}
+use Rattle.posts.specs.declared.posts.Request.{Request}
+use Rattle.posts.specs.declared.replies.Answer.{Answer}
+use Rattle.posts.specs.declared.replies.Answer.TheVariants.{Nowhere}
+use Rattle.posts.specs.declared.replies.Reply.{Reply}
+use Rattle.posts.specs.declared.replies.TurnReplies.{TurnReplies}
+use Rattle.posts.specs.Maps.{Map}
 use Rattle.grid_versions.specs.Versions.{map_state, passes_of}
-use Rattle.turn_core.specs.declared.posts.Post.{Post}
-use Rattle.turn_core.specs.declared.posts.Request.{Request}
-use Rattle.turn_core.specs.declared.replies.Answer.{Answer}
-use Rattle.turn_core.specs.declared.replies.Answer.TheVariants.{Nowhere}
-use Rattle.turn_core.specs.declared.replies.Reply.{Reply}
-use Rattle.turn_core.specs.declared.replies.TurnReplies.{TurnReplies}
 use Rattle.turn_core.specs.Words.{Standing, MapState, bare, TellsNumbers}
 use Rattle.turn_core.specs.Solving.{IsAnswerTo, AreAnswersTo}
 use Rattle.turn_core.specs.Turns.{after_turn, standing, OneThread, TellNumbers, IsTurnTold, replies_in, IsOneThread}

@@ -3,13 +3,14 @@ use Rattle.std.proofs.Common.{◌≡◌, ℕ, ◌+◌, ◌<◌, List, [], ◌∷
 use Rattle.std.specs.Prelude.{filter_map, flat_map, option_to_list}
 use Rattle.std.proofs.lemmas.List.{take_more}
 use Rattle.std.proofs.lemmas.List.Elements.{filter_map-append}
-use Rattle.grid_versions.specs.Maps.{Map}
+use Rattle.posts.specs.declared.edits.Edit.{Edit}
+use Rattle.posts.specs.declared.edits.EditReply.{EditReply}
+use Rattle.posts.specs.declared.posts.Post.{Post}
+use Rattle.posts.specs.declared.posts.Post.TheVariants.{Edit as Editing, Ask as Asking}
+use Rattle.posts.specs.Maps.{Map}
+use Rattle.posts.specs.Posts.{edit_of}
 use Rattle.grid_versions.specs.Editing.{after_edits, edit_reply, edit_replies}
-use Rattle.grid_versions.specs.declared.edits.Edit.{Edit}
-use Rattle.grid_versions.specs.declared.edits.EditReply.{EditReply}
-use Rattle.turn_core.specs.declared.posts.Post.{Post}
-use Rattle.turn_core.specs.declared.posts.Post.TheVariants.{Edit as Editing, Ask as Asking}
-use Rattle.turn_core.specs.Words.{Standing, edit_of, edited}
+use Rattle.turn_core.specs.Words.{Standing, edited}
 use Rattle.turn_core.specs.Turns.{after, after_turn}
 use Rattle.turn_core.specs.inner.ReplyLists.{edits_told, edits_told_in}
 

@@ -1,20 +1,22 @@
 -- What the events of the machine do, and runs of it.
 use Rattle.std.specs.Prelude.{ℕ, ◌≡◌, ◌+◌, Option, None, Some, List, [], ◌∷◌, ◌++◌, drop, take, length, map, replicate, slice_get, slice_index, slice_set}
-use Rattle.grid_versions.specs.Maps.{Map}
+use Rattle.posts.specs.declared.posts.Post.{Post}
+use Rattle.posts.specs.declared.posts.Post.TheVariants.{Edit as Editing, Ask as Asking}
+use Rattle.posts.specs.declared.posts.Request.{Request}
+use Rattle.posts.specs.declared.replies.Answer.{Answer}
+use Rattle.posts.specs.declared.replies.Answer.TheVariants.{Nowhere}
+use Rattle.posts.specs.declared.replies.Reply.{Reply}
+use Rattle.posts.specs.declared.replies.Reply.TheVariants.{Edit as Edited, Answer as Answered}
+use Rattle.posts.specs.Maps.{Map}
+use Rattle.posts.specs.Posts.{requests, jobs}
+use Rattle.posts.specs.Callers.{list_of}
 use Rattle.grid_versions.specs.Editing.{edit_reply}
 use Rattle.turn_core.specs.declared.events.Event.{Event}
 use Rattle.turn_core.specs.declared.events.Event.TheVariants.{Post as Posting, Stage, Start, Claim, Finish, Deliver, Collect}
-use Rattle.turn_core.specs.declared.posts.Post.{Post}
-use Rattle.turn_core.specs.declared.posts.Post.TheVariants.{Edit as Editing, Ask as Asking}
-use Rattle.turn_core.specs.declared.posts.Request.{Request}
-use Rattle.turn_core.specs.declared.replies.Answer.{Answer}
-use Rattle.turn_core.specs.declared.replies.Answer.TheVariants.{Nowhere}
-use Rattle.turn_core.specs.declared.replies.Reply.{Reply}
-use Rattle.turn_core.specs.declared.replies.Reply.TheVariants.{Edit as Edited, Answer as Answered}
 use Rattle.turn_core.specs.Solving.{IsAnswerTo}
 use Rattle.turn_core.specs.Words.{Standing, edited}
-use Rattle.turn_core.specs.Turns.{after, requests, jobs}
-use Rattle.turn_core.specs.States.{State, Run, list_of, stands_after_done, stands_in_run}
+use Rattle.turn_core.specs.Turns.{after}
+use Rattle.turn_core.specs.States.{State, Run, stands_after_done, stands_in_run}
 use Rattle.turn_core.specs.Table.{first, why_not}
 
 -- the first list, or the empty one

@@ -1,14 +1,16 @@
 -- What holds of each state that the machine reaches.
 use Rattle.std.specs.Prelude.{ℕ, ◌≡◌, ◌≤◌, Option, None, Some, List, [], ◌∷◌, ◌++◌, IfSome, length, take, slice_index, slice_index_or}
-use Rattle.grid_versions.specs.Maps.{Map}
-use Rattle.turn_core.specs.declared.posts.Post.{Post}
-use Rattle.turn_core.specs.declared.posts.Request.{Request}
-use Rattle.turn_core.specs.declared.replies.Answer.{Answer}
-use Rattle.turn_core.specs.declared.replies.Reply.{Reply}
+use Rattle.posts.specs.declared.posts.Post.{Post}
+use Rattle.posts.specs.declared.posts.Request.{Request}
+use Rattle.posts.specs.declared.replies.Answer.{Answer}
+use Rattle.posts.specs.declared.replies.Reply.{Reply}
+use Rattle.posts.specs.Maps.{Map}
+use Rattle.posts.specs.Posts.{jobs}
+use Rattle.posts.specs.Callers.{of_caller, list_of}
 use Rattle.turn_core.specs.Solving.{IsAnswerTo}
 use Rattle.turn_core.specs.Words.{Standing, bare}
-use Rattle.turn_core.specs.Turns.{after_turn, jobs, of_caller, OneThread}
-use Rattle.turn_core.specs.States.{State, Run, list_of, stands_after_done}
+use Rattle.turn_core.specs.Turns.{after_turn, OneThread}
+use Rattle.turn_core.specs.States.{State, Run, stands_after_done}
 
 -- the running turn, where there is one
 abbrev pub running_turns : Option Run → List (List (List Post))

@@ -2,6 +2,7 @@ pub mod Words
 pub mod NamedGoals
 pub mod Solving
 pub mod Opening
+pub mod Notes
 pub mod Turns
 pub mod ReadyTurns
 pub mod States

@@ -13,9 +13,9 @@ use Rattle.goal_shapes.specs.declared.goals.Goal.TheVariants.{Point, Circle, Not
 use Rattle.goal_shapes.specs.declared.goals.GoalSpec.{GoalSpec}
 use Rattle.goal_shapes.specs.declared.goals.GoalSpec.TheVariants.{Plain, Obstruction}
 use Rattle.goal_shapes.specs.Limits.{middle_x, middle_z, grown}
-use Rattle.grid_versions.specs.declared.edits.Refusal.{Refusal}
-use Rattle.grid_versions.specs.declared.edits.Refusal.TheVariants.{BadShape, UnknownId, GoalOutside}
-use Rattle.grid_versions.specs.Maps.{Map}
+use Rattle.posts.specs.declared.edits.Refusal.{Refusal}
+use Rattle.posts.specs.declared.edits.Refusal.TheVariants.{BadShape, UnknownId, GoalOutside}
+use Rattle.posts.specs.Maps.{Map}
 use Rattle.turn_core.specs.Words.{Standing}
 
 -- the number of the map's class of that name, where it has one

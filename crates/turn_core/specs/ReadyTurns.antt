@@ -1,9 +1,9 @@
 -- Turns whose edits are made.
 use Rattle.std.specs.Prelude.{List, refl}
 use Rattle.std.specs.Coded.{Coded, code_by, coded×, coded_list}
-use Rattle.grid_versions.specs.Maps.{Map}
+use Rattle.posts.specs.declared.posts.Post.{Post}
+use Rattle.posts.specs.Maps.{Map}
 use Rattle.grid_versions.specs.Versions.{MapState, map_state}
-use Rattle.turn_core.specs.declared.posts.Post.{Post}
 use Rattle.turn_core.specs.Words.{Standing}
 use Rattle.turn_core.specs.Turns.{after_turn}
 

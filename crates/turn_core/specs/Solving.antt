@@ -10,16 +10,16 @@ use Rattle.goal_reach.specs.declared.targets.Target.TheVariants.{Goal as GoalTar
 use Rattle.goal_reach.specs.Starts.{IsStartCell}
 use Rattle.goal_reach.specs.Targets.{hit_by, AreTargets}
 use Rattle.walks.specs.Chosen.{IsAnswer}
-use Rattle.grid_versions.specs.declared.edits.Refusal.{Refusal}
-use Rattle.grid_versions.specs.declared.edits.Refusal.TheVariants.{UnknownClass, StartOutside}
-use Rattle.grid_versions.specs.Maps.{Map}
+use Rattle.posts.specs.declared.edits.Refusal.{Refusal}
+use Rattle.posts.specs.declared.edits.Refusal.TheVariants.{UnknownClass, StartOutside}
+use Rattle.posts.specs.declared.posts.Request.{Request}
+use Rattle.posts.specs.declared.posts.Request.TheVariants.{Path as AsksPath, Region as AsksRegion}
+use Rattle.posts.specs.declared.replies.PathAnswer.{PathAnswer}
+use Rattle.posts.specs.declared.replies.RegionAnswer.{RegionAnswer}
+use Rattle.posts.specs.declared.replies.Answer.{Answer}
+use Rattle.posts.specs.declared.replies.Answer.TheVariants.{Refused, Nowhere, Path as IsPath, Region as IsRegion}
+use Rattle.posts.specs.Maps.{Map}
 use Rattle.grid_versions.specs.Passing.{passable_at}
-use Rattle.turn_core.specs.declared.posts.Request.{Request}
-use Rattle.turn_core.specs.declared.posts.Request.TheVariants.{Path as AsksPath, Region as AsksRegion}
-use Rattle.turn_core.specs.declared.replies.PathAnswer.{PathAnswer}
-use Rattle.turn_core.specs.declared.replies.RegionAnswer.{RegionAnswer}
-use Rattle.turn_core.specs.declared.replies.Answer.{Answer}
-use Rattle.turn_core.specs.declared.replies.Answer.TheVariants.{Refused, Nowhere, Path as IsPath, Region as IsRegion}
 use Rattle.turn_core.specs.Words.{Standing}
 use Rattle.turn_core.specs.NamedGoals.{class_named, is_on_map, goal_found}
 

@@ -1,9 +1,9 @@
 -- The states of the turn machine.
-use Rattle.std.specs.Prelude.{ℕ, Option, None, List, [], replicate, slice_index_or}
-use Rattle.grid_versions.specs.Maps.{Map}
-use Rattle.turn_core.specs.declared.posts.Post.{Post}
-use Rattle.turn_core.specs.declared.replies.Answer.{Answer}
-use Rattle.turn_core.specs.declared.replies.Reply.{Reply}
+use Rattle.std.specs.Prelude.{ℕ, Option, None, List, [], replicate}
+use Rattle.posts.specs.declared.posts.Post.{Post}
+use Rattle.posts.specs.declared.replies.Answer.{Answer}
+use Rattle.posts.specs.declared.replies.Reply.{Reply}
+use Rattle.posts.specs.Maps.{Map}
 use Rattle.turn_core.specs.Words.{Standing, bare}
 use Rattle.turn_core.specs.Turns.{standing, after_turn}
 
@@ -38,10 +38,6 @@ opening m = record {
   replies = replicate m.callers [];
   collected = replicate m.callers 0;
 }
-
--- the list of the caller of a number; there is nothing on it where there is no such caller
-abbrev pub list_of : {A : Type 0} → List (List A) → ℕ → List A
-list_of {A} lists caller = slice_index_or lists caller []
 
 -- what stands after the turns that are done
 abbrev pub stands_after_done : State → Standing

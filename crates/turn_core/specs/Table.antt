@@ -1,13 +1,14 @@
 -- Which events of the machine are enabled, and why one is not.
 use Rattle.std.specs.Prelude.{ℕ, ◌+◌, ◌-◌, Bool, true, false, Option, None, Some, List, [], ◌∷◌, length, drop, nat_lt, nat_le, ◌==◌, slice_index, slice_index_or}
+use Rattle.posts.specs.declared.posts.Post.{Post}
+use Rattle.posts.specs.declared.replies.Answer.{Answer}
+use Rattle.posts.specs.Posts.{jobs}
+use Rattle.posts.specs.Callers.{list_of}
 use Rattle.turn_core.specs.declared.events.Event.{Event}
 use Rattle.turn_core.specs.declared.events.Event.TheVariants.{Post as Posting, Stage, Start, Claim, Finish, Deliver, Collect}
 use Rattle.turn_core.specs.declared.events.Why.{Why}
 use Rattle.turn_core.specs.declared.events.Why.TheVariants.{Callers, Staged, Posted, NoneStaged, Running, NoneRunning, AllClaimed, Claimed, Answered, Unclaimed, Unanswered, Collected}
-use Rattle.turn_core.specs.declared.posts.Post.{Post}
-use Rattle.turn_core.specs.declared.replies.Answer.{Answer}
-use Rattle.turn_core.specs.Turns.{jobs}
-use Rattle.turn_core.specs.States.{State, Run, list_of}
+use Rattle.turn_core.specs.States.{State, Run}
 
 -- no cause where the condition holds, else the given one
 abbrev pub unless : Bool → Why → Option Why

@@ -1,16 +1,15 @@
 -- Turns: what stands after posts, the requests of a turn, and the replies that one thread gives.
-use Rattle.std.specs.Prelude.{ℕ, ◌≡◌, List, [], ◌∷◌, length, map, filter_map, flat_map, slice_index_or, sum_by}
-use Rattle.grid_versions.specs.Maps.{Map}
+use Rattle.std.specs.Prelude.{◌≡◌, List, [], ◌∷◌, map}
+use Rattle.posts.specs.declared.posts.Post.{Post}
+use Rattle.posts.specs.declared.posts.Post.TheVariants.{Edit as Editing, Ask as Asking}
+use Rattle.posts.specs.declared.replies.Answer.{Answer}
+use Rattle.posts.specs.declared.replies.Reply.{Reply}
+use Rattle.posts.specs.declared.replies.Reply.TheVariants.{Edit as Edited, Answer as Answered}
+use Rattle.posts.specs.declared.replies.TurnReplies.{TurnReplies}
+use Rattle.posts.specs.Maps.{Map}
 use Rattle.grid_versions.specs.Editing.{edit_reply}
-use Rattle.turn_core.specs.declared.posts.Post.{Post}
-use Rattle.turn_core.specs.declared.posts.Post.TheVariants.{Edit as Editing, Ask as Asking}
-use Rattle.turn_core.specs.declared.posts.Request.{Request}
-use Rattle.turn_core.specs.declared.replies.Answer.{Answer}
-use Rattle.turn_core.specs.declared.replies.Reply.{Reply}
-use Rattle.turn_core.specs.declared.replies.Reply.TheVariants.{Edit as Edited, Answer as Answered}
-use Rattle.turn_core.specs.declared.replies.TurnReplies.{TurnReplies}
 use Rattle.turn_core.specs.Solving.{IsAnswerTo}
-use Rattle.turn_core.specs.Words.{Standing, bare, edited, request_of, TellsNumbers}
+use Rattle.turn_core.specs.Words.{Standing, bare, edited, TellsNumbers}
 
 -- what stands after posts, one after another
 abbrev pub after : Map → Standing → List Post → Standing
@@ -26,18 +25,6 @@ after_turn m s (posts ∷ turn) = after_turn m (after m s posts) turn
 abbrev pub standing : Map → Standing → List (List (List Post)) → Standing
 standing m s [] = s
 standing m s (turn ∷ journal) = standing m (after_turn m s turn) journal
-
--- the requests among posts, in their order
-abbrev pub requests : List Post → List Request
-requests posts = filter_map request_of posts
-
--- the jobs of a turn: its requests caller by caller, in the order of the posts. A job's number is its place
-abbrev pub jobs : List (List Post) → List Request
-jobs turn = flat_map requests turn
-
--- how many posts a turn has, over all callers
-abbrev pub post_count : List (List Post) → ℕ
-post_count turn = sum_by length turn
 
 -- Where `s` stands before a post and `final` after the edits of its turn, the post gets the reply: an edit gets its
 -- own, and a request its answer on what stands in the end.
@@ -90,7 +77,3 @@ replies_in all = map (λ told. told.replies) all
 pub record IsOneThread (m : Map) (journal : List (List (List Post))) (all : List TurnReplies) : Type 0 where
   pub replies : OneThread m bare journal (replies_in all)
   pub numbers : TellNumbers m bare journal all
-
--- what turns have of the caller of a number, turn after turn
-abbrev pub of_caller : {A : Type 0} → ℕ → List (List (List A)) → List A
-of_caller {A} caller turns = flat_map (λ turn. slice_index_or turn caller []) turns

@@ -1,28 +1,16 @@
 -- All that turns know of maps. What is said of turns, of the machine and of its runs rests on these words and on
 -- `IsAnswerTo` alone.
-use Rattle.std.specs.Prelude.{Option, None, Some, length}
+use Rattle.std.specs.Prelude.{length}
 use Rattle.std.specs.FinMap as fin_map
 use Rattle.nav_types.specs.Regions.{HasTallies, HasRelabelled}
 pub use Rattle.obstruction_store.specs.Standing.{Standing}
-use Rattle.grid_versions.specs.Maps.{Map}
+use Rattle.posts.specs.declared.posts.Post.{Post}
+use Rattle.posts.specs.declared.posts.Post.TheVariants.{Edit as Editing, Ask as Asking}
+use Rattle.posts.specs.declared.replies.TurnReplies.{TurnReplies}
+use Rattle.posts.specs.Maps.{Map}
 pub use Rattle.grid_versions.specs.Versions.{MapState}
 use Rattle.grid_versions.specs.Passing.{passable_at}
 use Rattle.grid_versions.specs.Editing.{after_edit as edited_by}
-use Rattle.grid_versions.specs.declared.edits.Edit.{Edit}
-use Rattle.turn_core.specs.declared.posts.Post.{Post}
-use Rattle.turn_core.specs.declared.posts.Post.TheVariants.{Edit as Editing, Ask as Asking}
-use Rattle.turn_core.specs.declared.posts.Request.{Request}
-use Rattle.turn_core.specs.declared.replies.TurnReplies.{TurnReplies}
-
--- the edit that a post is, where it is one
-abbrev pub edit_of : Post → Option Edit
-edit_of (Editing edit) = Some edit
-edit_of (Asking request) = None
-
--- the request that a post is, where it is one
-abbrev pub request_of : Post → Option Request
-request_of (Editing edit) = None
-request_of (Asking request) = Some request
 
 -- nothing stands
 unfoldable pub bare : Standing

@@ -8,9 +8,9 @@ ghost use Rattle.turn_core.specs.Facts.{Facts};
 
 use crate::events::{Event, StepRefusal};
 use crate::machines::Machine;
-use crate::replies::Reply;
 use grid_versions::MapSpec;
 use nav_types::NoMemory;
+use posts::Reply;
 use std::alloc::Global;
 use std::marker::Model;
 

@@ -1,18 +1,18 @@
 //! Turns whose edits are made, without their posts.
 ghost use Rattle.std.specs.Prelude.{◌≡◌, IfOk, length};
 ghost use Rattle.nav_types.specs.Regions.{HasRelabelled};
+ghost use Rattle.posts.specs.Posts.{jobs};
 ghost use Rattle.grid_versions.specs.Passing.{passable_at};
 ghost use Rattle.turn_core.specs.Solving.{AreAnswersTo};
-ghost use Rattle.turn_core.specs.Turns.{jobs, IsTurnTold};
+ghost use Rattle.turn_core.specs.Turns.{IsTurnTold};
 ghost use Rattle.turn_core.specs.ReadyTurns.{after_edits_of};
 
-use crate::posts::{Jobs, TurnPosts};
 use crate::ready_turns::AnsweredTurn;
-use crate::replies::{Answers, Replies, TurnReplies};
 use crate::reply_lists;
 use crate::turn_versions::{self, Advanced};
 use grid_versions::Version;
 use nav_types::NoMemory;
+use posts::{Answers, Jobs, Replies, TurnPosts, TurnReplies};
 use std::alloc::Global;
 use std::marker::Model;
 use std::snapshot::Snapshot;
@@ -32,8 +32,8 @@ pub(crate) struct EditedTurn {
 }
 
 impl Model for EditedTurn {
+    ghost use Rattle.posts.specs.contracts.posts.Post.{the_row as post_row};
     ghost use Rattle.grid_versions.specs.contracts.versions.Version.{the_row as version_row};
-    ghost use Rattle.turn_core.specs.contracts.posts.Post.{the_row as post_row};
     ghost use Rattle.turn_core.specs.ReadyTurns.{Ready, ready_code};
     ghost use Rattle.turn_core.specs.inner.EditedTurns.{ready_of, HoldsEdited};
 

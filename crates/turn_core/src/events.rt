@@ -3,8 +3,8 @@ ghost use Rattle.std.specs.Prelude.{◌≡◌, ◌++◌, Some, decimal};
 ghost use Rattle.std.specs.Fmt.{DisplaysOnOk};
 ghost use Rattle.turn_core.specs.Refusals.{why_text, refusal_text};
 
-use crate::posts::Post;
 use nav_types::{NoMemory, Sequence};
+use posts::Post;
 use std::error::Error;
 use std::fmt;
 

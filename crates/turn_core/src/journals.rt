@@ -4,13 +4,12 @@ ghost use Rattle.turn_core.specs.Solving.{AreAnswersTo};
 ghost use Rattle.turn_core.specs.Turns.{after_turn, IsTurnTold, IsOneThread};
 
 use crate::edited_turns::EditedTurn;
-use crate::posts::{Jobs, Journal, TurnPosts};
 use crate::ready_turns::AnsweredTurn;
-use crate::replies::{AllReplies, Answers};
 use crate::solving::solve;
 use crate::turn_versions::bare_version;
 use grid_versions::{MapSpec, Version};
 use nav_types::{NoMemory, Sequence};
+use posts::{AllReplies, Answers, Jobs, Journal, TurnPosts};
 use std::alloc::Global;
 
 /// The replies of one thread to a journal on a map where nothing stands yet (`IsOneThread`): turn by turn, caller by

@@ -1,18 +1,19 @@
 //! Laws of turns, of the machine and of its runs.
 ghost use Rattle.std.specs.Prelude.{◌≡◌, ℕ, ◌++◌, ◌∷◌, [], List, Option, None, Some, length, map, slice_index, take};
-ghost use Rattle.grid_versions.specs.Maps.{Map};
+ghost use Rattle.posts.specs.declared.posts.Post.{Post};
+ghost use Rattle.posts.specs.declared.posts.Request.{Request};
+ghost use Rattle.posts.specs.declared.replies.Answer.{Answer};
+ghost use Rattle.posts.specs.declared.replies.Reply.{Reply};
+ghost use Rattle.posts.specs.declared.replies.TurnReplies.{TurnReplies};
+ghost use Rattle.posts.specs.Maps.{Map};
+ghost use Rattle.posts.specs.Posts.{jobs};
+ghost use Rattle.posts.specs.Callers.{of_caller, list_of};
 ghost use Rattle.turn_core.specs.declared.events.Event.{Event};
 ghost use Rattle.turn_core.specs.declared.events.Event.TheVariants.{Stage, Deliver};
-ghost use Rattle.turn_core.specs.declared.posts.Post.{Post};
-ghost use Rattle.turn_core.specs.declared.posts.Request.{Request};
-ghost use Rattle.turn_core.specs.declared.replies.Answer.{Answer};
-ghost use Rattle.turn_core.specs.declared.replies.Reply.{Reply};
-ghost use Rattle.turn_core.specs.declared.replies.TurnReplies.{TurnReplies};
 ghost use Rattle.turn_core.specs.Solving.{IsAnswerTo, AreAnswersTo};
 ghost use Rattle.turn_core.specs.Words.{Standing, bare};
-ghost use Rattle.turn_core.specs.Turns.{after_turn, jobs, standing, AreTurnReplies, IsTurnTold, OneThread, IsOneThread};
-ghost use Rattle.turn_core.specs.Turns.{of_caller};
-ghost use Rattle.turn_core.specs.States.{State, opening, list_of, stands_after_done};
+ghost use Rattle.turn_core.specs.Turns.{after_turn, standing, AreTurnReplies, IsTurnTold, OneThread, IsOneThread};
+ghost use Rattle.turn_core.specs.States.{State, opening, stands_after_done};
 ghost use Rattle.turn_core.specs.Effects.{IsStep, IsMachineRun, joined_up};
 ghost use Rattle.turn_core.specs.Facts.{Facts};
 ghost use Rattle.turn_core.specs.Arrival.{post_events, answering, arrival, CanStage, answered_run, in_stage, in_run};

@@ -2,7 +2,6 @@
 //! turns are staged, run and delivered.
 #![tactic(auto)]
 
-mod copying;
 mod cores;
 mod edited_turns;
 mod events;
@@ -10,28 +9,23 @@ mod journals;
 pub mod laws;
 mod machines;
 mod named_goals;
-mod posts;
 mod ready_turns;
-mod replies;
 mod reply_lists;
 pub mod request_laws;
 mod runners;
 mod solving;
 mod turn_versions;
 
-pub use copying::Copied;
 pub use cores::Core;
 pub use events::{Event, StepRefusal, Takes, Why};
 pub use journals::{answer_turn, one_thread};
 pub use named_goals::goal_of;
 pub use posts::{
-    Jobs, Journal, Post, Posts, Request, TurnPosts, count_posts, empty_lists, push_post,
+    AllReplies, Answer, Answers, CallerReplies, Copied, Jobs, Journal, Note, Noted, Notes,
+    PathAnswer, Post, Posts, RegionAnswer, Replies, Reply, Report, Request, TurnPosts, TurnReplies,
+    count_posts, empty_lists, push_post,
 };
 pub use ready_turns::{AnsweredTurn, ReadyTurn};
-pub use replies::{
-    AllReplies, Answer, Answers, CallerReplies, OpenedNumbers, PathAnswer, RegionAnswer, Replies,
-    Reply, TracedAnswer, TurnReplies,
-};
 pub use runners::{RunBy, Runner};
-pub use solving::{solve, solve_traced};
+pub use solving::{solve, solve_noted};
 pub use turn_versions::bare_version;

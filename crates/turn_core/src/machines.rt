@@ -1,7 +1,8 @@
 //! The turn machine with what it holds of maps.
 ghost use Rattle.std.specs.Prelude.{◌≡◌, ◌<◌, ◌≤◌, IfOk, IsOk, OnErr, None, length, slice_set};
 ghost use Rattle.nav_types.specs.declared.limits.TheConstants.{MAX_CALLERS};
-ghost use Rattle.turn_core.specs.States.{opening, list_of};
+ghost use Rattle.posts.specs.Callers.{list_of};
+ghost use Rattle.turn_core.specs.States.{opening};
 ghost use Rattle.turn_core.specs.Table.{why_not, last_turn, running_turn};
 ghost use Rattle.turn_core.specs.Effects.{Effect, TakesNoMemory};
 ghost use Rattle.turn_core.specs.Facts.{Facts};
@@ -12,13 +13,12 @@ mod running;
 mod staging;
 
 use crate::events::{Event, Takes, Why};
-use crate::posts::{Post, Posts, empty_lists, push_post};
 use crate::ready_turns::AnsweredTurn;
-use crate::replies::Reply;
 use crate::turn_versions::bare_version;
 use delivered::{DeliveredTurn, ReplyPlace};
 use grid_versions::{MapSpec, Version};
 use nav_types::NoMemory;
+use posts::{Post, Posts, Reply, empty_lists, push_post};
 use running::RunningTurn;
 use staging::NextTurn;
 use std::alloc::Global;
@@ -185,8 +185,7 @@ impl Machine {
         ensures ok { IfOk result (λ handed. Effect self.old (Event.Post caller post.now) handed self.new) }
         ensures err { OnErr result (self.new ≡ self.old) }
     {
-        let post = post.copy(self.alloc)?;
-        push_post(&mut self.posted, usize::from(caller), post)?;
+        push_post(&mut self.posted, usize::from(caller), post.copy())?;
         Ok(None)
     }
 

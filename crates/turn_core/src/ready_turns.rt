@@ -1,16 +1,16 @@
 //! Turns whose edits are made and whose requests wait for their answers.
 ghost use Rattle.std.specs.Prelude.{◌≡◌, IfOk, IfErr, length};
 ghost use Rattle.nav_types.specs.Regions.{HasRelabelled};
+ghost use Rattle.posts.specs.Posts.{jobs};
 ghost use Rattle.grid_versions.specs.Passing.{passable_at};
 ghost use Rattle.turn_core.specs.Solving.{AreAnswersTo};
-ghost use Rattle.turn_core.specs.Turns.{jobs, IsTurnTold};
+ghost use Rattle.turn_core.specs.Turns.{IsTurnTold};
 ghost use Rattle.turn_core.specs.ReadyTurns.{after_edits_of};
 
 use crate::edited_turns::EditedTurn;
-use crate::posts::{Jobs, TurnPosts};
-use crate::replies::{Answers, TurnReplies};
 use grid_versions::Version;
 use nav_types::NoMemory;
+use posts::{Answers, Jobs, TurnPosts, TurnReplies};
 use std::alloc::Global;
 use std::marker::Model;
 
@@ -31,8 +31,8 @@ pub struct ReadyTurn {
 
 impl Model for ReadyTurn {
     ghost use Rattle.std.specs.Prelude.{◌≡◌};
+    ghost use Rattle.posts.specs.contracts.posts.Post.{the_row as post_row};
     ghost use Rattle.grid_versions.specs.contracts.versions.Version.{the_row as version_row};
-    ghost use Rattle.turn_core.specs.contracts.posts.Post.{the_row as post_row};
     ghost use Rattle.turn_core.specs.ReadyTurns.{Ready, ready_code};
 
     ghost Value = { Ready };

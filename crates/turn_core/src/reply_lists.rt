@@ -6,10 +6,9 @@ ghost use Rattle.turn_core.specs.inner.ReplyLists.{lists_ahead, AllHaveEdits, fi
 ghost use Rattle.turn_core.specs.inner.ReplyLists.{list_filled, answers_past_list, HaveAnswers, lists_filled};
 ghost use Rattle.turn_core.specs.inner.ReplyLists.{AllHaveAnswers};
 
-use crate::posts::{Post, Posts};
-use crate::replies::{Answer, Answers, CallerReplies, Replies, Reply};
 use grid_versions::{EditReplies, EditReply};
 use nav_types::{NoMemory, Sequence};
+use posts::{Answer, Answers, CallerReplies, Post, Posts, Replies, Reply};
 use std::alloc::Global;
 use std::mem;
 use std::vec::IntoIter;

@@ -1,17 +1,21 @@
 //! Laws of requests and of their answers.
-ghost use Rattle.std.specs.Prelude.{◌≡◌, ◌↔◌, ℕ, ℤ, List, IsTrue, Some, length, slice_get};
+ghost use Rattle.std.specs.Prelude.{◌≡◌, ◌↔◌, ℕ, ℤ, All, List, IsTrue, Some, length, slice_get};
 ghost use Rattle.nav_types.specs.declared.cells.Size.{Size};
 ghost use Rattle.fixed_point.specs.Plane.{IsOnAxis, IsUpTo, is_up_to};
 ghost use Rattle.goal_shapes.specs.declared.goals.Goal.{Goal};
 ghost use Rattle.goal_shapes.specs.Limits.{IsWellFormed};
-ghost use Rattle.grid_versions.specs.Maps.{Map};
-ghost use Rattle.turn_core.specs.declared.posts.Request.{Request};
-ghost use Rattle.turn_core.specs.declared.replies.Answer.{Answer};
-ghost use Rattle.turn_core.specs.declared.replies.TurnReplies.{TurnReplies};
+ghost use Rattle.posts.specs.declared.posts.Request.{Request};
+ghost use Rattle.posts.specs.declared.replies.Answer.{Answer};
+ghost use Rattle.posts.specs.declared.replies.TurnReplies.{TurnReplies};
+ghost use Rattle.posts.specs.Maps.{Map};
+ghost use Rattle.posts.specs.declared.notes.Note.{Note};
+ghost use Rattle.posts.specs.declared.notes.Note.TheVariants.{Nothing};
+ghost use Rattle.posts.specs.declared.notes.Report.{Report};
+ghost use Rattle.posts.specs.declared.notes.Report.TheVariants.{Answers};
 ghost use Rattle.turn_core.specs.Words.{Standing, TellsNumbers};
 ghost use Rattle.turn_core.specs.NamedGoals.{is_on_map, is_well_formed};
 ghost use Rattle.turn_core.specs.Solving.{IsAnswerTo, AreAnswersTo};
-ghost use Rattle.turn_core.specs.Opening.{IsOpenedNumber, AreOpenedNumbers};
+ghost use Rattle.turn_core.specs.Notes.{IsNote, AreNotes};
 
 /// A law: the tests of points, lengths and goals hold exactly where what they test does.
 pub fn tests_hold_where_they_should()
@@ -36,26 +40,32 @@ pub fn answers_by_place()
         → IsAnswerTo map standing request answer)) }
 {}
 
-/// A law: a request has one opened number on a map with what stands on it.
-pub fn one_opened_number_of_a_request()
-    ensures { (map : Map) (standing : Standing) (request : Request) (a b : ℕ)
-        → IsOpenedNumber map standing request a → IsOpenedNumber map standing request b → a ≡ b }
+/// A law: a request has one note under a report on a map with what stands on it.
+pub fn one_note_of_a_request()
+    ensures { (map : Map) (standing : Standing) (report : Report) (request : Request) (a b : Note)
+        → IsNote map standing report request a → IsNote map standing report request b → a ≡ b }
 {}
 
-/// A law: requests have one list of opened numbers on a map with what stands on it.
-pub fn one_list_of_opened_numbers()
-    ensures { (map : Map) (standing : Standing) (requests : List Request) (a b : List ℕ)
-        → AreOpenedNumbers map standing requests a → AreOpenedNumbers map standing requests b → a ≡ b }
+/// A law: requests have one list of notes under a report on a map with what stands on it.
+pub fn one_list_of_notes()
+    ensures { (map : Map) (standing : Standing) (report : Report) (requests : List Request) (a b : List Note)
+        → AreNotes map standing report requests a → AreNotes map standing report requests b → a ≡ b }
 {}
 
-/// A law: numbers are opened numbers of requests where there are as many, and each is that of the request in its place.
-pub fn opened_numbers_by_place()
-    ensures { (map : Map) (standing : Standing) (requests : List Request) (numbers : List ℕ)
-        → AreOpenedNumbers map standing requests numbers
-        ↔ ((length numbers ≡ length requests)
-        × ((place : ℕ) (request : Request) (opened : ℕ) → slice_get requests place ≡ Some request
-        → slice_get numbers place ≡ Some opened
-        → IsOpenedNumber map standing request opened)) }
+/// A law: notes are notes of requests where there are as many, and each is that of the request in its place.
+pub fn notes_by_place()
+    ensures { (map : Map) (standing : Standing) (report : Report) (requests : List Request) (notes : List Note)
+        → AreNotes map standing report requests notes
+        ↔ ((length notes ≡ length requests)
+        × ((place : ℕ) (request : Request) (note : Note) → slice_get requests place ≡ Some request
+        → slice_get notes place ≡ Some note
+        → IsNote map standing report request note)) }
+{}
+
+/// A law: under the report of answers nothing is told beside them.
+pub fn answers_tell_nothing()
+    ensures { (map : Map) (standing : Standing) (requests : List Request) (notes : List Note)
+        → AreNotes map standing Answers requests notes → All (λ note. note ≡ Nothing) notes }
 {}
 
 /// A law: a turn has one set of numbers.

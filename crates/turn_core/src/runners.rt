@@ -1,8 +1,7 @@
 //! Who runs the jobs of a turn.
-use crate::posts::Jobs;
-use crate::replies::Answers;
 use grid_versions::Version;
 use nav_types::NoMemory;
+use posts::{Answers, Jobs};
 use std::alloc::Global;
 
 /// Runs the jobs of turns.

@@ -11,14 +11,12 @@ ghost use Rattle.grid_versions.specs.Versions.{passes_of};
 ghost use Rattle.turn_core.specs.NamedGoals.{class_named, is_on_map, goal_found};
 ghost use Rattle.turn_core.specs.Solving.{is_near, IsPathTo, IsPathFound, IsRegionAnswer, IsRegionAt, IsAnswerAt};
 ghost use Rattle.turn_core.specs.Solving.{IsAnswerTo};
-ghost use Rattle.turn_core.specs.Opening.{IsOpenedTo, IsOpenedFor, IsOfPath, HasOpened, IsTracedAnswerTo};
-ghost use Rattle.turn_core.specs.declared.solving.Wanted.TheVariants.{OpenedNumber};
+ghost use Rattle.turn_core.specs.Opening.{IsOpenedTo, IsOpenedFor};
+ghost use Rattle.turn_core.specs.Notes.{IsPathNote, IsNoteBy, IsNotedTo};
 ghost use Rattle.turn_core.specs.inner.Asked.{IsAskedAt, IsRefusedAt};
 ghost use Rattle.turn_core.specs.inner.Opened.{IsCountedBy};
 
 use crate::named_goals::goal_of;
-use crate::posts::Request;
-use crate::replies::{Answer, PathAnswer, RegionAnswer, TracedAnswer};
 use class_config::ClassName;
 use class_planes::PlaneRuns;
 use fixed_point::Fixed;
@@ -27,6 +25,7 @@ use goal_shapes::{Goal, GoalSpec, cell_of_point};
 use grid_versions::{Refusal, Version};
 use jump_search::{Traced, jump_find_with, jump_search_with};
 use nav_types::{Aim, Areas, Cell, Class, NoMemory, Ticks, View};
+use posts::{Answer, Note, Noted, PathAnswer, RegionAnswer, Report, Request};
 use std::alloc::Global;
 use std::marker::Brand;
 use std::sync::ledger::{Blank, Ledger};
@@ -40,53 +39,26 @@ use walks::Found;
 pub fn solve(alloc: Global, version: &Version, request: &Request) -> Result<Answer, NoMemory>
     ensures { IfOk result (λ answer. IsAnswerTo version.now.map version.now.standing request.now answer) }
 {
-    let traced = answered(alloc, version, request, Wanted::Answer)?;
-    Ok(traced.answer)
+    let noted = solve_noted(alloc, version, request, Report::Answers)?;
+    Ok(noted.answer)
 }
 
-/// The answer that [`solve`] gives, with its opened number (`IsTracedAnswerTo`): of a path, how many jump states have a
-/// least cost of jumps that, with the octile distance to the box of the path's targets, is within the path's cost. It
-/// is 0 of any other answer. It refuses for want of memory alone.
-///
-/// The jump states are those of Harabor and Grastien, "Online Graph Pruning for Pathfinding on Grid Maps", AAAI 2011,
-/// for steps that cut no corner. All of them within the cost are opened, so it takes longer than `solve`.
-pub fn solve_traced(
+/// The answer that [`solve`] gives, with what the report tells of it (`IsNotedTo`). It refuses for want of memory alone.
+pub fn solve_noted(
     alloc: Global,
     version: &Version,
     request: &Request,
-) -> Result<TracedAnswer, NoMemory>
-    ensures { IfOk result (IsTracedAnswerTo version.now.map version.now.standing request.now) }
-{
-    answered(alloc, version, request, Wanted::OpenedNumber)
-}
-
-/// What is wanted of a request.
-#[derive(Clone, Copy)]
-enum Wanted {
-    /// Its answer alone.
-    Answer,
-    /// Its answer with the opened number.
-    OpenedNumber,
-}
-
-/// The answer to a request, with its opened number where that is wanted.
-fn answered(
-    alloc: Global,
-    version: &Version,
-    request: &Request,
-    wanted: Wanted,
-) -> Result<TracedAnswer, NoMemory>
-    ensures answer { IfOk result (λ traced. IsAnswerTo version.now.map version.now.standing request.now traced.answer) }
-    ensures opened { IfOk result (λ traced. wanted ≡ OpenedNumber
-        → HasOpened version.now.map version.now.standing request.now traced.answer traced.opened) }
+    report: Report,
+) -> Result<Noted, NoMemory>
+    ensures { IfOk result (IsNotedTo version.now.map version.now.standing report request.now) }
 {
     match request {
         Request::Path { class, x, z, goal } => {
-            path_asked(alloc, version, class, *x, *z, goal, wanted)
+            path_asked(alloc, version, class, *x, *z, goal, report)
         }
-        Request::Region { class, x, z } => Ok(TracedAnswer {
+        Request::Region { class, x, z } => Ok(Noted {
             answer: region_asked(version, class, *x, *z),
-            opened: 0,
+            note: Note::Nothing,
         }),
     }
 }
@@ -120,25 +92,25 @@ fn path_asked(
     x: Fixed,
     z: Fixed,
     goal: &GoalSpec,
-    wanted: Wanted,
-) -> Result<TracedAnswer, NoMemory>
-    ensures answer { IfOk result (λ traced. IsAnswerAt (class_named version.now.map name.now) (is_on_map version.now.map.size x z)
+    report: Report,
+) -> Result<Noted, NoMemory>
+    ensures answer { IfOk result (λ noted. IsAnswerAt (class_named version.now.map name.now) (is_on_map version.now.map.size x z)
         (λ class. IsPathFound (passable_at version.now.map version.now.standing class) x z
-        (goal_found version.now.map version.now.standing goal.now)) traced.answer) }
-    ensures opened { IfOk result (λ traced. wanted ≡ OpenedNumber
-        → IsOfPath (IsOpenedFor version.now.map version.now.standing name.now goal.now) traced.answer traced.opened) }
+        (goal_found version.now.map version.now.standing goal.now)) noted.answer) }
+    ensures note { IfOk result (λ noted. IsNoteBy report (IsOpenedFor version.now.map version.now.standing name.now goal.now)
+        noted.answer noted.note) }
 {
     match asked_at(version, name, x, z) {
         Ok(asked) => match goal_of(version, goal) {
-            Ok(goal) => path_to(alloc, version, asked.class, x, z, &goal, wanted),
-            Err(refusal) => Ok(TracedAnswer {
+            Ok(goal) => path_to(alloc, version, asked.class, x, z, &goal, report),
+            Err(refusal) => Ok(Noted {
                 answer: Answer::Refused(refusal),
-                opened: 0,
+                note: Note::Nothing,
             }),
         },
-        Err(refusal) => Ok(TracedAnswer {
+        Err(refusal) => Ok(Noted {
             answer: Answer::Refused(refusal),
-            opened: 0,
+            note: Note::Nothing,
         }),
     }
 }
@@ -152,32 +124,32 @@ fn path_to(
     x: Fixed,
     z: Fixed,
     goal: &Goal,
-    wanted: Wanted,
-) -> Result<TracedAnswer, NoMemory>
+    report: Report,
+) -> Result<Noted, NoMemory>
     requires class { class < length version.now.map.classes }
     requires column { IsOnAxis version.now.map.size.w x }
     requires row { IsOnAxis version.now.map.size.h z }
     requires goal { IsSoundGoal version.now.map.size goal.now }
-    ensures answer { IfOk result (λ traced. IsPathTo (passable_at version.now.map version.now.standing class) x z goal.now
-        traced.answer) }
-    ensures opened { IfOk result (λ traced. wanted ≡ OpenedNumber
-        → IsOfPath (IsOpenedTo (passable_at version.now.map version.now.standing class) version.now.map.size goal.now)
-        traced.answer traced.opened) }
+    ensures answer { IfOk result (λ noted. IsPathTo (passable_at version.now.map version.now.standing class) x z goal.now
+        noted.answer) }
+    ensures note { IfOk result (λ noted. IsNoteBy report
+        (IsOpenedTo (passable_at version.now.map version.now.standing class) version.now.map.size goal.now)
+        noted.answer noted.note) }
 {
     if version.passable_cells(class) == 0 {
-        return Ok(TracedAnswer {
+        return Ok(Noted {
             answer: Answer::Nowhere,
-            opened: 0,
+            note: Note::Nothing,
         });
     }
     let Some(start) = nearest_passable(version, class, x, z) else {
-        return Ok(TracedAnswer {
+        return Ok(Noted {
             answer: Answer::Nowhere,
-            opened: 0,
+            note: Note::Nothing,
         });
     };
     let target = made_reachable(version, class, start, goal);
-    let Traced { found, opened } = found(alloc, version, class, start, &target, wanted)?;
+    let Walked { found, note } = found(alloc, version, class, start, &target, report)?;
     let Found {
         end,
         cost,
@@ -190,33 +162,40 @@ fn path_to(
         cost,
         waypoints,
     };
-    Ok(TracedAnswer {
+    Ok(Noted {
         answer: Answer::Path(path),
-        opened,
+        note,
     })
 }
 
-/// The chosen walk from the start to the first in cell order of the nearest cells that the aim hits, by jumps, with the
-/// opened number where that is wanted.
+/// A walk that was found, and what is told of it.
+#[derive(Drop)]
+struct Walked {
+    found: Found,
+    note: Note,
+}
+
+/// The chosen walk from the start to the first in cell order of the nearest cells that the aim hits, by jumps, with what
+/// the report tells of it.
 fn found<A: Aim>(
     alloc: Global,
     version: &Version,
     class: Class,
     start: Cell,
     aim: &A,
-    wanted: Wanted,
-) -> Result<Traced, NoMemory>
+    report: Report,
+) -> Result<Walked, NoMemory>
     requires class { class < length version.now.map.classes }
     requires start { IsTrue (passes_of version.now class start) }
     requires aim { A.sound aim.now version.now.map.size }
     requires reach { CanReach (passes_of version.now class) start (A.hit aim.now version.now.map.size) }
-    ensures answer { IfOk result (λ traced. IsAnswer (passes_of version.now class) start (A.hit aim.now version.now.map.size)
-        traced.found.end traced.found.cost.0 traced.found.waypoints) }
-    ensures opened { IfOk result (λ traced. wanted ≡ OpenedNumber
-        → IsCountedBy (passes_of version.now class) (A.hit aim.now version.now.map.size)
-        (A.framed aim.now version.now.map.size) version.now.map.size start traced.found.cost.0 traced.opened) }
+    ensures answer { IfOk result (λ walked. IsAnswer (passes_of version.now class) start (A.hit aim.now version.now.map.size)
+        walked.found.end walked.found.cost.0 walked.found.waypoints) }
+    ensures note { IfOk result (λ walked. IsPathNote report (IsCountedBy (passes_of version.now class)
+        (A.hit aim.now version.now.map.size) (A.framed aim.now version.now.map.size) version.now.map.size start
+        walked.found.cost.0) walked.note) }
 {
-    found_counted::<A, Brand>(alloc, version, class, start, aim, wanted, Blank::new(1))
+    found_counted::<A, Brand>(alloc, version, class, start, aim, report, Blank::new(1))
 }
 
 /// The same walk, with the opened jump states counted in a ledger of their own.
@@ -226,9 +205,9 @@ fn found_counted<A: Aim, L: Ledger>(
     class: Class,
     start: Cell,
     aim: &A,
-    wanted: Wanted,
+    report: Report,
     blank: Blank,
-) -> Result<Traced, NoMemory>
+) -> Result<Walked, NoMemory>
     requires name { blank.name ≡ L.name }
     requires parts { blank.parts ≡ L.parts }
     requires some { 0 < L.parts }
@@ -236,23 +215,32 @@ fn found_counted<A: Aim, L: Ledger>(
     requires start { IsTrue (passes_of version.now class start) }
     requires aim { A.sound aim.now version.now.map.size }
     requires reach { CanReach (passes_of version.now class) start (A.hit aim.now version.now.map.size) }
-    ensures answer { IfOk result (λ traced. IsAnswer (passes_of version.now class) start (A.hit aim.now version.now.map.size)
-        traced.found.end traced.found.cost.0 traced.found.waypoints) }
-    ensures opened { IfOk result (λ traced. wanted ≡ OpenedNumber
-        → IsCountedBy (passes_of version.now class) (A.hit aim.now version.now.map.size)
-        (A.framed aim.now version.now.map.size) version.now.map.size start traced.found.cost.0 traced.opened) }
+    ensures answer { IfOk result (λ walked. IsAnswer (passes_of version.now class) start (A.hit aim.now version.now.map.size)
+        walked.found.end walked.found.cost.0 walked.found.waypoints) }
+    ensures note { IfOk result (λ walked. IsPathNote report (IsCountedBy (passes_of version.now class)
+        (A.hit aim.now version.now.map.size) (A.framed aim.now version.now.map.size) version.now.map.size start
+        walked.found.cost.0) walked.note) }
 {
     let mut ticks = Ticks::<L>::new(blank);
     let runs = PlaneRuns::new(version, version.planes());
-    match wanted {
-        Wanted::Answer => {
+    match report {
+        Report::Answers => {
             let found = jump_find_with(alloc, &runs, class, start, aim, &mut ticks)?;
-            Ok(Traced { found, opened: 0 })
+            Ok(Walked {
+                found,
+                note: Note::Nothing,
+            })
         }
-        Wanted::OpenedNumber => {
+        Report::OpenedNumbers => {
             // The rectangle that the jump states are counted by.
             let _rect = aim.bounds(version.size());
-            jump_search_with(alloc, &runs, class, start, aim, &mut ticks)
+            let Traced { found, opened } = jump_search_with(
+                alloc, &runs, class, start, aim, &mut ticks,
+            )?;
+            Ok(Walked {
+                found,
+                note: Note::Opened(opened),
+            })
         }
     }
 }

@@ -1,16 +1,17 @@
 //! Versions under turns: all that the machine asks of maps.
-ghost use Rattle.std.specs.Prelude.{◌≡◌, ◌<◌, ◌++◌, IfOk, OnOk, filter_map, flat_map, length, option_to_list};
+ghost use Rattle.std.specs.Prelude.{◌≡◌, ◌<◌, ◌++◌, IfOk, OnOk, filter_map, flat_map, length};
 ghost use Rattle.nav_types.specs.Regions.{HasRelabelled};
+ghost use Rattle.posts.specs.Posts.{edit_of, jobs, requests};
 ghost use Rattle.grid_versions.specs.Editing.{after_edits, edit_replies};
 ghost use Rattle.grid_versions.specs.Versions.{passes_of};
-ghost use Rattle.turn_core.specs.Words.{bare, edit_of};
-ghost use Rattle.turn_core.specs.Turns.{after_turn, jobs, requests};
+ghost use Rattle.turn_core.specs.Words.{bare};
+ghost use Rattle.turn_core.specs.Turns.{after_turn};
 ghost use Rattle.turn_core.specs.inner.ReplyLists.{edits_told_in};
 
-use crate::posts::{Jobs, Post, TurnPosts};
 use grid_versions::{EditReplies, Edits, MapSpec, Next, Version};
 use nav_types::{NoMemory, Sequence, Ticks};
 use obstruction_store::{Store, all_fit_in_empty};
+use posts::{Jobs, Post, TurnPosts, push_some};
 use std::alloc::Global;
 use std::marker::Brand;
 use std::sync::ledger::{Blank, Ledger};
@@ -119,34 +120,24 @@ fn push_edits(edits: &mut Edits, posts: &[Post]) -> Result<(), NoMemory>
     Ok(())
 }
 
-/// Appends the item, where there is one.
-fn push_some<T: Drop>(items: &mut Sequence<T>, item: Option<T>) -> Result<(), NoMemory>
-    ensures { OnOk result (items.new ≡ items.old ++ option_to_list item) }
-{
-    match item {
-        Some(item) => Ok(items.push(item)?),
-        None => Ok(()),
-    }
-}
-
 /// The jobs of a turn.
 pub(crate) fn jobs_of(alloc: Global, turn: &TurnPosts) -> Result<Jobs, NoMemory>
     ensures { IfOk result (λ made. made ≡ jobs turn.now) }
 {
     let mut made = Sequence::new(alloc);
     for posts in turn.as_slice() {
-        push_requests(alloc, &mut made, posts.as_slice())?;
+        push_requests(&mut made, posts.as_slice())?;
     }
     Ok(made)
 }
 
 /// Appends the requests among posts.
 #[tactic(auto, using(crate::proofs::TurnEdits::filter_map_more))]
-fn push_requests(alloc: Global, made: &mut Jobs, posts: &[Post]) -> Result<(), NoMemory>
+fn push_requests(made: &mut Jobs, posts: &[Post]) -> Result<(), NoMemory>
     ensures { OnOk result (made.new ≡ made.old ++ requests posts.now) }
 {
     for post in posts {
-        push_some(made, post.request(alloc)?)?;
+        push_some(made, post.request())?;
     }
     Ok(())
 }

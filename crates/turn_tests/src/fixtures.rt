@@ -58,8 +58,8 @@ pub(crate) fn point(x: i16) -> GoalSpec {
 }
 
 /// Asks for a path of a class by its name, from a point of the first row in halves.
-pub(crate) fn path_asked(alloc: Global, name: &str, x: i16, goal: GoalSpec) -> Option<Request> {
-    let class = ClassName::new(alloc, name.as_bytes()).ok()?;
+pub(crate) fn path_asked(name: &str, x: i16, goal: GoalSpec) -> Option<Request> {
+    let class = ClassName::new(name.as_bytes())?;
     Some(Request::Path {
         class,
         x: halves(x),

@@ -109,7 +109,7 @@ fn a_turn_is_staged_beside_one_that_runs(rt: HostRuntime) -> Result<(), Fail> {
         posts: AtomicU64::new(0),
         gave_up: AtomicBool::new(false),
     };
-    let path = path_asked(alloc, "default", 1, point(5)).expect(&rt, "the path");
+    let path = path_asked("default", 1, point(5)).expect(&rt, "the path");
     assert!(rt; first.post(&rt, Post::Ask(path)).ok() == Some(0));
     assert!(rt; stage_first(&rt, &mut driver) == Some(1));
     assert!(rt; second.post(&rt, Post::Edit(unit(1, 3))).ok() == Some(0));

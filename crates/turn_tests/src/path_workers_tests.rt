@@ -3,13 +3,14 @@ use crate::fixtures::{path_asked, point, row_version};
 use grid_versions::{Refusal, Version};
 use io_edges::{Gate, OpenGate};
 use nav_types::NoMemory;
-use path_workers::{Workers, run_turn, run_turn_traced};
+use path_workers::{Workers, run_turn, run_turn_noted};
+use posts::push_some;
 use std::alloc::Global;
 use std::sync::atomic::{AtomicBool, AtomicU64, Ordering};
 use std::test::*;
 use std::thread;
 use std::thread::Threads;
-use turn_core::{Answer, Answers, Jobs};
+use turn_core::{Answer, Answers, Jobs, Note, Report};
 
 /// The column in which a path ends with its cost, or why it is refused.
 type Told = Result<(u16, u64), Refusal>;
@@ -36,8 +37,8 @@ const FIRST: Row = ("default", 1, 9, Ok((4, 262_144)));
 fn jobs_of(alloc: Global, rows: &[Row]) -> Option<Jobs> {
     let mut jobs = Jobs::new(alloc);
     for (name, from, to, _) in rows {
-        let path = path_asked(alloc, name, *from, point(*to))?;
-        jobs.push(path).ok()?;
+        let path = path_asked(name, *from, point(*to))?;
+        push_some(&mut jobs, Some(path)).ok()?;
     }
     Some(jobs)
 }
@@ -93,17 +94,26 @@ fn each_job_has_its_answer_by_any_number_of_workers(rt: HostRuntime) {
 
 /// On an open row the start and the goal are the only jump states, and a refused job opens none.
 #[test]
-fn each_job_has_its_opened_number(rt: HostRuntime) {
+fn each_job_has_its_note(rt: HostRuntime) {
     let alloc = rt.alloc();
     let version = row_version(alloc, 5, &[]).expect(&rt, "the version");
     let jobs = jobs_of(alloc, &SEVEN).expect(&rt, "the jobs");
     assert!(rt; jobs.len() <= 7);
-    let Ok(traced) = run_turn_traced(&rt, alloc, &version, &jobs, 2, &OpenGate) else {
+    let report = Report::OpenedNumbers;
+    let Ok(noted) = run_turn_noted(&rt, alloc, &version, &jobs, 2, &OpenGate, report) else {
         panic!(rt; "the answers")
     };
-    assert!(rt; are_told(&traced.answers, &SEVEN));
-    let opened = [2, 0, 2, 0, 2, 0, 1];
-    assert!(rt; traced.opened.as_slice() == opened.as_slice());
+    assert!(rt; are_told(&noted.answers, &SEVEN));
+    let notes = [
+        Note::Opened(2),
+        Note::Nothing,
+        Note::Opened(2),
+        Note::Nothing,
+        Note::Opened(2),
+        Note::Nothing,
+        Note::Opened(1),
+    ];
+    assert!(rt; noted.notes.as_slice() == notes.as_slice());
 }
 
 /// Counts passes, and holds the first one until three others have come.

@@ -1,5 +1,6 @@
 -- The waypoints of a walk.
 use Rattle.std.specs.Prelude.{Bool, true, not, ◌+◌, ◌-◌, ◌<◌, ◌&&◌, ◌==◌, List, [], ◌∷◌, ◌++◌, if◌then◌else◌}
+use Rattle.nav_types.specs.declared.limits.TheConstants.{MAX_SIDE}
 use Rattle.nav_types.specs.declared.cells.Cell.{Cell}
 use Rattle.nav_types.specs.declared.directions.Dir.{Dir}
 use Rattle.nav_types.specs.Cells.{cell_at}
@@ -26,7 +27,7 @@ waypoints from (dir ∷ dirs) = (if is_corner dir dirs then cell_after dir from 
 
 -- the cell lies in the largest map
 abbrev pub IsInGrid : Cell → Type 0
-IsInGrid cell = (cell.i < 2048) × (cell.j < 2048)
+IsInGrid cell = (cell.i < MAX_SIDE) × (cell.j < MAX_SIDE)
 
 -- the walk from the cell stays in the largest map
 abbrev pub StaysInGrid : Cell → List Dir → Type 0

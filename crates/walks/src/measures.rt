@@ -7,7 +7,8 @@ use crate::found_walk::{Walk, Waypoints};
 use nav_types::{Cell, Cost, Dir, NoMemory};
 use std::alloc::Global;
 
-/// The cost of a walk: 65536 for each straight step and 92682 for each diagonal one.
+/// The cost of a walk: [`STRAIGHT_COST`](nav_types::limits::STRAIGHT_COST) for each straight step and
+/// [`DIAGONAL_COST`](nav_types::limits::DIAGONAL_COST) for each diagonal one.
 pub fn cost(walk: &Walk) -> Cost
     requires { length walk.now ≤ 2 ^ 32 }
     ensures { result.0 ≡ walk_cost walk.now }

@@ -1,6 +1,6 @@
 -- What is counted of replies, one field for each number of the summary's first line but the number of turns.
 use Rattle.std.specs.Prelude.{◌+◌, ◌<◌, ◌^◌, List, length, count_by, sum_by}
-use Rattle.turn_core.specs.declared.replies.Reply.{Reply}
+use Rattle.posts.specs.declared.replies.Reply.{Reply}
 use Rattle.answer_text.specs.declared.counting.ReplyCounts.{ReplyCounts}
 use Rattle.answer_text.specs.Summaries.{is_added, is_removed, is_refused, is_at_goal, is_near_goal, is_nowhere, path_cost, waypoint_count}
 

@@ -1,6 +1,7 @@
 -- Passable cells of a chunk's rows that lie side by side.
 use Rattle.std.specs.Prelude.{ℕ, zero, suc, Bool, false, ◌≡◌, ◌+◌, ◌-◌, ◌*◌, ◌/◌, ◌%◌, ◌<◌, ◌≤◌, ◌&&◌, if◌then◌else◌, List, Option, Some, None, IsTrue, length, slice_get, slice_index, nat_le}
 use Rattle.std.specs.Int.{bit_at}
+use Rattle.nav_types.specs.declared.limits.TheConstants.{CHUNK_SIDE, CHUNK_CELLS}
 use Rattle.nav_types.specs.declared.cells.Cell.{Cell}
 use Rattle.nav_types.specs.declared.cells.Chunk.{Chunk}
 use Rattle.chunk_regions.specs.declared.spans.Span.{Span}
@@ -11,15 +12,15 @@ pub record Runs : Type 0 where
   pub starts : List ℕ
   pub spans : List Span
 
--- the spans are in order: 96 rows of spans that rise and do not touch
+-- the spans are in order: rows of spans that rise and do not touch
 pub record AreSpans (runs : Runs) : Type 0 where
-  pub rows : length runs.starts ≡ 97
+  pub rows : length runs.starts ≡ CHUNK_SIDE + 1
   pub start : slice_index runs.starts 0 ≡ 0
-  pub rising : (r : ℕ) → r < 96 → slice_index runs.starts r ≤ slice_index runs.starts (r + 1)
-  pub all : slice_index runs.starts 96 ≡ length runs.spans
-  pub few : length runs.spans ≤ 4608
-  pub ordered : (k : ℕ) (span : Span) → slice_get runs.spans k ≡ Some span → (span.first ≤ span.last) × (span.last < 96)
-  pub apart : (r k l : ℕ) (west east : Span) → r < 96 → slice_index runs.starts r ≤ k → k < l
+  pub rising : (r : ℕ) → r < CHUNK_SIDE → slice_index runs.starts r ≤ slice_index runs.starts (r + 1)
+  pub all : slice_index runs.starts CHUNK_SIDE ≡ length runs.spans
+  pub few : length runs.spans ≤ CHUNK_CELLS / 2
+  pub ordered : (k : ℕ) (span : Span) → slice_get runs.spans k ≡ Some span → (span.first ≤ span.last) × (span.last < CHUNK_SIDE)
+  pub apart : (r k l : ℕ) (west east : Span) → r < CHUNK_SIDE → slice_index runs.starts r ≤ k → k < l
       → l < slice_index runs.starts (r + 1)
       → slice_get runs.spans k ≡ Some west → slice_get runs.spans l ≡ Some east → west.last + 1 < east.first
 
@@ -27,7 +28,7 @@ pub record AreSpans (runs : Runs) : Type 0 where
 pub record Holds (runs : Runs) (r k x : ℕ) : Type 0 where
   pub span : Span
   pub found : slice_get runs.spans k ≡ Some span
-  pub row : r < 96
+  pub row : r < CHUNK_SIDE
   pub from : slice_index runs.starts r ≤ k
   pub to : k < slice_index runs.starts (r + 1)
   pub west : span.first ≤ x
@@ -36,7 +37,7 @@ pub record Holds (runs : Runs) (r k x : ℕ) : Type 0 where
 -- the spans hold exactly the set bits of a chunk's rows
 pub record AreRuns (bits : List ℕ) (runs : Runs) : Type 0 where
   pub are : AreSpans runs
-  pub holds : (r x : ℕ) → r < 96 → x < 96 → bit_at (slice_index bits r) x ≡ 1 → (k : ℕ) × Holds runs r k x
+  pub holds : (r x : ℕ) → r < CHUNK_SIDE → x < CHUNK_SIDE → bit_at (slice_index bits r) x ≡ 1 → (k : ℕ) × Holds runs r k x
   pub set : (r k x : ℕ) → Holds runs r k x → bit_at (slice_index bits r) x ≡ 1
 
 -- the spans from place `from` on hold exactly the set bits below a column, and do not touch
@@ -44,7 +45,7 @@ pub record IsRowTo (bits from : ℕ) (spans : List Span) (column : ℕ) : Type 0
   pub few : 2 * length spans ≤ 2 * from + column
   pub longer : from ≤ length spans
   pub ordered : (k : ℕ) (span : Span) → from ≤ k → slice_get spans k ≡ Some span
-      → (span.first ≤ span.last) × (span.last < 96) × (span.last + 1 < column)
+      → (span.first ≤ span.last) × (span.last < CHUNK_SIDE) × (span.last + 1 < column)
   pub apart : (k l : ℕ) (west east : Span) → from ≤ k → k < l → slice_get spans k ≡ Some west
       → slice_get spans l ≡ Some east → west.last + 1 < east.first
   pub holds : (x : ℕ) → x < column → bit_at bits x ≡ 1
@@ -54,7 +55,7 @@ pub record IsRowTo (bits from : ℕ) (spans : List Span) (column : ℕ) : Type 0
 
 -- the place is that of a span
 pub record IsPlace (runs : Runs) (place : Place) : Type 0 where
-  pub row : place.row < 96
+  pub row : place.row < CHUNK_SIDE
   pub from : slice_index runs.starts place.row ≤ place.at
   pub to : place.at < slice_index runs.starts (place.row + 1)
   pub within : place.at < length runs.spans
@@ -64,9 +65,9 @@ pub record HasCell (chunk : Chunk) (runs : Runs) (place : Place) (cell : Cell) :
   pub is : IsPlace runs place
   pub span : Span
   pub found : slice_get runs.spans place.at ≡ Some span
-  pub row : cell.j ≡ 96 * chunk.cj + place.row
-  pub west : 96 * chunk.ci + span.first ≤ cell.i
-  pub east : cell.i ≤ 96 * chunk.ci + span.last
+  pub row : cell.j ≡ CHUNK_SIDE * chunk.cj + place.row
+  pub west : CHUNK_SIDE * chunk.ci + span.first ≤ cell.i
+  pub east : cell.i ≤ CHUNK_SIDE * chunk.ci + span.last
 
 -- the spans hold exactly the passable cells of the chunk
 pub record IsCut (passes : Cell → Bool) (chunk : Chunk) (runs : Runs) : Type 0 where
@@ -98,4 +99,4 @@ number_by runs regions columns place = region_at runs regions (place / columns) 
 
 -- the region of a cell of the chunk
 abbrev pub region_of : Chunk → Runs → List ℕ → Cell → ℕ
-region_of chunk runs regions cell = region_at runs regions (cell.j - 96 * chunk.cj) (cell.i - 96 * chunk.ci)
+region_of chunk runs regions cell = region_at runs regions (cell.j - CHUNK_SIDE * chunk.cj) (cell.i - CHUNK_SIDE * chunk.ci)

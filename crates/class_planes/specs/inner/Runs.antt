@@ -2,9 +2,11 @@
 use Rattle.std.specs.Prelude.{ℕ, ◌&&◌, nat_lt, ⊤, suc, Bool, ◌≡◌, ◌<◌, ◌≤◌, ◌+◌, ◌-◌, ◌/◌, ◌%◌, nat_le, if◌then◌else◌, max, min, List, length, slice_index, IsTrue, IsFalse}
 use Rattle.std.specs.Int.{bit_at}
 use Rattle.nav_types.specs.declared.cells.Cell.{Cell}
-use Rattle.nav_types.specs.declared.directions.Dir.{Dir}
-use Rattle.nav_types.specs.declared.directions.Dir.TheVariants.{N, E, S, W, NE, SE, SW, NW}
-use Rattle.nav_types.specs.Cells.{cell_at}
+use Rattle.nav_types.specs.declared.straights.Straight.{Straight}
+use Rattle.nav_types.specs.declared.straights.Way.{Way}
+use Rattle.nav_types.specs.declared.straights.Way.TheVariants.{Up, Down}
+use Rattle.nav_types.specs.Lines.{cell_on, line_on, place_on}
+use Rattle.nav_types.specs.Straights.{straight_dir}
 use Rattle.nav_types.specs.Walks.{Step}
 use Rattle.lane_rows.specs.Rows.{one_if}
 use Rattle.jump_scan.specs.Successors.{HasForced}
@@ -54,11 +56,9 @@ pub record IsLast (bit : ℕ → ℕ) (from to : ℕ) : Type 0 where
   pub none : (i : ℕ) → to < i → i < from → bit i ≡ 0
 
 -- the bit so many places up or down a line; before the line's begin all are 0
-abbrev pub up_bits : List ℕ → ℕ → ℕ → ℕ
-up_bits words from n = bit_in words (from + n)
-
-abbrev pub down_bits : List ℕ → ℕ → ℕ → ℕ
-down_bits words from n = if nat_le n from then bit_in words (from - n) else 0
+abbrev pub bits_along : Way → List ℕ → ℕ → ℕ → ℕ
+bits_along Up words from n = bit_in words (from + n)
+bits_along Down words from n = if nat_le n from then bit_in words (from - n) else 0
 
 -- how far a run goes: the steps to the last place where it may go on, and whether a side opens there
 pub record Far : Type 0 where
@@ -77,51 +77,47 @@ pub record GoesFar (mid left right : ℕ → ℕ) (far : Far) : Type 0 where
   pub last : IsFalse far.forced → (n : ℕ) → suc n ≡ far.count → opens_after left right n ≡ 0
   pub ends : IsFalse far.forced → mid (suc far.count) ≡ 0
 
--- the cell so many steps away
-abbrev pub cell_along : Dir → Cell → ℕ → Cell
-cell_along N cell n = cell_at cell.i (cell.j + n)
-cell_along E cell n = cell_at (cell.i + n) cell.j
-cell_along S cell n = cell_at cell.i (cell.j - n)
-cell_along W cell n = cell_at (cell.i - n) cell.j
-cell_along NE cell n = cell_at (cell.i + n) (cell.j + n)
-cell_along SE cell n = cell_at (cell.i + n) (cell.j - n)
-cell_along SW cell n = cell_at (cell.i - n) (cell.j - n)
-cell_along NW cell n = cell_at (cell.i - n) (cell.j + n)
+-- the place so many steps up or down a line
+abbrev pub place_along : Way → ℕ → ℕ → ℕ
+place_along Up from n = from + n
+place_along Down from n = from - n
 
 -- a run downwards goes no farther than the line's begin
-abbrev pub HasRoom : Dir → Cell → ℕ → Type 0
-HasRoom N cell n = ⊤
-HasRoom E cell n = ⊤
-HasRoom S cell n = n ≤ cell.j
-HasRoom W cell n = n ≤ cell.i
-HasRoom NE cell n = ⊤
-HasRoom SE cell n = n ≤ cell.j
-HasRoom SW cell n = (n ≤ cell.i) × (n ≤ cell.j)
-HasRoom NW cell n = n ≤ cell.i
+abbrev pub HasRoom : Way → ℕ → ℕ → Type 0
+HasRoom Up from n = ⊤
+HasRoom Down from n = n ≤ from
+
+-- the cell so many steps away
+abbrev pub cell_along : Straight → Cell → ℕ → Cell
+cell_along straight cell n = cell_on straight.axis (line_on straight.axis cell)
+    (place_along straight.way (place_on straight.axis cell) n)
 
 -- the straight run from the cell goes so far: to the first cell with a forced successor, or to the end of the run
-pub record RunsFar (passes : Cell → Bool) (dir : Dir) (from : Cell) (far : Far) : Type 0 where
-  pub start : from ≡ cell_along dir from 0
-  pub room : HasRoom dir from far.count
-  pub steps : (n : ℕ) → suc n ≤ far.count → Step passes dir (cell_along dir from n) (cell_along dir from (suc n))
-  pub free : (n : ℕ) → n ≤ far.count → IsTrue (passes (cell_along dir from n))
-  pub plain : (n : ℕ) → suc n < far.count → HasForced passes (cell_along dir from (suc n)) dir → ⊥
-  pub forced : IsTrue far.forced
-      → (n : ℕ) × ((suc n ≡ far.count) × HasForced passes (cell_along dir from (suc n)) dir)
-  pub last : IsFalse far.forced → (n : ℕ) → suc n ≡ far.count → HasForced passes (cell_along dir from (suc n)) dir
-      → ⊥
-  pub ends : IsFalse far.forced → (next : Cell) → Step passes dir (cell_along dir from far.count) next → ⊥
+pub record RunsFar (passes : Cell → Bool) (straight : Straight) (from : Cell) (far : Far) : Type 0 where
+  pub start : from ≡ cell_along straight from 0
+  pub room : HasRoom straight.way (place_on straight.axis from) far.count
+  pub steps : (n : ℕ) → suc n ≤ far.count
+      → Step passes (straight_dir straight) (cell_along straight from n) (cell_along straight from (suc n))
+  pub free : (n : ℕ) → n ≤ far.count → IsTrue (passes (cell_along straight from n))
+  pub plain : (n : ℕ) → suc n < far.count
+      → HasForced passes (cell_along straight from (suc n)) (straight_dir straight) → ⊥
+  pub forced : IsTrue far.forced → (n : ℕ)
+      × ((suc n ≡ far.count) × HasForced passes (cell_along straight from (suc n)) (straight_dir straight))
+  pub last : IsFalse far.forced → (n : ℕ) → suc n ≡ far.count
+      → HasForced passes (cell_along straight from (suc n)) (straight_dir straight) → ⊥
+  pub ends : IsFalse far.forced → (next : Cell)
+      → Step passes (straight_dir straight) (cell_along straight from far.count) next → ⊥
 
 -- the flag says whether the straight run from the cell ends at a cell with a forced successor
-abbrev pub TellsStop : (Cell → Bool) → Dir → Cell → Bool → Type 0
-TellsStop passes dir from stop = (far : Far) × (RunsFar passes dir from far × (stop ≡ far.forced))
+abbrev pub TellsStop : (Cell → Bool) → Straight → Cell → Bool → Type 0
+TellsStop passes straight from stop = (far : Far) × (RunsFar passes straight from far × (stop ≡ far.forced))
 
 -- the first of the cells from 1 step on that is hit
-pub record IsFirstHit (hit : Cell → Bool) (dir : Dir) (from : Cell) (count steps : ℕ) : Type 0 where
+pub record IsFirstHit (hit : Cell → Bool) (straight : Straight) (from : Cell) (count steps : ℕ) : Type 0 where
   pub some : 0 < steps
   pub most : steps ≤ count
-  pub hits : IsTrue (hit (cell_along dir from steps))
-  pub none : (n : ℕ) → 0 < n → n < steps → IsFalse (hit (cell_along dir from n))
+  pub hits : IsTrue (hit (cell_along straight from steps))
+  pub none : (n : ℕ) → 0 < n → n < steps → IsFalse (hit (cell_along straight from n))
 
 -- the three lines are line n of a map with the line after it to the left and the line before it to the right; before the
 -- first line nothing is free

@@ -1,10 +1,11 @@
 -- Where the straight runs along the lines of a map have a stop for a side that opens, whatever the aim.
 use Rattle.std.specs.Prelude.{ℕ, zero, suc, ⊤, All, ◌≡◌, ◌<◌, ◌≤◌, ◌+◌, ◌-◌, ◌*◌, ◌/◌, ◌++◌, ◌∷◌, [], min, max, List, length, slice_index_or}
+use Rattle.nav_types.specs.declared.limits.TheConstants.{MAX_SIDE}
 use Rattle.nav_types.specs.declared.cells.Rect.{Rect}
 use Rattle.nav_types.specs.Cells.{cell_at}
 use Rattle.class_planes.specs.Planes.{IsOutside}
-use Rattle.class_planes.specs.declared.stop_words.Way.{Way}
-use Rattle.class_planes.specs.declared.stop_words.Way.TheVariants.{Up, Down}
+use Rattle.nav_types.specs.declared.straights.Way.{Way}
+use Rattle.nav_types.specs.declared.straights.Way.TheVariants.{Up, Down}
 use Rattle.class_planes.specs.inner.Lines.{LineTable, line_at, line_in}
 use Rattle.class_planes.specs.inner.Runs.{LaneWords, bit_in, opening}
 
@@ -45,7 +46,7 @@ pub record AreMapLines (count : ℕ) (lines : LineTable) : Type 0 where
   pub wide : 0 < lines.words
   pub few : lines.words ≤ 33
   pub some : 0 < count
-  pub low : count ≤ 2048
+  pub low : count ≤ MAX_SIDE
 
 -- a rectangle with columns and rows exchanged
 abbrev pub turned_rect : Rect → Rect
@@ -130,6 +131,11 @@ down_words band = band.down
 pub record BothTables : Type 0 where
   pub up : LineTable
   pub down : LineTable
+
+-- the stops of the runs one way
+abbrev pub stops_along : Way → BothTables → LineTable
+stops_along Up stops = stops.up
+stops_along Down stops = stops.down
 
 -- lines of so many words, and no band yet
 abbrev pub no_bands : ℕ → LineTable

@@ -1,9 +1,8 @@
 -- The raster of any test of classes and cells.
-use Rattle.std.specs.Prelude.{ℕ, ◌≡◌, ◌-◌, Bool, max}
+use Rattle.std.specs.Prelude.{ℕ, ◌≡◌, Bool, max}
 use Rattle.std.specs.Int.{bit_at}
 use Rattle.nav_types.specs.declared.cells.Cell.{Cell}
 use Rattle.nav_types.specs.declared.cells.Rect.{Rect}
-use Rattle.nav_types.specs.declared.cells.Size.{Size}
 use Rattle.nav_types.specs.Cells.{IsInside, IsInRect}
 use Rattle.navcell_grid.specs.Grids.{GridCells, number_at}
 use Rattle.lane_rows.specs.Rows.{one_if}
@@ -12,10 +11,6 @@ use Rattle.lane_rows.specs.Rows.{one_if}
 pub record IsRaster (test : ℕ → Cell → Bool) (old new : GridCells) : Type 0 where
   pub size : new.size ≡ old.size
   pub bits : (cell : Cell) (k : ℕ) → IsInside old.size cell → bit_at (number_at new cell) k ≡ max (bit_at (number_at old cell) k) (one_if (test k cell))
-
--- the cells of a map of this size
-abbrev pub all_cells : Size → Rect
-all_cells size = record { i0 = 0; j0 = 0; i1 = size.w - 1; j1 = size.h - 1 }
 
 -- in a part of a rectangle of cells, the bit of a class of a cell is set exactly where it was set before or the test
 -- holds for them; the numbers of all other cells stay

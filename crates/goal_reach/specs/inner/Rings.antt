@@ -3,18 +3,10 @@ use Rattle.std.specs.Prelude.{ℕ, ◌≡◌, ◌+◌, ◌-◌, ◌<◌, ◌≤�
 use Rattle.nav_types.specs.declared.cells.Cell.{Cell}
 use Rattle.nav_types.specs.declared.cells.Rect.{Rect}
 use Rattle.nav_types.specs.declared.cells.Size.{Size}
-use Rattle.nav_types.specs.Cells.{cell_at, IsInside, IsInRect}
-use Rattle.goal_reach.specs.declared.axes.Axis.{Axis}
-use Rattle.goal_reach.specs.declared.axes.Axis.TheVariants.{Row, Column}
+use Rattle.nav_types.specs.declared.straights.Axis.{Axis}
+use Rattle.nav_types.specs.Cells.{IsInside, IsInRect}
+use Rattle.nav_types.specs.Lines.{place_on, line_on}
 use Rattle.goal_reach.specs.declared.rings.Block.{Block}
-
--- the rectangle of one cell
-abbrev pub rect_of : Cell → Rect
-rect_of cell = record { i0 = cell.i; j0 = cell.j; i1 = cell.i; j1 = cell.j }
-
--- the rectangle of a whole map
-abbrev pub whole_map : Size → Rect
-whole_map size = record { i0 = 0; j0 = 0; i1 = size.w - 1; j1 = size.h - 1 }
 
 -- the rectangle with so many columns and rows more on each side
 abbrev pub widened : ℕ → Rect → Rect
@@ -34,26 +26,6 @@ pub record Encloses (outer inner : Rect) : Type 0 where
 -- the cell lies in the outer rectangle and not in the inner one
 abbrev pub IsOnRing : Rect → Rect → Cell → Type 0
 IsOnRing inner outer cell = IsInRect outer cell × (IsInRect inner cell → ⊥)
-
--- the place of the cell on its line: its column in a row, its row in a column
-abbrev pub place_on : Axis → Cell → ℕ
-place_on Row cell = cell.i
-place_on Column cell = cell.j
-
--- the line of the cell: its row, or its column
-abbrev pub line_on : Axis → Cell → ℕ
-line_on Row cell = cell.j
-line_on Column cell = cell.i
-
--- the cell at a place of a line
-abbrev pub cell_on : Axis → ℕ → ℕ → Cell
-cell_on Row line place = cell_at place line
-cell_on Column line place = cell_at line place
-
--- how many cells a line has in a map of this size
-abbrev pub side_along : Axis → Size → ℕ
-side_along Row size = size.w
-side_along Column size = size.h
 
 -- the cell lies on the line, at a place from `from` up to `end`, without that one
 pub record IsInRun (axis : Axis) (line from end : ℕ) (cell : Cell) : Type 0 where

@@ -2,7 +2,8 @@
 use Rattle.std.specs.Prelude.{ℕ, Bool, ◌≡◌, List, Some, Contains, slice_get}
 use Rattle.nav_types.specs.declared.cells.Cell.{Cell}
 use Rattle.nav_types.specs.declared.cells.Size.{Size}
-use Rattle.chunk_regions.specs.Labelling.{Labelling, chunk_rect}
+use Rattle.chunk_regions.specs.Labelling.{Labelling}
+use Rattle.nav_types.specs.Rects.{chunk_rect}
 use Rattle.region_edges.specs.declared.neighbours.Side.{Side}
 use Rattle.region_edges.specs.declared.neighbours.Side.TheVariants.{East, North}
 use Rattle.region_edges.specs.Edges.{PassesInside}

@@ -1,5 +1,6 @@
 -- Lists that have one item for each chunk of a map, and the neighbours of a chunk.
 use Rattle.std.specs.Prelude.{ℕ, ◌≡◌, ◌+◌, ◌*◌, ◌/◌, ◌%◌, ◌<◌, List, length, slice_get, slice_set, Some}
+use Rattle.nav_types.specs.declared.limits.TheConstants.{CHUNK_SIDE}
 use Rattle.nav_types.specs.declared.cells.Chunk.{Chunk}
 use Rattle.nav_types.specs.declared.cells.Size.{Size}
 use Rattle.nav_types.specs.Cells.{chunk_at}
@@ -13,8 +14,8 @@ chunk_numbered size place = chunk_at (place % chunk_columns size) (place / chunk
 
 -- the chunk has a cell in a map of this size
 pub record IsChunkInside (size : Size) (chunk : Chunk) : Type 0 where
-  pub column : 96 * chunk.ci < size.w
-  pub row : 96 * chunk.cj < size.h
+  pub column : CHUNK_SIDE * chunk.ci < size.w
+  pub row : CHUNK_SIDE * chunk.cj < size.h
 
 -- the chunk one column further east
 abbrev pub east_of : Chunk → Chunk

@@ -8,9 +8,9 @@ use Rattle.nav_types.specs.Cells.{IsInRect}
 use Rattle.nav_types.specs.Numbering.{Numbering, columns, rows, number_of}
 use Rattle.lane_rows.specs.Rows.{has_class}
 use Rattle.navcell_grid.specs.Patches.{DiffersIn, free_count}
-use Rattle.chunk_regions.specs.Labelling.{chunk_rect}
+use Rattle.nav_types.specs.Rects.{chunk_rect}
 use Rattle.obstruction_store.specs.Standing.{Standing}
-use Rattle.grid_versions.specs.Maps.{Map}
+use Rattle.posts.specs.Maps.{Map}
 use Rattle.grid_versions.specs.Passing.{has_base, is_blocked, is_listed}
 use Rattle.grid_versions.specs.Chunks.{chunk_count}
 use Rattle.grid_versions.specs.inner.ChunkLists.{AreOfChunks}

@@ -4,7 +4,7 @@ use Rattle.nav_types.specs.declared.cells.Rect.{Rect}
 use Rattle.nav_types.specs.Numbering.{Numbering}
 use Rattle.class_planes.specs.Planes.{PlaneCells, ArePlanes}
 use Rattle.obstruction_store.specs.Standing.{Standing, AllFit}
-use Rattle.grid_versions.specs.Maps.{Map}
+use Rattle.posts.specs.Maps.{Map}
 use Rattle.grid_versions.specs.Passing.{passable_at}
 use Rattle.grid_versions.specs.inner.Changing.{AreChanges}
 use Rattle.grid_versions.specs.inner.Painting.{AreBaseChunks, ArePaintedChunks}

@@ -7,12 +7,12 @@ use Rattle.nav_types.specs.declared.cells.Chunk.{Chunk}
 use Rattle.nav_types.specs.declared.cells.Rect.{Rect}
 use Rattle.nav_types.specs.Cells.{IsInside, IsInRect}
 use Rattle.lane_rows.specs.Rows.{has_class}
-use Rattle.chunk_regions.specs.Labelling.{chunk_rect}
+use Rattle.nav_types.specs.Rects.{chunk_rect}
 use Rattle.obstruction_shapes.specs.declared.shapes.Obstruction.{Obstruction}
 use Rattle.clearance_raster.specs.Rasters.{blocks_class}
 use Rattle.obstruction_store.specs.Standing.{Standing}
+use Rattle.posts.specs.Maps.{Map}
 use Rattle.grid_versions.specs.declared.reachers.Reacher.{Reacher}
-use Rattle.grid_versions.specs.Maps.{Map}
 use Rattle.grid_versions.specs.Chunks.{chunk_count}
 use Rattle.grid_versions.specs.inner.ChunkLists.{AreOfChunks}
 use Rattle.grid_versions.specs.inner.Reaching.{LiesWithin, NameChanges}

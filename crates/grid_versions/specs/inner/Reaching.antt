@@ -10,17 +10,9 @@ use Rattle.lane_rows.specs.Rows.{has_class}
 use Rattle.obstruction_shapes.specs.declared.shapes.Obstruction.{Obstruction}
 use Rattle.clearance_raster.specs.Rasters.{blocks_class}
 use Rattle.obstruction_store.specs.Standing.{Standing}
-use Rattle.grid_versions.specs.declared.edits.Edit.{Edit}
-use Rattle.grid_versions.specs.declared.edits.Edit.TheVariants.{Add, Remove, Move}
-use Rattle.grid_versions.specs.Maps.{Map}
+use Rattle.posts.specs.Maps.{Map}
 use Rattle.grid_versions.specs.Passing.{is_in_rect, is_blocked}
 use Rattle.grid_versions.specs.inner.Painting.{is_covered, ArePaintedChunks}
-
--- the number of the obstruction that an edit names
-abbrev pub edited_id : Edit → ℕ
-edited_id (Add id obstruction) = id
-edited_id (Remove id) = id
-edited_id (Move id x z) = id
 
 -- one of the rectangles holds the cell
 abbrev pub is_in_some : List Rect → Cell → Bool

@@ -1,5 +1,6 @@
 -- The tables of one class of a map: regions of all chunks, region edges and areas.
-use Rattle.std.specs.Prelude.{ℕ, Bool, ◌≡◌, ◌+◌, ◌^◌, ◌<◌, ◌≤◌, List, Option, None, Some, Contains, length, map, sum_by, slice_get}
+use Rattle.std.specs.Prelude.{ℕ, Bool, ◌≡◌, ◌+◌, ◌*◌, ◌^◌, ◌<◌, ◌≤◌, List, Option, None, Some, Contains, length, map, sum_by, slice_get}
+use Rattle.nav_types.specs.declared.limits.TheConstants.{MAX_CHUNKS, CHUNK_CELLS}
 use Rattle.nav_types.specs.declared.cells.Cell.{Cell}
 use Rattle.nav_types.specs.declared.cells.Chunk.{Chunk}
 use Rattle.nav_types.specs.declared.cells.Size.{Size}
@@ -91,10 +92,10 @@ region_in size tables cell = record {
   region = number_in (slice_get tables.labels (chunk_place size (chunk_of cell))) cell;
 }
 
--- few enough regions and edges for their sums: 484 chunks have at most 9216 regions each, and a pair of chunks
--- has at most one edge for each pair of regions
+-- few enough regions and edges for their sums: a chunk has at most one region for each of its cells, and a pair of chunks
+-- at most one edge for each pair of regions
 pub record AreFew (tables : Tables) : Type 0 where
-  pub regions : region_total tables ≤ 4460544
+  pub regions : region_total tables ≤ MAX_CHUNKS * CHUNK_CELLS
   pub edges : edge_total tables < 2 ^ 37
 
 -- the numbers of all regions and of all edges, which are few enough

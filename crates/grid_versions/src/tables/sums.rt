@@ -1,4 +1,5 @@
 ghost use Rattle.std.specs.Prelude.{◌≡◌, ◌^◌, ◌<◌, ◌≤◌, length, map, sum_by, IfOk, All};
+ghost use Rattle.nav_types.specs.declared.limits.TheConstants.{CHUNK_CELLS};
 
 use crate::shared_list::SharedList;
 use chunk_regions::Labels;
@@ -6,10 +7,10 @@ use nav_types::NoMemory;
 use region_edges::Edges;
 use std::alloc::Global;
 
-/// The number of regions of each chunk, at most 9216.
+/// The number of regions of each chunk, at most `CHUNK_CELLS`.
 pub fn region_counts(alloc: Global, labels: &SharedList<Labels>) -> Result<Vec<u16>, NoMemory>
     ensures value { IfOk result (λ counts. counts.items ≡ map (λ l. length l.firsts) labels.now) }
-    ensures most { IfOk result (λ counts. All (λ count. count ≤ 9216) counts.items) }
+    ensures most { IfOk result (λ counts. All (λ count. count ≤ CHUNK_CELLS) counts.items) }
 {
     let mut counts = Vec::with_capacity(alloc, labels.len())?;
     for at in 0..labels.len() {

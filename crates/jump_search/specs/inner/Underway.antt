@@ -1,5 +1,5 @@
 -- What a jump search knows while it goes on.
-use Rattle.std.specs.Prelude.{ℕ, Bool, ◌≡◌, ◌+◌, ◌-◌, ◌*◌, ◌<◌, ◌≤◌, ◌⊎◌, List, Option, None, Some, length, count_by}
+use Rattle.std.specs.Prelude.{ℕ, Bool, ◌≡◌, ◌+◌, ◌-◌, ◌*◌, ◌^◌, ◌<◌, ◌≤◌, ◌⊎◌, List, Option, None, Some, length, count_by}
 use Rattle.std.specs.Prelude.{slice_get, max, IsTrue, IsFalse}
 use Rattle.std.specs.FinMap as map
 use Rattle.nav_types.specs.declared.cells.Cell.{Cell}
@@ -113,7 +113,7 @@ pub record IsFollowable (passes hit : Cell → Bool) (rect : Rect) (state : Jump
   pub opened : IsOpenNode nodes state cost
   pub early : floor ≤ cost + octile_to rect state.cell
   pub room : cost + 189812736 ≤ most
-  pub low : most < 4611686018427387904
+  pub low : most < 2 ^ 62
 
 -- a search that could follow jumps from the state goes on as before
 abbrev pub KeepsGoing : (Cell → Bool) → (Cell → Bool) → Rect → JumpState → ℕ → List Node → List Node → Queue → Queue

@@ -4,7 +4,7 @@ use Rattle.nav_types.specs.declared.cells.Rect.{Rect}
 use Rattle.nav_types.specs.Numbering.{IsPatch, columns, rows}
 use Rattle.navcell_grid.specs.Grids.{GridCells}
 
--- the rectangle is of at most 96 by 96 cells, and the grid has one cell for each of them
+-- the rectangle is no larger than a chunk, and the grid has one cell for each of its cells
 pub record IsFramed (rect : Rect) (grid : GridCells) : Type 0 where
   pub extent : IsPatch rect
   pub wide : grid.size.w ≡ columns rect

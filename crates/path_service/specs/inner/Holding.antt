@@ -1,12 +1,13 @@
 -- What a driver holds, and the state that it stands for.
 use Rattle.std.specs.Prelude.{ℕ, ◌≡◌, ◌-◌, ◌≤◌, Bool, true, false, Option, None, Some, List, [], ◌∷◌, ◌++◌, All, drop, length, replicate}
 use Rattle.nav_types.specs.declared.limits.TheConstants.{MAX_STAGED_POSTS}
-use Rattle.grid_versions.specs.Maps.{Map}
-use Rattle.turn_core.specs.declared.posts.Post.{Post}
-use Rattle.turn_core.specs.declared.replies.Reply.{Reply}
-use Rattle.turn_core.specs.declared.replies.TurnReplies.{TurnReplies}
+use Rattle.posts.specs.declared.posts.Post.{Post}
+use Rattle.posts.specs.declared.replies.Reply.{Reply}
+use Rattle.posts.specs.declared.replies.TurnReplies.{TurnReplies}
+use Rattle.posts.specs.Maps.{Map}
+use Rattle.posts.specs.Posts.{post_count}
 use Rattle.turn_core.specs.Words.{MapState, bare}
-use Rattle.turn_core.specs.Turns.{standing, IsOneThread, post_count}
+use Rattle.turn_core.specs.Turns.{standing, IsOneThread}
 use Rattle.turn_core.specs.ReadyTurns.{Ready}
 use Rattle.turn_core.specs.States.{State, Run}
 use Rattle.turn_core.specs.Effects.{begun, first_list, joined_up}

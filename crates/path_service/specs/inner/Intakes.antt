@@ -2,13 +2,13 @@
 use Rattle.std.specs.Prelude.{ℕ, ◌≡◌, ◌<◌, ◌≤◌, Option, None, Some, Result, Ok, Err, List, [], IfOk, length, replicate}
 use Rattle.nav_types.specs.declared.limits.TheConstants.{MAX_STAGED_POSTS}
 use Rattle.nav_types.specs.declared.sequences.NoMemory.{NoMemory}
-use Rattle.grid_versions.specs.Maps.{Map}
-use Rattle.turn_core.specs.declared.posts.Post.{Post}
+use Rattle.posts.specs.declared.posts.Post.{Post}
+use Rattle.posts.specs.Maps.{Map}
+use Rattle.posts.specs.Posts.{post_count}
 use Rattle.turn_core.specs.Words.{Standing}
 use Rattle.turn_core.specs.ReadyTurns.{Ready}
 use Rattle.path_service.specs.declared.ports.Port.{Port}
 use Rattle.path_service.specs.declared.intakes.Intake.{Intake}
-use Rattle.turn_core.specs.Turns.{post_count}
 use Rattle.path_service.specs.inner.Zips.{zipped, AllPaired}
 use Rattle.path_service.specs.inner.Ports.{gained, joins, PortHasLooked, HasRoom}
 

@@ -1,13 +1,13 @@
 -- The driver's ends of the lanes of each caller.
 use Rattle.std.specs.Prelude.{ℕ, ◌≡◌, ◌+◌, ◌<◌, ◌≤◌, ◌^◌, Some, Result, Ok, Err, List, [], ◌∷◌, ◌++◌, length, map, slice_get, slice_set}
 use Rattle.nav_types.specs.declared.sequences.NoMemory.{NoMemory}
+use Rattle.posts.specs.declared.posts.Post.{Post}
+use Rattle.posts.specs.declared.replies.Reply.{Reply}
+use Rattle.posts.specs.Callers.{list_of}
+use Rattle.posts.specs.Posts.{post_count}
 use Rattle.request_lanes.specs.Ends.{Posting, Taking}
-use Rattle.turn_core.specs.declared.posts.Post.{Post}
-use Rattle.turn_core.specs.declared.replies.Reply.{Reply}
-use Rattle.turn_core.specs.States.{list_of}
 use Rattle.path_service.specs.declared.ports.Port.{Port}
 use Rattle.path_service.specs.Callers.{CallerId}
-use Rattle.turn_core.specs.Turns.{post_count}
 use Rattle.path_service.specs.inner.Zips.{zipped, AllPaired}
 
 -- posts were taken off the lane

@@ -1,8 +1,9 @@
 -- What is held of the running turn.
 use Rattle.std.specs.Prelude.{◌≡◌, Option, None, Some}
+use Rattle.posts.specs.Posts.{jobs}
 use Rattle.turn_core.specs.Solving.{AreAnswersTo}
 use Rattle.turn_core.specs.Words.{MapState}
-use Rattle.turn_core.specs.Turns.{after_turn, jobs, IsTurnTold}
+use Rattle.turn_core.specs.Turns.{after_turn, IsTurnTold}
 use Rattle.path_service.specs.declared.runs.AnsweredRun.{AnsweredRun}
 
 -- what is held of a running turn on the version before it

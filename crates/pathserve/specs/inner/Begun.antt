@@ -1,6 +1,6 @@
 -- Works that were begun.
 use Rattle.std.specs.Prelude.{◌≡◌, List, [], ◌∷◌}
-use Rattle.turn_core.specs.declared.posts.Post.{Post}
+use Rattle.posts.specs.declared.posts.Post.{Post}
 use Rattle.path_service.specs.Callers.{CallerId}
 use Rattle.pathserve.specs.declared.works.Begun.{Begun}
 use Rattle.pathserve.specs.declared.works.Begun.TheVariants.{There, Here}

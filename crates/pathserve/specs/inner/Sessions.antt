@@ -1,10 +1,10 @@
 -- The driver of a session.
 use Rattle.std.specs.Prelude.{ℕ, ◌≡◌, ◌≤◌, ◌<◌, false, List, All, sum_by, Option, Some, None}
 use Rattle.nav_types.specs.declared.limits.TheConstants.{MAX_STAGED_POSTS}
-use Rattle.turn_core.specs.declared.posts.Post.{Post}
+use Rattle.posts.specs.declared.posts.Post.{Post}
+use Rattle.posts.specs.Posts.{post_count}
 use Rattle.path_service.specs.Callers.{EndedState}
 use Rattle.path_service.specs.Services.{DriverState, started_on}
-use Rattle.turn_core.specs.Turns.{post_count}
 use Rattle.pathserve.specs.Serving.{HasPost}
 use Rattle.pathserve.specs.inner.Works.{HaveAllPosted}
 

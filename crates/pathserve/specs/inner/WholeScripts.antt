@@ -1,10 +1,10 @@
 -- All turns of a script, read to its end, and the text of a session of their posts.
 use Rattle.std.specs.Prelude.{ℕ, ◌≡◌, List, [], ◌++◌, IsTrue, Option, Some, None, Result, Ok, Err}
-use Rattle.grid_versions.specs.Maps.{Map}
-use Rattle.turn_core.specs.declared.posts.Post.{Post}
-use Rattle.turn_core.specs.declared.replies.TurnReplies.{TurnReplies}
-use Rattle.turn_core.specs.Turns.{of_caller, IsOneThread}
-use Rattle.turn_core.specs.States.{list_of}
+use Rattle.posts.specs.declared.posts.Post.{Post}
+use Rattle.posts.specs.declared.replies.TurnReplies.{TurnReplies}
+use Rattle.posts.specs.Maps.{Map}
+use Rattle.posts.specs.Callers.{of_caller, list_of}
+use Rattle.turn_core.specs.Turns.{IsOneThread}
 use Rattle.script_text.specs.declared.faults.ScriptFault.{ScriptFault}
 use Rattle.script_text.specs.Script.{Item, beginning, map_after, whole_input, turns_of, reading}
 use Rattle.script_text.specs.Reader.{Held, unread, stuck_after, Refuses, WhereTold}

@@ -1,6 +1,6 @@
 -- The works of callers.
 use Rattle.std.specs.Prelude.{◌≡◌, ◌≤◌, ◌^◌, List, [], ◌∷◌, ◌++◌, length}
-use Rattle.turn_core.specs.declared.posts.Post.{Post}
+use Rattle.posts.specs.declared.posts.Post.{Post}
 use Rattle.path_service.specs.Callers.{CallerId, CallerState, EndedState}
 
 -- so many posts go on a lane

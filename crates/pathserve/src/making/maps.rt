@@ -1,13 +1,13 @@
 //! The map of a match.
 ghost use Rattle.std.specs.Prelude.{◌≡◌, ◌<◌, IfOk, OnOk, All};
 ghost use Rattle.nav_types.specs.Cells.{IsRectInside};
-ghost use Rattle.pathserve.specs.Making.{base_drawn, classes, draw_base_rect, made_map, map_size};
+ghost use Rattle.pathserve.specs.Making.{base_drawn, classes, draw_base_rect, made_class, made_map, map_size};
 
 use super::draws::Draws;
-use class_config::{ClassRefusal, ClassTable};
+use super::{drawn_posts, places};
+use class_config::{ClassRefusal, ClassTable, PassabilityClass};
 use grid_versions::{BaseRects, MapSpec};
 use nav_types::{NoMemory, Rect, Sequence, Size};
-use serde_json::Value;
 use std::alloc::Global;
 
 /// The navcells along one side of the map.
@@ -18,13 +18,6 @@ pub(crate) const CALLERS: u8 = 16;
 
 /// How many base rectangles the map has.
 const BASE_RECTS: u32 = 24;
-
-/// The classes, each with half a navcell more of clearance than the one before it.
-const CLASSES: &str =
-    "[{\"name\":\"c0\",\"clearance\":\"0\"},{\"name\":\"c1\",\"clearance\":\"0.5\"},\
-    {\"name\":\"c2\",\"clearance\":\"1\"},{\"name\":\"c3\",\"clearance\":\"1.5\"},\
-    {\"name\":\"c4\",\"clearance\":\"2\"},{\"name\":\"c5\",\"clearance\":\"2.5\"},\
-    {\"name\":\"c6\",\"clearance\":\"3\"},{\"name\":\"c7\",\"clearance\":\"3.5\"}]";
 
 /// The map of a match.
 #[tactic(auto, unfolding(crate::specs::Making::made_map))]
@@ -79,16 +72,34 @@ fn base_rect(draws: &mut Draws) -> (Rect, u16)
 }
 
 /// The passability classes.
+#[tactic(auto, using(crate::proofs::MapClasses::are_table))]
 fn classes(alloc: Global) -> Result<ClassTable, NoMemory>
     ensures { IfOk result (λ table. table ≡ classes) }
 {
-    // The text is JSON, so it is only memory that it can lack.
-    let Ok(value) = Value::from_str(alloc, CLASSES) else {
-        return Err(NoMemory);
-    };
-    match ClassTable::read(alloc, &value) {
-        Ok(classes) => Ok(classes),
+    let classes = [
+        made_class(0),
+        made_class(1),
+        made_class(2),
+        made_class(3),
+        made_class(4),
+        made_class(5),
+        made_class(6),
+        made_class(7),
+    ];
+    match ClassTable::new(alloc, &classes) {
+        Ok(table) => Ok(table),
         Err(ClassRefusal::NoMemory) => Err(NoMemory),
         Err(ClassRefusal::NotClasses) => unreachable!(),
+    }
+}
+
+/// The class of a number, with half a navcell more of clearance than the one before it.
+fn made_class(class: u32) -> PassabilityClass
+    requires { class < 8 }
+    ensures { result ≡ made_class class }
+{
+    PassabilityClass {
+        name: drawn_posts::class_name(class),
+        clearance: places::fixed(32768 * class),
     }
 }

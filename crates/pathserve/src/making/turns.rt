@@ -2,8 +2,8 @@
 ghost use Rattle.std.specs.Prelude.{◌≡◌, ◌<◌, ◌+◌, IfOk, OnOk};
 ghost use Rattle.pathserve.specs.Making.{draw_each, draw_turn};
 
+use super::drawn_posts::posts;
 use super::draws::Draws;
-use super::posts::posts;
 use nav_types::{NoMemory, Sequence};
 use std::alloc::Global;
 use turn_core::{Journal, TurnPosts};

@@ -1,16 +1,15 @@
 //! Matches made out of numbers, and their summaries.
 use super::{run_over, runs_to};
-use grid_versions::Edit;
 use io_edges::OpenGate;
 use nav_types::{Bytes, NoMemory};
 use pathserve::{Made, Status, make_script};
+use posts::{Edit, Post, Posts};
 use script_text::{have_lines, write_journal, write_map};
 use std::alloc::Global;
 use std::str;
 use std::sync::Wait;
 use std::test::*;
 use std::thread::Threads;
-use turn_core::{Post, Posts};
 
 /// Whether each of the posts is an add, and there are 25.
 fn are_25_adds(posts: &Posts) -> bool {

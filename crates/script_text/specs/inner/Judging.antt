@@ -1,5 +1,8 @@
 -- What a line gives in its place, as the answers to it say.
 use Rattle.std.specs.Prelude.{ℕ, ◌≡◌, ◌+◌, ◌≤◌, List, [], ◌∷◌, length, Bool, true, false, All, IsFalse, IsTrue, Option, Some, None, option_and_then, Result, Ok, Err, ⊤}
+use Rattle.posts.specs.declared.posts.Post.{Post}
+use Rattle.posts.specs.Maps.{Map, with_base}
+use Rattle.posts.specs.Posts.{post_count}
 use Rattle.script_text.specs.declared.faults.ScriptFault.{ScriptFault}
 use Rattle.script_text.specs.declared.faults.ScriptFault.TheVariants.{BadLine, TooLong, ReadFault, NoMemory}
 use Rattle.nav_types.specs.declared.cells.Rect.{Rect}
@@ -7,14 +10,11 @@ use Rattle.nav_types.specs.declared.cells.Size.{Size}
 use Rattle.nav_types.specs.Cells.{IsRectInside}
 use Rattle.nav_types.specs.declared.limits.TheConstants.{MAX_INPUT_BYTES}
 use Rattle.serde_json.specs.Data.{Data, null, boolean, number, string, array, object}
-use Rattle.grid_versions.specs.Maps.{Map, with_base}
-use Rattle.turn_core.specs.declared.posts.Post.{Post}
 use Rattle.script_text.specs.Forms.{base_of}
 use Rattle.script_text.specs.declared.parts.Part.{Part}
 use Rattle.script_text.specs.declared.parts.Part.TheVariants.{BeforeMap, InBase, InTurns}
 use Rattle.script_text.specs.Script.{Place, Item, Walk, begins, adds_base, ends_turn, whole_input, too_long, bad_line, arrived, stuck, map_after, turns_of, reading_of, is_long, accept}
 use Rattle.script_text.specs.Reader.{Held, GoesOn, RefusesMap, callers_of, WhereTold}
-use Rattle.turn_core.specs.Turns.{post_count}
 use Rattle.script_text.specs.Lines.{IsPlain}
 use Rattle.script_text.specs.inner.Taking.{HeldLine, HasEnd, bytes_of}
 

@@ -7,11 +7,11 @@ ghost use Rattle.script_text.specs.declared.forms.TheConstants.{NEWEST_VERSION};
 ghost use Rattle.script_text.specs.Canon as canon;
 
 use crate::canon::pieces::{Piece, push_comma, push_pieces};
-use crate::canon::posts::push_name;
+use crate::canon::post_lines::push_name;
 use class_config::{ClassName, ClassTable};
 use fixed_point::Fixed;
-use grid_versions::MapSpec;
 use nav_types::{Bytes, Class, NoMemory, Rect};
+use posts::MapSpec;
 
 /// The most rectangles on a base line.
 const RECTANGLES_TO_A_LINE: usize = 65_536;

@@ -3,7 +3,7 @@ ghost use Rattle.std.specs.Prelude.{◌≡◌};
 ghost use Rattle.serde_json.specs.View.{view};
 ghost use Rattle.script_text.specs.Causes as why;
 
-use crate::forms::posts::has_add_keys;
+use crate::forms::post_lines::has_add_keys;
 use crate::versions::FIRST_WITH_MOVES;
 use class_config::has_keys;
 use serde_json::Value;

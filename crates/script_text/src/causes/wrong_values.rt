@@ -154,7 +154,7 @@ fn is_right(alloc: Global, field: Field, value: &Value) -> Result<bool, NoMemory
         Wanted::Sides => Ok(size_under(value, key).is_some()),
         Wanted::Classes => Ok(classes_under(alloc, value, key)?.is_some()),
         Wanted::Rectangles { size } => are_rectangles(alloc, size, value, key),
-        Wanted::ClassName => Ok(name_under(alloc, value, key)?.is_some()),
+        Wanted::ClassName => Ok(name_under(value, key).is_some()),
         Wanted::TwoDecimals => Ok(point_under(value, key).is_some()),
         Wanted::ThreeDecimals => Ok(round_under(value, key).is_some()),
         Wanted::SixDecimals => Ok(rectangle_under(value, key).is_some()),

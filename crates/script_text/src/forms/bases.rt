@@ -5,8 +5,8 @@ ghost use Rattle.serde_json.specs.View.{view};
 ghost use Rattle.script_text.specs.Forms as form;
 
 use crate::forms::values::{has_items, whole_at};
-use grid_versions::BaseRects;
 use nav_types::{NoMemory, Rect, Size};
+use posts::BaseRects;
 use serde_json::Value;
 use std::alloc::Global;
 

@@ -1,15 +1,14 @@
 //! The values in lines: whole numbers, decimals, class names, and arrays of these.
-ghost use Rattle.std.specs.Prelude.{◌≡◌, ◌≤◌, ◌<◌, ◌==◌, IfOk, IfSome, length, false, map, option_and_then, option_map};
+ghost use Rattle.std.specs.Prelude.{◌≡◌, ◌≤◌, ◌<◌, ◌==◌, IfSome, length, false, map, option_and_then, option_map};
 ghost use Rattle.serde_json.specs.View.{view};
 ghost use Rattle.serde_json.specs.Find.{as_array, at};
 ghost use Rattle.script_text.specs.Values as value_form;
 
-use class_config::{ClassName, NameRefusal};
+use class_config::ClassName;
 use fixed_point::{Fixed, Rectangle};
+use nav_types::Size;
 use nav_types::limits::MAX_SIDE;
-use nav_types::{NoMemory, Size};
 use serde_json::Value;
-use std::alloc::Global;
 
 /// A whole number from `least` to `most`.
 #[tactic(auto, unfolding(crate::specs::Values::whole_in))]
@@ -90,20 +89,12 @@ pub(crate) fn decimal(value: &Value) -> Option<Fixed>
 
 /// The class name under a key. None where there is no string of the form of a class name.
 #[tactic(auto, unfolding(crate::specs::Values::class_name))]
-pub(crate) fn name_under(
-    alloc: Global,
-    value: &Value,
-    key: &str,
-) -> Result<Option<ClassName>, NoMemory>
-    ensures { IfOk result (λ made. made ≡ value_form.under value_form.class_name key.now (view value.now)) }
+pub(crate) fn name_under(value: &Value, key: &str) -> Option<ClassName>
+    ensures { result ≡ value_form.under value_form.class_name key.now (view value.now) }
 {
-    let Some(text) = class_config::text_under(value, key) else {
-        return Ok(None);
-    };
-    match ClassName::new(alloc, text.as_bytes()) {
-        Ok(name) => Ok(Some(name)),
-        Err(NameRefusal::NotName) => Ok(None),
-        Err(NameRefusal::NoMemory) => Err(NoMemory),
+    match class_config::text_under(value, key) {
+        Some(text) => ClassName::new(text.as_bytes()),
+        None => None,
     }
 }
 

@@ -4,9 +4,9 @@ use Rattle.nav_types.specs.declared.cells.Cell.{Cell}
 use Rattle.nav_types.specs.Cells.{IsInside}
 use Rattle.fixed_point.specs.Plane.{IsOnAxis}
 use Rattle.goal_shapes.specs.Goals.{HoldsPoint}
-use Rattle.grid_versions.specs.declared.edits.Refusal.{Refusal}
-use Rattle.grid_versions.specs.Maps.{Map}
-use Rattle.turn_core.specs.declared.replies.Answer.TheVariants.{Refused}
+use Rattle.posts.specs.declared.edits.Refusal.{Refusal}
+use Rattle.posts.specs.declared.replies.Answer.TheVariants.{Refused}
+use Rattle.posts.specs.Maps.{Map}
 use Rattle.turn_core.specs.NamedGoals.{class_named, is_on_map}
 use Rattle.turn_core.specs.Solving.{IsAnswerAt}
 

@@ -1,9 +1,10 @@
 -- What is held of a turn whose edits are made.
 use Rattle.std.specs.Prelude.{◌≡◌, length}
 use Rattle.nav_types.specs.Regions.{HasRelabelled}
+use Rattle.posts.specs.Posts.{jobs}
 use Rattle.grid_versions.specs.Versions.{passes_of}
 use Rattle.turn_core.specs.declared.edited_turns.EditedTurn.TheInside.{Inside}
-use Rattle.turn_core.specs.Turns.{after_turn, jobs}
+use Rattle.turn_core.specs.Turns.{after_turn}
 use Rattle.turn_core.specs.ReadyTurns.{Ready}
 use Rattle.turn_core.specs.inner.ReplyLists.{edits_told_in, lists_ahead}
 

@@ -1,15 +1,15 @@
 -- The lists of replies to a turn: before its requests are answered, and with the answers.
 use Rattle.std.specs.Prelude.{◌<◌, List, [], ◌∷◌, ◌++◌, drop, length}
-use Rattle.grid_versions.specs.Maps.{Map}
+use Rattle.posts.specs.declared.edits.EditReply.{EditReply}
+use Rattle.posts.specs.declared.edits.EditReply.TheVariants.{Removed}
+use Rattle.posts.specs.declared.posts.Post.{Post}
+use Rattle.posts.specs.declared.posts.Post.TheVariants.{Edit as Editing, Ask as Asking}
+use Rattle.posts.specs.declared.replies.Answer.{Answer}
+use Rattle.posts.specs.declared.replies.Answer.TheVariants.{Nowhere}
+use Rattle.posts.specs.declared.replies.Reply.{Reply}
+use Rattle.posts.specs.declared.replies.Reply.TheVariants.{Edit as Edited, Answer as Answered}
+use Rattle.posts.specs.Maps.{Map}
 use Rattle.grid_versions.specs.Editing.{edit_reply}
-use Rattle.grid_versions.specs.declared.edits.EditReply.{EditReply}
-use Rattle.grid_versions.specs.declared.edits.EditReply.TheVariants.{Removed}
-use Rattle.turn_core.specs.declared.posts.Post.{Post}
-use Rattle.turn_core.specs.declared.posts.Post.TheVariants.{Edit as Editing, Ask as Asking}
-use Rattle.turn_core.specs.declared.replies.Answer.{Answer}
-use Rattle.turn_core.specs.declared.replies.Answer.TheVariants.{Nowhere}
-use Rattle.turn_core.specs.declared.replies.Reply.{Reply}
-use Rattle.turn_core.specs.declared.replies.Reply.TheVariants.{Edit as Edited, Answer as Answered}
 use Rattle.turn_core.specs.Words.{Standing, edited}
 use Rattle.turn_core.specs.Turns.{after}
 use Rattle.turn_core.specs.Effects.{first_answer}

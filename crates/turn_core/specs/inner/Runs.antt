@@ -2,19 +2,20 @@
 use Rattle.std.specs.Prelude.{ℕ, ◌≡◌, ◌+◌, ◌<◌, ◌≤◌, Option, None, Some, List, [], ◌∷◌, flat_map, length, map}
 use Rattle.std.specs.Prelude.{slice_get, slice_index}
 use Rattle.std.specs.Prelude.{slice_index_or, slice_set, take}
+use Rattle.posts.specs.declared.posts.Post.{Post}
+use Rattle.posts.specs.declared.posts.Request.{Request}
+use Rattle.posts.specs.declared.replies.Answer.{Answer}
+use Rattle.posts.specs.declared.replies.Reply.{Reply}
+use Rattle.posts.specs.Posts.{jobs}
+use Rattle.posts.specs.Callers.{list_of}
 use Rattle.grid_versions.specs.Versions.{map_state}
 use Rattle.turn_core.specs.Words.{MapState}
-use Rattle.turn_core.specs.declared.posts.Post.{Post}
-use Rattle.turn_core.specs.declared.posts.Request.{Request}
-use Rattle.turn_core.specs.declared.replies.Answer.{Answer}
-use Rattle.turn_core.specs.declared.replies.Reply.{Reply}
 use Rattle.turn_core.specs.declared.machines.running.RunningTurn.{RunningTurn}
 use Rattle.turn_core.specs.declared.machines.delivered.DeliveredTurn.{DeliveredTurn}
 use Rattle.turn_core.specs.declared.machines.delivered.ReplyPlace.{ReplyPlace}
 use Rattle.turn_core.specs.Solving.{IsAnswerTo}
-use Rattle.turn_core.specs.Turns.{jobs}
 use Rattle.turn_core.specs.ReadyTurns.{Ready, after_edits_of}
-use Rattle.turn_core.specs.States.{Run, list_of}
+use Rattle.turn_core.specs.States.{Run}
 use Rattle.turn_core.specs.Effects.{joined_up, begun}
 
 -- the running turn that is held, as one of a state

@@ -9,8 +9,7 @@ ghost use Rattle.turn_core.specs.inner.Runs.{option_run_of, option_posts_of};
 use crate::events::{Takes, Why};
 use crate::machines::running::RunningTurn;
 use crate::machines::staging::number_at;
-use crate::posts::Posts;
-use crate::replies::Answer;
+use posts::{Answer, Posts};
 
 /// The first cause, where there is one, else the second.
 pub(crate) fn or_else(first: Option<Why>, second: Option<Why>) -> Option<Why>

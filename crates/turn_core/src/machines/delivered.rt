@@ -3,8 +3,7 @@ ghost use Rattle.std.specs.Prelude.{◌≡◌, ◌+◌, ◌++◌, ◌∷◌, ◌
 ghost use Rattle.std.specs.Prelude.{slice_index_or, slice_set, vec_capacity, vec_len};
 ghost use Rattle.turn_core.specs.inner.Runs.{HasCome, beginning, replies_to};
 
-use crate::posts::TurnPosts;
-use crate::replies::{CallerReplies, Reply};
+use posts::{CallerReplies, Reply, TurnPosts};
 
 /// A turn that is delivered: its posts, and the replies to them.
 #[derive(Drop)]

@@ -1,18 +1,17 @@
 //! Turns that are ready to run, and the running one.
 ghost use Rattle.std.specs.Prelude.{◌≡◌, ◌+◌, ◌<◌, ◌≤◌, [], IfOk, None, Some, length, replicate, slice_set};
 ghost use Rattle.std.specs.Prelude.{vec_capacity};
-ghost use Rattle.turn_core.specs.Turns.{jobs};
+ghost use Rattle.posts.specs.Posts.{jobs};
 ghost use Rattle.turn_core.specs.Table.{why_unanswered};
 ghost use Rattle.turn_core.specs.Effects.{begun, known};
 ghost use Rattle.turn_core.specs.inner.Runs.{run_of, version_for_next, posts_held, answers_held, with_claim, IsHeldOn, HasUnclaimed};
 ghost use Rattle.turn_core.specs.inner.Runs.{HasJob, HasPlace, AnswersHeld, PutsAnswer};
 
-use crate::posts::TurnPosts;
 use crate::ready_turns::ReadyTurn;
-use crate::replies::{Answer, Answers};
 use crate::solving::solve;
 use grid_versions::Version;
 use nav_types::{NoMemory, Sequence};
+use posts::{Answer, Answers, TurnPosts};
 use std::alloc::Global;
 
 /// A turn that is ready to run or runs: how many of its jobs are claimed, and the answer to each, where there is one.

@@ -2,9 +2,8 @@
 ghost use Rattle.std.specs.Prelude.{◌≡◌, ◌+◌, ◌++◌, ◌∷◌, ◌<◌, ◌^◌, [], IfOk, OnOk, drop, length, map, take, slice_index};
 ghost use Rattle.turn_core.specs.Effects.{next_posts, added_up};
 
-use crate::copying;
-use crate::posts::{Post, Posts, TurnPosts};
 use nav_types::{NoMemory, Sequence};
+use posts::{Post, Posts, TurnPosts, copied_items};
 use std::alloc::Global;
 
 /// A turn, and how many posts of each caller are taken with it.
@@ -22,7 +21,7 @@ impl NextTurn {
         ensures taken { OnOk result (self.new.taken.items ≡ self.old.taken.items ++ (before + length posts.now) ∷ []) }
     {
         self.taken.push(before + posts.len() as u64)?;
-        self.turn.push(copying::copied_items(alloc, posts)?)?;
+        self.turn.push(copied_items(alloc, posts)?)?;
         Ok(())
     }
 }

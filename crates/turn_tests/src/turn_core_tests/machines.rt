@@ -32,8 +32,8 @@ fn because(cause: Why) -> Option<StepRefusal> {
 }
 
 /// Posts a path from the first cell of the first row to its last. Whether it is posted.
-fn posts_path(alloc: Global, core: &mut Core) -> bool {
-    let Some(path) = path_asked(alloc, "default", 1, point(5)) else {
+fn posts_path(core: &mut Core) -> bool {
+    let Some(path) = path_asked("default", 1, point(5)) else {
         return false;
     };
     let post = Post::Ask(path);
@@ -96,7 +96,7 @@ fn has_job_causes(core: &mut Core) -> bool {
 fn an_edit_of_the_turn_counts_for_its_requests(rt: HostRuntime) {
     let alloc = rt.alloc();
     let mut core = core_of(alloc, 1, 2).expect(&rt, "the machine");
-    assert!(rt; posts_path(alloc, &mut core) && unit_refusal(&mut core, 1) == None);
+    assert!(rt; posts_path(&mut core) && unit_refusal(&mut core, 1) == None);
     assert!(rt; stage_refusal(alloc, &mut core, &[1, 1]) == None && runs_turn(&mut core));
     let path = collected(&mut core, 0);
     assert!(rt; stays(path.as_ref()));
@@ -110,7 +110,7 @@ fn refused_events_have_their_causes(rt: HostRuntime) {
     let alloc = rt.alloc();
     let mut core = core_of(alloc, 1, 2).expect(&rt, "the machine");
     assert!(rt; has_opening_causes(alloc, &mut core));
-    assert!(rt; posts_path(alloc, &mut core) && stage_refusal(alloc, &mut core, &[1, 0]) == None);
+    assert!(rt; posts_path(&mut core) && stage_refusal(alloc, &mut core, &[1, 0]) == None);
     assert!(rt; has_turn_causes(alloc, &mut core));
     assert!(rt; has_job_causes(&mut core));
 }
@@ -130,7 +130,7 @@ fn a_turn_beside_a_running_one_stands_on_its_edits(rt: HostRuntime) {
     assert!(rt; unit_refusal(&mut core, 0) == None);
     assert!(rt; stage_refusal(alloc, &mut core, &[1]) == None);
     assert!(rt; refusal(&mut core, Event::Start) == None);
-    assert!(rt; posts_path(alloc, &mut core) && stage_refusal(alloc, &mut core, &[1]) == None);
+    assert!(rt; posts_path(&mut core) && stage_refusal(alloc, &mut core, &[1]) == None);
     assert!(rt; refusal(&mut core, Event::Deliver) == None && runs_turn(&mut core));
     let edit = collected(&mut core, 0);
     assert!(rt; matches!(edit, Some(Reply::Edit(EditReply::Added(1)))));

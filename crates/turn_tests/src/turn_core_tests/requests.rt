@@ -8,10 +8,11 @@ use class_config::ClassName;
 use goal_shapes::{Goal, GoalSpec};
 use grid_versions::{EditReply, Refusal, Version};
 use nav_types::{NoMemory, Rect};
+use posts::push_some;
 use std::alloc::Global;
 use std::test::*;
 use turn_core::{
-    Answer, Copied, Journal, Post, Posts, ReadyTurn, RegionAnswer, Reply, Request, TurnPosts,
+    Answer, Copied, Jobs, Journal, Post, Posts, ReadyTurn, RegionAnswer, Reply, Request, TurnPosts,
     TurnReplies, one_thread, solve,
 };
 
@@ -33,8 +34,8 @@ fn about(id: u32, grow: i16) -> GoalSpec {
 }
 
 /// Asks for the region at a point of the row in halves.
-fn region_asked(alloc: Global, name: &str, x: i16) -> Option<Request> {
-    let class = ClassName::new(alloc, name.as_bytes()).ok()?;
+fn region_asked(name: &str, x: i16) -> Option<Request> {
+    let class = ClassName::new(name.as_bytes())?;
     Some(Request::Region {
         class,
         x: halves(x),
@@ -45,14 +46,14 @@ fn region_asked(alloc: Global, name: &str, x: i16) -> Option<Request> {
 /// The posts of a caller who posts once.
 fn posts_of(alloc: Global, post: Post) -> Option<Posts> {
     let mut posts = Posts::new(alloc);
-    posts.push(post).ok()?;
+    push_some(&mut posts, Some(post)).ok()?;
     Some(posts)
 }
 
 /// The turn of two callers on a row of three cells: the first asks for a path along it, and the second adds a unit in its
 /// middle.
 fn turn_of_two(alloc: Global) -> Option<TurnPosts> {
-    let path = path_asked(alloc, "default", 1, point(5))?;
+    let path = path_asked("default", 1, point(5))?;
     let mut turn = TurnPosts::new(alloc);
     turn.push(posts_of(alloc, Post::Ask(path))?).ok()?;
     turn.push(posts_of(alloc, Post::Edit(unit(1, 3)))?).ok()?;
@@ -144,7 +145,7 @@ fn refusals_come_in_their_order(rt: HostRuntime) {
         ("default", 1, about(7, -1), Refusal::BadShape),
         ("default", 1, about(7, 7680), Refusal::UnknownId),
     ] {
-        let path = path_asked(alloc, name, x, goal).expect(&rt, "the path");
+        let path = path_asked(name, x, goal).expect(&rt, "the path");
         assert!(rt;
             is_refused(alloc, &version, &path, cause),
             "{name} {x} {cause:?}"
@@ -154,12 +155,33 @@ fn refusals_come_in_their_order(rt: HostRuntime) {
         ("other", -1, Refusal::UnknownClass),
         ("default", 6, Refusal::StartOutside),
     ] {
-        let region = region_asked(alloc, name, x).expect(&rt, "the region");
+        let region = region_asked(name, x).expect(&rt, "the region");
         assert!(rt;
             is_refused(alloc, &version, &region, cause),
             "{name} {x} {cause:?}"
         );
     }
+}
+
+/// The answer to a request on a version.
+fn answer_to(alloc: Global, version: &Version, request: Option<Request>) -> Option<Answer> {
+    let request = request?;
+    let mut jobs = Jobs::new(alloc);
+    push_some(&mut jobs, Some(request)).ok()?;
+    let mut answers = answers_to(alloc, version, &jobs).ok()?;
+    answers.take_first()
+}
+
+/// The answer to a path from the first cell.
+fn path_answer(alloc: Global, version: &Version, goal: GoalSpec) -> Option<Answer> {
+    let path = path_asked("default", 1, goal)?;
+    answer_to(alloc, version, Some(path))
+}
+
+/// The answer to a region at a point of the row in halves.
+fn region_answer(alloc: Global, version: &Version, x: i16) -> Option<Answer> {
+    let region = region_asked("default", x)?;
+    answer_to(alloc, version, Some(region))
 }
 
 #[test]
@@ -172,11 +194,19 @@ fn no_passable_cell_is_nowhere(rt: HostRuntime) {
         j1: 0,
     };
     let version = row_version(alloc, 3, &[(row, 1)]).expect(&rt, "the version");
-    let path = path_asked(alloc, "default", 1, point(5)).expect(&rt, "the path");
-    assert!(rt; matches!(solve(alloc, &version, &path), Ok(Answer::Nowhere)));
+    assert!(rt;
+        matches!(
+            path_answer(alloc, &version, point(5)),
+            Some(Answer::Nowhere)
+        )
+    );
     // Refusals come before it.
-    let path = path_asked(alloc, "default", 1, about(1, 0)).expect(&rt, "the path");
-    assert!(rt; is_refused(alloc, &version, &path, Refusal::UnknownId));
+    assert!(rt;
+        matches!(
+            path_answer(alloc, &version, about(1, 0)),
+            Some(Answer::Refused(Refusal::UnknownId))
+        )
+    );
 }
 
 #[test]
@@ -190,7 +220,6 @@ fn regions_are_those_of_the_cell_itself(rt: HostRuntime) {
     };
     let version = row_version(alloc, 100, &[(second, 1)]).expect(&rt, "the version");
     for (x, ci, region, area) in [(1, 0, 1, 1), (3, 0, 0, 0), (5, 0, 2, 2), (199, 1, 1, 2)] {
-        let request = region_asked(alloc, "default", x).expect(&rt, "the request");
         let expected = RegionAnswer {
             ci,
             cj: 0,
@@ -199,8 +228,8 @@ fn regions_are_those_of_the_cell_itself(rt: HostRuntime) {
         };
         assert!(rt;
             matches!(
-                solve(alloc, &version, &request),
-                Ok(Answer::Region(found)) if found == expected
+                region_answer(alloc, &version, x),
+                Some(Answer::Region(found)) if found == expected
             ),
             "{x}"
         );

@@ -1,5 +1,6 @@
 -- The table of the plain search: for each cell of a map, row by row, the cost of a walk from the start to it.
 use Rattle.std.specs.Prelude.{ℕ, Bool, true, false, ◌≡◌, ◌+◌, ◌*◌, ◌<◌, ◌≤◌, List, length, slice_index, sum, count_by, nat_lt}
+use Rattle.nav_types.specs.declared.limits.TheConstants.{DIAGONAL_COST}
 use Rattle.nav_types.specs.declared.cells.Cell.{Cell}
 use Rattle.nav_types.specs.declared.cells.Size.{Size}
 use Rattle.nav_types.specs.declared.directions.Dir.{Dir}
@@ -29,7 +30,7 @@ pub record IsSoundTable (passes : Cell → Bool) (start : Cell) (size : Size) (c
   pub walks : (cell : Cell) → IsInside size cell → entry size costs cell < unreached
       → (dirs : List Dir) × (IsWalk passes start dirs cell × (walk_cost dirs ≡ entry size costs cell))
   pub few : (place : ℕ) → slice_index costs place < unreached
-      → slice_index costs place ≤ 92682 * count_by (λ cost. nat_lt cost unreached) costs
+      → slice_index costs place ≤ DIAGONAL_COST * count_by (λ cost. nat_lt cost unreached) costs
 
 -- the table is sound for some start
 abbrev pub IsSoundForSome : (Cell → Bool) → Size → List ℕ → Type 0

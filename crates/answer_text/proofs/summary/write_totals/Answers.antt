@@ -1,7 +1,7 @@
 use Rattle.std.proofs.Common.{◌≡◌, ◌++◌, ◌∷◌, [], List, ℕ, ap, ◌∙◌}
 use Rattle.std.specs.Prelude.{codes, decimal}
 use Rattle.std.proofs.lemmas.Result.{on_ok_weaker}
-use Rattle.turn_core.specs.declared.replies.Reply.{Reply}
+use Rattle.posts.specs.declared.replies.Reply.{Reply}
 use Rattle.answer_text.specs.declared.counting.ReplyCounts.{ReplyCounts}
 use Rattle.answer_text.specs.Answers.{line_of}
 use Rattle.answer_text.specs.inner.Counting.{counts_of}

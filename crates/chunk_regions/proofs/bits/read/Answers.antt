@@ -20,9 +20,9 @@ loop-j-init g c = record {
 
 pub set_row-requires-clause-few : goal.set_row-requires-clause-few
 set_row-requires-clause-few g c =
-    let rect = c.cells_of-rect.result in
+    let rect = c.of_chunk-rect.result in
     let few = c.row_bits.ensures.few in
-    let wide = c.cells_of-rect.ensures.patch.wide in
+    let wide = c.of_chunk-rect.ensures.patch.wide in
     let most = pow_at_most (rect.i1 + 1 - rect.i0) 96 (omega arith) in
     omega arith
 
@@ -30,7 +30,7 @@ pub loop-j-preserved : goal.loop-j-preserved
 loop-j-preserved g c =
     let passes = g.V.View.passes c.args.view.now c.args.class in
     let chunk = c.args.chunk in
-    let rect = c.cells_of-rect.result in
+    let rect = c.of_chunk-rect.result in
     let size = c.size.result in
     let j = c.loop-j.j in
     let old = c.loop-j.bits in
@@ -40,16 +40,16 @@ loop-j-preserved g c =
     let long = c.loop-j.invariant.long in
     let low = c.loop-j.auto.j in
     let below = c.loop-j-test.true in
-    let high = c.cells_of-rect.ensures.patch.high in
+    let high = c.of_chunk-rect.ensures.patch.high in
     let stored : new ≡ set old here bits = c.set_row.ensures in
     let other : (row : ℕ) → row ≢ here → slice_index new row ≡ slice_index old row = λ row apart.
     ap (λ (rows : List ℕ). slice_index rows row) stored ∙ get_or-set_other old here row bits 0 apart in
     let own : slice_index new here ≡ bits = ap (λ (rows : List ℕ). slice_index rows here) stored ∙ get_or-set_same old here bits 0 (omega arith) in
     let inside = λ (cell : Cell). g.met.V.View.within c.args.view.now c.args.class cell in
     let within : (cell : Cell) → IsTrue (passes cell) → IsInside size cell = λ cell passing. subst (λ (s : Size). IsInside s cell) (sym c.size.ensures) (inside cell passing) in
-    let west = ap (λ (r : Rect). r.i0) c.cells_of-rect.ensures.value in
-    let east = ap (λ (r : Rect). r.i1) c.cells_of-rect.ensures.value in
-    let columns = c.cells_of-rect.ensures.patch.columns in
+    let west = ap (λ (r : Rect). r.i0) c.of_chunk-rect.ensures.value in
+    let east = ap (λ (r : Rect). r.i1) c.of_chunk-rect.ensures.value in
+    let columns = c.of_chunk-rect.ensures.patch.columns in
     let whole : (column : ℕ) → column < 96 → (bit_at bits column == 1) ≡ passes (cell_at (rect.i0 + column) j) = λ column less.
     elim (cases_lt rect.i1 (rect.i0 + column)) [
       | inl past ↦ clear_past bits (rect.i1 + 1 - rect.i0) column c.row_bits.ensures.few (omega arith)
@@ -73,16 +73,16 @@ pub returns : goal.returns
 returns g c =
     let passes = g.V.View.passes c.args.view.now c.args.class in
     let chunk = c.args.chunk in
-    let rect = c.cells_of-rect.result in
+    let rect = c.of_chunk-rect.result in
     let size = c.size.result in
     let past = c.loop-j-test.false in
     let end = c.loop-j.auto.j-end in
     let inside = λ (cell : Cell). g.met.V.View.within c.args.view.now c.args.class cell in
     let within : (cell : Cell) → IsTrue (passes cell) → IsInside size cell = λ cell passing. subst (λ (s : Size). IsInside s cell) (sym c.size.ensures) (inside cell passing) in
-    let west = ap (λ (r : Rect). r.i0) c.cells_of-rect.ensures.value in
-    let south = ap (λ (r : Rect). r.j0) c.cells_of-rect.ensures.value in
-    let north = ap (λ (r : Rect). r.j1) c.cells_of-rect.ensures.value in
-    let rows = c.cells_of-rect.ensures.patch.rows in
+    let west = ap (λ (r : Rect). r.i0) c.of_chunk-rect.ensures.value in
+    let south = ap (λ (r : Rect). r.j0) c.of_chunk-rect.ensures.value in
+    let north = ap (λ (r : Rect). r.j1) c.of_chunk-rect.ensures.value in
+    let rows = c.of_chunk-rect.ensures.patch.rows in
     record {
       set = λ row column in_row in_column.
           let place : passes (cell_at (rect.i0 + column) (rect.j0 + row)) ≡ passes (cell_at (96 * chunk.ci + column) (96 * chunk.cj + row)) =

@@ -7,8 +7,8 @@ returns-clause-labels g c = λ passes are.
     let chunk = c.args.chunk in
     let runs = c.in_ok-spans.spans in
     let cut = IsCut-from_bits passes chunk c.args.bits.now runs are c.in_ok-spans.ensures in
-    AreLabels-from_regions passes c.args.size chunk runs c.in_ok-regions.field-0.regions.items c.in_ok-regions.field-0.firsts.items c.cells_of-rect.result
-    c.cells_of-rect.ensures.value cut (c.in_ok-regions.ensures.numbered (passes_in passes chunk) cut)
+    AreLabels-from_regions passes c.args.size chunk runs c.in_ok-regions.field-0.regions.items c.in_ok-regions.field-0.firsts.items c.of_chunk-rect.result
+    c.of_chunk-rect.ensures.value cut (c.in_ok-regions.ensures.numbered (passes_in passes chunk) cut)
 
 pub returns-clause-ticks : goal.returns-clause-ticks
 returns-clause-ticks g c = c.tick.ensures

@@ -2,4 +2,4 @@ use Rattle.std.proofs.Common.{length}
 use Rattle.class_config.proofs.table.+are_distinct.Given as goal
 
 abbrev pub decreases-are_distinct : goal.decreases-are_distinct
-decreases-are_distinct l = length l.items.now
+decreases-are_distinct l = length l.classes.now

@@ -1,24 +1,20 @@
-use Rattle.std.proofs.Common.{◌≡◌, ℕ, ◌+◌, List, Some, ◌++◌, ◌∷◌, [], ◌∙◌, take, ap, sym}
-use Rattle.std.proofs.lemmas.List.{take_more}
+use Rattle.std.proofs.Common.{◌≡◌, ◌+◌, ◌++◌, ◌∷◌, [], ◌∙◌, take, ap, sym, Some, ◌<◌, length, arith}
+use Rattle.std.proofs.lemmas.List.{take_more, take_more_set, length-set}
 use Rattle.serde_json.specs.View.{view}
-use Rattle.class_config.specs.declared.table.PassabilityClass.{PassabilityClass}
 use Rattle.class_config.specs.Classes.{class_of}
-use Rattle.class_config.proofs.ClassLists.{filter_map-more, filter_map-less}
+use Rattle.class_config.proofs.ClassLists.{filter_map-more, gives-more}
 use Rattle.class_config.proofs.table.gathered.Goals as goal
 
-pub loop-item-preserved-in_default : goal.loop-item-preserved-in_default
-loop-item-preserved-in_default c =
-    let i = c.loop-item.item-index in let item = c.item-item.result in
-    let next : take (i + 1) c.args.items.now ≡ take i c.args.items.now ++ item ∷ [] =
-    take_more c.args.items.now i item c.loop-item-test.true ∙ ap (λ x. take i c.args.items.now ++ x ∷ []) (sym c.item-item.is) in
-    filter_map-less (λ item. class_of (view item)) _ _ _ item next c.loop-item.invariant (sym c.in_default.ensures.class)
-
-pub loop-item-preserved : goal.loop-item-preserved
-loop-item-preserved c =
-    let i = c.loop-item.item-index in let item = c.item-item.result in
-    let next : take (i + 1) c.args.items.now ≡ take i c.args.items.now ++ item ∷ [] =
-    take_more c.args.items.now i item c.loop-item-test.true ∙ ap (λ x. take i c.args.items.now ++ x ∷ []) (sym c.item-item.is) in
-    let name : c.in_ok-name.name ≡ c.in-Some.reading.name.now = c.in_ok-name.ensures ∙ c.as_bytes.ensures.value in
-    let named = λ (bytes : List ℕ). let class : PassabilityClass = record { name = bytes; clearance = c.in-Some.reading.clearance } in Some class in
-    c.in_ok-push.ensures.ok
-    ∙ filter_map-more (λ item. class_of (view item)) _ _ _ item _ next c.loop-item.invariant (sym c.in-Some.ensures.class ∙ ap named (sym name))
+pub loop-at-preserved : goal.loop-at-preserved
+loop-at-preserved c =
+    let items = c.args.items.now in let i = c.loop-at.at in let item = c.index-items-at.result in let class = c.in_ok-classes-2.field-0 in
+    let next : take (i + 1) items ≡ take i items ++ item ∷ [] =
+    take_more items i item c.loop-at-test.true ∙ ap (λ x. take i items ++ x ∷ []) (sym c.index-items-at.is) in
+    let gives : class_of (view item) ≡ Some class = sym c.in_ok-classes-2.ensures in
+    let room : i < length c.loop-at.classes = omega (arith, c.loop-at-test.true, c.loop-at.invariant.2, c.loop-at.invariant.4) in (
+      take_more_set c.loop-at.classes i class room ∙ filter_map-more (λ item. class_of (view item)) _ _ _ item class next c.loop-at.invariant.0 gives,
+      gives-more (λ item. class_of (view item)) _ _ item class next c.loop-at.invariant.1 gives,
+      length-set c.loop-at.classes i class ∙ c.loop-at.invariant.2,
+      c.loop-at.invariant.3,
+      c.loop-at.invariant.4,
+    )

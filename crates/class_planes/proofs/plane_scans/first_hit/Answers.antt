@@ -7,7 +7,7 @@ pub overflow_add-steps-end : goal.overflow_add-steps-end
 overflow_add-steps-end g c =
     let same = ap (λ (r : StepRange). r.last) c.first.view_is in
     let most = c.steps_into.ensures.most in
-    let few = few_steps c.args.size c.args.dir c.args.from c.args.count c.requires.straight c.requires.room
+    let few = few_steps c.args.size c.args.straight c.args.from c.args.count c.requires.room
     (omega (arith, c.args.size.wide)) (omega (arith, c.args.size.high))
     (c.requires.inside 0 (omega arith)) (c.requires.inside c.args.count (omega arith)) in
     omega (arith, same, most, few)

@@ -5,6 +5,8 @@ use Rattle.nav_types.specs.declared.directions.Dir.{Dir}
 use Rattle.nav_types.specs.Cells.{IsInRect}
 use Rattle.jump_scan.specs.Stops.{HasStraightStop}
 use Rattle.class_planes.specs.Planes.{is_passable}
+use Rattle.nav_types.specs.Lines.{place_on}
+use Rattle.class_planes.specs.inner.Runs.{place_along}
 use Rattle.class_planes.proofs.StopLemmas.{known_stop, misses_outside}
 use Rattle.class_planes.proofs.plane_scans.halts_diagonal.Goals as goal
 
@@ -14,7 +16,7 @@ returns-then-has_stop g c =
     let framed = g.A.Aim.framed c.args.aim.now c.args.plane.now.size in
     let row = known_stop c.args.plane.now hit framed c.args.rect c.row_part-along_row.result c.args.cell c.has_stop.result
     c.requires.frame (λ cell inside. g.met.A.Aim.hits_framed c.args.aim.now c.args.plane.now.size cell c.requires.aim inside)
-    (c.meets.ensures c.if-meets.false) c.has_stop.ensures in (
+    (λ n. c.meets.ensures c.if-meets.false (place_along c.row_part-along_row.result.way (place_on c.row_part-along_row.result.axis c.args.cell) n)) c.has_stop.ensures in (
       λ is. inr (inl (subst (λ (dir : Dir). HasStraightStop (is_passable c.args.plane.now) hit dir c.args.cell)
           c.row_part-along_row.ensures (row.0 is))),
       λ halts. c.if-has_stop.true,
@@ -27,15 +29,16 @@ returns-else-has_stop g c =
     let Has = λ (dir : Dir). HasStraightStop (is_passable c.args.plane.now) hit dir c.args.cell in
     let row = known_stop c.args.plane.now hit framed c.args.rect c.row_part-along_row.result c.args.cell c.has_stop.result
     c.requires.frame (λ cell inside. g.met.A.Aim.hits_framed c.args.aim.now c.args.plane.now.size cell c.requires.aim inside)
-    (c.meets.ensures c.if-meets.false) c.has_stop.ensures in
+    (λ n. c.meets.ensures c.if-meets.false (place_along c.row_part-along_row.result.way (place_on c.row_part-along_row.result.axis c.args.cell) n)) c.has_stop.ensures in
     let column = known_stop c.args.plane.now hit framed c.args.rect c.column_part-along_column.result c.args.cell
     c.has_stop-else-has_stop.result c.requires.frame
     (λ cell inside. g.met.A.Aim.hits_framed c.args.aim.now c.args.plane.now.size cell c.requires.aim inside)
-    (c.meets-else-meets.ensures c.if-meets-2.false) c.has_stop-else-has_stop.ensures in
+    (λ n. c.meets-else-meets.ensures c.if-meets-2.false (place_along c.column_part-along_column.result.way (place_on c.column_part-along_column.result.axis c.args.cell) n)) c.has_stop-else-has_stop.ensures in
     let misses : IsFalse (hit c.args.cell) = misses_outside hit framed c.args.plane.now.size c.args.rect c.args.cell
     c.requires.frame c.requires.inside
     (g.met.A.Aim.hits_framed c.args.aim.now c.args.plane.now.size c.args.cell c.requires.aim c.requires.inside)
-    (λ within. c.meets.ensures c.if-meets.false 0
+    (λ within. c.meets.ensures c.if-meets.false
+    (place_along c.row_part-along_row.result.way (place_on c.row_part-along_row.result.axis c.args.cell) 0)
     (subst (λ (cell : Cell). IsInRect c.args.rect cell) c.has_stop.ensures.1.0.start within)) in (
       λ is. inr (inr (subst Has c.column_part-along_column.ensures (column.0 is))),
       λ halts. elim halts [

@@ -1,94 +1,35 @@
-use Rattle.std.proofs.Common.{Option, Some, None, IfSome, IfNone, Bool, IsTrue, IsFalse, ◌≡◌, sym, subst}
+use Rattle.std.proofs.Common.{IfNone, ap₂, sym, subst}
 use Rattle.nav_types.specs.declared.cells.Cell.{Cell}
-use Rattle.nav_types.specs.declared.cells.Size.{Size}
 use Rattle.nav_types.specs.declared.directions.Dir.{Dir}
+use Rattle.nav_types.specs.Straights.{along}
 use Rattle.jump_scan.specs.Stops.{IsStraightStop}
 use Rattle.class_planes.specs.Planes.{is_passable}
-use Rattle.class_planes.specs.inner.Runs.{Far, RunsFar, cell_along}
-use Rattle.class_planes.proofs.StopLemmas.{run_misses, stop_hit, stop_end, stop_none}
 use Rattle.class_planes.proofs.plane_scans.straight.Goals as goal
 
-end_some : (answer : Option Cell) (Is : Cell → Type 0) (forced : Bool) (at : Cell) → IfSome answer (λ cell. IsTrue forced × (cell ≡ at)) → (IsTrue forced → Is at) → IfSome answer Is
-end_some None Is forced at found is = found
-end_some (Some cell) Is forced at found is = subst Is (sym found.1) (is found.0)
+pub returns-in-Row-Up-clause-none : goal.returns-in-Row-Up-clause-none
+returns-in-Row-Up-clause-none g c =
+    let hit = g.A.Aim.hit c.args.aim.now c.args.plane.now.size in
+    subst (λ (dir : Dir). IfNone c.straight_to.result
+    ((stop : Cell) → IsStraightStop (is_passable c.args.plane.now) hit dir c.args.from stop → ⊥))
+    (ap₂ along (sym c.in-Row-Up.is-0) (sym c.in-Row-Up.is-1)) c.straight_to.ensures.none
 
-end_none : (answer : Option Cell) (Not : Type 0) (forced : Bool) → IfNone answer (IsFalse forced) → (IsFalse forced → Not) → IfNone answer Not
-end_none None Not forced found is = is found
-end_none (Some cell) Not forced found is = found
+pub returns-in-Row-Down-clause-none : goal.returns-in-Row-Down-clause-none
+returns-in-Row-Down-clause-none g c =
+    let hit = g.A.Aim.hit c.args.aim.now c.args.plane.now.size in
+    subst (λ (dir : Dir). IfNone c.straight_to-in-Row-Down.result
+    ((stop : Cell) → IsStraightStop (is_passable c.args.plane.now) hit dir c.args.from stop → ⊥))
+    (ap₂ along (sym c.in-Row-Down.is-0) (sym c.in-Row-Down.is-1)) c.straight_to-in-Row-Down.ensures.none
 
-forced_some : (answer : Option Cell) (Runs : Far → Type 0) (dir : Dir) (from : Cell) (Is : Cell → Type 0)
-    → IfSome answer (λ cell. (far : Far) × (Runs far × (IsTrue far.forced × (cell ≡ cell_along dir from far.count))))
-    → ((far : Far) → Runs far → IsTrue far.forced → Is (cell_along dir from far.count)) → IfSome answer Is
-forced_some None Runs dir from Is found is = found
-forced_some (Some cell) Runs dir from Is found is = subst Is (sym found.1.1.1) (is found.0 found.1.0 found.1.1.0)
+pub returns-in-Column-Up-clause-none : goal.returns-in-Column-Up-clause-none
+returns-in-Column-Up-clause-none g c =
+    let hit = g.A.Aim.hit c.args.aim.now c.args.plane.now.size in
+    subst (λ (dir : Dir). IfNone c.straight_to-in-Column-Up.result
+    ((stop : Cell) → IsStraightStop (is_passable c.args.plane.now) hit dir c.args.from stop → ⊥))
+    (ap₂ along (sym c.in-Column-Up.is-0) (sym c.in-Column-Up.is-1)) c.straight_to-in-Column-Up.ensures.none
 
-forced_none : (answer : Option Cell) (Runs : Far → Type 0) (Not : Type 0)
-    → IfNone answer ((far : Far) × (Runs far × IsFalse far.forced))
-    → ((far : Far) → Runs far → IsFalse far.forced → Not) → IfNone answer Not
-forced_none None Runs Not found is = is found.0 found.1.0 found.1.1
-forced_none (Some cell) Runs Not found is = found
-
-pub returns-in-Some-clause-some : goal.returns-in-Some-clause-some
-returns-in-Some-clause-some g c =
-    let passes = is_passable c.args.plane.now in
-    let hit = λ (size : Size). g.A.Aim.hit c.args.aim.now size in
-    let far : Far = record { count = c.count.inside.count; forced = c.count.inside.forced } in
-    let runs : RunsFar passes c.args.dir c.args.from far = subst (λ (f : Far). RunsFar passes c.args.dir c.args.from f)
-    (sym c.count.view_is) c.reach.ensures in
-    subst (λ (cell : Cell). IsStraightStop passes (hit c.args.plane.now.size) c.args.dir c.args.from cell)
-    (sym c.cell_along.ensures)
-    (subst (λ (size : Size). IsStraightStop passes (hit size) c.args.dir c.args.from
-    (cell_along c.args.dir c.args.from c.in-Some.steps)) c.size.ensures
-    (stop_hit passes (hit c.size.result) c.args.dir c.args.from far c.in-Some.steps runs c.in-Some.ensures.some))
-
-pub returns-in-None-clause-some : goal.returns-in-None-clause-some
-returns-in-None-clause-some g c =
-    let passes = is_passable c.args.plane.now in
-    let hit = λ (size : Size). g.A.Aim.hit c.args.aim.now size in
-    let far : Far = record { count = c.count.inside.count; forced = c.count.inside.forced } in
-    let runs : RunsFar passes c.args.dir c.args.from far = subst (λ (f : Far). RunsFar passes c.args.dir c.args.from f)
-    (sym c.count.view_is) c.reach.ensures in
-    end_some c.end_of.result (IsStraightStop passes (hit c.args.plane.now.size) c.args.dir c.args.from) far.forced
-    (cell_along c.args.dir c.args.from far.count) c.end_of.ensures.some
-    (λ is. subst (λ (size : Size). IsStraightStop passes (hit size) c.args.dir c.args.from
-    (cell_along c.args.dir c.args.from far.count)) c.size.ensures
-    (stop_end passes (hit c.size.result) c.args.dir c.args.from far runs c.in-None.ensures.none is))
-
-pub returns-in-None-clause-none : goal.returns-in-None-clause-none
-returns-in-None-clause-none g c =
-    let passes = is_passable c.args.plane.now in
-    let hit = λ (size : Size). g.A.Aim.hit c.args.aim.now size in
-    let far : Far = record { count = c.count.inside.count; forced = c.count.inside.forced } in
-    let runs : RunsFar passes c.args.dir c.args.from far = subst (λ (f : Far). RunsFar passes c.args.dir c.args.from f)
-    (sym c.count.view_is) c.reach.ensures in
-    end_none c.end_of.result
-    ((stop : Cell) → IsStraightStop passes (hit c.args.plane.now.size) c.args.dir c.args.from stop → ⊥) far.forced
-    c.end_of.ensures.none
-    (λ is. subst (λ (size : Size). (stop : Cell) → IsStraightStop passes (hit size) c.args.dir c.args.from stop → ⊥)
-    c.size.ensures
-    (stop_none passes (hit c.size.result) c.args.dir c.args.from far runs c.in-None.ensures.none is))
-
--- a stop that is known without a scan
-pub returns-then-not-meets-clause-some : goal.returns-then-not-meets-clause-some
-returns-then-not-meets-clause-some g c =
-    let passes = is_passable c.args.plane.now in
-    let size : Size = c.args.plane.now.size in
-    let hit = g.A.Aim.hit c.args.aim.now size in
-    forced_some c.forced_stop.result (λ far. RunsFar passes c.args.dir c.args.from far) c.args.dir c.args.from
-    (IsStraightStop passes hit c.args.dir c.args.from) c.forced_stop.ensures.some
-    (λ far runs is. stop_end passes hit c.args.dir c.args.from far runs
-    (run_misses c.args.plane.now hit (g.A.Aim.framed c.args.aim.now size) c.args.rect c.args.dir c.args.from far
-    c.requires.frame (λ cell inside. g.met.A.Aim.hits_framed c.args.aim.now size cell c.requires.aim inside)
-    (c.meets.ensures c.if-not-meets.true) runs) is)
-
-pub returns-then-not-meets-clause-none : goal.returns-then-not-meets-clause-none
-returns-then-not-meets-clause-none g c =
-    let passes = is_passable c.args.plane.now in
-    let size : Size = c.args.plane.now.size in
-    let hit = g.A.Aim.hit c.args.aim.now size in
-    forced_none c.forced_stop.result (λ far. RunsFar passes c.args.dir c.args.from far)
-    ((stop : Cell) → IsStraightStop passes hit c.args.dir c.args.from stop → ⊥) c.forced_stop.ensures.none
-    (λ far runs is. stop_none passes hit c.args.dir c.args.from far runs
-    (run_misses c.args.plane.now hit (g.A.Aim.framed c.args.aim.now size) c.args.rect c.args.dir c.args.from far
-    c.requires.frame (λ cell inside. g.met.A.Aim.hits_framed c.args.aim.now size cell c.requires.aim inside)
-    (c.meets.ensures c.if-not-meets.true) runs) is)
+pub returns-in-Column-Down-clause-none : goal.returns-in-Column-Down-clause-none
+returns-in-Column-Down-clause-none g c =
+    let hit = g.A.Aim.hit c.args.aim.now c.args.plane.now.size in
+    subst (λ (dir : Dir). IfNone c.straight_to-in-Column-Down.result
+    ((stop : Cell) → IsStraightStop (is_passable c.args.plane.now) hit dir c.args.from stop → ⊥))
+    (ap₂ along (sym c.in-Column-Down.is-0) (sym c.in-Column-Down.is-1)) c.straight_to-in-Column-Down.ensures.none

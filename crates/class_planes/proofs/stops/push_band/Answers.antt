@@ -1,5 +1,5 @@
 use Rattle.std.proofs.Common.{ℕ, [], List, ◌*◌, get_or, arith}
-use Rattle.class_planes.specs.declared.stop_words.Way.TheVariants.{Up, Down}
+use Rattle.nav_types.specs.declared.straights.Way.TheVariants.{Up, Down}
 use Rattle.class_planes.proofs.StopBandLemmas.{stops_more, band_far}
 use Rattle.class_planes.proofs.UpdateLemmas.{both_ok}
 use Rattle.class_planes.proofs.stops.push_band.Goals as goal

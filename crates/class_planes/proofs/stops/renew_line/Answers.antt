@@ -1,6 +1,6 @@
 use Rattle.std.proofs.Common.{ℕ, List, length, ◌≡◌, ◌+◌, ◌-◌, ◌/◌, ◌≤◌, ap, sym, ◌∙◌, subst, arith}
-use Rattle.class_planes.specs.declared.stop_words.Way.{Way}
-use Rattle.class_planes.specs.declared.stop_words.Way.TheVariants.{Up, Down}
+use Rattle.nav_types.specs.declared.straights.Way.{Way}
+use Rattle.nav_types.specs.declared.straights.Way.TheVariants.{Up, Down}
 use Rattle.class_planes.specs.inner.Runs.{LaneWords}
 use Rattle.class_planes.specs.inner.StopLines.{lanes_of, IsStopBit}
 use Rattle.class_planes.proofs.StopBandLemmas.{map_line_long}

@@ -1,6 +1,6 @@
 use Rattle.std.proofs.Common.{ℕ, Bool, false, [], ◌∷◌, ◌≡◌, ◌+◌, ◌-◌, ◌*◌, ◌/◌, refl, subst, arith}
 use Rattle.nav_types.specs.declared.cells.Rect.{Rect}
-use Rattle.class_planes.specs.declared.stop_words.Way.TheVariants.{Up, Down}
+use Rattle.nav_types.specs.declared.straights.Way.TheVariants.{Up, Down}
 use Rattle.class_planes.specs.inner.Lines.{AreLines}
 use Rattle.class_planes.specs.inner.StopLines.{IsRectOf}
 use Rattle.class_planes.proofs.StopBandLemmas.{blank_stops, one_rect}

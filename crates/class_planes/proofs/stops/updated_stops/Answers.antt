@@ -1,7 +1,7 @@
 use Rattle.std.proofs.Common.{List, sym, subst}
 use Rattle.std.specs.Prelude.{All}
 use Rattle.nav_types.specs.declared.cells.Rect.{Rect}
-use Rattle.class_planes.specs.declared.stop_words.Way.TheVariants.{Up, Down}
+use Rattle.nav_types.specs.declared.straights.Way.TheVariants.{Up, Down}
 use Rattle.class_planes.specs.inner.StopLines.{AreStopsBefore, IsRectOf}
 use Rattle.class_planes.proofs.StopChangeLemmas.{stops_before}
 use Rattle.class_planes.proofs.stops.updated_stops.Goals as goal

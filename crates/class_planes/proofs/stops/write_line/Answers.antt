@@ -1,7 +1,7 @@
 use Rattle.std.proofs.Common.{ℕ, List, length, ◌≡◌, ◌≢◌, ◌+◌, ◌-◌, ◌*◌, ◌<◌, ◌≤◌, take, drop, ◌++◌, ap, ap₂, sym, ◌∙◌, subst, ⊎_elim, arith}
 use Rattle.std.specs.Prelude.{slice_range}
 use Rattle.std.proofs.lemmas.Bool.{cases_eq}
-use Rattle.class_planes.specs.declared.stop_words.Way.{Way}
+use Rattle.nav_types.specs.declared.straights.Way.{Way}
 use Rattle.class_planes.specs.inner.Lines.{LineTable, line_in, patched}
 use Rattle.class_planes.specs.inner.StopLines.{IsBandStop, IsStopBit, lanes_of}
 use Rattle.class_planes.proofs.LineLemmas.{part_long}

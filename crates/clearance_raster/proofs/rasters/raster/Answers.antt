@@ -10,5 +10,5 @@ returns-clause-size c = size_from_cells c.raster_classes.new.canvas.size c.args.
 
 pub returns-clause-bits : goal.returns-clause-bits
 returns-clause-bits c = λ cell k inside. c.raster_classes.ensures.set.bits cell k
-    (subst (λ (r : Rect). IsInRect r cell) (sym c.whole.ensures)
+    (subst (λ (r : Rect). IsInRect r cell) (sym c.of_map.ensures.value)
     (in_all c.size-size.result cell (subst (λ (s : Size). IsInside s cell) (sym c.size-size.ensures.size) inside)))

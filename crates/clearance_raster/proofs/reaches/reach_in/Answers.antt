@@ -5,10 +5,10 @@ use Rattle.clearance_raster.proofs.reaches.reach_in.Goals as goal
 
 pub returns-clause-blocked : goal.returns-clause-blocked
 returns-clause-blocked c =
-    common_holds c.common.result c.args.part c.in_ok-reach.reach (λ cell. IsTrue (blocked c.args.shape.now c.args.clearance cell)) c.common.ensures.cells
-    (λ cell inside holds. c.in_ok-reach.ensures.blocked cell (inside_map c.args.size c.args.part cell c.requires.inside inside) holds)
+    common_holds c.intersection.result c.args.part c.in_ok-reach_rect.field-0 (λ cell. IsTrue (blocked c.args.shape.now c.args.clearance cell)) c.intersection.ensures.cells
+    (λ cell inside holds. c.in_ok-reach_rect.ensures.blocked cell (inside_map c.args.size c.args.part cell c.requires.inside inside) holds)
 
 pub returns-clause-none : goal.returns-clause-none
 returns-clause-none c =
-    common_none c.common.result c.args.part c.in_ok-reach.reach (λ cell. IsTrue (blocked c.args.shape.now c.args.clearance cell)) c.common.ensures.none
-    (λ cell inside holds. c.in_ok-reach.ensures.blocked cell (inside_map c.args.size c.args.part cell c.requires.inside inside) holds)
+    common_none c.intersection.result c.args.part c.in_ok-reach_rect.field-0 (λ cell. IsTrue (blocked c.args.shape.now c.args.clearance cell)) c.intersection.ensures.none
+    (λ cell inside holds. c.in_ok-reach_rect.ensures.blocked cell (inside_map c.args.size c.args.part cell c.requires.inside inside) holds)

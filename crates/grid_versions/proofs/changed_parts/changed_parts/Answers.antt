@@ -5,7 +5,7 @@ use Rattle.nav_types.specs.declared.cells.Rect.{Rect}
 use Rattle.nav_types.specs.Cells.{IsInRect, IsRectInside, chunk_of}
 use Rattle.nav_types.specs.Numbering.{Numbering}
 use Rattle.lane_rows.specs.Rows.{has_class}
-use Rattle.chunk_regions.specs.Labelling.{chunk_rect}
+use Rattle.nav_types.specs.Rects.{chunk_rect}
 use Rattle.grid_versions.specs.Chunks.{chunk_place}
 use Rattle.grid_versions.specs.inner.ChunkLists.{chunk_numbered}
 use Rattle.grid_versions.specs.inner.SameNumbers.{IsSameAt}

@@ -2,7 +2,7 @@ use Rattle.std.proofs.Common.{ℕ, ◌≡◌, inl, inr, sym, subst, arith}
 use Rattle.std.proofs.lemmas.Bool.{cases_lt}
 use Rattle.nav_types.specs.declared.cells.Rect.{Rect}
 use Rattle.nav_types.specs.Cells.{IsInRect}
-use Rattle.navcell_grid.specs.Patches.{IsPartOf}
+use Rattle.nav_types.specs.Rects.{IsPartOf}
 use Rattle.grid_versions.proofs.changed_parts.differing_part.Goals as goal
 
 pub returns-in_default-clause-held : goal.returns-in_default-clause-held

@@ -4,7 +4,7 @@ use Rattle.nav_types.specs.declared.cells.Cell.{Cell}
 use Rattle.nav_types.specs.declared.cells.Rect.{Rect}
 use Rattle.nav_types.specs.Cells.{IsInRect}
 use Rattle.nav_types.specs.Numbering.{number_of}
-use Rattle.navcell_grid.specs.Patches.{IsPartOf}
+use Rattle.nav_types.specs.Rects.{IsPartOf}
 use Rattle.grid_versions.proofs.changed_parts.differing_part.Given as goal
 
 -- the cells of the part below row j are held where their numbers differ

@@ -4,7 +4,7 @@ use Rattle.nav_types.specs.declared.cells.Cell.{Cell}
 use Rattle.nav_types.specs.declared.cells.Rect.{Rect}
 use Rattle.nav_types.specs.Cells.{IsInRect}
 use Rattle.nav_types.specs.Numbering.{number_of}
-use Rattle.navcell_grid.specs.Patches.{IsPartOf}
+use Rattle.nav_types.specs.Rects.{IsPartOf}
 use Rattle.grid_versions.proofs.changed_parts.with_row.Given as goal
 
 -- the cells of the row before column i are held where their numbers differ

@@ -15,7 +15,7 @@ use Rattle.grid_versions.proofs.chunk_bits.passable_cells.Goals as goal
 
 pub loop-j-init : goal.loop-j-init
 loop-j-init c =
-    let south : c.cells_of-rect.result.j0 ≡ 96 * c.args.chunk.cj = ap (λ (r : Rect). r.j0) c.cells_of-rect.ensures.value in
+    let south : c.of_chunk-rect.result.j0 ≡ 96 * c.args.chunk.cj = ap (λ (r : Rect). r.j0) c.of_chunk-rect.ensures.value in
     record {
       long = ap (λ (rows : List ℕ). length rows) c.new-bits.ensures ∙ length-replicate {A = ℕ} 96 0;
       set = λ row column small before. absurd (omega arith);
@@ -26,10 +26,10 @@ pub loop-j-preserved : goal.loop-j-preserved
 loop-j-preserved c =
     let plane = c.args.plane.now in
     let chunk = c.args.chunk in
-    let rect = c.cells_of-rect.result in
-    let west : rect.i0 ≡ 96 * chunk.ci = ap (λ (r : Rect). r.i0) c.cells_of-rect.ensures.value in
-    let south : rect.j0 ≡ 96 * chunk.cj = ap (λ (r : Rect). r.j0) c.cells_of-rect.ensures.value in
-    let high = c.cells_of-rect.ensures.patch.high in
+    let rect = c.of_chunk-rect.result in
+    let west : rect.i0 ≡ 96 * chunk.ci = ap (λ (r : Rect). r.i0) c.of_chunk-rect.ensures.value in
+    let south : rect.j0 ≡ 96 * chunk.cj = ap (λ (r : Rect). r.j0) c.of_chunk-rect.ensures.value in
+    let high = c.of_chunk-rect.ensures.patch.high in
     let j = c.loop-j.j in
     let old = c.loop-j.bits in
     let words = c.row_words.result.now in
@@ -65,12 +65,12 @@ pub returns : goal.returns
 returns c =
     let plane = c.args.plane.now in
     let chunk = c.args.chunk in
-    let rect = c.cells_of-rect.result in
+    let rect = c.of_chunk-rect.result in
     let inv = c.loop-j.invariant in
     let past_end = c.loop-j-test.false in
     let end = c.loop-j.auto.j-end in
-    let upright = c.cells_of-rect.ensures.patch.rows in
-    let north = ap (λ (r : Rect). r.j1) c.cells_of-rect.ensures.value in
+    let upright = c.of_chunk-rect.ensures.patch.rows in
+    let north = ap (λ (r : Rect). r.j1) c.of_chunk-rect.ensures.value in
     let high = ap (λ (s : Size). s.h) c.size.ensures in
     record {
       set = λ row column in_row in_column. elim (cases_lt (96 * chunk.cj + row) c.loop-j.j) [

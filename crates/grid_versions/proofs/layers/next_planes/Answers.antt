@@ -11,7 +11,7 @@ use Rattle.class_planes.specs.declared.changed_parts.ChangedPart.{ChangedPart}
 use Rattle.class_planes.specs.Planes.{PlaneCells, AreOfBefore, AreOfSame, IsKept}
 use Rattle.class_planes.proofs.PlaneLemmas.{are_of, wanted_same}
 use Rattle.obstruction_store.specs.Standing.{Standing}
-use Rattle.grid_versions.specs.Maps.{Map}
+use Rattle.posts.specs.Maps.{Map}
 use Rattle.grid_versions.specs.Passing.{passable_at}
 use Rattle.grid_versions.specs.Versions.{MapState, map_state, passes_of}
 use Rattle.grid_versions.specs.Chunks.{chunk_count, chunk_place}

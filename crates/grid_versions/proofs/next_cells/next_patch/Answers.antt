@@ -5,14 +5,16 @@ use Rattle.std.proofs.lemmas.Option.{same_Some}
 use Rattle.nav_types.specs.declared.cells.Rect.{Rect}
 use Rattle.nav_types.specs.Cells.{IsInRect}
 use Rattle.nav_types.specs.Numbering.{Numbering}
-use Rattle.navcell_grid.specs.Patches.{DiffersIn, IsPartOf}
+use Rattle.navcell_grid.specs.Patches.{DiffersIn}
+use Rattle.nav_types.specs.Rects.{chunk_rect, IsPartOf}
 use Rattle.clearance_raster.proofs.Rastering.{in_whole}
-use Rattle.chunk_regions.specs.Labelling.{chunk_rect}
 use Rattle.grid_versions.specs.inner.ChunkLists.{chunk_numbered}
 use Rattle.grid_versions.specs.inner.Painting.{IsPaintedChunk}
 use Rattle.grid_versions.specs.inner.Reachers.{HoldReachers}
 use Rattle.grid_versions.proofs.ReacherLemmas.{HoldReachers-part}
-use Rattle.grid_versions.proofs.NextLemmas.{chunk_stays, chunk_repainted, chunk_kept, differs_in_part, part_inside}
+use Rattle.grid_versions.proofs.ChunkLemmas.{numbered_inside}
+use Rattle.grid_versions.proofs.PlanePartLemmas.{chunk_in_map, part_in_map}
+use Rattle.grid_versions.proofs.NextLemmas.{chunk_stays, chunk_repainted, chunk_kept, differs_in_part}
 use Rattle.grid_versions.proofs.next_cells.next_patch.Goals as goal
 
 pub returns-in_default-clause-painted : goal.returns-in_default-clause-painted
@@ -75,8 +77,10 @@ next_numbers-requires-clause-inside c =
     let map = c.args.map.now in
     let before = c.requires.before in
     let was = before.painted.are c.args.place c.patch-old.result.now (c.at-cells.ensures ∙ ap (λ (n : Numbering). Some n) (sym c.patch-old.ensures)) in
-    part_inside map.size (chunk_numbered map.size c.args.place) c.in-Some.part
+    let chunk = chunk_numbered map.size c.args.place in
+    part_in_map map.size (chunk_rect map.size chunk) c.in-Some.part
     (subst (λ (r : Rect). IsPartOf r c.in-Some.part) (c.rect.ensures.rect ∙ was.extent) c.in-Some.ensures.part)
+    (chunk_in_map map.size chunk (numbered_inside map.size c.args.place c.requires.place))
 
 pub returns-then-bits-eq0-clause-painted : goal.returns-then-bits-eq0-clause-painted
 returns-then-bits-eq0-clause-painted c =

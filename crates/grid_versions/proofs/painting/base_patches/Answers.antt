@@ -4,7 +4,7 @@ use Rattle.nav_types.specs.declared.cells.Rect.{Rect}
 use Rattle.nav_types.specs.declared.cells.Size.{Size}
 use Rattle.nav_types.specs.Cells.{IsInRect}
 use Rattle.nav_types.specs.Numbering.{Numbering}
-use Rattle.chunk_regions.specs.Labelling.{chunk_rect}
+use Rattle.nav_types.specs.Rects.{chunk_rect}
 use Rattle.grid_versions.specs.declared.base_bands.BaseBand.{BaseBand}
 use Rattle.grid_versions.specs.Passing.{is_listed}
 use Rattle.grid_versions.specs.Chunks.{chunk_count}
@@ -24,7 +24,7 @@ loop-place-preserved c =
     let size = c.size-size.result in
     let place = c.loop-place.place in
     let patch = c.in_ok-base_patch.field-0 in
-    let rect : Rect = c.cells_of-rect.result in
+    let rect : Rect = c.of_chunk-rect.result in
     let base : List (Rect × ℕ) = c.as_slice-base.result.now in
     let band : BaseBand = c.if-not-is_of.band in
     let right : IsRightFor base rect band = elim c.if-not-is_of.branch [
@@ -37,7 +37,7 @@ loop-place-preserved c =
       | else-not-is_of w ↦ subst (IsRightFor base rect) (sym w.band-is) (c.loop-place.invariant.1, c.is_of.ensures cc)
     ] in
     let rect_is : rect ≡ chunk_rect map.size (chunk_numbered size place) =
-    c.cells_of-rect.ensures.value ∙ ap (λ (s : Size). chunk_rect s c.numbered.result) c.size-size.ensures
+    c.of_chunk-rect.ensures.value ∙ ap (λ (s : Size). chunk_rect s c.numbered.result) c.size-size.ensures
     ∙ ap (λ (chunk : Chunk). chunk_rect map.size chunk) c.numbered.ensures.value in
     let own : IsBaseChunk map (chunk_numbered size place) patch = record {
       extent = c.in_ok-base_patch.ensures.rect ∙ rect_is;

@@ -4,7 +4,7 @@ use Rattle.nav_types.specs.declared.cells.Cell.{Cell}
 use Rattle.nav_types.specs.Numbering.{number_of}
 use Rattle.clearance_raster.proofs.Rastering.{part_moved}
 use Rattle.obstruction_store.specs.Standing.{Standing}
-use Rattle.grid_versions.specs.Maps.{Map}
+use Rattle.posts.specs.Maps.{Map}
 use Rattle.grid_versions.specs.Passing.{is_blocked}
 use Rattle.grid_versions.specs.inner.Reachers.{blocks_under}
 use Rattle.grid_versions.proofs.PaintLemmas.{Ends-at, Ends-past, raster_over}

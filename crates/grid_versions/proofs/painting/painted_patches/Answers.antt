@@ -4,8 +4,7 @@ use Rattle.nav_types.specs.declared.cells.Rect.{Rect}
 use Rattle.nav_types.specs.declared.cells.Size.{Size}
 use Rattle.nav_types.specs.Cells.{IsInRect}
 use Rattle.nav_types.specs.Numbering.{Numbering, number_of}
-use Rattle.navcell_grid.specs.Patches.{IsPartOf}
-use Rattle.chunk_regions.specs.Labelling.{chunk_rect}
+use Rattle.nav_types.specs.Rects.{chunk_rect, IsPartOf}
 use Rattle.grid_versions.specs.Passing.{is_blocked}
 use Rattle.grid_versions.specs.Chunks.{chunk_count}
 use Rattle.grid_versions.specs.inner.ChunkLists.{chunk_numbered, AreOfChunks}
@@ -21,23 +20,23 @@ repainted-requires-clause-part c =
     let map = c.args.map.now in
     let size = c.size-size.result in
     let place = c.loop-place.place in
-    let rect = c.cells_of-rect.result in
+    let rect = c.of_chunk-rect.result in
     let under = c.requires.base.are place c.at-under.result.now c.at-under.ensures in
     let rect_is : rect ≡ chunk_rect map.size (chunk_numbered map.size place) =
-    c.cells_of-rect.ensures.value ∙ ap (λ (chunk : Chunk). chunk_rect size chunk) c.numbered.ensures.value
+    c.of_chunk-rect.ensures.value ∙ ap (λ (chunk : Chunk). chunk_rect size chunk) c.numbered.ensures.value
     ∙ ap (λ (s : Size). chunk_rect s (chunk_numbered s place)) c.size-size.ensures in
     subst (λ (r : Rect). IsPartOf r rect) (rect_is ∙ sym under.extent)
-    (whole_part rect c.cells_of-rect.ensures.patch.columns c.cells_of-rect.ensures.patch.rows)
+    (whole_part rect c.of_chunk-rect.ensures.patch.columns c.of_chunk-rect.ensures.patch.rows)
 
 pub repainted-requires-clause-near : goal.repainted-requires-clause-near
 repainted-requires-clause-near c =
     let map = c.args.map.now in
     let size = c.size-size.result in
     let place = c.loop-place.place in
-    let rect = c.cells_of-rect.result in
+    let rect = c.of_chunk-rect.result in
     let ids = c.at-near.result.now in
     let rect_is : rect ≡ chunk_rect map.size (chunk_numbered map.size place) =
-    c.cells_of-rect.ensures.value ∙ ap (λ (chunk : Chunk). chunk_rect size chunk) c.numbered.ensures.value
+    c.of_chunk-rect.ensures.value ∙ ap (λ (chunk : Chunk). chunk_rect size chunk) c.numbered.ensures.value
     ∙ ap (λ (s : Size). chunk_rect s (chunk_numbered s place)) c.size-size.ensures in
     all_unpainted map c.args.shapes.now rect (number_of c.at-under.result.now) c.as_slice.result.now
     (subst (λ (near : List ℕ). HoldReachers map c.args.shapes.now rect near) (sym c.as_slice.ensures)
@@ -49,14 +48,14 @@ loop-place-preserved c =
     let map = c.args.map.now in let now = c.args.shapes.now in
     let size = c.size-size.result in
     let place = c.loop-place.place in
-    let rect = c.cells_of-rect.result in
+    let rect = c.of_chunk-rect.result in
     let patch = c.in_ok-patch.patch in
     let cells = c.in_ok-new.field-0 in
     let base = c.at-under.result.now in
     let under = subst (λ (s : Size). IsBaseChunk map (chunk_numbered s place) base) (sym c.size-size.ensures)
     (c.requires.base.are place base c.at-under.ensures) in
     let rect_is : rect ≡ chunk_rect map.size (chunk_numbered size place) =
-    c.cells_of-rect.ensures.value ∙ ap (λ (s : Size). chunk_rect s c.numbered.result) c.size-size.ensures
+    c.of_chunk-rect.ensures.value ∙ ap (λ (s : Size). chunk_rect s c.numbered.result) c.size-size.ensures
     ∙ ap (λ (chunk : Chunk). chunk_rect map.size chunk) c.numbered.ensures.value in
     let own : IsPaintedChunk map now (chunk_numbered size place) patch = record {
       extent = c.in_ok-patch.ensures.rect ∙ under.extent;

@@ -5,7 +5,7 @@ use Rattle.nav_types.specs.declared.cells.Rect.{Rect}
 use Rattle.nav_types.specs.declared.cells.Size.{Size}
 use Rattle.nav_types.specs.Cells.{IsRectInside}
 use Rattle.clearance_raster.proofs.Reaching.{inside_map}
-use Rattle.chunk_regions.specs.Labelling.{chunk_rect}
+use Rattle.nav_types.specs.Rects.{chunk_rect}
 use Rattle.grid_versions.specs.declared.reachers.Reacher.{Reacher}
 use Rattle.grid_versions.specs.Chunks.{chunk_count}
 use Rattle.grid_versions.specs.inner.ChunkLists.{chunk_numbered, AreOfChunks}
@@ -19,11 +19,11 @@ loop-place-preserved c =
     let size = c.size-size.result in
     let place = c.loop-place.place in
     let made = c.in_ok-made.made in
-    let rect = c.cells_of-rect.result in
+    let rect = c.of_chunk-rect.result in
     let rect_is : rect ≡ chunk_rect map.size (chunk_numbered size place) =
-    c.cells_of-rect.ensures.value ∙ ap (λ (s : Size). chunk_rect s c.numbered.result) c.size-size.ensures
+    c.of_chunk-rect.ensures.value ∙ ap (λ (s : Size). chunk_rect s c.numbered.result) c.size-size.ensures
     ∙ ap (λ (chunk : Chunk). chunk_rect map.size chunk) c.numbered.ensures.value in
-    let inside = subst (λ (s : Size). IsRectInside s rect) c.size-size.ensures c.cells_of-rect.ensures.inside in
+    let inside = subst (λ (s : Size). IsRectInside s rect) c.size-size.ensures c.of_chunk-rect.ensures.inside in
     let own : HoldReachers map now rect made = record {
       all = λ id o stands k cell here blocks.
           let has = subst (λ (ids : List ℕ). Contains ids id) (sym c.as_slice.ensures) (c.in_ok-ids.ensures id o stands) in

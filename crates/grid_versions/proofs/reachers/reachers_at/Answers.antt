@@ -5,7 +5,7 @@ use Rattle.nav_types.specs.declared.cells.Chunk.{Chunk}
 use Rattle.nav_types.specs.declared.cells.Rect.{Rect}
 use Rattle.nav_types.specs.declared.cells.Size.{Size}
 use Rattle.nav_types.specs.Cells.{IsRectInside}
-use Rattle.chunk_regions.specs.Labelling.{chunk_rect}
+use Rattle.nav_types.specs.Rects.{chunk_rect}
 use Rattle.grid_versions.specs.inner.ChunkLists.{chunk_numbered}
 use Rattle.grid_versions.specs.inner.Reachers.{HoldReachers, HoldChunkReachers}
 use Rattle.grid_versions.proofs.ReacherLemmas.{reachers_stay, reachers_made}
@@ -13,33 +13,33 @@ use Rattle.grid_versions.proofs.reachers.reachers_at.Goals as goal
 
 pub returns-in_default : goal.returns-in_default
 returns-in_default c = λ map now same before.
-    let rect = c.cells_of-rect.result in
+    let rect = c.of_chunk-rect.result in
     let old = arc_value c.in_ok-shared.shared in
     let chunk = chunk_numbered c.args.size c.args.place in
     let rect_is : rect ≡ chunk_rect map.size chunk =
-    c.cells_of-rect.ensures.value ∙ ap (λ (s : Size). chunk_rect s c.numbered.result) (sym same)
+    c.of_chunk-rect.ensures.value ∙ ap (λ (s : Size). chunk_rect s c.numbered.result) (sym same)
     ∙ ap (λ (one : Chunk). chunk_rect map.size one) c.numbered.ensures.value in
     let own = subst (λ (s : Size). HoldChunkReachers map before.earlier (chunk_numbered s c.args.place) old) same
     (before.lists.are c.args.place old c.in_ok-shared.ensures) in
     let held = subst (λ (r : Rect). HoldReachers map before.earlier r old) (sym rect_is) own in
-    let inside = subst (λ (s : Size). IsRectInside s rect) (sym same) c.cells_of-rect.ensures.inside in
+    let inside = subst (λ (s : Size). IsRectInside s rect) (sym same) c.of_chunk-rect.ensures.inside in
     subst (λ (r : Rect). HoldReachers map now r old) rect_is
     (reachers_stay map before.earlier now c.args.reaches.now c.args.changed.now before.each rect old held inside
     (λ cell here is. c.in_default.ensures.held cell here is))
 
 pub returns : goal.returns
 returns c = λ map now same before.
-    let rect = c.cells_of-rect.result in
+    let rect = c.of_chunk-rect.result in
     let old = c.at.result.now in
     let made = c.list_reachers.new.ids in
     let chunk = chunk_numbered c.args.size c.args.place in
     let rect_is : rect ≡ chunk_rect map.size chunk =
-    c.cells_of-rect.ensures.value ∙ ap (λ (s : Size). chunk_rect s c.numbered.result) (sym same)
+    c.of_chunk-rect.ensures.value ∙ ap (λ (s : Size). chunk_rect s c.numbered.result) (sym same)
     ∙ ap (λ (one : Chunk). chunk_rect map.size one) c.numbered.ensures.value in
     let own = subst (λ (s : Size). HoldChunkReachers map before.earlier (chunk_numbered s c.args.place) old) same
     (before.lists.are c.args.place old c.at.ensures) in
     let held = subst (λ (r : Rect). HoldReachers map before.earlier r old) (sym rect_is) own in
-    let inside = subst (λ (s : Size). IsRectInside s rect) (sym same) c.cells_of-rect.ensures.inside in
+    let inside = subst (λ (s : Size). IsRectInside s rect) (sym same) c.of_chunk-rect.ensures.inside in
     subst (λ (all : List ℕ). HoldReachers map now (chunk_rect map.size chunk) all) (sym c.in_ok-new.ensures.ok)
     (subst (λ (r : Rect). HoldReachers map now r made) rect_is
     (reachers_made map before.earlier now c.args.reaches.now c.args.changed.now before.each rect old held inside

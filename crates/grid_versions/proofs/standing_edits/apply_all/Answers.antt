@@ -1,9 +1,9 @@
 use Rattle.std.proofs.Common.{◌≡◌, ◌∙◌, ◌+◌, ℕ, List, [], ◌∷◌, ◌++◌, drop, ap, sym, subst}
 use Rattle.std.proofs.lemmas.List.{drop_more, append_assoc}
 use Rattle.obstruction_store.specs.Standing.{Standing, AllFit}
-use Rattle.grid_versions.specs.declared.edits.Edit.{Edit}
-use Rattle.grid_versions.specs.declared.edits.EditReply.{EditReply}
-use Rattle.grid_versions.specs.Maps.{Map}
+use Rattle.posts.specs.declared.edits.Edit.{Edit}
+use Rattle.posts.specs.declared.edits.EditReply.{EditReply}
+use Rattle.posts.specs.Maps.{Map}
 use Rattle.grid_versions.specs.Editing.{edit_reply, after_edit, after_edits, edit_replies}
 use Rattle.grid_versions.proofs.EditingLemmas.{AllFit-after_edit}
 use Rattle.grid_versions.proofs.standing_edits.apply_all.Goals as goal

@@ -1,6 +1,6 @@
 use Rattle.std.proofs.Common.{subst, sym, ap, ◌∙◌, arith}
 use Rattle.nav_types.specs.declared.cells.Chunk.{Chunk}
-use Rattle.chunk_regions.specs.Labelling.{chunk_rect}
+use Rattle.nav_types.specs.Rects.{chunk_rect}
 use Rattle.region_edges.specs.Edges.{LiesOn}
 use Rattle.map_tests.proofs.region_edges_tests.crossing.Goals as goal
 

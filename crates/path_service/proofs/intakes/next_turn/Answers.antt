@@ -1,5 +1,5 @@
 use Rattle.std.proofs.Common.{Ok, refl, ap, ◌∙◌}
-use Rattle.turn_core.specs.Turns.{post_count}
+use Rattle.posts.specs.Posts.{post_count}
 use Rattle.path_service.proofs.IntakeEnds.{looked_of, ends_short, ends_empty, ends_ready}
 use Rattle.path_service.proofs.intakes.next_turn.Goals as goal
 

@@ -1,5 +1,5 @@
 use Rattle.std.proofs.Common.{◌≡◌, List, [], ◌∷◌, ◌++◌, length, ap, ◌∙◌, arith}
-use Rattle.turn_core.specs.declared.posts.Post.{Post}
+use Rattle.posts.specs.declared.posts.Post.{Post}
 use Rattle.path_service.specs.inner.Ports.{gained, joins}
 use Rattle.path_service.proofs.Zips.{length-zipped}
 use Rattle.path_service.proofs.LaneSteps.{filled_none, filled_more, filled_all}

@@ -1,5 +1,5 @@
 use Rattle.std.proofs.Common.{List}
-use Rattle.turn_core.specs.declared.posts.Post.{Post}
+use Rattle.posts.specs.declared.posts.Post.{Post}
 use Rattle.path_service.proofs.LaneSteps.{FilledFirst}
 use Rattle.path_service.proofs.ports.fill_all.Given as goal
 

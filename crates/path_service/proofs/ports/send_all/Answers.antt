@@ -1,7 +1,7 @@
 use Rattle.std.proofs.Common.{◌≡◌, List, [], ◌∷◌, ◌++◌, Result, length, take, sym, ap, ◌∙◌, subst, arith}
 use Rattle.std.proofs.lemmas.Result.{err_from_is_err_and}
 use Rattle.nav_types.specs.declared.sequences.NoMemory.{NoMemory}
-use Rattle.turn_core.specs.declared.replies.Reply.{Reply}
+use Rattle.posts.specs.declared.replies.Reply.{Reply}
 use Rattle.path_service.specs.inner.Ports.{sends, SendsParts}
 use Rattle.path_service.proofs.Zips.{zipped_none, length-zipped}
 use Rattle.path_service.proofs.LaneSteps.{next_room, sends_all_more, sends_some, sends_every}

@@ -1,8 +1,8 @@
 use Rattle.std.proofs.Common.{Result, take, sym, ◌∙◌, subst, arith}
 use Rattle.std.proofs.lemmas.Result.{err_from_is_err_and}
 use Rattle.nav_types.specs.declared.sequences.NoMemory.{NoMemory}
+use Rattle.posts.specs.declared.replies.Reply.{Reply}
 use Rattle.request_lanes.specs.Ends.{Posting}
-use Rattle.turn_core.specs.declared.replies.Reply.{Reply}
 use Rattle.path_service.specs.inner.Ports.{SendsPart}
 use Rattle.path_service.proofs.LaneSteps.{Sent, sent_none, sent_more, sent_room, sends_part, sends_whole}
 use Rattle.path_service.proofs.ports.send_replies.Goals as goal

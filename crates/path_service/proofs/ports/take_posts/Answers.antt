@@ -1,8 +1,8 @@
 use Rattle.std.proofs.Common.{ℕ, List, [], ◌∷◌, ◌++◌, Result, ap, sym, subst, ◌∙◌, arith}
 use Rattle.std.proofs.lemmas.Result.{err_from_is_err_and}
 use Rattle.nav_types.specs.declared.sequences.NoMemory.{NoMemory}
+use Rattle.posts.specs.declared.posts.Post.{Post}
 use Rattle.path_service.specs.inner.Ports.{TakesPosts}
-use Rattle.turn_core.specs.declared.posts.Post.{Post}
 use Rattle.path_service.proofs.LaneSteps.{took_none, took_same, took_more, took_full, took_all, took_short}
 use Rattle.path_service.proofs.ports.take_posts.Goals as goal
 

@@ -13,7 +13,7 @@ pub drawing-preserved : goal.drawing-preserved
 drawing-preserved g c =
     let kept = c.drawing.invariant in
     let next = c.in-Job.ensures.job in
-    let more = one_more c.args.version.now.map c.args.version.now.standing c.args.asked c.args.jobs.now c.in-Job.job c.drawing.answered c.solve_job.new.answered
+    let more = one_more c.args.turn.now.version.now.map c.args.turn.now.version.now.standing c.args.turn.now.report c.args.turn.now.jobs.now c.in-Job.job c.drawing.answered c.solve_job.new.answered
     c.drawing.seat.drawn c.in-Ok.ensures kept.numbers kept.answers in
     record {
       board = ap (λ (seat : SeatState). seat.board) next ∙ kept.board;

@@ -9,7 +9,7 @@ invariant-drawing g l = record {
   live : l.seat.ended ≡ false;
   credit : l.seat.credit ≡ l.fn.seat.credit;
   numbers : job_numbers l.answered ≡ l.seat.drawn;
-  answers : AnswerTheirJobs l.version.map l.version.standing l.asked l.jobs l.answered;
+  answers : AnswerTheirJobs l.turn.version.now.map l.turn.version.now.standing l.turn.report l.turn.jobs.now l.answered;
 }
 
 abbrev pub decreases-drawing : goal.decreases-drawing

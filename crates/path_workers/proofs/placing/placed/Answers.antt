@@ -1,5 +1,5 @@
 use Rattle.std.proofs.Common.{length}
-use Rattle.path_workers.specs.inner.Placing.{answer_of, opened_of}
+use Rattle.path_workers.specs.inner.Placing.{answer_of, note_of}
 use Rattle.path_workers.proofs.Placed.{one_placed, last_below}
 use Rattle.path_workers.proofs.placing.placed.Goals as goal
 
@@ -9,8 +9,8 @@ place-requires c =
     record {
       answers = last_below (length c.args.places.answers.items) c.loop-next.places.answers.items c.loop-next.answered.items c.pop.new.self.items c.in-Some.next
           c.in-Some.ensures.items kept.answers_wide kept.answers_inside;
-      opened = last_below (length c.args.places.opened.items) c.loop-next.places.opened.items c.loop-next.answered.items c.pop.new.self.items c.in-Some.next
-          c.in-Some.ensures.items kept.opened_wide kept.opened_inside;
+      notes = last_below (length c.args.places.notes.items) c.loop-next.places.notes.items c.loop-next.answered.items c.pop.new.self.items c.in-Some.next
+          c.in-Some.ensures.items kept.notes_wide kept.notes_inside;
     }
 
 pub loop-next-preserved : goal.loop-next-preserved
@@ -19,14 +19,14 @@ loop-next-preserved c =
     let answers = one_placed answer_of (length c.args.places.answers.items) c.loop-next.places.answers.items c.place.new.places.answers.items
     c.loop-next.answered.items c.pop.new.self.items c.in-Some.next _
     c.in-Some.ensures.items c.place.ensures.answers kept.answers_wide kept.answers_inside kept.answers in
-    let opened = one_placed opened_of (length c.args.places.opened.items) c.loop-next.places.opened.items c.place.new.places.opened.items
+    let notes = one_placed note_of (length c.args.places.notes.items) c.loop-next.places.notes.items c.place.new.places.notes.items
     c.loop-next.answered.items c.pop.new.self.items c.in-Some.next _
-    c.in-Some.ensures.items c.place.ensures.opened kept.opened_wide kept.opened_inside kept.opened in
+    c.in-Some.ensures.items c.place.ensures.notes kept.notes_wide kept.notes_inside kept.notes in
     record {
       answers_wide = answers.0;
-      opened_wide = opened.0;
+      notes_wide = notes.0;
       answers_inside = answers.1.0;
-      opened_inside = opened.1.0;
+      notes_inside = notes.1.0;
       answers = answers.1.1;
-      opened = opened.1.1;
+      notes = notes.1.1;
     }

@@ -3,18 +3,18 @@ use Rattle.std.specs.Prelude.{IsSome}
 use Rattle.std.proofs.lemmas.List.{length-replicate}
 use Rattle.std.proofs.lemmas.Result.{err_from_is_err_and}
 use Rattle.io_edges.proofs.Passed.{given_none, given_more}
-use Rattle.turn_core.specs.declared.posts.Post.{Post}
+use Rattle.posts.specs.declared.posts.Post.{Post}
+use Rattle.posts.specs.Posts.{post_count}
+use Rattle.posts.proofs.PostCounts.{count_none}
 use Rattle.turn_core.specs.Effects.{joined_up}
 use Rattle.script_text.specs.declared.faults.ScriptFault.{ScriptFault}
 use Rattle.script_text.specs.declared.faults.ScriptFault.TheVariants as fault
 use Rattle.script_text.specs.Reader.{callers_of}
-use Rattle.turn_core.specs.Turns.{post_count}
 use Rattle.script_text.specs.declared.parts.Rules.{Rules}
 use Rattle.pathserve.proofs.JoinedPosts.{length-joined}
 use Rattle.pathserve.proofs.JournalSums.{count_joined}
 use Rattle.script_text.proofs.ReadTold.{rose-later}
 use Rattle.pathserve.proofs.WholeReadings.{all_read, all_refused, all_short, lines_more, lines_none, read_none, read_turn}
-use Rattle.turn_core.proofs.PostCounts.{count_none}
 use Rattle.script_text.proofs.ReadAnswers.{same_callers}
 use Rattle.pathserve.proofs.serving.read_posts.Goals as goal
 

@@ -2,8 +2,8 @@
 use Rattle.std.proofs.Common.{◌≡◌, ◌*◌, ◌^◌, ◌<◌, ◌≤◌, ◌-◌, length}
 use Rattle.std.specs.Prelude.{IsFalse, IsTrue}
 use Rattle.io_edges.specs.Passing.{HasGiven}
+use Rattle.posts.specs.Posts.{post_count}
 use Rattle.script_text.specs.Reader.{HaveLinesAt, callers_of, rules_at}
-use Rattle.turn_core.specs.Turns.{post_count}
 use Rattle.pathserve.proofs.WholeReadings.{ReadTold}
 use Rattle.pathserve.proofs.serving.read_posts.Given as goal
 

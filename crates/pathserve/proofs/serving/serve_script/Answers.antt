@@ -1,7 +1,7 @@
 use Rattle.std.proofs.Common.{inr, refl, sym, subst}
 use Rattle.std.specs.Prelude.{All}
 use Rattle.std.proofs.KnownBytes.{Appends-nil}
-use Rattle.grid_versions.specs.Maps.{Map}
+use Rattle.posts.specs.Maps.{Map}
 use Rattle.script_text.specs.Canon.{HaveLines}
 use Rattle.pathserve.proofs.ServedTexts.{journal_lines, session_written}
 use Rattle.pathserve.proofs.serving.serve_script.Goals as goal

@@ -1,6 +1,6 @@
 use Rattle.std.proofs.Common.{◌≡◌, ◌+◌, ◌<◌, List, length, drop, get_or, refl, ap, subst, arith}
 use Rattle.std.proofs.lemmas.Result.{err_from_is_err_and}
-use Rattle.turn_core.specs.declared.replies.TurnReplies.{TurnReplies}
+use Rattle.posts.specs.declared.replies.TurnReplies.{TurnReplies}
 use Rattle.answer_text.specs.Answers.{turn_text}
 use Rattle.pathserve.specs.Output.{turn_texts}
 use Rattle.pathserve.proofs.Writes.{nothing_written}

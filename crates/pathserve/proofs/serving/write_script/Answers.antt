@@ -1,6 +1,6 @@
 use Rattle.std.proofs.Common.{◌≡◌, ◌+◌, ◌<◌, List, length, drop, get_or, refl, ap, subst, arith}
 use Rattle.std.proofs.lemmas.Result.{err_from_is_err_and}
-use Rattle.turn_core.specs.declared.posts.Post.{Post}
+use Rattle.posts.specs.declared.posts.Post.{Post}
 use Rattle.script_text.specs.Canon.{canon_map, canon_journal}
 use Rattle.script_text.specs.ReadsBack.{canon_script, canon_turns}
 use Rattle.pathserve.proofs.Writes.{nothing_written}

@@ -1,7 +1,7 @@
 use Rattle.std.proofs.Common.{List, subst, ap, ◌∙◌}
 use Rattle.std.proofs.lemmas.Result.{IfOk-weaker}
-use Rattle.turn_core.specs.declared.posts.Post.{Post}
-use Rattle.turn_core.specs.Turns.{post_count}
+use Rattle.posts.specs.declared.posts.Post.{Post}
+use Rattle.posts.specs.Posts.{post_count}
 use Rattle.path_service.specs.Callers.{CallerId}
 use Rattle.pathserve.specs.inner.Begun.{BeginAll}
 use Rattle.pathserve.specs.inner.Sessions.{IsDriven}

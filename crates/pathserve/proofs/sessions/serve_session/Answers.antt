@@ -2,10 +2,10 @@ use Rattle.std.proofs.Common.{◌≡◌, ℕ, List, All, Result, map, refl, sym,
 use Rattle.std.specs.Prelude.{IfOk}
 use Rattle.std.proofs.lemmas.List.Elements.{All-map}
 use Rattle.std.proofs.lemmas.Result.{IfOk-weaker}
-use Rattle.turn_core.specs.declared.posts.Post.{Post}
-use Rattle.turn_core.specs.States.{list_of}
-use Rattle.turn_core.specs.Turns.{of_caller, replies_in, IsOneThread}
-use Rattle.grid_versions.specs.Maps.{Map}
+use Rattle.posts.specs.declared.posts.Post.{Post}
+use Rattle.posts.specs.Callers.{list_of, of_caller}
+use Rattle.posts.specs.Maps.{Map}
+use Rattle.turn_core.specs.Turns.{replies_in, IsOneThread}
 use Rattle.path_service.specs.Callers.{EndedState, caller_id, fresh}
 use Rattle.path_service.specs.Services.{DriverState, started_on}
 use Rattle.path_service.specs.Closings.{ClosedState, IsClosedBy}

@@ -3,9 +3,10 @@ use Rattle.std.specs.Vec.Iter.{into_iter_items, into_iter_len}
 use Rattle.std.proofs.lemmas.List.{take_all}
 use Rattle.std.proofs.lemmas.Iterator.Adapters.{YieldsList-from_vec}
 use Rattle.std.proofs.lemmas.Iterator.Consumers.{YieldsList-turn, YieldsList-end}
-use Rattle.turn_core.specs.declared.posts.Post.{Post}
-use Rattle.turn_core.specs.declared.replies.TurnReplies.{TurnReplies}
-use Rattle.turn_core.specs.Turns.{jobs, IsOneThread}
+use Rattle.posts.specs.declared.posts.Post.{Post}
+use Rattle.posts.specs.declared.replies.TurnReplies.{TurnReplies}
+use Rattle.posts.specs.Posts.{jobs}
+use Rattle.turn_core.specs.Turns.{IsOneThread}
 use Rattle.turn_core.proofs.TurnByTurn.{HasAnswered, none_answered}
 use Rattle.pathserve.proofs.AnsweredTurns.{next_answered, one_of_all}
 use Rattle.pathserve.proofs.summing.all_replies.Goals as goal

@@ -1,7 +1,7 @@
 use Rattle.std.proofs.Common.{◌≡◌, List, [], ◌∷◌, length, sym, ap, ◌∙◌, subst, arith, rules, length-append}
 use Rattle.std.specs.Vec.Iter.{into_iter_items, into_iter_len}
 use Rattle.std.proofs.lemmas.List.{nil_from_length}
-use Rattle.turn_core.specs.declared.posts.Post.{Post}
+use Rattle.posts.specs.declared.posts.Post.{Post}
 use Rattle.path_service.specs.Callers.{CallerId, EndedState}
 use Rattle.pathserve.specs.inner.Begun.{BeginAll}
 use Rattle.pathserve.specs.inner.Works.{HaveAllPosted}

@@ -1,8 +1,8 @@
 use Rattle.std.proofs.Common.{◌≡◌, ℕ, ◌+◌, ◌<◌, ◌≤◌, ◌^◌, Option, Some, None, List, [], ◌∷◌, ◌++◌, length, take, drop, get_or, sym, ap, ◌∙◌, arith, append_assoc, length-append, length-take}
 use Rattle.std.specs.Prelude.{IfSome, IfNone}
 use Rattle.std.proofs.lemmas.List.{take-append-drop, take_more}
-use Rattle.turn_core.specs.declared.posts.Post.{Post}
-use Rattle.turn_core.specs.declared.replies.Reply.{Reply}
+use Rattle.posts.specs.declared.posts.Post.{Post}
+use Rattle.posts.specs.declared.replies.Reply.{Reply}
 use Rattle.path_service.specs.Callers.{CallerState}
 use Rattle.pathserve.proofs.works.post_all.Goals as goal
 
@@ -44,17 +44,13 @@ loop-post-preserved g c =
     let before = c.loop-post.invariant in
     let old = c.loop-post.caller in
     let new = c.post.new.self in
-    let posts = posts_one old new c.post-item.result c.in_ok-copy.field-0 c.in_ok-post.ensures.posted c.in_ok-copy.ensures in
+    let posts = posts_one old new c.post-item.result c.copy.result c.in_ok-post.ensures.posted c.copy.ensures in
     let keeps = collect_keeps new c.collect-reply.new.self c.collect-reply.result c.collect-reply.ensures.collected c.collect-reply.ensures.none in
     record {
       id = keeps.0 ∙ posts.0 ∙ before.id;
       posted = keeps.1
           ∙ posted_more c.args.caller.now.posted old.posted new.posted c.args.posts.now c.loop-post.post-index c.post-item.result c.loop-post-test.true c.post-item.is before.posted posts.1;
     }
-
-pub returns-in_err-copy-clause-first : goal.returns-in_err-copy-clause-first
-returns-in_err-copy-clause-first g c =
-    first_posted c.args.caller.now.posted c.loop-post.caller.posted c.args.posts.now c.loop-post.post-index c.loop-post.invariant.posted
 
 pub returns-in_err-post : goal.returns-in_err-post
 returns-in_err-post g c =

@@ -1,8 +1,8 @@
 use Rattle.std.proofs.Common.{◌≡◌, ◌∙◌, ℕ, ◌+◌, Bool, Option, Ok, IsTrue, refl, ap, sym, subst, arith}
 use Rattle.std.proofs.lemmas.Result.{err_from_is_err_and}
 use Rattle.io_edges.proofs.Passed.{given_none, given_more}
+use Rattle.posts.specs.Posts.{post_count}
 use Rattle.script_text.specs.Script.{rules_of}
-use Rattle.turn_core.specs.Turns.{post_count}
 use Rattle.script_text.specs.inner.Taking.{Taken, FindsLine, NextTold}
 use Rattle.script_text.specs.inner.Judging.{TakesBase, held_at}
 use Rattle.script_text.proofs.ReadCalls.{adds_nowhere, adds_line, adds_end, adds_kept, adds_refused, adds_fault, used_up_ready, no_base_ready, whole_between}

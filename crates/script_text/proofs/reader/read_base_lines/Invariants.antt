@@ -1,9 +1,9 @@
 -- The lines used so far added their rectangles to the map, and a line is held whole or nothing of one is.
 use Rattle.std.proofs.Common.{◌≡◌, ◌≤◌, ◌-◌, [], None, IsTrue}
 use Rattle.io_edges.specs.Passing.{HasGiven}
+use Rattle.posts.specs.Posts.{post_count}
 use Rattle.script_text.specs.declared.parts.Part.TheVariants.{InBase}
 use Rattle.script_text.specs.Script.{rules_of}
-use Rattle.turn_core.specs.Turns.{post_count}
 use Rattle.script_text.specs.inner.Judging.{held_at}
 use Rattle.script_text.proofs.ReadCalls.{AddsTold}
 use Rattle.script_text.proofs.reader.read_base_lines.Given as goal

@@ -1,10 +1,10 @@
 use Rattle.std.proofs.Common.{[], ◌≡◌, ◌∙◌, ℕ, ◌+◌, ◌≤◌, List, Option, Some, Ok, IfSome, IsSome, IsTrue, length, refl, ap, sym, subst, arith}
 use Rattle.std.proofs.lemmas.Result.{err_from_is_err_and}
-use Rattle.turn_core.specs.declared.posts.Post.{Post}
+use Rattle.posts.specs.declared.posts.Post.{Post}
+use Rattle.posts.specs.Posts.{post_count}
 use Rattle.script_text.specs.Script.{accept}
 use Rattle.script_text.specs.declared.parts.Rules.{Rules}
 use Rattle.script_text.specs.Reader.{UsesLines, callers_of}
-use Rattle.turn_core.specs.Turns.{post_count}
 use Rattle.script_text.specs.inner.Taking.{Taken, HeldLine, FindsLine, NextTold}
 use Rattle.script_text.specs.inner.Judging.{CountsPosts, GivesTurn, held_at}
 use Rattle.script_text.proofs.PostVersions.{have_all, have_on, none_have_at}

@@ -1,8 +1,8 @@
 -- The lines used so far ended no turn, and each post took at least two bytes and has a line in the script's
 -- version. Where a turn was held, they were held too.
 use Rattle.std.proofs.Common.{◌≡◌, ◌+◌, ◌*◌, ◌≤◌, ◌-◌, [], None, IsTrue}
+use Rattle.posts.specs.Posts.{post_count}
 use Rattle.script_text.specs.Reader.{HaveLinesAt, HoldsTurn, TakesNoneAhead, UsesLines, rules_at}
-use Rattle.turn_core.specs.Turns.{post_count}
 use Rattle.script_text.specs.inner.Judging.{IsNoBaseNext, held_at}
 use Rattle.script_text.proofs.ReadCalls.{GoesTold}
 use Rattle.script_text.proofs.reader.read_turn.Given as goal

@@ -1,5 +1,5 @@
 use Rattle.std.proofs.Common.{◌≡◌, ◌+◌, ◌++◌, ◌∷◌, [], take, sym, subst}
-use Rattle.turn_core.specs.declared.posts.Request.{Request}
+use Rattle.posts.specs.declared.posts.Request.{Request}
 use Rattle.turn_core.specs.Solving.{IsAnswerTo, AreAnswersTo}
 use Rattle.turn_core.proofs.TurnByTurn.{answers_next}
 use Rattle.turn_core.proofs.journals.answers_to.Goals as goal

@@ -1,7 +1,7 @@
 use Rattle.std.proofs.Common.{arith, ◌≤◌, ◌≡◌, ◌∙◌, ◌+◌, ◌++◌, ◌∷◌, [], List, take, length, sym, subst}
 use Rattle.std.proofs.lemmas.List.{take_all}
-use Rattle.turn_core.specs.declared.posts.Post.{Post}
-use Rattle.turn_core.specs.declared.replies.TurnReplies.{TurnReplies}
+use Rattle.posts.specs.declared.posts.Post.{Post}
+use Rattle.posts.specs.declared.replies.TurnReplies.{TurnReplies}
 use Rattle.turn_core.specs.Turns.{IsOneThread}
 use Rattle.turn_core.proofs.TurnByTurn.{HasAnswered, none_answered, answered_more}
 use Rattle.turn_core.proofs.journals.one_thread.Goals as goal

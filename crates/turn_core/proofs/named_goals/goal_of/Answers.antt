@@ -1,7 +1,7 @@
 use Rattle.std.proofs.Common.{◌∙◌, sym, ap}
 use Rattle.nav_types.specs.declared.cells.Size.{Size}
 use Rattle.goal_shapes.specs.declared.goals.GoalSpec.{GoalSpec}
-use Rattle.grid_versions.specs.Maps.{Map}
+use Rattle.posts.specs.Maps.{Map}
 use Rattle.turn_core.specs.NamedGoals.{goal_found, plain_goal}
 use Rattle.turn_core.proofs.named_goals.goal_of.Goals as goal
 

@@ -1,8 +1,8 @@
 use Rattle.std.proofs.Common.{◌≤◌, List, [], ◌∷◌, ◌++◌, length, take, sym, ap, ◌∙◌, subst, arith}
 use Rattle.std.proofs.lemmas.List.{take_all}
 use Rattle.std.specs.Vec.Iter.{into_iter_items}
-use Rattle.turn_core.specs.declared.posts.Post.{Post}
-use Rattle.turn_core.specs.declared.replies.Reply.{Reply}
+use Rattle.posts.specs.declared.posts.Post.{Post}
+use Rattle.posts.specs.declared.replies.Reply.{Reply}
 use Rattle.turn_core.specs.inner.ReplyLists.{ahead, edits_past, edits_past_list, HasEdit, list_ahead}
 use Rattle.turn_core.proofs.Sweeping.{swept_more, left_more, has_at}
 use Rattle.turn_core.proofs.reply_lists.list_ahead.Goals as goal

@@ -1,7 +1,7 @@
 use Rattle.std.proofs.Common.{List, [], ◌∷◌, ◌++◌, take, sym, ap, ◌∙◌, subst}
 use Rattle.std.specs.Vec.Iter.{into_iter_items}
-use Rattle.turn_core.specs.declared.posts.Post.{Post}
-use Rattle.turn_core.specs.declared.replies.Reply.{Reply}
+use Rattle.posts.specs.declared.posts.Post.{Post}
+use Rattle.posts.specs.declared.replies.Reply.{Reply}
 use Rattle.turn_core.specs.inner.ReplyLists.{list_ahead, edits_past_list, HaveEdits, lists_ahead}
 use Rattle.turn_core.proofs.Sweeping.{swept_more, left_more, has_at}
 use Rattle.turn_core.proofs.reply_lists.lists_ahead.Goals as goal

@@ -1,7 +1,7 @@
 use Rattle.std.proofs.Common.{◌≡◌, ◌<◌, List, length, get_or, set, sym, ap, ◌∙◌, subst, arith}
 use Rattle.std.specs.Vec.Iter.{into_iter_items}
 use Rattle.std.proofs.lemmas.List.{get_or_default}
-use Rattle.turn_core.specs.declared.replies.Reply.{Reply}
+use Rattle.posts.specs.declared.replies.Reply.{Reply}
 use Rattle.turn_core.specs.inner.ReplyLists.{list_filled, answers_past_list, HaveAnswers}
 use Rattle.turn_core.proofs.Sweeping.{swept_over, left_more, has_at, item_over, length_over}
 use Rattle.turn_core.proofs.reply_lists.lists_filled.Goals as goal

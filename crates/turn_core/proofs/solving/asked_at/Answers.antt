@@ -1,6 +1,6 @@
 use Rattle.std.proofs.Common.{◌≡◌, ◌∙◌, ap, ℕ, Some, is_some, false}
-use Rattle.grid_versions.specs.Maps.{Map}
-use Rattle.turn_core.specs.declared.replies.Answer.{Answer}
+use Rattle.posts.specs.declared.replies.Answer.{Answer}
+use Rattle.posts.specs.Maps.{Map}
 use Rattle.turn_core.specs.NamedGoals.{class_named, is_on_map}
 use Rattle.turn_core.proofs.Answered.{on_map_seen, outside_at, class_seen, asked_seen}
 use Rattle.turn_core.proofs.solving.asked_at.Goals as goal

@@ -1,4 +1,5 @@
 use Rattle.std.proofs.Common.{inr, refl}
+use Rattle.turn_core.proofs.Answered.{note_to}
 use Rattle.turn_core.proofs.solving.path_to.Goals as goal
 
 pub returns-clause-answer : goal.returns-clause-answer
@@ -16,13 +17,7 @@ returns-clause-answer c = inr (
   ),
 )
 
-pub returns-clause-opened : goal.returns-clause-opened
-returns-clause-opened c = λ wanted.
-    let counted = c.in_ok-found.ensures.opened wanted in
-    record {
-      target = c.made_reachable-target.result;
-      targets = c.made_reachable-target.ensures.targets;
-      box = counted.0;
-      frame = counted.1.0;
-      counted = counted.1.1;
-    }
+pub returns-clause-note : goal.returns-clause-note
+returns-clause-note c =
+    note_to c.args.report _ c.args.version.now.map.size c.args.goal.now _ c.made_reachable-target.result c.in_ok-found.field-0.note
+    c.made_reachable-target.ensures.targets c.in_ok-found.ensures.note

@@ -1,7 +1,7 @@
 use Rattle.std.proofs.Common.{ℕ, refl}
+use Rattle.posts.specs.declared.replies.Answer.{Answer}
+use Rattle.posts.specs.declared.replies.Answer.TheVariants.{Region}
 use Rattle.grid_versions.specs.Passing.{passable_at}
-use Rattle.turn_core.specs.declared.replies.Answer.{Answer}
-use Rattle.turn_core.specs.declared.replies.Answer.TheVariants.{Region}
 use Rattle.turn_core.specs.NamedGoals.{class_named, is_on_map}
 use Rattle.turn_core.specs.Solving.{IsRegionAt}
 use Rattle.turn_core.proofs.Answered.{asked_on_map, answered_at}

@@ -1,6 +1,6 @@
 use Rattle.std.proofs.Common.{List, ap, ◌∙◌}
+use Rattle.posts.specs.declared.edits.Edit.{Edit}
 use Rattle.grid_versions.specs.Editing.{after_edits, edit_replies}
-use Rattle.grid_versions.specs.declared.edits.Edit.{Edit}
 use Rattle.turn_core.proofs.TurnEdits.{edited_turn, told_turn}
 use Rattle.turn_core.proofs.turn_versions.after_turn.Goals as goal
 

@@ -1,5 +1,5 @@
 use Rattle.std.proofs.Common.{◌≡◌, take}
-use Rattle.turn_core.specs.Turns.{jobs}
+use Rattle.posts.specs.Posts.{jobs}
 use Rattle.turn_core.proofs.turn_versions.jobs_of.Given as goal
 
 abbrev pub invariant-loop-posts : goal.invariant-loop-posts

@@ -1,6 +1,6 @@
 use Rattle.std.proofs.Common.{◌≡◌, ◌++◌, take}
 use Rattle.std.specs.Prelude.{filter_map}
-use Rattle.turn_core.specs.Words.{edit_of}
+use Rattle.posts.specs.Posts.{edit_of}
 use Rattle.turn_core.proofs.turn_versions.push_edits.Given as goal
 
 abbrev pub invariant-loop-post : goal.invariant-loop-post

@@ -1,5 +1,5 @@
 use Rattle.std.proofs.Common.{◌≡◌, ◌++◌, take}
-use Rattle.turn_core.specs.Turns.{requests}
+use Rattle.posts.specs.Posts.{requests}
 use Rattle.turn_core.proofs.turn_versions.push_requests.Given as goal
 
 abbrev pub invariant-loop-post : goal.invariant-loop-post

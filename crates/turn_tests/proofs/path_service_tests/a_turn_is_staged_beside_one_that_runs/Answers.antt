@@ -1,6 +1,6 @@
 use Rattle.std.proofs.Common.{◌≡◌, ◌∷◌, ◌++◌, [], List, Option, length, ap, sym, ◌∙◌, arith}
 use Rattle.std.specs.Prelude.{option_to_list}
-use Rattle.turn_core.specs.declared.posts.Post.{Post}
+use Rattle.posts.specs.declared.posts.Post.{Post}
 use Rattle.path_service.specs.Callers.{CallerState}
 use Rattle.path_service.proofs.FreshCallers.{first_is_fresh, second_is_fresh}
 use Rattle.turn_tests.proofs.path_service_tests.a_turn_is_staged_beside_one_that_runs.Goals as goal

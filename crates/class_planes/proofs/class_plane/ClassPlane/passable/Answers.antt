@@ -6,7 +6,7 @@ use Rattle.class_planes.proofs.class_plane.ClassPlane.passable.Goals as goal
 
 pub returns : goal.returns
 returns c =
-    let table : RowTable = record { size = c.self.inside.size; rows = c.self.inside.rows } in
+    let table : RowTable = record { size = c.self.inside.size; rows = c.self.inside.rows.lines } in
     let wide : c.self.inside.size.w ≡ c.args.self.now.size.w = ap (λ (p : PlaneCells). p.size.w) c.self.view_is in
     let high : c.self.inside.size.h ≡ c.args.self.now.size.h = ap (λ (p : PlaneCells). p.size.h) c.self.view_is in
     c.is_free.ensures

@@ -13,9 +13,9 @@ row-preserved-then-i-end g c =
     let passes = g.M.View.passes it.map.now it.class in
     let less = c.if-i-end.true in
     let gone = empty_to_next passes (contains it.goal.now) (Joined passes it.start) c.args.j it.frame.i0 (it.frame.i1 + 1)
-    (g.M.View.extent it.map.now).w c.row.i c.next_free_east-next.result c.min-i.result c.new.result
+    (g.M.View.extent it.map.now).w c.row.i c.next_free-next.result c.min-i.result c.new.result
     (λ cell joined. Joined-passes passes it.start cell c.requires.area.passable joined) c.new.ensures c.row-test.true c.min-i.ensures
-    c.next_free_east-next.ensures c.row.invariant.1 in
+    c.next_free-next.ensures c.row.invariant.1 in
     let off : IsTrue (contains it.goal.now c.new-cell.result) → Joined passes it.start c.new-cell.result → ⊥ = elim c.else-contains.branch [
       | else-contains-via-then-contains+else-has w ↦ λ is_hit joined. both_ways w.has.result w.if-has.false (w.has.ensures.1 joined)
       | else-contains-via-else-contains w ↦ λ is_hit joined. both_ways c.contains.result w.if-contains.false (c.contains.ensures ∙ is_hit)
@@ -29,9 +29,9 @@ row-preserved g c =
     let it = c.args.self.now in
     let passes = g.M.View.passes it.map.now it.class in
     empty_to_next passes (contains it.goal.now) (Joined passes it.start) c.args.j it.frame.i0 (it.frame.i1 + 1)
-    (g.M.View.extent it.map.now).w c.row.i c.next_free_east-next.result c.min-i.result c.new.result
+    (g.M.View.extent it.map.now).w c.row.i c.next_free-next.result c.min-i.result c.new.result
     (λ cell joined. Joined-passes passes it.start cell c.requires.area.passable joined) c.new.ensures c.row-test.true c.min-i.ensures
-    c.next_free_east-next.ensures c.row.invariant.1
+    c.next_free-next.ensures c.row.invariant.1
 
 pub returns-clause-none : goal.returns-clause-none
 returns-clause-none g c = λ _ cell row begun last is_hit joined.

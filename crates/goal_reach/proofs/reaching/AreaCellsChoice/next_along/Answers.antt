@@ -1,6 +1,6 @@
 use Rattle.std.proofs.lemmas.Bool.{both_ways}
 use Rattle.nav_types.proofs.Walking.{Joined-passes}
-use Rattle.goal_reach.specs.inner.Rings.{line_on, cell_on}
+use Rattle.nav_types.specs.Lines.{line_on, cell_on}
 use Rattle.goal_reach.proofs.reaching.AreaCellsChoice.next_along.Goals as goal
 
 -- a cell joined to the start is passable

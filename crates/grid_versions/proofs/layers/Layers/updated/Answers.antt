@@ -8,7 +8,7 @@ use Rattle.nav_types.specs.Regions.{HasRelabelled}
 use Rattle.nav_types.proofs.Counting.{Counts-unique}
 use Rattle.lane_rows.specs.Rows.{has_class}
 use Rattle.obstruction_store.specs.Standing.{Standing}
-use Rattle.grid_versions.specs.Maps.{Map}
+use Rattle.posts.specs.Maps.{Map}
 use Rattle.grid_versions.specs.Passing.{passable_at}
 use Rattle.grid_versions.specs.Versions.{MapState, map_state, passes_of}
 use Rattle.grid_versions.specs.inner.Painting.{ArePaintedChunks, AreDiffering}

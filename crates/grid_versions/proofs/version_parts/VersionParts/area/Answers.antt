@@ -2,7 +2,7 @@ use Rattle.std.proofs.Common.{◌≡◌, ◌∙◌, ℕ, ap, sym, subst}
 use Rattle.nav_types.specs.declared.cells.Size.{Size}
 use Rattle.nav_types.specs.Regions.{HasArea}
 use Rattle.reach_sets.specs.AreaNumbers.{area_of}
-use Rattle.grid_versions.specs.Maps.{Map}
+use Rattle.posts.specs.Maps.{Map}
 use Rattle.grid_versions.specs.Versions.{passes_of}
 use Rattle.grid_versions.specs.inner.Tables.{AreTables, region_in}
 use Rattle.grid_versions.proofs.AreaLemmas.{has_area}

@@ -1,7 +1,7 @@
 use Rattle.std.proofs.Common.{sym, subst}
 use Rattle.std.specs.Arc.{arc_value}
 use Rattle.obstruction_store.specs.Standing.{Standing}
-use Rattle.grid_versions.specs.Maps.{Map}
+use Rattle.posts.specs.Maps.{Map}
 use Rattle.grid_versions.specs.inner.Parts.{AreParts}
 use Rattle.grid_versions.proofs.version_parts.VersionParts.build.Goals as goal
 

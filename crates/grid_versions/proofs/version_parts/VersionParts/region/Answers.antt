@@ -3,7 +3,7 @@ use Rattle.nav_types.specs.declared.cells.Size.{Size}
 use Rattle.nav_types.specs.Cells.{chunk_of}
 use Rattle.nav_types.specs.Regions.{HasRegion}
 use Rattle.reach_sets.specs.declared.regions.RegionId.{RegionId}
-use Rattle.grid_versions.specs.Maps.{Map}
+use Rattle.posts.specs.Maps.{Map}
 use Rattle.grid_versions.specs.Versions.{passes_of}
 use Rattle.grid_versions.specs.inner.Tables.{AreTables, region_in}
 use Rattle.grid_versions.proofs.RegionLemmas.{has_region}

@@ -2,7 +2,7 @@ use Rattle.std.proofs.Common.{ℕ, ◌≡◌, ◌∙◌, ◌+◌, ◌≤◌, len
 use Rattle.std.specs.Arc.{arc_value}
 use Rattle.nav_types.specs.Regions.{HasRelabelled}
 use Rattle.obstruction_store.specs.Standing.{Standing, AllFit}
-use Rattle.grid_versions.specs.Maps.{Map}
+use Rattle.posts.specs.Maps.{Map}
 use Rattle.grid_versions.specs.Versions.{MapState, map_state, passes_of}
 use Rattle.grid_versions.specs.inner.Parts.{AreParts}
 use Rattle.grid_versions.specs.inner.Reaching.{CoverChanges, NameChanges}

@@ -1,8 +1,8 @@
 use Rattle.std.proofs.Common.{ℕ, List, ◌≡◌, ◌∙◌, ◌+◌, ◌≤◌, length, ap, sym, subst}
 use Rattle.nav_types.specs.Regions.{HasRelabelled}
 use Rattle.obstruction_store.specs.Standing.{Standing, AllFit}
-use Rattle.grid_versions.specs.declared.edits.Edit.{Edit}
-use Rattle.grid_versions.specs.Maps.{Map}
+use Rattle.posts.specs.declared.edits.Edit.{Edit}
+use Rattle.posts.specs.Maps.{Map}
 use Rattle.grid_versions.specs.Editing.{after_edits}
 use Rattle.grid_versions.specs.Versions.{MapState, map_state, passes_of}
 use Rattle.grid_versions.proofs.versions.Version.next.Goals as goal

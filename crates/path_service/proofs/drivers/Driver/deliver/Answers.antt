@@ -1,6 +1,6 @@
 use Rattle.std.proofs.Common.{◌≡◌, ◌∙◌, List, [], ◌∷◌, ◌++◌, Option, None, Some, true, refl, ap, subst}
-use Rattle.turn_core.specs.declared.posts.Post.{Post}
-use Rattle.turn_core.specs.declared.replies.TurnReplies.{TurnReplies}
+use Rattle.posts.specs.declared.posts.Post.{Post}
+use Rattle.posts.specs.declared.replies.TurnReplies.{TurnReplies}
 use Rattle.path_service.specs.declared.runs.AnsweredRun.{AnsweredRun}
 use Rattle.path_service.specs.declared.drivers.Driver.TheInside.{Inside}
 use Rattle.path_service.specs.Services.{DriverState}

@@ -1,7 +1,7 @@
 use Rattle.std.proofs.Common.{◌≡◌, ◌≤◌, List, All, length, sym, ap, ◌∙◌, subst, vec_items}
 use Rattle.nav_types.specs.declared.limits.TheConstants.{MAX_STAGED_POSTS}
-use Rattle.turn_core.specs.declared.posts.Post.{Post}
-use Rattle.turn_core.specs.Turns.{post_count}
+use Rattle.posts.specs.declared.posts.Post.{Post}
+use Rattle.posts.specs.Posts.{post_count}
 use Rattle.path_service.specs.inner.Ports.{IsInRoom}
 use Rattle.path_service.proofs.NextTurns.{holds_taken, wide_hands}
 use Rattle.path_service.proofs.StartedTurns.{known_of, staged_ok, staged_refused, staged_rest}

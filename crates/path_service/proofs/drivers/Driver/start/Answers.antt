@@ -1,12 +1,12 @@
 use Rattle.std.proofs.Common.{◌≡◌, ◌≤◌, ◌<◌, ◌^◌, ◌∙◌, List, All, None, false, length, sym, ap, subst, vec_items, arith}
 use Rattle.nav_types.specs.declared.limits.TheConstants.{MAX_STAGED_POSTS}
-use Rattle.turn_core.specs.declared.posts.Post.{Post}
-use Rattle.turn_core.specs.Turns.{jobs, post_count}
+use Rattle.posts.specs.declared.posts.Post.{Post}
+use Rattle.posts.specs.Posts.{jobs, post_count}
+use Rattle.posts.proofs.PostCounts.{few_jobs}
 use Rattle.turn_core.specs.ReadyTurns.{Ready, after_edits_of}
 use Rattle.path_service.specs.Services.{DriverState}
 use Rattle.path_service.specs.inner.Holding.{run_of}
 use Rattle.path_service.specs.inner.Ports.{IsInRoom}
-use Rattle.turn_core.proofs.PostCounts.{few_jobs}
 use Rattle.path_service.proofs.RunStarts.{no_run, ready_on}
 use Rattle.path_service.proofs.NextTurns.{holds_taken, wide_hands}
 use Rattle.path_service.proofs.StartedTurns.{with_run, with_broken, begins_of, started_known, has_started, started_rest, broken_known, has_broken_off, broken_rest}

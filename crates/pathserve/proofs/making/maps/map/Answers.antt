@@ -1,6 +1,6 @@
 use Rattle.std.proofs.Common.{◌≡◌, ◌∙◌}
-use Rattle.grid_versions.specs.Maps.{map_of}
 use Rattle.nav_types.proofs.Sizes.{same_size}
+use Rattle.posts.specs.Maps.{map_of}
 use Rattle.pathserve.specs.Making.{made_map, map_size}
 use Rattle.pathserve.proofs.making.maps.map.Goals as goal
 

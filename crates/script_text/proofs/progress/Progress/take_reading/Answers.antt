@@ -6,7 +6,7 @@ use Rattle.script_text.proofs.progress.Progress.take_reading.Goals as goal
 -- a post line is an object
 pub returns-in_ok-keep_post-in-Some-clause-object : goal.returns-in_ok-keep_post-in-Some-clause-object
 returns-in_ok-keep_post-in-Some-clause-object c =
-    post_is_object c.rules-rules.result.version c.rules-rules.result.callers (view c.args.value.now) _ c.in-Some.said c.in-Some.is c.in_ok-said.ensures.post
+    post_is_object c.rules-rules.result.version c.rules-rules.result.callers (view c.args.value.now) _ c.in-Some.said c.in-Some.is c.post_of.ensures.post
 
 -- an end line is an object
 pub returns-in-None-clause-object : goal.returns-in-None-clause-object

@@ -1,6 +1,6 @@
 use Rattle.std.proofs.Common.{◌≡◌, ◌∙◌, ◌+◌, ◌*◌, ◌≤◌, length, IfOk, IfSome, IsSome, ap, sym, subst}
+use Rattle.posts.specs.Posts.{post_count}
 use Rattle.script_text.specs.Reader.{HaveLinesAt, Held, HoldsTurn, TakesNoneAhead, TurnTold, callers_of, rules_at}
-use Rattle.turn_core.specs.Turns.{post_count}
 use Rattle.script_text.specs.inner.Judging.{held_at}
 use Rattle.script_text.proofs.ReadNeed.{given_ahead}
 use Rattle.script_text.proofs.ReadAnswers.{refused_flags, where_going}

@@ -1,8 +1,8 @@
 use Rattle.std.proofs.Common.{◌≡◌, Option, Result, None, sym, subst, IfOk}
 use Rattle.std.specs.Prelude.{IsSome, ◌↔◌}
+use Rattle.posts.specs.declared.replies.Reply.{Reply}
 use Rattle.turn_core.specs.declared.events.Event.{Event}
 use Rattle.turn_core.specs.declared.events.StepRefusal.{StepRefusal}
-use Rattle.turn_core.specs.declared.replies.Reply.{Reply}
 use Rattle.turn_core.specs.States.{State}
 use Rattle.turn_core.specs.Table.{why_not}
 use Rattle.turn_core.specs.Effects.{IsCollect}

@@ -1,8 +1,9 @@
 use Rattle.std.proofs.Common.{List, refl, sym, subst}
-use Rattle.turn_core.specs.declared.replies.Reply.{Reply}
-use Rattle.turn_core.specs.declared.replies.TurnReplies.{TurnReplies}
+use Rattle.posts.specs.declared.replies.Reply.{Reply}
+use Rattle.posts.specs.declared.replies.TurnReplies.{TurnReplies}
+use Rattle.posts.specs.Posts.{jobs}
 use Rattle.turn_core.specs.Solving.{AreAnswersTo}
-use Rattle.turn_core.specs.Turns.{jobs, AreTurnReplies, IsTurnTold}
+use Rattle.turn_core.specs.Turns.{AreTurnReplies, IsTurnTold}
 use Rattle.turn_core.specs.ReadyTurns.{Ready, after_edits_of}
 use Rattle.turn_core.specs.inner.ReplyLists.{AllHaveAnswers}
 use Rattle.turn_core.specs.inner.EditedTurns.{ready_of}

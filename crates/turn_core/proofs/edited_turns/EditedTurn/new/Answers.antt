@@ -1,5 +1,5 @@
 use Rattle.std.proofs.Common.{List, sym, subst}
-use Rattle.turn_core.specs.declared.posts.Post.{Post}
+use Rattle.posts.specs.declared.posts.Post.{Post}
 use Rattle.turn_core.specs.inner.ReplyLists.{AllHaveEdits}
 use Rattle.turn_core.proofs.FilledReplies.{all_have_edits}
 use Rattle.turn_core.proofs.edited_turns.EditedTurn.new.Goals as goal

@@ -1,9 +1,10 @@
 use Rattle.std.proofs.Common.{◌≡◌, ℕ, ◌+◌, List, None, Some, set, slice_index, sym, ap, ◌∙◌, subst}
 use Rattle.std.specs.Prelude.{slice_get}
+use Rattle.posts.specs.declared.replies.Reply.{Reply}
+use Rattle.posts.specs.Callers.{list_of}
 use Rattle.turn_core.specs.declared.events.Event.TheVariants.{Collect}
-use Rattle.turn_core.specs.declared.replies.Reply.{Reply}
 use Rattle.turn_core.specs.declared.machines.delivered.DeliveredTurn.{DeliveredTurn}
-use Rattle.turn_core.specs.States.{State, list_of}
+use Rattle.turn_core.specs.States.{State}
 use Rattle.turn_core.specs.Table.{why_not}
 use Rattle.turn_core.specs.Effects.{collected}
 use Rattle.turn_core.specs.Facts.{Facts}

@@ -1,6 +1,6 @@
 use Rattle.std.proofs.Common.{◌≡◌, None, refl, sym, ap, ◌∙◌, subst}
+use Rattle.posts.specs.declared.replies.Answer.{Answer}
 use Rattle.turn_core.specs.declared.events.Event.TheVariants.{Finish}
-use Rattle.turn_core.specs.declared.replies.Answer.{Answer}
 use Rattle.turn_core.specs.States.{State}
 use Rattle.turn_core.specs.Table.{why_not, last_turn}
 use Rattle.turn_core.specs.Effects.{finished, AnswersJob}

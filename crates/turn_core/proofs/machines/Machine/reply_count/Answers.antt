@@ -1,5 +1,6 @@
 use Rattle.std.proofs.Common.{◌≡◌, ◌-◌, length, sym, ap, ◌∙◌, subst, arith}
-use Rattle.turn_core.specs.States.{State, list_of}
+use Rattle.posts.specs.Callers.{list_of}
+use Rattle.turn_core.specs.States.{State}
 use Rattle.turn_core.specs.Facts.{Facts}
 use Rattle.turn_core.specs.inner.Machines.{state_of}
 use Rattle.turn_core.proofs.HeldCounts.{held_count}

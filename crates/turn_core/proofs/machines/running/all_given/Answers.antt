@@ -1,7 +1,7 @@
 use Rattle.std.proofs.Common.{◌≡◌, ℕ, ◌+◌, List, [], ◌∷◌, ◌++◌, Option, None, length, length-append, sym, ap, ◌∙◌, subst, arith, append_assoc}
 use Rattle.std.specs.Prelude.{◌≤◌}
 use Rattle.std.specs.Vec.Iter.{into_iter_items}
-use Rattle.turn_core.specs.declared.replies.Answer.{Answer}
+use Rattle.posts.specs.declared.replies.Answer.{Answer}
 use Rattle.turn_core.specs.Table.{why_unanswered}
 use Rattle.turn_core.specs.Effects.{known}
 use Rattle.turn_core.proofs.Answering.{no_gap, length_known}

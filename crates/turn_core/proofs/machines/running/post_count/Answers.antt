@@ -1,7 +1,7 @@
 use Rattle.std.proofs.Common.{List, Option, length, sym, ap, ◌∙◌}
-use Rattle.turn_core.specs.declared.posts.Post.{Post}
+use Rattle.posts.specs.declared.posts.Post.{Post}
+use Rattle.posts.specs.Callers.{list_of}
 use Rattle.turn_core.specs.declared.machines.running.RunningTurn.{RunningTurn}
-use Rattle.turn_core.specs.States.{list_of}
 use Rattle.turn_core.specs.inner.Runs.{posts_held}
 use Rattle.turn_core.proofs.DeliveredReplies.{no_list}
 use Rattle.turn_core.proofs.machines.running.post_count.Goals as goal

@@ -1,6 +1,6 @@
 use Rattle.std.proofs.Common.{◌∙◌, ◌∷◌, ◌++◌, [], List, Option, None, ap}
 use Rattle.std.proofs.lemmas.List.{replicate_more}
-use Rattle.turn_core.specs.declared.replies.Answer.{Answer}
+use Rattle.posts.specs.declared.replies.Answer.{Answer}
 use Rattle.turn_core.proofs.machines.running.unanswered.Goals as goal
 
 pub loop-job-preserved : goal.loop-job-preserved

@@ -1,8 +1,0 @@
-use Rattle.pathserve.proofs.OneThread as law
-use Rattle.pathserve.proofs.laws.profile_is_one_thread.Goals as goal
-
-pub returns-clause-told : goal.returns-clause-told
-returns-clause-told c = law.profile_told
-
-pub returns-clause-text : goal.returns-clause-text
-returns-clause-text c = law.profile_gives

@@ -1,0 +1,344 @@
+//! The canonical lines of posts. Each call appends a text; where there is no memory, what stands is a beginning of it.
+ghost use Rattle.std.specs.Prelude.{◌≡◌, ◌++◌, ◌∷◌, [], true, OnOk, IsTrue};
+ghost use Rattle.serde_json.specs.Data.{string};
+ghost use Rattle.serde_json.specs.Written.{compact_text, members_text};
+ghost use Rattle.class_config.specs.Forms.{is_class_name};
+ghost use Rattle.goal_shapes.specs.declared.goals.GoalSpec.TheVariants as goal_spec;
+ghost use Rattle.posts.specs.declared.edits.Edit.TheVariants as edit;
+ghost use Rattle.posts.specs.declared.posts.Post.TheVariants as kind;
+ghost use Rattle.posts.specs.declared.posts.Request.TheVariants as request;
+ghost use Rattle.script_text.specs.Canon as canon;
+ghost use Rattle.script_text.specs.Grammar.{rectangle_decimals, shape_key, shape_decimals};
+ghost use Rattle.script_text.specs.ReadsBack.{AreFixed, IsGoalValue, IsPostValue};
+
+use crate::canon::pieces::{Piece, push_decimals, push_pieces, push_quoted};
+use crate::versions::FIRST_WITH_MASKS;
+use class_config::ClassName;
+use fixed_point::{Fixed, Rectangle};
+use goal_shapes::{Goal, GoalSpec};
+use nav_types::{Bytes, NoMemory};
+use obstruction_shapes::{Obstruction, Shape};
+use posts::{Edit, Post, Request};
+
+/// Appends the line of a post, without its newline.
+pub(crate) fn push_post(
+    text: &mut Bytes,
+    version: u8,
+    caller: u64,
+    post: &Post,
+) -> Result<(), NoMemory>
+    ensures text { OnOk result (text.new ≡ text.old ++ compact_text (canon.post_json version caller post.now)) }
+    ensures values { OnOk result (IsPostValue post.now) }
+{
+    match post {
+        Post::Edit(edit) => push_edit(text, version, caller, *edit),
+        Post::Ask(request) => push_request(text, version, caller, request),
+    }
+}
+
+/// Appends the line of an edit, without its newline.
+fn push_edit(text: &mut Bytes, version: u8, caller: u64, edit: Edit) -> Result<(), NoMemory>
+    ensures text { OnOk result (text.new ≡ text.old ++ compact_text (canon.post_json version caller (kind.Edit edit))) }
+    ensures values { OnOk result (IsPostValue (kind.Edit edit)) }
+{
+    match edit {
+        Edit::Add { id, obstruction } => push_add(text, version, caller, id, obstruction),
+        Edit::Remove { id } => push_remove(text, version, caller, id),
+        Edit::Move { id, x, z } => push_move(text, version, caller, id, (x, z)),
+    }
+}
+
+/// Appends the line of a request, without its newline.
+fn push_request(
+    text: &mut Bytes,
+    version: u8,
+    caller: u64,
+    request: &Request,
+) -> Result<(), NoMemory>
+    ensures text { OnOk result (text.new ≡ text.old
+        ++ compact_text (canon.post_json version caller (kind.Ask request.now))) }
+    ensures values { OnOk result (IsPostValue (kind.Ask request.now)) }
+{
+    match request {
+        Request::Path { class, x, z, goal } => {
+            push_path(text, version, caller, class, (*x, *z), *goal)
+        }
+        Request::Region { class, x, z } => { push_region(text, version, caller, class, (*x, *z)) }
+    }
+}
+
+/// Appends the text of an add line.
+fn push_add(
+    text: &mut Bytes,
+    version: u8,
+    caller: u64,
+    id: u32,
+    obstruction: Obstruction,
+) -> Result<(), NoMemory>
+    ensures text { OnOk result (text.new ≡ text.old
+        ++ compact_text (canon.post_json version caller (kind.Edit (edit.Add id obstruction)))) }
+    ensures values { OnOk result (IsPostValue (kind.Edit (edit.Add id obstruction))) }
+{
+    let pieces = [
+        Piece::Bytes(b"{\"caller\":"),
+        Piece::Whole(caller),
+        Piece::Bytes(b",\"add\":"),
+        Piece::Whole(u64::from(id)),
+    ];
+    push_pieces(text, &pieces)?;
+    push_shape(text, obstruction.shape)?;
+    push_mask(text, version, obstruction.mask)?;
+    Ok(())
+}
+
+/// Appends the member of a shape.
+fn push_shape(text: &mut Bytes, shape: Shape) -> Result<(), NoMemory>
+    ensures text { OnOk result (text.new ≡ text.old
+        ++ 44 ∷ (compact_text (string (shape_key shape)) ++ 58
+        ∷ compact_text (canon.decimals_json (shape_decimals shape)))) }
+    ensures values { OnOk result (AreFixed (shape_decimals shape)) }
+{
+    match shape {
+        Shape::Unit { x, z, half } => {
+            text.extend(b",\"unit\":")?;
+            push_decimals(text, &[x, z, half])?;
+            Ok(())
+        }
+        Shape::Square(rectangle) => {
+            text.extend(b",\"square\":")?;
+            push_rectangle(text, rectangle)?;
+            Ok(())
+        }
+    }
+}
+
+/// Appends the array of a rectangle.
+fn push_rectangle(text: &mut Bytes, rectangle: Rectangle) -> Result<(), NoMemory>
+    ensures text { OnOk result (text.new ≡ text.old
+        ++ compact_text (canon.decimals_json (rectangle_decimals rectangle))) }
+    ensures values { OnOk result (AreFixed (rectangle_decimals rectangle)) }
+{
+    let numbers = [
+        rectangle.x,
+        rectangle.z,
+        rectangle.ux,
+        rectangle.uz,
+        rectangle.hw,
+        rectangle.hh,
+    ];
+    push_decimals(text, &numbers)
+}
+
+/// Appends the member of a mask, where the version has one, and ends the object.
+fn push_mask(text: &mut Bytes, version: u8, mask: u16) -> Result<(), NoMemory>
+    ensures { OnOk result (text.new ≡ text.old
+        ++ members_text true (canon.in_order (canon.mask_members version mask))) }
+{
+    if version < FIRST_WITH_MASKS {
+        text.push(b'}')?;
+        return Ok(());
+    }
+    let pieces = [
+        Piece::Bytes(b",\"mask\":"),
+        Piece::Whole(u64::from(mask)),
+        Piece::Bytes(b"}"),
+    ];
+    push_pieces(text, &pieces)
+}
+
+/// Appends the text of a remove line.
+fn push_remove(text: &mut Bytes, version: u8, caller: u64, id: u32) -> Result<(), NoMemory>
+    ensures text { OnOk result (text.new ≡ text.old
+        ++ compact_text (canon.post_json version caller (kind.Edit (edit.Remove id)))) }
+    ensures values { OnOk result (IsPostValue (kind.Edit (edit.Remove id))) }
+{
+    let pieces = [
+        Piece::Bytes(b"{\"caller\":"),
+        Piece::Whole(caller),
+        Piece::Bytes(b",\"remove\":"),
+        Piece::Whole(u64::from(id)),
+        Piece::Bytes(b"}"),
+    ];
+    push_pieces(text, &pieces)?;
+    Ok(())
+}
+
+/// Appends the text of a move line.
+fn push_move(
+    text: &mut Bytes,
+    version: u8,
+    caller: u64,
+    id: u32,
+    to: (Fixed, Fixed),
+) -> Result<(), NoMemory>
+    ensures text { OnOk result (text.new ≡ text.old
+        ++ compact_text (canon.post_json version caller (kind.Edit (edit.Move id to.0 to.1)))) }
+    ensures values { OnOk result (IsPostValue (kind.Edit (edit.Move id to.0 to.1))) }
+{
+    let pieces = [
+        Piece::Bytes(b"{\"caller\":"),
+        Piece::Whole(caller),
+        Piece::Bytes(b",\"move\":"),
+        Piece::Whole(u64::from(id)),
+        Piece::Bytes(b",\"to\":["),
+        Piece::Decimal(to.0),
+        Piece::Bytes(b","),
+        Piece::Decimal(to.1),
+        Piece::Bytes(b"]}"),
+    ];
+    push_pieces(text, &pieces)?;
+    Ok(())
+}
+
+/// Appends the text of a path line.
+fn push_path(
+    text: &mut Bytes,
+    version: u8,
+    caller: u64,
+    class: &ClassName,
+    from: (Fixed, Fixed),
+    goal: GoalSpec,
+) -> Result<(), NoMemory>
+    ensures text { OnOk result (text.new ≡ text.old
+        ++ compact_text (canon.post_json version caller (kind.Ask (request.Path class.now from.0 from.1 goal)))) }
+    ensures values { OnOk result (IsPostValue (kind.Ask (request.Path class.now from.0 from.1 goal))) }
+{
+    let pieces = [
+        Piece::Bytes(b"{\"caller\":"),
+        Piece::Whole(caller),
+        Piece::Bytes(b",\"path\":"),
+    ];
+    push_pieces(text, &pieces)?;
+    push_name(text, class)?;
+    let pieces = [
+        Piece::Bytes(b",\"from\":["),
+        Piece::Decimal(from.0),
+        Piece::Bytes(b","),
+        Piece::Decimal(from.1),
+        Piece::Bytes(b"],\"goal\":"),
+    ];
+    push_pieces(text, &pieces)?;
+    push_goal(text, goal)?;
+    text.push(b'}')?;
+    Ok(())
+}
+
+/// Appends the text of a region line.
+fn push_region(
+    text: &mut Bytes,
+    version: u8,
+    caller: u64,
+    class: &ClassName,
+    place: (Fixed, Fixed),
+) -> Result<(), NoMemory>
+    ensures text { OnOk result (text.new ≡ text.old
+        ++ compact_text (canon.post_json version caller (kind.Ask (request.Region class.now place.0 place.1)))) }
+    ensures values { OnOk result (IsPostValue (kind.Ask (request.Region class.now place.0 place.1))) }
+{
+    let pieces = [
+        Piece::Bytes(b"{\"caller\":"),
+        Piece::Whole(caller),
+        Piece::Bytes(b",\"region\":"),
+    ];
+    push_pieces(text, &pieces)?;
+    push_name(text, class)?;
+    let pieces = [
+        Piece::Bytes(b",\"at\":["),
+        Piece::Decimal(place.0),
+        Piece::Bytes(b","),
+        Piece::Decimal(place.1),
+        Piece::Bytes(b"]}"),
+    ];
+    push_pieces(text, &pieces)?;
+    Ok(())
+}
+
+/// Appends a class name as a string.
+pub(crate) fn push_name(text: &mut Bytes, name: &ClassName) -> Result<(), NoMemory>
+    ensures text { OnOk result (text.new ≡ text.old ++ compact_text (string name.now)) }
+    ensures values { OnOk result (IsTrue (is_class_name name.now)) }
+{
+    push_quoted(text, name.as_bytes())
+}
+
+/// Appends a goal.
+fn push_goal(text: &mut Bytes, goal: GoalSpec) -> Result<(), NoMemory>
+    ensures text { OnOk result (text.new ≡ text.old ++ compact_text (canon.goal_json goal)) }
+    ensures values { OnOk result (IsGoalValue goal) }
+{
+    match goal {
+        GoalSpec::Plain(goal) => push_plain_goal(text, goal),
+        GoalSpec::Obstruction { id, grow } => push_obstruction_goal(text, id, grow),
+    }
+}
+
+/// Appends a goal that is an obstruction, which grows by a distance.
+fn push_obstruction_goal(text: &mut Bytes, id: u32, grow: Fixed) -> Result<(), NoMemory>
+    ensures text { OnOk result (text.new ≡ text.old ++ compact_text (canon.goal_json (goal_spec.Obstruction id grow))) }
+    ensures values { OnOk result (IsGoalValue (goal_spec.Obstruction id grow)) }
+{
+    let pieces = [
+        Piece::Bytes(b"{\"obstruction\":["),
+        Piece::Whole(u64::from(id)),
+        Piece::Bytes(b","),
+        Piece::Decimal(grow),
+        Piece::Bytes(b"]}"),
+    ];
+    push_pieces(text, &pieces)?;
+    Ok(())
+}
+
+/// Appends a goal that is a shape.
+fn push_plain_goal(text: &mut Bytes, goal: Goal) -> Result<(), NoMemory>
+    ensures text { OnOk result (text.new ≡ text.old ++ compact_text (canon.goal_json (goal_spec.Plain goal))) }
+    ensures values { OnOk result (IsGoalValue (goal_spec.Plain goal)) }
+{
+    match goal {
+        Goal::Point { x, z } => push_object(text, b"{\"point\":", &[x, z]),
+        Goal::Circle { x, z, r } => push_object(text, b"{\"circle\":", &[x, z, r]),
+        Goal::NotCircle { x, z, r } => { push_object(text, b"{\"not-circle\":", &[x, z, r]) }
+        Goal::Square(rectangle) => push_square(text, b"{\"square\":", rectangle),
+        Goal::NotSquare(rectangle) => push_square(text, b"{\"not-square\":", rectangle),
+    }
+}
+
+/// Appends an object of one key, which is opened already, and of a rectangle.
+fn push_square(text: &mut Bytes, opening: &[u8], rectangle: Rectangle) -> Result<(), NoMemory>
+    ensures text { OnOk result (text.new ≡ text.old
+        ++ (opening.now ++ (compact_text (canon.decimals_json (rectangle_decimals rectangle)) ++ 125 ∷ []))) }
+    ensures values { OnOk result (AreFixed (rectangle_decimals rectangle)) }
+{
+    let numbers = [
+        rectangle.x,
+        rectangle.z,
+        rectangle.ux,
+        rectangle.uz,
+        rectangle.hw,
+        rectangle.hh,
+    ];
+    push_object(text, opening, &numbers)
+}
+
+/// Appends an object of one key, which is opened already, and of fixed-point numbers.
+fn push_object(text: &mut Bytes, opening: &[u8], numbers: &[Fixed]) -> Result<(), NoMemory>
+    ensures text { OnOk result (text.new ≡ text.old
+        ++ (opening.now ++ (compact_text (canon.decimals_json numbers.now) ++ 125 ∷ []))) }
+    ensures values { OnOk result (AreFixed numbers.now) }
+{
+    text.extend(opening)?;
+    push_decimals(text, numbers)?;
+    text.push(b'}')?;
+    Ok(())
+}
+
+/// Appends the end line of a turn, without its newline.
+pub(crate) fn push_end(text: &mut Bytes, turn: u64) -> Result<(), NoMemory>
+    ensures { OnOk result (text.new ≡ text.old ++ compact_text (canon.end_json turn)) }
+{
+    let pieces = [
+        Piece::Bytes(b"{\"end\":"),
+        Piece::Whole(turn),
+        Piece::Bytes(b"}"),
+    ];
+    push_pieces(text, &pieces)
+}

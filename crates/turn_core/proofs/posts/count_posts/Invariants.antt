@@ -1,6 +1,0 @@
-use Rattle.std.proofs.Common.{◌≡◌, take}
-use Rattle.turn_core.specs.Turns.{post_count}
-use Rattle.turn_core.proofs.posts.count_posts.Given as goal
-
-abbrev pub invariant-loop-posts : goal.invariant-loop-posts
-invariant-loop-posts l = l.count ≡ post_count (take l.posts-index l.turn)
