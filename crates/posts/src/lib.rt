@@ -13,7 +13,7 @@ mod replies;
 pub use copying::{Copied, copied_items};
 pub use edits::{Edit, EditReplies, EditReply, Edits, Refusal};
 pub use maps::{BaseRects, MapSpec};
-pub use notes::{Note, Noted, Notes, Report};
+pub use notes::{FlowLine, FlowSummary, Note, Noted, Notes, Report};
 pub use posts::{
     Jobs, Journal, Post, Posts, Request, TurnPosts, count_posts, empty_lists, push_post, push_some,
 };
