@@ -7,14 +7,15 @@ use Rattle.posts.specs.declared.replies.Reply.{Reply}
 use Rattle.posts.specs.declared.replies.Reply.TheVariants.{Edit as Edited, Answer as Answered}
 use Rattle.posts.specs.declared.replies.TurnReplies.{TurnReplies}
 use Rattle.answer_text.specs.Answers.{reply_line, reply_lines, caller_lines, turn_line, turn_text}
-use Rattle.answer_text.specs.Noted.{note_text, next_note, notes_after, notes_left, behind_reply, noted_lines, noted_callers, noted_text}
+use Rattle.answer_text.specs.Noted.{note_text, next_text, notes_after, notes_left, behind_reply, noted_lines, noted_callers, noted_text}
 
 abbrev TellNothing : List Note → Type 0
 TellNothing notes = All (λ (note : Note). note ≡ Nothing) notes
 
-next_of_nothing : (notes : List Note) → TellNothing notes → next_note notes ≡ Nothing
-next_of_nothing [] none = refl
-next_of_nothing (note ∷ notes) none = All-head (λ (n : Note). n ≡ Nothing) note notes none
+next_of_nothing : (caller post : ℕ) (notes : List Note) → TellNothing notes → next_text caller post notes ≡ []
+next_of_nothing caller post [] none = refl
+next_of_nothing caller post (note ∷ notes) none =
+    ap (λ (n : Note). note_text caller post n) (All-head (λ (n : Note). n ≡ Nothing) note notes none)
 
 after_of_nothing : (reply : Reply) (notes : List Note) → TellNothing notes → TellNothing (notes_after reply notes)
 after_of_nothing (Edited reply) notes none = none
@@ -25,16 +26,16 @@ left_of_nothing : (replies : List Reply) (notes : List Note) → TellNothing not
 left_of_nothing [] notes none = none
 left_of_nothing (reply ∷ replies) notes none = left_of_nothing replies (notes_after reply notes) (after_of_nothing reply notes none)
 
-behind_of_nothing : (caller post : ℕ) (reply : Reply) (note : Note) → note ≡ Nothing → behind_reply caller post reply note ≡ []
-behind_of_nothing caller post (Edited reply) note none = refl
-behind_of_nothing caller post (Answered answer) note none = ap (λ (n : Note). note_text caller post n) none
+behind_of_nothing : (caller post : ℕ) (reply : Reply) (notes : List Note) → TellNothing notes → behind_reply caller post reply notes ≡ []
+behind_of_nothing caller post (Edited reply) notes none = refl
+behind_of_nothing caller post (Answered answer) notes none = next_of_nothing caller post notes none
 
 lines_of_nothing : (caller post : ℕ) (replies : List Reply) (notes : List Note) → TellNothing notes
     → noted_lines caller post replies notes ≡ reply_lines caller post replies
 lines_of_nothing caller post [] notes none = refl
 lines_of_nothing caller post (reply ∷ replies) notes none =
     let rest : List ℕ = noted_lines caller (post + 1) replies (notes_after reply notes) in
-    ap (λ (behind : List ℕ). reply_line caller post reply ++ (behind ++ rest)) (behind_of_nothing caller post reply (next_note notes) (next_of_nothing notes none))
+    ap (λ (behind : List ℕ). reply_line caller post reply ++ (behind ++ rest)) (behind_of_nothing caller post reply notes none)
     ∙ ap (λ (more : List ℕ). reply_line caller post reply ++ more)
     (lines_of_nothing caller (post + 1) replies (notes_after reply notes) (after_of_nothing reply notes none))
 

@@ -1,27 +1,61 @@
 -- The text of a turn with what is told beside its answers. The notes stand in a list, one for each answer to a request,
 -- caller by caller and post by post.
-use Rattle.std.specs.Prelude.{ℕ, ◌+◌, List, [], ◌∷◌, ◌++◌, codes, decimal}
+use Rattle.std.specs.Prelude.{ℕ, ◌+◌, List, [], ◌∷◌, ◌++◌, Option, Some, None, length, map, codes, decimal}
+use Rattle.nav_types.specs.declared.cells.Cell.{Cell}
+use Rattle.nav_types.specs.declared.directions.Dir.{Dir}
+use Rattle.nav_types.specs.declared.directions.Dir.TheVariants.{N, E, S, W, NE, SE, SW, NW}
+use Rattle.posts.specs.declared.notes.FlowLine.{FlowLine}
 use Rattle.posts.specs.declared.notes.Note.{Note}
-use Rattle.posts.specs.declared.notes.Note.TheVariants.{Nothing, Opened}
+use Rattle.posts.specs.declared.notes.Note.TheVariants.{Nothing, Opened, Flow, Smoothed}
 use Rattle.posts.specs.declared.replies.Reply.{Reply}
 use Rattle.posts.specs.declared.replies.Reply.TheVariants.{Edit as Edited, Answer as Answered}
 use Rattle.posts.specs.declared.replies.TurnReplies.{TurnReplies}
-use Rattle.answer_text.specs.Answers.{line_of, reply_line, turn_line}
+use Rattle.answer_text.specs.Answers.{line_of, reply_line, turn_line, waypoint_text}
 
--- the line of an opened number: the caller's number, that of the post among the caller's posts of the turn, and how many
--- jump states were opened
-unfoldable pub opened_line : ℕ → ℕ → ℕ → List ℕ
-opened_line caller post opened = line_of (decimal caller ∷ decimal post ∷ codes "opened" ∷ decimal opened ∷ [])
+-- the name of a direction, and `-` for none
+abbrev pub step_word : Option Dir → List ℕ
+step_word None = codes "-"
+step_word (Some N) = codes "N"
+step_word (Some E) = codes "E"
+step_word (Some S) = codes "S"
+step_word (Some W) = codes "W"
+step_word (Some NE) = codes "NE"
+step_word (Some SE) = codes "SE"
+step_word (Some SW) = codes "SW"
+step_word (Some NW) = codes "NW"
+
+-- a flow field: the step to take at the path's start, how many cells the field has, the greatest of their distances, and
+-- the sum of these
+abbrev pub flow_words : FlowLine → List (List ℕ)
+flow_words line = codes "flow" ∷ step_word line.first ∷ decimal line.summary.cells ∷ decimal line.summary.farthest
+    ∷ decimal line.summary.sum ∷ []
+
+-- smoothed waypoints: how many there are, and these
+abbrev pub smooth_words : List Cell → List (List ℕ)
+smooth_words points = codes "smooth" ∷ decimal (length points) ∷ map waypoint_text points
 
 -- what a note says
+abbrev pub note_words : Note → List (List ℕ)
+note_words Nothing = []
+note_words (Opened opened) = codes "opened" ∷ decimal opened ∷ []
+note_words (Flow line) = flow_words line
+note_words (Smoothed points) = smooth_words points
+
+-- the line of a note: the caller's number, that of the post among the caller's posts of the turn, and what the note says
+unfoldable pub note_line : ℕ → ℕ → Note → List ℕ
+note_line caller post note = line_of (decimal caller ∷ decimal post ∷ note_words note)
+
+-- what is written of a note: nothing where it tells nothing, else its line
 abbrev pub note_text : ℕ → ℕ → Note → List ℕ
 note_text caller post Nothing = []
-note_text caller post (Opened opened) = opened_line caller post opened
+note_text caller post (Opened opened) = note_line caller post (Opened opened)
+note_text caller post (Flow line) = note_line caller post (Flow line)
+note_text caller post (Smoothed points) = note_line caller post (Smoothed points)
 
--- the next of the notes that are left; where none is left nothing is told
-abbrev pub next_note : List Note → Note
-next_note [] = Nothing
-next_note (note ∷ notes) = note
+-- what is written of the next of the notes that are left; where none is left nothing is told
+abbrev pub next_text : ℕ → ℕ → List Note → List ℕ
+next_text caller post [] = []
+next_text caller post (note ∷ notes) = note_text caller post note
 
 -- the notes that are left after a reply: an answer to a request takes the next one, and the reply to an edit none
 abbrev pub notes_after : Reply → List Note → List Note
@@ -34,16 +68,16 @@ abbrev pub notes_left : List Reply → List Note → List Note
 notes_left [] notes = notes
 notes_left (reply ∷ replies) notes = notes_left replies (notes_after reply notes)
 
--- what stands behind the line of a reply: what the note of an answer says
-abbrev pub behind_reply : ℕ → ℕ → Reply → Note → List ℕ
-behind_reply caller post (Edited reply) note = []
-behind_reply caller post (Answered answer) note = note_text caller post note
+-- what stands behind the line of a reply: what is written of the note of an answer
+abbrev pub behind_reply : ℕ → ℕ → Reply → List Note → List ℕ
+behind_reply caller post (Edited reply) notes = []
+behind_reply caller post (Answered answer) notes = next_text caller post notes
 
 -- the lines of one caller's replies, of which the first answers the post of this number, where these notes are left
 abbrev pub noted_lines : ℕ → ℕ → List Reply → List Note → List ℕ
 noted_lines caller post [] notes = []
 noted_lines caller post (reply ∷ replies) notes = reply_line caller post reply
-    ++ (behind_reply caller post reply (next_note notes) ++ noted_lines caller (post + 1) replies (notes_after reply notes))
+    ++ (behind_reply caller post reply notes ++ noted_lines caller (post + 1) replies (notes_after reply notes))
 
 -- the lines of the replies to callers, of whom the first has this number
 abbrev pub noted_callers : ℕ → List (List Reply) → List Note → List ℕ

@@ -135,7 +135,7 @@ fn end_word(near: bool) -> &'static [u8]
 }
 
 /// The waypoints, each after a space.
-fn write_waypoints(text: &mut Bytes, waypoints: &[Cell]) -> Result<(), NoMemory>
+pub(crate) fn write_waypoints(text: &mut Bytes, waypoints: &[Cell]) -> Result<(), NoMemory>
     ensures ok { OnOk result (text.new ≡ text.old ++ spaced (map waypoint_text waypoints.now)) }
     ensures err { OnErr result (GrewFrom text.old text.new) }
 {

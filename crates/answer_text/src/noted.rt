@@ -1,11 +1,12 @@
 //! The text of a turn with what is told beside its answers.
-ghost use Rattle.std.specs.Prelude.{◌≡◌, ◌++◌, IfOk, OnOk};
-ghost use Rattle.answer_text.specs.Noted.{noted_text, noted_lines, behind_reply, note_text, opened_line, next_note, notes_after, notes_left};
+ghost use Rattle.std.specs.Prelude.{◌≡◌, ◌++◌, ◌∷◌, IfOk, OnOk};
+ghost use Rattle.answer_text.specs.Noted.{noted_text, noted_lines, behind_reply, note_text, note_line, note_words, flow_words, smooth_words, step_word, notes_after, notes_left};
+ghost use Rattle.answer_text.specs.inner.Spacing.{spaced};
 
-use crate::lines::{write_reply, write_turn_line};
+use crate::lines::{write_reply, write_turn_line, write_waypoints};
 use crate::pieces::write_after;
-use nav_types::{Bytes, NoMemory};
-use posts::{Note, Reply, TurnReplies};
+use nav_types::{Bytes, Cell, Dir, NoMemory};
+use posts::{FlowLine, Note, Reply, TurnReplies};
 use std::alloc::Global;
 
 /// The text of a turn of this number with what is told beside its answers (`noted_text`): the lines of
@@ -43,56 +44,101 @@ fn write_noted<'a>(
     let mut left = notes;
     for (post, reply) in replies.iter().enumerate() {
         write_reply(text, caller, post as u64, reply)?;
-        write_behind(text, caller, post as u64, reply, next_note(left))?;
+        write_behind(text, caller, post as u64, reply, left)?;
         left = notes_after(reply, left);
     }
     Ok(left)
 }
 
-/// What stands behind the line of a reply.
+/// What stands behind the line of a reply, where these notes are left.
 fn write_behind(
     text: &mut Bytes,
     caller: u64,
     post: u64,
     reply: &Reply,
-    note: Note,
+    notes: &[Note],
 ) -> Result<(), NoMemory>
-    ensures { OnOk result (text.new ≡ text.old ++ behind_reply caller post reply.now note) }
+    ensures { OnOk result (text.new ≡ text.old ++ behind_reply caller post reply.now notes.now) }
 {
-    match reply {
-        Reply::Edit(_) => Ok(()),
-        Reply::Answer(_) => write_note(text, caller, post, note),
+    match (reply, notes) {
+        (Reply::Answer(_), [note, ..]) => write_note(text, caller, post, note),
+        _ => Ok(()),
     }
 }
 
-/// What a note says.
-fn write_note(text: &mut Bytes, caller: u64, post: u64, note: Note) -> Result<(), NoMemory>
-    ensures { OnOk result (text.new ≡ text.old ++ note_text caller post note) }
+/// The line of a note, and nothing where it tells nothing.
+fn write_note(text: &mut Bytes, caller: u64, post: u64, note: &Note) -> Result<(), NoMemory>
+    ensures { OnOk result (text.new ≡ text.old ++ note_text caller post note.now) }
 {
     match note {
         Note::Nothing => Ok(()),
-        Note::Opened(opened) => write_opened(text, caller, post, opened),
+        Note::Opened(_) | Note::Flow(_) | Note::Smoothed(_) => {
+            write_note_line(text, caller, post, note)
+        }
     }
 }
 
-/// The line of an opened number.
-fn write_opened(text: &mut Bytes, caller: u64, post: u64, opened: u64) -> Result<(), NoMemory>
-    ensures { OnOk result (text.new ≡ text.old ++ opened_line caller post opened) }
+/// The line of a note.
+fn write_note_line(
+    text: &mut Bytes,
+    caller: u64,
+    post: u64,
+    note: &Note,
+) -> Result<(), NoMemory>
+    ensures { OnOk result (text.new ≡ text.old ++ note_line caller post note.now) }
 {
     text.push_decimal(caller)?;
     write_after(text, b" ", post)?;
-    write_after(text, b" opened ", opened)?;
+    write_note_words(text, note)?;
     text.extend(b"\n")
 }
 
-/// The next of the notes that are left.
-fn next_note(notes: &[Note]) -> Note
-    ensures { result ≡ next_note notes.now }
+/// What a note says, each word after a space.
+fn write_note_words(text: &mut Bytes, note: &Note) -> Result<(), NoMemory>
+    ensures { OnOk result (text.new ≡ text.old ++ spaced (note_words note.now)) }
 {
-    match notes {
-        [] => Note::Nothing,
-        [note, ..] => *note,
+    match note {
+        Note::Nothing => Ok(()),
+        Note::Opened(opened) => write_after(text, b" opened ", *opened),
+        Note::Flow(line) => write_flow(text, line),
+        Note::Smoothed(points) => write_smoothed(text, points.as_slice()),
     }
+}
+
+/// What a flow field tells of a path.
+fn write_flow(text: &mut Bytes, line: &FlowLine) -> Result<(), NoMemory>
+    ensures { OnOk result (text.new ≡ text.old ++ spaced (flow_words line.now)) }
+{
+    text.extend(b" flow")?;
+    text.extend(step_word(line.first))?;
+    write_after(text, b" ", line.summary.cells)?;
+    write_after(text, b" ", line.summary.farthest)?;
+    write_after(text, b" ", line.summary.sum)
+}
+
+/// The name of a direction, and `-` for none, after a space.
+fn step_word(step: Option<Dir>) -> &'static [u8]
+    ensures { result.now ≡ 32 ∷ step_word step }
+{
+    match step {
+        None => b" -",
+        Some(Dir::N) => b" N",
+        Some(Dir::E) => b" E",
+        Some(Dir::S) => b" S",
+        Some(Dir::W) => b" W",
+        Some(Dir::NE) => b" NE",
+        Some(Dir::SE) => b" SE",
+        Some(Dir::SW) => b" SW",
+        Some(Dir::NW) => b" NW",
+    }
+}
+
+/// How many waypoints were smoothed to, and these.
+fn write_smoothed(text: &mut Bytes, points: &[Cell]) -> Result<(), NoMemory>
+    ensures { OnOk result (text.new ≡ text.old ++ spaced (smooth_words points.now)) }
+{
+    write_after(text, b" smooth ", points.len() as u64)?;
+    write_waypoints(text, points)
 }
 
 /// The notes that are left after a reply.

@@ -10,7 +10,7 @@ use io_edges::Gate;
 use nav_types::{NoMemory, Sequence};
 use std::alloc::Global;
 use std::thread::{Threads, join};
-use turn_core::{Report, Request, solve_noted};
+use turn_core::{Report, Request, Solver};
 
 /// The jobs of a turn on a version, the gate that is passed before each, and what is told beside the answers.
 #[derive(Drop)]
@@ -38,11 +38,12 @@ fn draw_all<G: Gate>(alloc: Global, turn: &Turn<'_, G>, claims: &Claims, mut sea
         result }
 {
     let mut answered = Sequence::new(alloc);
+    let mut solver = Solver::new(turn.version, turn.report);
     'drawing: loop {
         match claims.claim(seat) {
             Drawn::Job(job, next) => {
                 seat = next;
-                let Ok(()) = solve_job(alloc, turn, job, &mut answered) else {
+                let Ok(()) = solve_job(alloc, turn, &mut solver, job, &mut answered) else {
                     return Worked {
                         seat,
                         answered: Err(NoMemory),
@@ -63,15 +64,17 @@ fn draw_all<G: Gate>(alloc: Global, turn: &Turn<'_, G>, claims: &Claims, mut sea
 fn solve_job<G: Gate>(
     alloc: Global,
     turn: &Turn<'_, G>,
+    solver: &mut Solver<'_>,
     job: u64,
     answered: &mut Sequence<Answered>,
 ) -> Result<(), NoMemory>
-    requires { job < length turn.now.jobs.now }
-    ensures { OnOk result (HasOneMore turn.now.version.now.map turn.now.version.now.standing turn.now.report
+    requires job { job < length turn.now.jobs.now }
+    ensures answered { OnOk result (HasOneMore solver.old.state.map solver.old.state.standing solver.old.report
         turn.now.jobs.now job answered.old answered.new) }
+    ensures same { solver.new ≡ solver.old }
 {
     turn.gate.pass(job);
-    let noted = solve_noted(alloc, turn.version, &turn.jobs[job as usize], turn.report)?;
+    let noted = solver.solve(alloc, &turn.jobs[job as usize])?;
     answered.push(Answered { job, noted })?;
     Ok(())
 }

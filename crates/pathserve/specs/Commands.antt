@@ -5,7 +5,8 @@ use Rattle.std.specs.Str.Parse.{digits_value}
 use Rattle.fixed_point.specs.Text.{is_digits}
 use Rattle.pathserve.specs.declared.commands.Command.{Command}
 use Rattle.pathserve.specs.declared.commands.Command.TheVariants.{Replay, Serve, Make}
-use Rattle.posts.specs.declared.notes.Report.TheVariants.{Answers, OpenedNumbers}
+use Rattle.posts.specs.declared.notes.Report.{Report}
+use Rattle.posts.specs.declared.notes.Report.TheVariants.{Answers, OpenedNumbers, Flows, Smoothed}
 
 -- the number of two digits, if it is at most 64
 abbrev pub up_to_64 : ℕ → ℕ → Option ℕ
@@ -26,21 +27,28 @@ is_whole_number word = is_digits 20 word && (length word == 1 || not (slice_inde
 abbrev pub seed_of : List ℕ → Option ℕ
 seed_of word = let seed = digits_value 10 word in if is_whole_number word && nat_lt seed (2 ^ 64) then Some seed else None
 
+-- what a word asks to be told beside the answers to a script
+abbrev pub report_by : List ℕ → Option Report
+report_by word =
+    if bytes_eq word (codes "replay") then Some Answers
+    else if bytes_eq word (codes "profile") then Some OpenedNumbers
+    else if bytes_eq word (codes "flow") then Some Flows
+    else if bytes_eq word (codes "smooth") then Some Smoothed
+    else None
+
 -- the command of one word, by so many workers
 abbrev pub command_by : List ℕ → ℕ → Option Command
 command_by word workers =
-    if bytes_eq word (codes "replay") then Some (Replay Answers workers)
-    else if bytes_eq word (codes "profile") then Some (Replay OpenedNumbers workers)
-    else if bytes_eq word (codes "serve") then Some (Serve workers)
-    else None
+    if bytes_eq word (codes "serve") then Some (Serve workers)
+    else option_map (λ report. Replay report workers) (report_by word)
 
 -- the command of a word and a number, by so many workers
 abbrev pub make_by : List ℕ → List ℕ → ℕ → Option Command
 make_by word number workers =
     if bytes_eq word (codes "make") then option_map (λ seed. Make seed workers) (seed_of number) else None
 
--- The command of the words, where they are in the grammar: `replay`, `profile`, `serve`, or `make` with a number, by 4
--- workers, or by the number behind `--workers`.
+-- The command of the words, where they are in the grammar: `replay`, `profile`, `flow`, `smooth`, `serve`, or `make` with a
+-- number, by 4 workers, or by the number behind `--workers`.
 abbrev pub command_of : List (List ℕ) → Option Command
 command_of [] = None
 command_of (word ∷ []) = command_by word 4

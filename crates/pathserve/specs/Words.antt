@@ -6,7 +6,7 @@ use Rattle.pathserve.specs.declared.status.Status.TheVariants.{Done, Usage, BadL
 -- the text of a status, for the usage that of the words
 abbrev pub status_text : Status → List ℕ
 status_text Done = codes "the whole input was answered"
-status_text Usage = codes "usage: pathserve replay|profile|serve [--workers N] < SCRIPT > ANSWERS, or pathserve make SEED [--workers N]"
+status_text Usage = codes "usage: pathserve replay|profile|flow|smooth|serve [--workers N] < SCRIPT > ANSWERS, or pathserve make SEED [--workers N]"
 status_text BadLine = codes "a line is bad"
 status_text ReadFault = codes "reading the script failed"
 status_text WriteFault = codes "writing the answers failed"

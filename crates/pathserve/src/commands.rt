@@ -3,7 +3,7 @@ ghost use Rattle.std.specs.Result.{result_ok};
 ghost use Rattle.std.specs.Str.Parse.{digits_value};
 ghost use Rattle.fixed_point.specs.Text.{some_if};
 ghost use Rattle.nav_types.specs.declared.limits.TheConstants.{MAX_WORKERS};
-ghost use Rattle.pathserve.specs.Commands.{command_of, command_by, make_by, is_whole_number, seed_of, workers_of, workers_in};
+ghost use Rattle.pathserve.specs.Commands.{command_of, command_by, report_by, make_by, is_whole_number, seed_of, workers_of, workers_in};
 
 use nav_types::Words;
 use nav_types::limits::MAX_WORKERS;
@@ -27,8 +27,8 @@ pub enum Command {
 #[derive(Clone, Copy, Debug, PartialEq, Eq)]
 pub struct NotWords;
 
-/// The command of the words: `replay`, `profile`, `serve`, or `make SEED`, for 4 workers, or with `--workers N` behind it
-/// for N workers. N is 1 to 64 and SEED is below 2^64, in decimal without a sign or a leading zero. Refused exactly
+/// The command of the words: `replay`, `profile`, `flow`, `smooth`, `serve`, or `make SEED`, for 4 workers, or with
+/// `--workers N` behind it for N workers. N is 1 to 64 and SEED is below 2^64, in decimal without a sign or a leading zero. Refused exactly
 /// where the words are none of these.
 pub fn read_words(words: &Words) -> Result<Command, NotWords>
     ensures command { result_ok result ≡ command_of words.now }
@@ -62,18 +62,27 @@ fn command_by(word: &[u8], workers: u8) -> Option<Command>
     ensures command { result ≡ command_by word.now workers }
     ensures workers { IfSome result (λ command. workers_in command ≡ workers) }
 {
+    if word == b"serve".as_slice() {
+        return Some(Command::Serve { workers });
+    }
+    match report_by(word) {
+        Some(report) => Some(Command::Replay { report, workers }),
+        None => None,
+    }
+}
+
+/// What a word asks to be told beside the answers to a script.
+fn report_by(word: &[u8]) -> Option<Report>
+    ensures { result ≡ report_by word.now }
+{
     if word == b"replay".as_slice() {
-        Some(Command::Replay {
-            report: Report::Answers,
-            workers,
-        })
+        Some(Report::Answers)
     } else if word == b"profile".as_slice() {
-        Some(Command::Replay {
-            report: Report::OpenedNumbers,
-            workers,
-        })
-    } else if word == b"serve".as_slice() {
-        Some(Command::Serve { workers })
+        Some(Report::OpenedNumbers)
+    } else if word == b"flow".as_slice() {
+        Some(Report::Flows)
+    } else if word == b"smooth".as_slice() {
+        Some(Report::Smoothed)
     } else {
         None
     }

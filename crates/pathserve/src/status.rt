@@ -29,7 +29,7 @@ impl fmt::Display for Status {
         match *self {
             Status::Done => f.write_str("the whole input was answered"),
             Status::Usage => f.write_str(
-                "usage: pathserve replay|profile|serve [--workers N] < SCRIPT > ANSWERS, or pathserve make SEED [--workers N]",
+                "usage: pathserve replay|profile|flow|smooth|serve [--workers N] < SCRIPT > ANSWERS, or pathserve make SEED [--workers N]",
             ),
             Status::BadLine => f.write_str("a line is bad"),
             Status::ReadFault => f.write_str("reading the script failed"),

@@ -200,40 +200,77 @@ fn any_number_of_workers_answers_alike(rt: HostRuntime) {
     }
 }
 
-/// Words for a profile, by four workers and by three.
-const PROFILE_WORDS: [&[&str]; 2] = [&["profile"], &["profile", "--workers", "3"]];
+/// The map of 3 by 3 navcells of the scripts below.
+const MAP: &str = "{\"version\":1,\"size\":[3,3],\"callers\":1,\"classes\":[{\"name\":\"default\",\"clearance\":\"0\"}]}\n";
 
-/// Scripts with what a profile of them writes.
-const PROFILES: [(&str, &str); 2] = [
-    // straight to the goal
-    (
-        "{\"version\":1,\"size\":[3,3],\"callers\":1,\"classes\":[{\"name\":\"default\",\"clearance\":\"0\"}]}\n\
+/// Lines behind the map that ask for a path: straight to the goal, round a blocked cell, to the start's own cell, and by a
+/// corner that can be seen past.
+const STRAIGHT: &str = "{\"caller\":0,\"path\":\"default\",\"from\":[\"0.5\",\"0.5\"],\"goal\":{\"point\":[\"2.5\",\"2.5\"]}}\n\
+{\"end\":1}\n";
+const ROUND: &str = "{\"base\":[[1,1,1,1,1]]}\n\
 {\"caller\":0,\"path\":\"default\",\"from\":[\"0.5\",\"0.5\"],\"goal\":{\"point\":[\"2.5\",\"2.5\"]}}\n\
-{\"end\":1}\n",
-        "turn 1 regions 1 edges 0 areas 1 relabelled 0\n\
-0 0 path 0 0 2 2 goal 185364 1 2.5,2.5\n\
-0 0 opened 2\n",
+{\"end\":1}\n";
+const AT_GOAL: &str = "{\"caller\":0,\"path\":\"default\",\"from\":[\"1.5\",\"1.5\"],\"goal\":{\"point\":[\"1.25\",\"1.75\"]}}\n\
+{\"end\":1}\n";
+const BENT: &str = "{\"caller\":0,\"path\":\"default\",\"from\":[\"0.5\",\"0.5\"],\"goal\":{\"point\":[\"2.5\",\"1.5\"]}}\n\
+{\"end\":1}\n";
+
+/// A word, such lines, and the lines behind the turn line that the word writes for them.
+const REPORTS: [(&str, &str, &str); 8] = [
+    (
+        "profile",
+        STRAIGHT,
+        "0 0 path 0 0 2 2 goal 185364 1 2.5,2.5\n0 0 opened 2\n",
     ),
-    // round a blocked cell, where no diagonal step is legal
     (
-        "{\"version\":1,\"size\":[3,3],\"callers\":1,\"classes\":[{\"name\":\"default\",\"clearance\":\"0\"}]}\n\
-{\"base\":[[1,1,1,1,1]]}\n\
-{\"caller\":0,\"path\":\"default\",\"from\":[\"0.5\",\"0.5\"],\"goal\":{\"point\":[\"2.5\",\"2.5\"]}}\n\
-{\"end\":1}\n",
-        "turn 1 regions 1 edges 0 areas 1 relabelled 0\n\
-0 0 path 0 0 2 2 goal 262144 2 2.5,0.5 2.5,2.5\n\
-0 0 opened 5\n",
+        "profile",
+        ROUND,
+        "0 0 path 0 0 2 2 goal 262144 2 2.5,0.5 2.5,2.5\n0 0 opened 5\n",
+    ),
+    (
+        "flow",
+        STRAIGHT,
+        "0 0 path 0 0 2 2 goal 185364 1 2.5,2.5\n0 0 flow NE 9 185364 987698\n",
+    ),
+    (
+        "flow",
+        ROUND,
+        "0 0 path 0 0 2 2 goal 262144 2 2.5,0.5 2.5,2.5\n0 0 flow N 8 262144 1048576\n",
+    ),
+    (
+        "flow",
+        AT_GOAL,
+        "0 0 path 1 1 1 1 goal 0 0\n0 0 flow - 9 92682 632872\n",
+    ),
+    (
+        "smooth",
+        ROUND,
+        "0 0 path 0 0 2 2 goal 262144 2 2.5,0.5 2.5,2.5\n0 0 smooth 2 2.5,0.5 2.5,2.5\n",
+    ),
+    (
+        "smooth",
+        AT_GOAL,
+        "0 0 path 1 1 1 1 goal 0 0\n0 0 smooth 0\n",
+    ),
+    (
+        "smooth",
+        BENT,
+        "0 0 path 0 0 2 1 goal 158218 2 1.5,1.5 2.5,1.5\n0 0 smooth 1 2.5,1.5\n",
     ),
 ];
 
 #[test]
-fn a_profile_tells_the_opened_numbers(rt: HostRuntime) {
-    for (script, text) in PROFILES {
-        for words in PROFILE_WORDS {
+fn words_tell_more_of_each_path(rt: HostRuntime) {
+    for (word, lines, told) in REPORTS {
+        let alloc = rt.alloc();
+        let script = format!(in alloc; "{MAP}{lines}").expect(&rt, "memory");
+        let text = format!(in alloc; "turn 1 regions 1 edges 0 areas 1 relabelled 0\n{told}")
+            .expect(&rt, "memory");
+        for words in [&[word][..], &[word, "--workers", "3"][..]] {
             let bytes = script.as_bytes();
             assert!(rt;
-                runs_to(&rt, rt.alloc(), words, bytes, &[], &[], Status::Done, text),
-                "{script}"
+                runs_to(&rt, alloc, words, bytes, &[], &[], Status::Done, &text),
+                "{word} of {lines}"
             );
         }
     }

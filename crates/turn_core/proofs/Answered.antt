@@ -3,20 +3,14 @@ use Rattle.std.proofs.Common.{◌≡◌, ◌<◌, ℕ, ℤ, Bool, true, false, L
 use Rattle.std.specs.Prelude.{◌↔◌, IsSome, position, bytes_eq}
 use Rattle.std.proofs.lemmas.Bool.{false_from_ne_true}
 use Rattle.nav_types.specs.declared.cells.Cell.{Cell}
-use Rattle.nav_types.specs.declared.cells.Rect.{Rect}
 use Rattle.nav_types.specs.declared.cells.Size.{Size}
 use Rattle.nav_types.specs.declared.sequences.NoMemory.{NoMemory}
 use Rattle.nav_types.specs.Cells.{IsInside}
-use Rattle.nav_types.specs.Counting.{Counts}
-use Rattle.nav_types.specs.Frames.{IsFrame}
 use Rattle.fixed_point.specs.Plane.{IsOnAxis}
 use Rattle.class_config.specs.declared.table.PassabilityClass.{PassabilityClass}
 use Rattle.goal_shapes.specs.Goals.{HoldsPoint}
 use Rattle.goal_shapes.specs.declared.goals.Goal.{Goal}
 use Rattle.goal_shapes.specs.declared.goals.GoalSpec.{GoalSpec}
-use Rattle.goal_reach.specs.declared.targets.Target.{Target}
-use Rattle.goal_reach.specs.Targets.{hit_by, framed_by, AreTargets}
-use Rattle.jump_search.specs.JumpStates.{IsOpened}
 use Rattle.posts.specs.declared.edits.Refusal.{Refusal}
 use Rattle.posts.specs.declared.edits.Refusal.TheVariants.{StartOutside}
 use Rattle.posts.specs.declared.posts.Request.{Request}
@@ -27,16 +21,13 @@ use Rattle.grid_versions.specs.Passing.{passable_at}
 use Rattle.posts.specs.declared.notes.Note.{Note}
 use Rattle.posts.specs.declared.notes.Noted.{Noted}
 use Rattle.posts.specs.declared.notes.Report.{Report}
-use Rattle.posts.specs.declared.notes.Report.TheVariants.{Answers as Alone, OpenedNumbers}
 use Rattle.posts.specs.declared.replies.PathAnswer.{PathAnswer}
 use Rattle.posts.specs.declared.replies.Answer.TheVariants.{Refused, Nowhere, Path as IsPath, Region as IsRegion}
 use Rattle.turn_core.specs.Words.{Standing}
 use Rattle.turn_core.specs.NamedGoals.{class_named, is_on_map, goal_found}
 use Rattle.turn_core.specs.Solving.{IsPathTo, IsPathFound, IsAnswerAt, IsAnswerTo}
-use Rattle.turn_core.specs.Opening.{IsOpenedTo, IsOpenedFor}
-use Rattle.turn_core.specs.Notes.{IsPathNote, IsNoteBy, IsNoteOf, IsNotedTo}
+use Rattle.turn_core.specs.Notes.{IsNoteTo, IsPathNote, IsNoteBy, IsNoteOf, IsNotedTo}
 use Rattle.turn_core.specs.inner.Asked.{IsAskedAt}
-use Rattle.turn_core.specs.inner.Opened.{IsCountedBy}
 use Rattle.turn_core.proofs.FoundGoals.{on_map_decides}
 
 -- a point lies on the map exactly where some cell of it holds the point
@@ -109,45 +100,23 @@ found_err passes x z refusal found is =
 
 -- ---- notes
 
--- a note by other numbers
-path_note_by : (report : Report) (IsNumber IsOther : ℕ → Type 0) (note : Note) → ((n : ℕ) → IsNumber n → IsOther n)
-    → IsPathNote report IsNumber note → IsPathNote report IsOther note
-path_note_by Alone IsNumber IsOther note other is = is
-path_note_by OpenedNumbers IsNumber IsOther note other is = (is.0, (is.1.0, other is.0 is.1.1))
-
-note_by : (report : Report) (IsNumber IsOther : PathAnswer → ℕ → Type 0) (answer : Answer) (note : Note)
-    → ((path : PathAnswer) (n : ℕ) → IsNumber path n → IsOther path n) → IsNoteBy report IsNumber answer note → IsNoteBy report IsOther answer note
-note_by report IsNumber IsOther (IsPath path) note other is = path_note_by report (IsNumber path) (IsOther path) note (other path) is
-note_by report IsNumber IsOther (IsRegion region) note other is = is
-note_by report IsNumber IsOther (Refused refusal) note other is = is
-note_by report IsNumber IsOther Nowhere note other is = is
-
--- the note of a search, by the rectangle of its aim in a map of its size
-pub counted_note : (passes hit : Cell → Bool) (framed : Size → Cell → Bool) (size side : Size) (start : Cell) (cost opened : ℕ) (rect : Rect)
-    → side ≡ size → IsFrame (framed side) side rect
-    → ((r : Rect) → IsFrame (framed size) size r → Counts (IsOpened passes hit start r cost) opened)
-    → IsCountedBy passes hit (framed size) size start cost opened
-counted_note passes hit framed size side start cost opened rect same frame counted =
-    let here : IsFrame (framed size) size rect = subst (λ (s : Size). IsFrame (framed s) s rect) same frame in
-    (rect, (here, counted rect here))
-
--- the note of a path to the targets of a goal
-pub note_to : (report : Report) (passes : Cell → Bool) (size : Size) (goal : Goal) (path : PathAnswer) (target : Target) (note : Note)
-    → AreTargets passes path.start goal target → IsPathNote report (IsCountedBy passes (hit_by target) (framed_by target) size path.start path.cost.0) note
-    → IsPathNote report (IsOpenedTo passes size goal path) note
-note_to report passes size goal path target note targets is =
-    path_note_by report (IsCountedBy passes (hit_by target) (framed_by target) size path.start path.cost.0) (IsOpenedTo passes size goal path) note
-    (λ n counted. record { target = target; targets = targets; box = counted.0; frame = counted.1.0; counted = counted.1.1 }) is
+-- a note of an answer by another relation to its path
+note_by : (IsOne IsOther : PathAnswer → Note → Type 0) (answer : Answer) (note : Note)
+    → ((path : PathAnswer) → IsOne path note → IsOther path note) → IsNoteBy IsOne answer note → IsNoteBy IsOther answer note
+note_by IsOne IsOther (IsPath path) note other is = other path is
+note_by IsOne IsOther (IsRegion region) note other is = is
+note_by IsOne IsOther (Refused refusal) note other is = is
+note_by IsOne IsOther Nowhere note other is = is
 
 -- the note of a path of a class by its name to a goal as it is named
 pub note_for : (map : Map) (standing : Standing) (report : Report) (name : List ℕ) (spec : GoalSpec) (class : ℕ) (goal : Goal) (result : Result Noted NoMemory)
     → class_named map name ≡ Some class → Ok goal ≡ goal_found map standing spec
-    → IfOk result (λ (noted : Noted). IsNoteBy report (IsOpenedTo (passable_at map standing class) map.size goal) noted.answer noted.note)
-    → IfOk result (λ (noted : Noted). IsNoteBy report (IsOpenedFor map standing name spec) noted.answer noted.note)
+    → IfOk result (λ (noted : Noted). IsNoteBy (IsNoteTo report (passable_at map standing class) map.size goal) noted.answer noted.note)
+    → IfOk result (λ (noted : Noted). IsNoteBy (IsPathNote map standing report name spec) noted.answer noted.note)
 note_for map standing report name spec class goal (Err refused) named found is = tt
 note_for map standing report name spec class goal (Ok noted) named found is =
-    note_by report (IsOpenedTo (passable_at map standing class) map.size goal) (IsOpenedFor map standing name spec) noted.answer noted.note
-    (λ path n number. record { class = class; named = named; goal = goal; found = sym found; number = number }) is
+    note_by (IsNoteTo report (passable_at map standing class) map.size goal) (IsPathNote map standing report name spec) noted.answer noted.note
+    (λ path told. record { class = class; named = named; goal = goal; found = sym found; noted = told }) is
 
 -- an answer with its note
 pub noted_ok : (map : Map) (standing : Standing) (report : Report) (request : Request) (result : Result Noted NoMemory)

@@ -3,6 +3,9 @@ pub mod Answered
 pub mod Itemwise
 pub mod OneAnswer
 pub mod OneNote
+pub mod NotedPaths
+pub mod KeptFields
+pub mod SameTargets
 pub mod TurnByTurn
 pub mod Threads
 pub mod CallerLists

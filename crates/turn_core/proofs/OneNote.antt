@@ -1,5 +1,5 @@
 -- A request has one note under a report on a map with what stands on it.
-use Rattle.std.proofs.Common.{◌≡◌, ℕ, Bool, List, [], ◌∷◌, Some, Ok, All, refl, ap, sym, ◌∙◌, subst}
+use Rattle.std.proofs.Common.{◌≡◌, ℕ, ℤ, Bool, true, false, List, [], ◌∷◌, Option, Some, None, Result, Ok, Err, All, inl, inr, refl, ap, sym, ◌∙◌, subst}
 use Rattle.std.specs.Prelude.{◌↔◌, length, slice_get}
 use Rattle.std.proofs.lemmas.List.Elements.{All-cons, All-nil}
 use Rattle.nav_types.specs.declared.cells.Cell.{Cell}
@@ -11,65 +11,82 @@ use Rattle.nav_types.proofs.Counting.{Counts-unique}
 use Rattle.goal_shapes.specs.declared.goals.Goal.{Goal}
 use Rattle.goal_shapes.specs.declared.goals.GoalSpec.{GoalSpec}
 use Rattle.goal_reach.specs.declared.targets.Target.{Target}
-use Rattle.goal_reach.specs.Targets.{hit_by, framed_by}
+use Rattle.goal_reach.specs.Targets.{hit_by, framed_by, AreTargets}
 use Rattle.goal_reach.proofs.Targeting.{one_target}
 use Rattle.jump_search.specs.JumpStates.{IsOpened}
 use Rattle.jump_search.proofs.Framing.{one_frame}
+use Rattle.flow_field.proofs.SameFields.{one_next, one_summary}
+use Rattle.line_smooth.proofs.BestPlaces.{one_smoothing}
 use Rattle.posts.specs.Maps.{Map}
+use Rattle.posts.specs.declared.edits.Refusal.{Refusal}
+use Rattle.posts.specs.declared.edits.Refusal.TheVariants.{UnknownClass, StartOutside}
 use Rattle.grid_versions.specs.Passing.{passable_at}
 use Rattle.posts.specs.declared.notes.Note.{Note}
-use Rattle.posts.specs.declared.notes.Note.TheVariants.{Nothing, Opened}
+use Rattle.posts.specs.declared.notes.FlowLine.{FlowLine}
+use Rattle.posts.specs.declared.notes.Note.TheVariants.{Nothing, Opened, Flow, Smoothed}
 use Rattle.posts.specs.declared.notes.Report.{Report}
-use Rattle.posts.specs.declared.notes.Report.TheVariants.{Answers, OpenedNumbers}
+use Rattle.posts.specs.declared.notes.Report.TheVariants.{Answers, OpenedNumbers, Flows, Smoothed as SmoothedPaths}
 use Rattle.posts.specs.declared.posts.Request.{Request}
 use Rattle.posts.specs.declared.posts.Request.TheVariants.{Path as AsksPath, Region as AsksRegion}
 use Rattle.posts.specs.declared.replies.PathAnswer.{PathAnswer}
 use Rattle.posts.specs.declared.replies.Answer.{Answer}
 use Rattle.posts.specs.declared.replies.Answer.TheVariants.{Refused, Nowhere, Path as IsPath, Region as IsRegion}
 use Rattle.turn_core.specs.Words.{Standing}
-use Rattle.turn_core.specs.Solving.{AreAnswersTo}
-use Rattle.turn_core.specs.NamedGoals.{class_named, goal_found}
-use Rattle.turn_core.specs.Opening.{IsOpenedTo, IsOpenedFor}
-use Rattle.turn_core.specs.Notes.{IsPathNote, IsNoteOf, IsNote, AreNotes}
+use Rattle.turn_core.specs.Solving.{IsPathAnswer, IsPathFound, IsAnswerAt, IsAnswerTo, AreAnswersTo}
+use Rattle.turn_core.specs.NamedGoals.{class_named, is_on_map, goal_found}
+use Rattle.turn_core.specs.Opening.{IsOpenedNumber}
+use Rattle.turn_core.specs.Notes.{IsFlowLine, IsTold, IsNoteTo, IsPathNote, IsNoteOf, IsNote, AreNotes}
 use Rattle.turn_core.proofs.Itemwise.{IsItemwise, itemwise_by_place, itemwise_unique}
 use Rattle.turn_core.proofs.OneAnswer.{one_answer_to}
 
-one_to : (passes : Cell → Bool) (size : Size) (goal : Goal) (path : PathAnswer) (m n : ℕ)
-    → IsOpenedTo passes size goal path m → IsOpenedTo passes size goal path n → m ≡ n
-one_to passes size goal path m n p q =
-    let target : p.target ≡ q.target = one_target passes path.start goal p.target q.target p.targets q.targets in
-    let frame : IsFrame (framed_by q.target) size p.box = subst (λ (t : Target). IsFrame (framed_by t) size p.box) target p.frame in
-    let box : p.box ≡ q.box = one_frame (framed_by q.target) size p.box q.box frame q.frame in
-    let counted : Counts (IsOpened passes (hit_by q.target) path.start p.box path.cost.0) m =
-    subst (λ (t : Target). Counts (IsOpened passes (hit_by t) path.start p.box path.cost.0) m) target p.counted in
-    Counts-unique (IsOpened passes (hit_by q.target) path.start q.box path.cost.0) m n
-    (subst (λ (r : Rect). Counts (IsOpened passes (hit_by q.target) path.start r path.cost.0) m) box counted) q.counted
+one_opened : (passes : Cell → Bool) (size : Size) (target : Target) (path : PathAnswer) (m n : ℕ)
+    → IsOpenedNumber passes size target path m → IsOpenedNumber passes size target path n → m ≡ n
+one_opened passes size target path m n p q =
+    let box : p.box ≡ q.box = one_frame (framed_by target) size p.box q.box p.frame q.frame in
+    Counts-unique (IsOpened passes (hit_by target) path.start q.box path.cost.0) m n
+    (subst (λ (r : Rect). Counts (IsOpened passes (hit_by target) path.start r path.cost.0) m) box p.counted) q.counted
 
-one_for : (map : Map) (standing : Standing) (name : List ℕ) (spec : GoalSpec) (path : PathAnswer) (m n : ℕ)
-    → IsOpenedFor map standing name spec path m → IsOpenedFor map standing name spec path n → m ≡ n
-one_for map standing name spec path m n p q =
+same_line : (a b : FlowLine) → a.first ≡ b.first → a.summary ≡ b.summary → a ≡ b
+same_line a b first summary =
+    ap (λ f. record { first = f; summary = a.summary }) first ∙ ap (λ s. record { first = b.first; summary = s }) summary
+
+one_line : (passes hit : Cell → Bool) (start : Cell) (a b : FlowLine) → IsFlowLine passes hit start a → IsFlowLine passes hit start b → a ≡ b
+one_line passes hit start a b p q =
+    same_line a b (one_next passes hit start start a.first b.first p.first q.first) (one_summary passes hit start a.summary b.summary p.summary q.summary)
+
+one_told : (report : Report) (passes : Cell → Bool) (size : Size) (target : Target) (path : PathAnswer) (m n : Note)
+    → IsTold report passes size target path m → IsTold report passes size target path n → m ≡ n
+one_told Answers passes size target path m n p q = p ∙ sym q
+one_told OpenedNumbers passes size target path m n p q =
+    p.1.0 ∙ (ap (λ (opened : ℕ). Opened opened) (one_opened passes size target path p.0 q.0 p.1.1 q.1.1) ∙ sym q.1.0)
+one_told Flows passes size target path m n p q =
+    p.1.0 ∙ (ap (λ (line : FlowLine). Flow line) (one_line passes (hit_by target) path.start p.0 q.0 p.1.1 q.1.1) ∙ sym q.1.0)
+one_told SmoothedPaths passes size target path m n p q =
+    p.1.0 ∙ (ap (λ (points : List Cell). Smoothed points) (one_smoothing passes path.start path.waypoints p.0 q.0 p.1.1 q.1.1) ∙ sym q.1.0)
+
+one_to : (report : Report) (passes : Cell → Bool) (size : Size) (goal : Goal) (path : PathAnswer) (m n : Note)
+    → IsNoteTo report passes size goal path m → IsNoteTo report passes size goal path n → m ≡ n
+one_to report passes size goal path m n p q =
+    let target : p.target ≡ q.target = one_target passes path.start goal p.target q.target p.targets q.targets in
+    one_told report passes size q.target path m n (subst (λ (t : Target). IsTold report passes size t path m) target p.told) q.told
+
+one_for : (map : Map) (standing : Standing) (report : Report) (name : List ℕ) (spec : GoalSpec) (path : PathAnswer) (m n : Note)
+    → IsPathNote map standing report name spec path m → IsPathNote map standing report name spec path n → m ≡ n
+one_for map standing report name spec path m n p q =
     let one_class : class_named map name ≡ Some p.class = p.named in
     let other_class : class_named map name ≡ Some q.class = q.named in
     let class : p.class ≡ q.class = cc in
     let one_goal : goal_found map standing spec ≡ Ok p.goal = p.found in
     let other_goal : goal_found map standing spec ≡ Ok q.goal = q.found in
     let goal : p.goal ≡ q.goal = cc in
-    let number : IsOpenedTo (passable_at map standing q.class) map.size p.goal path m =
-    subst (λ (c : ℕ). IsOpenedTo (passable_at map standing c) map.size p.goal path m) class p.number in
-    one_to (passable_at map standing q.class) map.size q.goal path m n
-    (subst (λ (g : Goal). IsOpenedTo (passable_at map standing q.class) map.size g path m) goal number) q.number
-
-one_path_note : (report : Report) (IsNumber : ℕ → Type 0) (m n : Note) → ((a b : ℕ) → IsNumber a → IsNumber b → a ≡ b)
-    → IsPathNote report IsNumber m → IsPathNote report IsNumber n → m ≡ n
-one_path_note Answers IsNumber m n one p q = p ∙ sym q
-one_path_note OpenedNumbers IsNumber m n one p q =
-    let same : p.0 ≡ q.0 = one p.0 q.0 p.1.1 q.1.1 in
-    p.1.0 ∙ (ap (λ (opened : ℕ). Opened opened) same ∙ sym q.1.0)
+    let noted : IsNoteTo report (passable_at map standing q.class) map.size p.goal path m =
+    subst (λ (c : ℕ). IsNoteTo report (passable_at map standing c) map.size p.goal path m) class p.noted in
+    one_to report (passable_at map standing q.class) map.size q.goal path m n
+    (subst (λ (g : Goal). IsNoteTo report (passable_at map standing q.class) map.size g path m) goal noted) q.noted
 
 one_of : (map : Map) (standing : Standing) (report : Report) (request : Request) (answer : Answer) (m n : Note)
     → IsNoteOf map standing report request answer m → IsNoteOf map standing report request answer n → m ≡ n
-one_of map standing report (AsksPath name x z goal) (IsPath path) m n p q =
-    one_path_note report (IsOpenedFor map standing name goal path) m n (one_for map standing name goal path) p q
+one_of map standing report (AsksPath name x z goal) (IsPath path) m n p q = one_for map standing report name goal path m n p q
 one_of map standing report (AsksPath name x z goal) (IsRegion region) m n p q = p ∙ sym q
 one_of map standing report (AsksPath name x z goal) (Refused refusal) m n p q = p ∙ sym q
 one_of map standing report (AsksPath name x z goal) Nowhere m n p q = p ∙ sym q
@@ -108,12 +125,40 @@ notes_by_place map standing report =
 
 -- ---- the report of answers
 
-nothing_told_of : (map : Map) (standing : Standing) (request : Request) (answer : Answer) (note : Note) → IsNoteOf map standing Answers request answer note ↔ (note ≡ Nothing)
-nothing_told_of map standing (AsksPath name x z goal) (IsPath path) note = (λ is. is, λ is. is)
-nothing_told_of map standing (AsksPath name x z goal) (IsRegion region) note = (λ is. is, λ is. is)
-nothing_told_of map standing (AsksPath name x z goal) (Refused refusal) note = (λ is. is, λ is. is)
-nothing_told_of map standing (AsksPath name x z goal) Nowhere note = (λ is. is, λ is. is)
-nothing_told_of map standing (AsksRegion name x z) answer note = (λ is. is, λ is. is)
+nothing_told_of : (map : Map) (standing : Standing) (request : Request) (answer : Answer) (note : Note) → IsNoteOf map standing Answers request answer note → note ≡ Nothing
+nothing_told_of map standing (AsksPath name x z goal) (IsPath path) note is = is.noted.told
+nothing_told_of map standing (AsksPath name x z goal) (IsRegion region) note is = is
+nothing_told_of map standing (AsksPath name x z goal) (Refused refusal) note is = is
+nothing_told_of map standing (AsksPath name x z goal) Nowhere note is = is
+nothing_told_of map standing (AsksRegion name x z) answer note is = is
+
+-- a path that answers goes to a goal that is found, for a class of the map
+path_asked : (passes : ℕ → Cell → Bool) (x z : ℤ) (named : Option ℕ) (on_map : Bool) (found : Result Goal Refusal) (path : PathAnswer)
+    → IsAnswerAt named on_map (λ class. IsPathFound (passes class) x z found) (IsPath path)
+    → (class : ℕ) × ((goal : Goal) × ((target : Target) × ((named ≡ Some class) × ((found ≡ Ok goal) × AreTargets (passes class) path.start goal target))))
+path_asked passes x z None on_map found path is = let refused : IsPath path ≡ Refused UnknownClass = is in absurd (cc)
+path_asked passes x z (Some class) false found path is = let refused : IsPath path ≡ Refused StartOutside = is in absurd (cc)
+path_asked passes x z (Some class) true (Err refusal) path is = let refused : IsPath path ≡ Refused refusal = is in absurd (cc)
+path_asked passes x z (Some class) true (Ok goal) path (inl nowhere) = let other : IsPath path ≡ Nowhere = nowhere.1 in absurd (cc)
+path_asked passes x z (Some class) true (Ok goal) path (inr some_path) =
+    let found : IsPath path ≡ IsPath some_path.0 = some_path.1.0 in
+    let same : path ≡ some_path.0 = cc in
+    let answer : IsPathAnswer (passes class) x z goal path = subst (λ (p : PathAnswer). IsPathAnswer (passes class) x z goal p) (sym same) some_path.1.1 in
+    (class, (goal, (answer.target, (refl, (refl, answer.targets)))))
+
+-- under the report of answers there is such a note
+note_of_answer : (map : Map) (standing : Standing) (request : Request) (answer : Answer) → IsAnswerTo map standing request answer → IsNoteOf map standing Answers request answer Nothing
+unfolding IsAnswerTo
+note_of_answer map standing (AsksPath name x z goal) (IsPath path) is =
+    let asked = path_asked (passable_at map standing) x z (class_named map name) (is_on_map map.size x z) (goal_found map standing goal) path is in
+    record {
+      class = asked.0; named = asked.1.1.1.0; goal = asked.1.0; found = asked.1.1.1.1.0;
+      noted = record { target = asked.1.1.0; targets = asked.1.1.1.1.1; told = refl };
+    }
+note_of_answer map standing (AsksPath name x z goal) (IsRegion region) is = refl
+note_of_answer map standing (AsksPath name x z goal) (Refused refusal) is = refl
+note_of_answer map standing (AsksPath name x z goal) Nowhere is = refl
+note_of_answer map standing (AsksRegion name x z) answer is = refl
 
 -- answers alone have notes that tell nothing
 pub answers_tell_nothing : (map : Map) (standing : Standing) (requests : List Request) (notes : List Note)
@@ -123,7 +168,7 @@ answers_tell_nothing map standing [] [] are = All-nil (λ (n : Note). n ≡ Noth
 answers_tell_nothing map standing [] (note ∷ notes) are = absurd are
 answers_tell_nothing map standing (request ∷ requests) [] are = absurd are
 answers_tell_nothing map standing (request ∷ requests) (note ∷ notes) are =
-    All-cons (λ (n : Note). n ≡ Nothing) note notes ((nothing_told_of map standing request are.0.0 note).0 are.0.1.1) (answers_tell_nothing map standing requests notes are.1)
+    All-cons (λ (n : Note). n ≡ Nothing) note notes (nothing_told_of map standing request are.0.0 note are.0.1.1) (answers_tell_nothing map standing requests notes are.1)
 
 -- and there are such notes
 pub notes_of_answers : (map : Map) (standing : Standing) (requests : List Request) (answers : List Answer)
@@ -134,4 +179,4 @@ notes_of_answers map standing [] (answer ∷ answers) are = absurd are
 notes_of_answers map standing (request ∷ requests) [] are = absurd are
 notes_of_answers map standing (request ∷ requests) (answer ∷ answers) are =
     let more = notes_of_answers map standing requests answers are.1 in
-    (Nothing ∷ more.0, ((answer, (are.0, (nothing_told_of map standing request answer Nothing).1 refl)), more.1))
+    (Nothing ∷ more.0, ((answer, (are.0, note_of_answer map standing request answer are.0)), more.1))

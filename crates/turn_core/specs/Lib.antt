@@ -3,6 +3,7 @@ pub mod NamedGoals
 pub mod Solving
 pub mod Opening
 pub mod Notes
+pub mod Solvers
 pub mod Turns
 pub mod ReadyTurns
 pub mod States

@@ -1,33 +1,70 @@
 -- What is told beside the answers to requests.
-use Rattle.std.specs.Prelude.{ℕ, ◌≡◌, List, [], ◌∷◌}
+use Rattle.std.specs.Prelude.{ℕ, ◌≡◌, Bool, List, [], ◌∷◌, Option, Some, None, Ok}
+use Rattle.nav_types.specs.declared.cells.Cell.{Cell}
+use Rattle.nav_types.specs.declared.cells.Size.{Size}
+use Rattle.goal_shapes.specs.declared.goals.Goal.{Goal}
+use Rattle.goal_shapes.specs.declared.goals.GoalSpec.{GoalSpec}
+use Rattle.goal_reach.specs.declared.targets.Target.{Target}
+use Rattle.goal_reach.specs.Targets.{hit_by, AreTargets}
+use Rattle.flow_field.specs.Flows.{IsNext, HasSummary}
+use Rattle.line_smooth.specs.Smoothed.{IsSmoothing}
 use Rattle.posts.specs.Maps.{Map}
+use Rattle.posts.specs.declared.notes.FlowLine.{FlowLine}
 use Rattle.posts.specs.declared.notes.Note.{Note}
-use Rattle.posts.specs.declared.notes.Note.TheVariants.{Nothing, Opened}
+use Rattle.posts.specs.declared.notes.Note.TheVariants.{Nothing, Opened, Flow, Smoothed}
 use Rattle.posts.specs.declared.notes.Noted.{Noted}
 use Rattle.posts.specs.declared.notes.Report.{Report}
-use Rattle.posts.specs.declared.notes.Report.TheVariants.{Answers, OpenedNumbers}
+use Rattle.posts.specs.declared.notes.Report.TheVariants.{Answers, OpenedNumbers, Flows, Smoothed as SmoothedPaths}
 use Rattle.posts.specs.declared.posts.Request.{Request}
 use Rattle.posts.specs.declared.posts.Request.TheVariants.{Path as AsksPath, Region as AsksRegion}
 use Rattle.posts.specs.declared.replies.PathAnswer.{PathAnswer}
 use Rattle.posts.specs.declared.replies.Answer.{Answer}
 use Rattle.posts.specs.declared.replies.Answer.TheVariants.{Path as IsPath}
+use Rattle.grid_versions.specs.Passing.{passable_at}
 use Rattle.turn_core.specs.Words.{Standing}
+use Rattle.turn_core.specs.NamedGoals.{class_named, goal_found}
 use Rattle.turn_core.specs.Solving.{IsAnswerTo}
-use Rattle.turn_core.specs.Opening.{IsOpenedFor}
+use Rattle.turn_core.specs.Opening.{IsOpenedNumber}
 
--- the note of a path under a report, by its opened number
-abbrev pub IsPathNote : Report → (ℕ → Type 0) → Note → Type 0
-IsPathNote Answers IsNumber note = note ≡ Nothing
-IsPathNote OpenedNumbers IsNumber note = (opened : ℕ) × ((note ≡ Opened opened) × IsNumber opened)
+-- what the flow field of the hit cells in the start's area tells of the start: the step to take there, and what the field
+-- has in all
+pub record IsFlowLine (passes hit : Cell → Bool) (start : Cell) (line : FlowLine) : Type 0 where
+  pub first : IsNext passes hit start start line.first
+  pub summary : HasSummary passes hit start line.summary
+
+-- what is told under a report of a path to its targets
+abbrev pub IsTold : Report → (Cell → Bool) → Size → Target → PathAnswer → Note → Type 0
+IsTold Answers passes size target path note = note ≡ Nothing
+IsTold OpenedNumbers passes size target path note =
+    (opened : ℕ) × ((note ≡ Opened opened) × IsOpenedNumber passes size target path opened)
+IsTold Flows passes size target path note =
+    (line : FlowLine) × ((note ≡ Flow line) × IsFlowLine passes (hit_by target) path.start line)
+IsTold SmoothedPaths passes size target path note =
+    (points : List Cell) × ((note ≡ Smoothed points) × IsSmoothing passes path.start path.waypoints points)
+
+-- the note of a path to a goal: what is told of it by the targets of the goal
+pub record IsNoteTo (report : Report) (passes : Cell → Bool) (size : Size) (goal : Goal) (path : PathAnswer) (note : Note) : Type 0 where
+  pub target : Target
+  pub targets : AreTargets passes path.start goal target
+  pub told : IsTold report passes size target path note
+
+-- the note of a path of a class by its name to a goal as a request names it
+pub record IsPathNote (map : Map) (standing : Standing) (report : Report) (name : List ℕ) (spec : GoalSpec) (path : PathAnswer)
+    (note : Note) : Type 0 where
+  pub class : ℕ
+  pub named : class_named map name ≡ Some class
+  pub goal : Goal
+  pub found : goal_found map standing spec ≡ Ok goal
+  pub noted : IsNoteTo report (passable_at map standing class) map.size goal path note
 
 -- the note of an answer that may be a path; of one that is none, nothing is told
-abbrev pub IsNoteBy : Report → (PathAnswer → ℕ → Type 0) → Answer → Note → Type 0
-IsNoteBy report IsNumber (IsPath path) note = IsPathNote report (IsNumber path) note
-IsNoteBy report IsNumber answer note = note ≡ Nothing
+abbrev pub IsNoteBy : (PathAnswer → Note → Type 0) → Answer → Note → Type 0
+IsNoteBy IsNoteOfPath (IsPath path) note = IsNoteOfPath path note
+IsNoteBy IsNoteOfPath answer note = note ≡ Nothing
 
 -- the note of an answer to a request under a report
 abbrev pub IsNoteOf : Map → Standing → Report → Request → Answer → Note → Type 0
-IsNoteOf map standing report (AsksPath name x z goal) answer note = IsNoteBy report (IsOpenedFor map standing name goal) answer note
+IsNoteOf map standing report (AsksPath name x z goal) answer note = IsNoteBy (IsPathNote map standing report name goal) answer note
 IsNoteOf map standing report (AsksRegion name x z) answer note = note ≡ Nothing
 
 -- the answer to a request with its note
@@ -47,3 +84,8 @@ AreNotes map standing report [] (note ∷ notes) = ⊥
 AreNotes map standing report (request ∷ requests) [] = ⊥
 AreNotes map standing report (request ∷ requests) (note ∷ notes) =
     IsNote map standing report request note × AreNotes map standing report requests notes
+
+-- what a note tells of a flow field, if anything
+abbrev pub flow_in : Note → Option FlowLine
+flow_in (Flow line) = Some line
+flow_in note = None

@@ -3,5 +3,5 @@ pub mod ReplyLists
 pub mod EditedTurns
 pub mod Runs
 pub mod Machines
-pub mod Opened
+pub mod Searching
 pub mod Asked

@@ -6,6 +6,7 @@ mod cores;
 mod edited_turns;
 mod events;
 mod journals;
+mod last_fields;
 pub mod laws;
 mod machines;
 mod named_goals;
@@ -13,6 +14,8 @@ mod ready_turns;
 mod reply_lists;
 pub mod request_laws;
 mod runners;
+mod same_targets;
+mod searches;
 mod solving;
 mod turn_versions;
 
@@ -21,11 +24,11 @@ pub use events::{Event, StepRefusal, Takes, Why};
 pub use journals::{answer_turn, one_thread};
 pub use named_goals::goal_of;
 pub use posts::{
-    AllReplies, Answer, Answers, CallerReplies, Copied, Jobs, Journal, Note, Noted, Notes,
+    AllReplies, Answer, Answers, CallerReplies, Copied, FlowLine, FlowSummary, Jobs, Journal, Note, Noted, Notes,
     PathAnswer, Post, Posts, RegionAnswer, Replies, Reply, Report, Request, TurnPosts, TurnReplies,
     count_posts, empty_lists, push_post,
 };
 pub use ready_turns::{AnsweredTurn, ReadyTurn};
 pub use runners::{RunBy, Runner};
-pub use solving::{solve, solve_noted};
+pub use solving::{Solver, flow_of, solve, solve_noted};
 pub use turn_versions::bare_version;

@@ -1,9 +1,14 @@
 //! Laws of requests and of their answers.
-ghost use Rattle.std.specs.Prelude.{◌≡◌, ◌↔◌, ℕ, ℤ, All, List, IsTrue, Some, length, slice_get};
+ghost use Rattle.std.specs.Prelude.{◌≡◌, ◌↔◌, Bool, ℕ, ℤ, All, List, IsTrue, Some, length, slice_get};
+ghost use Rattle.nav_types.specs.declared.cells.Cell.{Cell};
 ghost use Rattle.nav_types.specs.declared.cells.Size.{Size};
 ghost use Rattle.fixed_point.specs.Plane.{IsOnAxis, IsUpTo, is_up_to};
 ghost use Rattle.goal_shapes.specs.declared.goals.Goal.{Goal};
 ghost use Rattle.goal_shapes.specs.Limits.{IsWellFormed};
+ghost use Rattle.goal_reach.specs.declared.targets.Target.{Target};
+ghost use Rattle.goal_reach.specs.Targets.{hit_by, AreTargets};
+ghost use Rattle.flow_field.specs.Flows.{IsFar};
+ghost use Rattle.posts.specs.declared.replies.PathAnswer.{PathAnswer};
 ghost use Rattle.posts.specs.declared.posts.Request.{Request};
 ghost use Rattle.posts.specs.declared.replies.Answer.{Answer};
 ghost use Rattle.posts.specs.declared.replies.TurnReplies.{TurnReplies};
@@ -14,7 +19,7 @@ ghost use Rattle.posts.specs.declared.notes.Report.{Report};
 ghost use Rattle.posts.specs.declared.notes.Report.TheVariants.{Answers};
 ghost use Rattle.turn_core.specs.Words.{Standing, TellsNumbers};
 ghost use Rattle.turn_core.specs.NamedGoals.{is_on_map, is_well_formed};
-ghost use Rattle.turn_core.specs.Solving.{IsAnswerTo, AreAnswersTo};
+ghost use Rattle.turn_core.specs.Solving.{IsAnswerTo, IsPathAnswer, AreAnswersTo};
 ghost use Rattle.turn_core.specs.Notes.{IsNote, AreNotes};
 
 /// A law: the tests of points, lengths and goals hold exactly where what they test does.
@@ -66,6 +71,13 @@ pub fn notes_by_place()
 pub fn answers_tell_nothing()
     ensures { (map : Map) (standing : Standing) (requests : List Request) (notes : List Note)
         → AreNotes map standing Answers requests notes → All (λ note. note ≡ Nothing) notes }
+{}
+
+/// A law: a path costs the distance of its start to the nearest of its targets, which is what their flow field has there.
+pub fn paths_cost_their_distance()
+    ensures { (passes : Cell → Bool) (x z : ℤ) (goal : Goal) (path : PathAnswer) → IsPathAnswer passes x z goal path
+        → (target : Target) × (AreTargets passes path.start goal target
+        × IsFar passes (hit_by target) path.start path.start (Some path.cost.0)) }
 {}
 
 /// A law: a turn has one set of numbers.

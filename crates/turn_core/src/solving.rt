@@ -1,34 +1,36 @@
 //! The answers to requests on a version.
-ghost use Rattle.std.specs.Prelude.{◌≡◌, ◌<◌, ℤ, IfErr, IfOk, IsTrue, length};
+ghost use Rattle.std.specs.Prelude.{◌≡◌, ◌<◌, ℤ, IfErr, IfNone, IfOk, IfSome, IsTrue, length};
 ghost use Rattle.fixed_point.specs.Plane.{IsOnAxis};
 ghost use Rattle.nav_types.specs.Cells.{IsInside};
-ghost use Rattle.nav_types.specs.Walks.{CanReach};
 ghost use Rattle.goal_shapes.specs.Goals.{HoldsPoint};
 ghost use Rattle.goal_shapes.specs.Limits.{IsSoundGoal};
-ghost use Rattle.walks.specs.Chosen.{IsAnswer};
+ghost use Rattle.posts.specs.declared.notes.Note.{Note};
+ghost use Rattle.posts.specs.declared.notes.Report.TheVariants.{Flows};
 ghost use Rattle.grid_versions.specs.Passing.{passable_at};
 ghost use Rattle.grid_versions.specs.Versions.{passes_of};
 ghost use Rattle.turn_core.specs.NamedGoals.{class_named, is_on_map, goal_found};
 ghost use Rattle.turn_core.specs.Solving.{is_near, IsPathTo, IsPathFound, IsRegionAnswer, IsRegionAt, IsAnswerAt};
-ghost use Rattle.turn_core.specs.Solving.{IsAnswerTo};
-ghost use Rattle.turn_core.specs.Opening.{IsOpenedTo, IsOpenedFor};
-ghost use Rattle.turn_core.specs.Notes.{IsPathNote, IsNoteBy, IsNotedTo};
+ghost use Rattle.goal_reach.specs.Starts.{IsStartCell};
+ghost use Rattle.goal_reach.specs.Targets.{hit_by};
+ghost use Rattle.turn_core.specs.Solving.{IsAnswerTo, IsImpassable};
+ghost use Rattle.turn_core.specs.Notes.{IsFlowLine, IsNoteBy, IsNoteTo, IsNote, IsNotedTo, IsPathNote, flow_in};
 ghost use Rattle.turn_core.specs.inner.Asked.{IsAskedAt, IsRefusedAt};
-ghost use Rattle.turn_core.specs.inner.Opened.{IsCountedBy};
+ghost use Rattle.turn_core.specs.inner.Searching.{CanFind, IsNotedPath, path_by};
 
+use crate::last_fields::{LastField, field_for};
 use crate::named_goals::goal_of;
+use crate::searches::Search;
 use class_config::ClassName;
-use class_planes::PlaneRuns;
 use fixed_point::Fixed;
 use goal_reach::{Target, made_reachable, nearest_passable};
 use goal_shapes::{Goal, GoalSpec, cell_of_point};
 use grid_versions::{Refusal, Version};
-use jump_search::{Traced, jump_find_with, jump_search_with};
-use nav_types::{Aim, Areas, Cell, Class, NoMemory, Ticks, View};
-use posts::{Answer, Note, Noted, PathAnswer, RegionAnswer, Report, Request};
+use jump_search::Traced;
+use line_smooth::smooth;
+use nav_types::{Areas, Cell, Class, NoMemory, View};
+use posts::{Answer, FlowLine, Note, Noted, PathAnswer, RegionAnswer, Report, Request};
 use std::alloc::Global;
-use std::marker::Brand;
-use std::sync::ledger::{Blank, Ledger};
+use std::marker::Model;
 use walks::Found;
 
 /// The answer to a request on a version (`IsAnswerTo`). It refuses for want of memory alone.
@@ -44,6 +46,8 @@ pub fn solve(alloc: Global, version: &Version, request: &Request) -> Result<Answ
 }
 
 /// The answer that [`solve`] gives, with what the report tells of it (`IsNotedTo`). It refuses for want of memory alone.
+///
+/// A [`Solver`] does the same for the requests of a turn, and keeps what the next of them can use.
 pub fn solve_noted(
     alloc: Global,
     version: &Version,
@@ -52,15 +56,263 @@ pub fn solve_noted(
 ) -> Result<Noted, NoMemory>
     ensures { IfOk result (IsNotedTo version.now.map version.now.standing report request.now) }
 {
-    match request {
-        Request::Path { class, x, z, goal } => {
-            path_asked(alloc, version, class, *x, *z, goal, report)
-        }
-        Request::Region { class, x, z } => Ok(Noted {
-            answer: region_asked(version, class, *x, *z),
-            note: Note::Nothing,
-        }),
+    Solver::new(version, report).solve(alloc, request)
+}
+
+/// What the flow field of a path tells of it (`IsFlowLine`), and None exactly where the answer is not a path. It refuses
+/// for want of memory alone.
+pub fn flow_of(
+    alloc: Global,
+    version: &Version,
+    request: &Request,
+) -> Result<Option<FlowLine>, NoMemory>
+    ensures { IfOk result (λ flow. (note : Note)
+        × (IsNote version.now.map version.now.standing Flows request.now note × (flow ≡ flow_in note))) }
+{
+    let noted = solve_noted(alloc, version, request, Report::Flows)?;
+    Ok(flow_in(&noted.note))
+}
+
+/// What a note tells of a flow field, if anything.
+fn flow_in(note: &Note) -> Option<FlowLine>
+    ensures { result ≡ flow_in note.now }
+{
+    match note {
+        Note::Flow(line) => Some(*line),
+        Note::Nothing | Note::Opened(_) | Note::Smoothed(_) => None,
     }
+}
+
+/// Answers the requests of a turn, one after another, with what a report tells of each. Contracts see the version's map
+/// with what stands on it, and the report (`SolverState`).
+///
+/// It keeps the last flow field, so that requests of one class for one goal in one area share it.
+#[derive(Drop)]
+pub struct Solver<'a> {
+    version: &'a Version,
+    report: Report,
+    kept: Option<LastField>,
+}
+
+impl<'a> Model for Solver<'a> {
+    ghost use Rattle.grid_versions.specs.contracts.versions.Version.{the_row as version_row};
+    ghost use Rattle.posts.specs.contracts.notes.Report.{the_row as report_row};
+    ghost use Rattle.turn_core.specs.Solvers.{SolverState, solver_code};
+    ghost use Rattle.turn_core.specs.inner.Searching.{IsKeptOn};
+
+    ghost Value = { SolverState };
+
+    ghost coded = { solver_code version_row.coded report_row.coded };
+
+    ghost view = { λ s. record { state = s.version.now; report = s.report } };
+
+    ghost invariant = { λ s. IsKeptOn s.version.now s.kept };
+}
+
+impl<'a> Solver<'a> {
+    /// One who answers requests on a version, with what the report tells beside the answers.
+    pub fn new(version: &'a Version, report: Report) -> Solver<'a>
+        ensures { result ≡ record { state = version.now; report = report } }
+    {
+        Solver {
+            version,
+            report,
+            kept: None,
+        }
+    }
+
+    /// The answer to a request with what the report tells of it (`IsNotedTo`). It refuses for want of memory alone, and can
+    /// be asked again.
+    pub fn solve(&mut self, alloc: Global, request: &Request) -> Result<Noted, NoMemory>
+        ensures noted { IfOk result (IsNotedTo self.old.state.map self.old.state.standing self.old.report request.now) }
+        ensures same { self.new ≡ self.old }
+    {
+        match request {
+            Request::Path { class, x, z, goal } => self.path_asked(alloc, class, *x, *z, goal),
+            Request::Region { class, x, z } => Ok(Noted {
+                answer: region_asked(self.version, class, *x, *z),
+                note: Note::Nothing,
+            }),
+        }
+    }
+
+    /// The answer to a path of a class by its name, from the point (`x`, `z`).
+    fn path_asked(
+        &mut self,
+        alloc: Global,
+        name: &ClassName,
+        x: Fixed,
+        z: Fixed,
+        goal: &GoalSpec,
+    ) -> Result<Noted, NoMemory>
+        ensures answer { IfOk result (λ noted. IsAnswerAt (class_named self.old.state.map name.now)
+            (is_on_map self.old.state.map.size x z)
+            (λ class. IsPathFound (passable_at self.old.state.map self.old.state.standing class) x z
+            (goal_found self.old.state.map self.old.state.standing goal.now)) noted.answer) }
+        ensures note { IfOk result (λ noted. IsNoteBy (IsPathNote self.old.state.map self.old.state.standing self.old.report
+            name.now goal.now) noted.answer noted.note) }
+        ensures same { self.new ≡ self.old }
+    {
+        match asked_at(self.version, name, x, z) {
+            Ok(asked) => match goal_of(self.version, goal) {
+                Ok(goal) => self.path_to(alloc, asked.class, x, z, &goal),
+                Err(refusal) => Ok(Noted {
+                    answer: Answer::Refused(refusal),
+                    note: Note::Nothing,
+                }),
+            },
+            Err(refusal) => Ok(Noted {
+                answer: Answer::Refused(refusal),
+                note: Note::Nothing,
+            }),
+        }
+    }
+
+    /// The answer to a path of a class from a point on the map to a goal.
+    fn path_to(
+        &mut self,
+        alloc: Global,
+        class: Class,
+        x: Fixed,
+        z: Fixed,
+        goal: &Goal,
+    ) -> Result<Noted, NoMemory>
+        requires class { class < length self.old.state.map.classes }
+        requires column { IsOnAxis self.old.state.map.size.w x }
+        requires row { IsOnAxis self.old.state.map.size.h z }
+        requires goal { IsSoundGoal self.old.state.map.size goal.now }
+        ensures answer { IfOk result (λ noted. IsPathTo (passable_at self.old.state.map self.old.state.standing class) x z
+            goal.now noted.answer) }
+        ensures note { IfOk result (λ noted. IsNoteBy (IsNoteTo self.old.report
+            (passable_at self.old.state.map self.old.state.standing class) self.old.state.map.size goal.now)
+            noted.answer noted.note) }
+        ensures same { self.new ≡ self.old }
+    {
+        let Some(start) = start_cell(self.version, class, x, z) else {
+            return Ok(Noted {
+                answer: Answer::Nowhere,
+                note: Note::Nothing,
+            });
+        };
+        let target = made_reachable(self.version, class, start, goal);
+        let NotedPath { path, note } = self.path_from(alloc, class, start, &target)?;
+        Ok(Noted {
+            answer: Answer::Path(path),
+            note,
+        })
+    }
+
+    /// The path of a class from a start cell to a target, and what the report tells of it.
+    fn path_from(
+        &mut self,
+        alloc: Global,
+        class: Class,
+        start: Cell,
+        target: &Target,
+    ) -> Result<NotedPath, NoMemory>
+        requires { CanFind self.old.state class start target.now }
+        ensures path { IfOk result (IsNotedPath self.old.state self.old.report class start target.now) }
+        ensures same { self.new ≡ self.old }
+    {
+        let search = Search {
+            version: self.version,
+            class,
+            start,
+            target,
+        };
+        match self.report {
+            Report::Answers => {
+                let path = path_of(&search, search.find(alloc)?);
+                Ok(NotedPath {
+                    path,
+                    note: Note::Nothing,
+                })
+            }
+            Report::OpenedNumbers => {
+                let Traced { found, opened } = search.trace(alloc)?;
+                let path = path_of(&search, found);
+                Ok(NotedPath {
+                    path,
+                    note: Note::Opened(opened),
+                })
+            }
+            Report::Flows => {
+                let path = path_of(&search, search.find(alloc)?);
+                let line = self.flow_line(alloc, class, start, target)?;
+                Ok(NotedPath {
+                    path,
+                    note: Note::Flow(line),
+                })
+            }
+            Report::Smoothed => {
+                let path = path_of(&search, search.find(alloc)?);
+                let points = smooth(alloc, self.version, class, start, &path.waypoints)?;
+                Ok(NotedPath {
+                    path,
+                    note: Note::Smoothed(points),
+                })
+            }
+        }
+    }
+
+    /// What the flow field of the target's cells in the start's area tells of the start. The field is kept.
+    fn flow_line(
+        &mut self,
+        alloc: Global,
+        class: Class,
+        start: Cell,
+        target: &Target,
+    ) -> Result<FlowLine, NoMemory>
+        requires { CanFind self.old.state class start target.now }
+        ensures line { IfOk result (IsFlowLine (passes_of self.old.state class) (hit_by target.now) start) }
+        ensures same { self.new ≡ self.old }
+    {
+        let kept = self.kept.take();
+        let last = field_for(alloc, self.version, kept, class, start, target)?;
+        let line = last.line(start);
+        self.kept = Some(last);
+        Ok(line)
+    }
+}
+
+/// A path, and what a report tells of it.
+#[derive(Drop)]
+pub(crate) struct NotedPath {
+    pub path: PathAnswer,
+    pub note: Note,
+}
+
+/// The path of a search that found this.
+fn path_of(search: &Search<'_>, found: Found) -> PathAnswer
+    ensures { result ≡ path_by search.now.start search.now.target.now found }
+{
+    let Found {
+        end,
+        cost,
+        waypoints,
+    } = found;
+    PathAnswer {
+        start: search.start,
+        end,
+        near: is_near(search.target),
+        cost,
+        waypoints,
+    }
+}
+
+/// The start cell of a point on the map. None exactly where no cell is passable for the class, which the number of passable
+/// cells tells without a search.
+fn start_cell(version: &Version, class: Class, x: Fixed, z: Fixed) -> Option<Cell>
+    requires class { class < length version.now.map.classes }
+    requires column { IsOnAxis version.now.map.size.w x }
+    requires row { IsOnAxis version.now.map.size.h z }
+    ensures start { IfSome result (IsStartCell (passes_of version.now class) x z) }
+    ensures none { IfNone result (IsImpassable (passes_of version.now class)) }
+{
+    if version.passable_cells(class) == 0 {
+        return None;
+    }
+    nearest_passable(version, class, x, z)
 }
 
 /// The class that a request names, and the cell in which its point lies.
@@ -82,167 +334,6 @@ fn asked_at(version: &Version, name: &ClassName, x: Fixed, z: Fixed) -> Result<A
         return Err(Refusal::StartOutside);
     };
     Ok(Asked { class, cell })
-}
-
-/// The answer to a path of a class by its name, from the point (`x`, `z`).
-fn path_asked(
-    alloc: Global,
-    version: &Version,
-    name: &ClassName,
-    x: Fixed,
-    z: Fixed,
-    goal: &GoalSpec,
-    report: Report,
-) -> Result<Noted, NoMemory>
-    ensures answer { IfOk result (λ noted. IsAnswerAt (class_named version.now.map name.now) (is_on_map version.now.map.size x z)
-        (λ class. IsPathFound (passable_at version.now.map version.now.standing class) x z
-        (goal_found version.now.map version.now.standing goal.now)) noted.answer) }
-    ensures note { IfOk result (λ noted. IsNoteBy report (IsOpenedFor version.now.map version.now.standing name.now goal.now)
-        noted.answer noted.note) }
-{
-    match asked_at(version, name, x, z) {
-        Ok(asked) => match goal_of(version, goal) {
-            Ok(goal) => path_to(alloc, version, asked.class, x, z, &goal, report),
-            Err(refusal) => Ok(Noted {
-                answer: Answer::Refused(refusal),
-                note: Note::Nothing,
-            }),
-        },
-        Err(refusal) => Ok(Noted {
-            answer: Answer::Refused(refusal),
-            note: Note::Nothing,
-        }),
-    }
-}
-
-/// The answer to a path of a class from a point on the map to a goal. Where no cell is passable for the class it is
-/// told by the number of passable cells, without a search.
-fn path_to(
-    alloc: Global,
-    version: &Version,
-    class: Class,
-    x: Fixed,
-    z: Fixed,
-    goal: &Goal,
-    report: Report,
-) -> Result<Noted, NoMemory>
-    requires class { class < length version.now.map.classes }
-    requires column { IsOnAxis version.now.map.size.w x }
-    requires row { IsOnAxis version.now.map.size.h z }
-    requires goal { IsSoundGoal version.now.map.size goal.now }
-    ensures answer { IfOk result (λ noted. IsPathTo (passable_at version.now.map version.now.standing class) x z goal.now
-        noted.answer) }
-    ensures note { IfOk result (λ noted. IsNoteBy report
-        (IsOpenedTo (passable_at version.now.map version.now.standing class) version.now.map.size goal.now)
-        noted.answer noted.note) }
-{
-    if version.passable_cells(class) == 0 {
-        return Ok(Noted {
-            answer: Answer::Nowhere,
-            note: Note::Nothing,
-        });
-    }
-    let Some(start) = nearest_passable(version, class, x, z) else {
-        return Ok(Noted {
-            answer: Answer::Nowhere,
-            note: Note::Nothing,
-        });
-    };
-    let target = made_reachable(version, class, start, goal);
-    let Walked { found, note } = found(alloc, version, class, start, &target, report)?;
-    let Found {
-        end,
-        cost,
-        waypoints,
-    } = found;
-    let path = PathAnswer {
-        start,
-        end,
-        near: is_near(&target),
-        cost,
-        waypoints,
-    };
-    Ok(Noted {
-        answer: Answer::Path(path),
-        note,
-    })
-}
-
-/// A walk that was found, and what is told of it.
-#[derive(Drop)]
-struct Walked {
-    found: Found,
-    note: Note,
-}
-
-/// The chosen walk from the start to the first in cell order of the nearest cells that the aim hits, by jumps, with what
-/// the report tells of it.
-fn found<A: Aim>(
-    alloc: Global,
-    version: &Version,
-    class: Class,
-    start: Cell,
-    aim: &A,
-    report: Report,
-) -> Result<Walked, NoMemory>
-    requires class { class < length version.now.map.classes }
-    requires start { IsTrue (passes_of version.now class start) }
-    requires aim { A.sound aim.now version.now.map.size }
-    requires reach { CanReach (passes_of version.now class) start (A.hit aim.now version.now.map.size) }
-    ensures answer { IfOk result (λ walked. IsAnswer (passes_of version.now class) start (A.hit aim.now version.now.map.size)
-        walked.found.end walked.found.cost.0 walked.found.waypoints) }
-    ensures note { IfOk result (λ walked. IsPathNote report (IsCountedBy (passes_of version.now class)
-        (A.hit aim.now version.now.map.size) (A.framed aim.now version.now.map.size) version.now.map.size start
-        walked.found.cost.0) walked.note) }
-{
-    found_counted::<A, Brand>(alloc, version, class, start, aim, report, Blank::new(1))
-}
-
-/// The same walk, with the opened jump states counted in a ledger of their own.
-fn found_counted<A: Aim, L: Ledger>(
-    alloc: Global,
-    version: &Version,
-    class: Class,
-    start: Cell,
-    aim: &A,
-    report: Report,
-    blank: Blank,
-) -> Result<Walked, NoMemory>
-    requires name { blank.name ≡ L.name }
-    requires parts { blank.parts ≡ L.parts }
-    requires some { 0 < L.parts }
-    requires class { class < length version.now.map.classes }
-    requires start { IsTrue (passes_of version.now class start) }
-    requires aim { A.sound aim.now version.now.map.size }
-    requires reach { CanReach (passes_of version.now class) start (A.hit aim.now version.now.map.size) }
-    ensures answer { IfOk result (λ walked. IsAnswer (passes_of version.now class) start (A.hit aim.now version.now.map.size)
-        walked.found.end walked.found.cost.0 walked.found.waypoints) }
-    ensures note { IfOk result (λ walked. IsPathNote report (IsCountedBy (passes_of version.now class)
-        (A.hit aim.now version.now.map.size) (A.framed aim.now version.now.map.size) version.now.map.size start
-        walked.found.cost.0) walked.note) }
-{
-    let mut ticks = Ticks::<L>::new(blank);
-    let runs = PlaneRuns::new(version, version.planes());
-    match report {
-        Report::Answers => {
-            let found = jump_find_with(alloc, &runs, class, start, aim, &mut ticks)?;
-            Ok(Walked {
-                found,
-                note: Note::Nothing,
-            })
-        }
-        Report::OpenedNumbers => {
-            // The rectangle that the jump states are counted by.
-            let _rect = aim.bounds(version.size());
-            let Traced { found, opened } = jump_search_with(
-                alloc, &runs, class, start, aim, &mut ticks,
-            )?;
-            Ok(Walked {
-                found,
-                note: Note::Opened(opened),
-            })
-        }
-    }
 }
 
 /// Whether the target is a near cell.

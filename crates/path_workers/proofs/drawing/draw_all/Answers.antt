@@ -1,4 +1,6 @@
-use Rattle.std.proofs.Common.{sym, ap, ◌∙◌}
+use Rattle.std.proofs.Common.{sym, ap, subst, ◌∙◌}
+use Rattle.turn_core.specs.Solvers.{SolverState}
+use Rattle.path_workers.specs.inner.Working.{HasOneMore}
 use Rattle.claim_board.specs.Boards.{SeatState}
 use Rattle.claim_board.proofs.Left.{left_of-falls}
 use Rattle.path_workers.proofs.Working.{one_more}
@@ -13,12 +15,15 @@ pub drawing-preserved : goal.drawing-preserved
 drawing-preserved g c =
     let kept = c.drawing.invariant in
     let next = c.in-Job.ensures.job in
+    let one = subst (λ (s : SolverState). HasOneMore s.state.map s.state.standing s.report c.args.turn.now.jobs.now c.in-Job.job
+    c.drawing.answered c.solve_job.new.answered) kept.solver c.in-Ok.ensures.answered in
     let more = one_more c.args.turn.now.version.now.map c.args.turn.now.version.now.standing c.args.turn.now.report c.args.turn.now.jobs.now c.in-Job.job c.drawing.answered c.solve_job.new.answered
-    c.drawing.seat.drawn c.in-Ok.ensures kept.numbers kept.answers in
+    c.drawing.seat.drawn one kept.numbers kept.answers in
     record {
       board = ap (λ (seat : SeatState). seat.board) next ∙ kept.board;
       live = ap (λ (seat : SeatState). seat.ended) next ∙ kept.live;
       credit = ap (λ (seat : SeatState). seat.credit) next ∙ kept.credit;
       numbers = more.0 ∙ sym (ap (λ (seat : SeatState). seat.drawn) next);
+      solver = c.solve_job.ensures.same ∙ kept.solver;
       answers = more.1;
     }

@@ -9,6 +9,7 @@ invariant-drawing g l = record {
   live : l.seat.ended ≡ false;
   credit : l.seat.credit ≡ l.fn.seat.credit;
   numbers : job_numbers l.answered ≡ l.seat.drawn;
+  solver : l.solver ≡ record { state = l.turn.version.now; report = l.turn.report };
   answers : AnswerTheirJobs l.turn.version.now.map l.turn.version.now.standing l.turn.report l.turn.jobs.now l.answered;
 }
 

@@ -1,0 +1,11 @@
+use Rattle.std.specs.Prelude.{decimal}
+use Rattle.std.proofs.lemmas.Result.{IfOk-equal}
+use Rattle.answer_text.specs.Noted.{note_line, note_words}
+use Rattle.answer_text.proofs.LineTexts.{reply_pieces}
+use Rattle.answer_text.proofs.noted.write_note_line.Goals as goal
+
+pub returns : goal.returns
+unfolding note_line
+returns c = IfOk-equal _ _ _ _ c.extend.ensures.ok
+    (rw (c.in_ok-write_note_words.ensures, c.in_ok-write_after.ensures.ok, c.in_ok-push_decimal.ensures.ok)
+    (reply_pieces c.args.text.now (decimal c.args.caller) (decimal c.args.post) (note_words c.args.note.now)))

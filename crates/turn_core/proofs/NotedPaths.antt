@@ -1,0 +1,70 @@
+-- Paths with what a report tells of them.
+use Rattle.std.proofs.Common.{◌≡◌, ℕ, ℤ, Result, Ok, Err, IfOk, sym, refl, subst}
+use Rattle.nav_types.specs.declared.cells.Cell.{Cell}
+use Rattle.nav_types.specs.declared.cells.Rect.{Rect}
+use Rattle.nav_types.specs.declared.sequences.NoMemory.{NoMemory}
+use Rattle.nav_types.specs.Frames.{IsFrame}
+use Rattle.walks.specs.declared.found_walk.Found.{Found}
+use Rattle.walks.proofs.Tracing.{chosen_walk}
+use Rattle.line_smooth.specs.Smoothed.{AreCorners}
+use Rattle.goal_shapes.specs.declared.goals.Goal.{Goal}
+use Rattle.goal_reach.specs.declared.targets.Target.{Target}
+use Rattle.goal_reach.specs.Starts.{IsStartCell}
+use Rattle.goal_reach.specs.Targets.{hit_by, framed_by, AreTargets}
+use Rattle.jump_search.specs.declared.search.Traced.{Traced}
+use Rattle.jump_search.specs.JumpStates.{CountsOpened}
+use Rattle.posts.specs.declared.notes.Note.{Note}
+use Rattle.posts.specs.declared.notes.Report.{Report}
+use Rattle.posts.specs.declared.replies.PathAnswer.{PathAnswer}
+use Rattle.grid_versions.specs.Versions.{MapState, passes_of}
+use Rattle.turn_core.specs.Solving.{is_near, IsPathAnswer}
+use Rattle.turn_core.specs.Notes.{IsTold, IsNoteTo}
+use Rattle.turn_core.specs.declared.solving.NotedPath.{NotedPath}
+use Rattle.turn_core.specs.inner.Searching.{IsCountedTo, IsFoundTo, IsNotedPath, path_by}
+
+-- the waypoints of a walk that was found are the corners of a legal one
+pub found_corners : (state : MapState) (class : ℕ) (start : Cell) (target : Target) (found : Found) → IsFoundTo state class start target found
+    → AreCorners (passes_of state class) start found.waypoints
+found_corners state class start target found is = record {
+  end = found.end;
+  walk = (is.walk.0, (chosen_walk (passes_of state class) start found.end is.walk.0 is.walk.1.0, is.walk.1.1.1));
+}
+
+-- the path of a walk that was found, with its note
+pub noted_path : (state : MapState) (report : Report) (class : ℕ) (start : Cell) (target : Target) (found : Found) (path : PathAnswer) (note : Note)
+    → path ≡ path_by start target found → IsFoundTo state class start target found
+    → IsTold report (passes_of state class) state.map.size target (path_by start target found) note
+    → IsNotedPath state report class start target (record { path = path; note = note })
+noted_path state report class start target found path note same is told =
+    subst (λ (p : PathAnswer). IsNotedPath state report class start target (record { path = p; note = note })) (sym same)
+    (record { begins = refl; nearness = refl; walk = is; told = told })
+
+-- a path from the start cell to the targets of a goal answers
+pub path_answers : (state : MapState) (report : Report) (class : ℕ) (x z : ℤ) (start : Cell) (goal : Goal) (target : Target) (noted : NotedPath)
+    → IsStartCell (passes_of state class) x z start → AreTargets (passes_of state class) start goal target
+    → IsNotedPath state report class start target noted → IsPathAnswer (passes_of state class) x z goal noted.path
+path_answers state report class x z start goal target noted starts targets is = record {
+  start_cell = subst (λ (c : Cell). IsStartCell (passes_of state class) x z c) (sym is.begins) starts;
+  target = target;
+  targets = subst (λ (c : Cell). AreTargets (passes_of state class) c goal target) (sym is.begins) targets;
+  nearness = is.nearness;
+  walk = is.walk;
+}
+
+-- and what is told of it is its note
+pub path_noted : (state : MapState) (report : Report) (class : ℕ) (start : Cell) (goal : Goal) (target : Target) (noted : NotedPath)
+    → AreTargets (passes_of state class) start goal target → IsNotedPath state report class start target noted
+    → IsNoteTo report (passes_of state class) state.map.size goal noted.path noted.note
+path_noted state report class start goal target noted targets is = record {
+  target = target;
+  targets = subst (λ (c : Cell). AreTargets (passes_of state class) c goal target) (sym is.begins) targets;
+  told = is.told;
+}
+
+-- what was counted by each box is counted by the one that is known
+pub counted_by : (state : MapState) (class : ℕ) (start : Cell) (target : Target) (box : Rect) (result : Result Traced NoMemory)
+    → IsFrame (framed_by target) state.map.size box
+    → IfOk result (λ (traced : Traced). CountsOpened (passes_of state class) (hit_by target) (framed_by target) state.map.size start traced.found.cost.0 traced.opened)
+    → IfOk result (λ (traced : Traced). IsCountedTo state class start target traced.found.cost.0 traced.opened)
+counted_by state class start target box (Ok traced) frame counted = (box, (frame, counted box frame))
+counted_by state class start target box (Err refused) frame counted = tt
