@@ -1,14 +1,14 @@
 -- Marks that spread until none waits are a field.
-use Rattle.std.proofs.Common.{ℕ, ◌≡◌, ◌+◌, ◌-◌, ◌*◌, ◌<◌, ◌≤◌, ◌⊎◌, inl, inr, Bool, ltb, List, [], ◌∷◌, ◌++◌, IsTrue, length, get_or, count_by, Option, Some, None, refl, sym, ap, ◌∙◌, subst, arith}
+use Rattle.std.proofs.Common.{ℕ, ◌≡◌, ◌+◌, ◌-◌, ◌<◌, ◌≤◌, inl, inr, Bool, ltb, List, [], ◌∷◌, ◌++◌, IsTrue, count_by, Option, sym, subst, arith}
 use Rattle.std.proofs.lemmas.List.Sums.{sum_by-cons, count_by-le-length}
 use Rattle.nav_types.specs.declared.cells.Cell.{Cell}
 use Rattle.nav_types.specs.declared.cells.Size.{Size}
 use Rattle.nav_types.specs.declared.directions.Dir.{Dir}
 use Rattle.nav_types.specs.Cells.{IsInside}
 use Rattle.nav_types.specs.Directions.{step_cost, opposite}
-use Rattle.nav_types.specs.Walks.{Step, IsWalk, Joined, CanReach, walk_cost}
+use Rattle.nav_types.specs.Walks.{IsWalk, Joined, CanReach, walk_cost}
 use Rattle.nav_types.proofs.Walking.{IsWalk-push, Step-opposite, Joined-passes, Joined-sym, Joined-trans, step_cost_most}
-use Rattle.flow_field.specs.Flows.{LeadsToTarget, IsNearest, IsFar, IsFieldOf}
+use Rattle.flow_field.specs.Flows.{IsNearest, IsFar, IsFieldOf}
 use Rattle.flow_field.specs.inner.Marks.{free, spot_of, mark_of, far_of, cells_of, IsTable, IsSound, IsSettledAlong, IsSpreading, Every, NoStep}
 use Rattle.flow_field.proofs.Spots.{few_spots, spot_of-inj, IsCellSpot-of}
 use Rattle.flow_field.proofs.Relaxing.{cost_back}

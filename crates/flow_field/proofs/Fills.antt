@@ -1,12 +1,11 @@
 -- The table as it is filled, and the targets that are found.
-use Rattle.std.proofs.Common.{ℕ, ◌≡◌, ◌+◌, ◌-◌, ◌*◌, ◌<◌, ◌≤◌, ◌⊎◌, inl, inr, Bool, true, false, List, [], ◌∷◌, IsTrue, IsFalse, length, get_or, set, count_by, refl, sym, ap, ◌∙◌, subst, arith}
+use Rattle.std.proofs.Common.{ℕ, ◌≡◌, ◌+◌, ◌-◌, ◌*◌, ◌<◌, ◌≤◌, ◌⊎◌, inl, inr, Bool, List, [], IsTrue, IsFalse, length, get_or, set, refl, sym, ap, ◌∙◌, subst, arith}
 use Rattle.std.specs.Prelude.{replicate, Contains}
 use Rattle.std.proofs.lemmas.Bool.{cases_eq, cases_lt, both_ways}
 use Rattle.std.proofs.lemmas.List.{length-replicate, get_or-replicate, get_or_past, get_or-set_same}
 use Rattle.nav_types.specs.declared.cells.Cell.{Cell}
 use Rattle.nav_types.specs.declared.cells.Rect.{Rect}
 use Rattle.nav_types.specs.declared.cells.Size.{Size}
-use Rattle.nav_types.specs.declared.directions.Dir.{Dir}
 use Rattle.nav_types.specs.Cells.{IsInside, IsInRect, IsBefore, cell_at}
 use Rattle.nav_types.specs.Walks.{Joined}
 use Rattle.nav_types.proofs.CellOrder.{same_cell, before_next}
@@ -215,14 +214,16 @@ to_before rect i j target found = (found.0, before_next target (cell_at i j) fou
 
 pub next_row : (rect : Rect) (i j : ℕ) (target : Cell) → rect.i1 < i → FoundBefore rect (cell_at rect.i0 (j + 1)) target → FoundBefore rect (cell_at i j) target
 next_row rect i j target past found =
-    let within = found.0 in
-    (within, elim found.1 [
-      | inl rows ↦ elim (cases_eq target.j j) [
-        | inl same ↦ inr (same, omega (arith, within.east))
-        | inr other ↦ inl (omega arith)
-      ]
-      | inr same ↦ absurd (omega (arith, same.1, within.west))
-    ])
+    let within = found.0 in (
+      within,
+      elim found.1 [
+        | inl rows ↦ elim (cases_eq target.j j) [
+          | inl same ↦ inr (same, omega (arith, within.east))
+          | inr other ↦ inl (omega arith)
+        ]
+        | inr same ↦ absurd (omega (arith, same.1, within.west))
+      ],
+    )
 
 pub none_before : (rect : Rect) (target : Cell) → FoundBefore rect (cell_at rect.i0 rect.j0) target → ⊥
 none_before rect target found =

@@ -1,5 +1,5 @@
 -- The steps to take, one after another.
-use Rattle.std.proofs.Common.{ℕ, ◌≡◌, ◌+◌, ◌-◌, ◌*◌, ◌<◌, ◌≤◌, ◌⊎◌, inl, inr, Bool, true, eqb, List, [], ◌∷◌, ◌++◌, IsTrue, length, get_or, Option, Some, None, refl, sym, ap, ◌∙◌, subst, arith}
+use Rattle.std.proofs.Common.{ℕ, ◌≡◌, ◌+◌, ◌-◌, ◌<◌, inl, inr, Bool, true, eqb, List, [], ◌∷◌, ◌++◌, get_or, Option, Some, None, sym, ap, subst, arith}
 use Rattle.std.specs.Option.{IfSome, IfNone}
 use Rattle.std.proofs.lemmas.Bool.{cases_lt, eqb-true, eq-eqb}
 use Rattle.std.proofs.lemmas.List.{append_assoc, append-nil}
@@ -8,12 +8,12 @@ use Rattle.nav_types.specs.declared.cells.Cell.{Cell}
 use Rattle.nav_types.specs.declared.cells.Size.{Size}
 use Rattle.nav_types.specs.declared.directions.Dir.{Dir}
 use Rattle.nav_types.specs.Cells.{IsInside}
-use Rattle.nav_types.specs.Directions.{step_cost, row_part, column_part, Leads}
+use Rattle.nav_types.specs.Directions.{step_cost, row_part, column_part}
 use Rattle.nav_types.specs.Walks.{Step, Joined}
 use Rattle.nav_types.proofs.Walking.{leads_to_same, IsWalk-push, step_cost_some}
 use Rattle.walks.specs.Chosen.{preference, IsFirstIn}
-use Rattle.flow_field.specs.Flows.{LeadsToTarget, IsNearest, IsFar, Descends, IsNext, FieldCells, IsFieldOf, Follows}
-use Rattle.flow_field.specs.inner.Marks.{free, spot_of, cell_at_spot, mark_of, is_reached, cells_of, IsBesideSpot, IsTable}
+use Rattle.flow_field.specs.Flows.{LeadsToTarget, IsNearest, Descends, IsNext, IsFieldOf, Follows}
+use Rattle.flow_field.specs.inner.Marks.{spot_of, cell_at_spot, is_reached, cells_of, IsBesideSpot, IsTable}
 use Rattle.flow_field.specs.inner.Ways.{IsReached, IsReachedBeside, LeadsNearer}
 use Rattle.flow_field.proofs.Spots.{leads_beside, beside_same}
 use Rattle.flow_field.proofs.Reading.{IsReadAt, read_joined, nearer_descends, descends_nearer, some_descends, IsNearest-unique, reached_parts, reached_from}

@@ -1,16 +1,15 @@
 -- A mark that falls leaves what is known of marks that spread.
-use Rattle.std.proofs.Common.{ℕ, ◌≡◌, ◌+◌, ◌-◌, ◌*◌, ◌<◌, ◌≤◌, ◌⊎◌, inl, inr, Bool, cond, ltb, List, [], ◌∷◌, IsTrue, length, get_or, set, sum, count_by, refl, sym, ap, ◌∙◌, subst, arith}
+use Rattle.std.proofs.Common.{ℕ, ◌≡◌, ◌+◌, ◌-◌, ◌*◌, ◌<◌, ◌≤◌, ◌⊎◌, inl, inr, Bool, cond, ltb, List, IsTrue, length, get_or, set, count_by, sym, ap, ◌∙◌, subst, arith}
 use Rattle.std.proofs.lemmas.Bool.{cases_eq, cases_lt, lt-ltb, le-ltb, cond-true, cond-false}
-use Rattle.std.proofs.lemmas.List.{length-set, get_or-set_same, get_or-set_other, get_or_past}
-use Rattle.std.proofs.lemmas.List.Sums.{sum_by-set, count_by-le-length}
+use Rattle.std.proofs.lemmas.List.{length-set, get_or-set_same, get_or-set_other}
+use Rattle.std.proofs.lemmas.List.Sums.{sum_by-set}
 use Rattle.nav_types.specs.declared.cells.Cell.{Cell}
 use Rattle.nav_types.specs.declared.cells.Size.{Size}
 use Rattle.nav_types.specs.declared.directions.Dir.{Dir}
 use Rattle.nav_types.specs.Cells.{IsInside}
-use Rattle.nav_types.specs.Directions.{step_cost}
-use Rattle.nav_types.specs.Walks.{Step, Joined}
+use Rattle.nav_types.specs.Walks.{Joined}
 use Rattle.flow_field.specs.Flows.{LeadsToTarget}
-use Rattle.flow_field.specs.inner.Marks.{free, spot_of, mark_of, IsSound, IsSettledAlong, IsSpreading}
+use Rattle.flow_field.specs.inner.Marks.{free, spot_of, mark_of, IsSound, IsSpreading}
 use Rattle.flow_field.proofs.Spots.{spot_of-lt, spot_of-inj}
 
 -- whether a mark counts as known

@@ -1,6 +1,5 @@
 -- What a table of marks says of a field.
-use Rattle.std.proofs.Common.{ℕ, ◌≡◌, ◌+◌, ◌-◌, ◌*◌, ◌<◌, ◌≤◌, ◌⊎◌, inl, inr, Bool, true, false, ◌&&◌, cond, ltb, List, [], ◌∷◌, ◌++◌, IsTrue, length, get_or, Option, Some, None, refl, sym, ap, ◌∙◌, subst, arith}
-use Rattle.std.specs.List.{range_with_len}
+use Rattle.std.proofs.Common.{ℕ, ◌≡◌, ◌+◌, ◌-◌, ◌*◌, ◌<◌, ◌⊎◌, inl, inr, Bool, true, false, ltb, List, [], ◌∷◌, ◌++◌, IsTrue, length, get_or, Option, Some, None, refl, sym, ap, ◌∙◌, subst, arith}
 use Rattle.std.specs.Option.{IsSome}
 use Rattle.std.proofs.lemmas.Bool.{false≢true, cases_lt, lt-ltb, le-ltb, cond-true, cond-false, and_from, and_left, and_right, and_parts, ltb-true}
 use Rattle.std.proofs.lemmas.Option.{none-some}
@@ -13,13 +12,13 @@ use Rattle.nav_types.specs.Beside.{IsFreeBeside}
 use Rattle.nav_types.specs.Cells.{IsInside}
 use Rattle.nav_types.specs.Directions.{step_cost, is_straight, row_part, column_part, Leads}
 use Rattle.nav_types.specs.Places.{place_of, cell_of}
-use Rattle.nav_types.specs.Walks.{Step, IsWalk, Joined, walk_cost}
+use Rattle.nav_types.specs.Walks.{Step, Joined, walk_cost}
 use Rattle.nav_types.proofs.CellPlaces.{place_of-lt, cell_of-place_of}
 use Rattle.nav_types.proofs.Walking.{IsWalk-push, Joined-passes, free_is_legal, legal_is_free, ways_straight, straight_step}
-use Rattle.flow_field.specs.Flows.{LeadsToTarget, IsNearest, IsFar, Descends, FieldCells, far_in, IsFieldOf}
-use Rattle.flow_field.specs.inner.Marks.{free, spot_of, cell_at_spot, mark_of, is_reached, far_of, cells_of, IsBesideSpot, IsCellSpot, IsTable}
+use Rattle.flow_field.specs.Flows.{LeadsToTarget, IsNearest, IsFar, Descends, far_in, IsFieldOf}
+use Rattle.flow_field.specs.inner.Marks.{free, spot_of, cell_at_spot, mark_of, is_reached, far_of, cells_of, IsBesideSpot, IsTable}
 use Rattle.flow_field.specs.inner.Ways.{IsReached, IsReachedBeside, LeadsNearer}
-use Rattle.flow_field.proofs.Spots.{spot_of-lt, leads_beside, beside_leads, beside_same}
+use Rattle.flow_field.proofs.Spots.{leads_beside, beside_leads, beside_same}
 
 -- a mark is that of a reached cell or it is not
 pub mark_cases : (mark : ℕ) → (((0 < mark) × (mark < free)) × (is_reached mark ≡ true)) ⊎ (((0 < mark) → mark < free → ⊥) × (is_reached mark ≡ false))
@@ -181,8 +180,13 @@ descends_nearer passes hit start size marks cell at dir read descends =
       ahead = spot_of size next;
       to = ahead.0;
       nearer = known;
-      less = omega (arith, known.some, held.some, IsNearest-unique passes hit next (get_or marks (spot_of size next) 0 - 1) descends.cost far.1 descends.far,
-      IsNearest-unique passes hit cell (get_or marks at 0 - 1) (descends.cost + step_cost dir) here.1 descends.here);
+      less = omega (
+        arith,
+        known.some,
+        held.some,
+        IsNearest-unique passes hit next (get_or marks (spot_of size next) 0 - 1) descends.cost far.1 descends.far,
+        IsNearest-unique passes hit cell (get_or marks at 0 - 1) (descends.cost + step_cost dir) here.1 descends.here,
+      );
       row = side_reached passes hit start size marks cell at (row_part dir) straight.0 read step.start parts.1.0;
       column = side_reached passes hit start size marks cell at (column_part dir) straight.1 read step.start parts.1.1;
     }
@@ -196,8 +200,7 @@ descend_by passes hit cell cost (dir ∷ dirs) led nearest more =
     let step = way.1.0 in
     let sums = sum_by-cons step_cost dir dirs in
     let costs = led.costs in
-    let whole : cost ≡ walk_cost dirs + step_cost dir = omega arith in
-    (
+    let whole : cost ≡ walk_cost dirs + step_cost dir = omega arith in (
       dir,
       record {
         next = next;

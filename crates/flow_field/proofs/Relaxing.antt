@@ -1,5 +1,5 @@
 -- The steps from a place, each looked at once.
-use Rattle.std.proofs.Common.{ℕ, ◌≡◌, ◌+◌, ◌-◌, ◌*◌, ◌<◌, ◌≤◌, ◌⊎◌, inl, inr, Bool, ltb, List, [], ◌∷◌, ◌++◌, IsTrue, length, get_or, set, sum, count_by, refl, sym, ap, ◌∙◌, subst, arith}
+use Rattle.std.proofs.Common.{ℕ, ◌≡◌, ◌+◌, ◌-◌, ◌<◌, ◌≤◌, inl, inr, Bool, List, [], ◌∷◌, ◌++◌, IsTrue, length, get_or, set, sum, refl, sym, ap, ◌∙◌, subst, arith}
 use Rattle.std.proofs.lemmas.Bool.{cases_eq}
 use Rattle.std.proofs.lemmas.List.{length-set, get_or-set_same, get_or-set_other}
 use Rattle.std.proofs.lemmas.List.Sums.{sum_by-set, sum_by-cons}
@@ -7,18 +7,16 @@ use Rattle.nav_types.specs.declared.cells.Cell.{Cell}
 use Rattle.nav_types.specs.declared.cells.Size.{Size}
 use Rattle.nav_types.specs.declared.directions.Dir.{Dir}
 use Rattle.nav_types.specs.declared.directions.Dir.TheVariants.{N, E, S, W, NE, SE, SW, NW}
-use Rattle.nav_types.specs.Cells.{IsInside}
 use Rattle.nav_types.specs.Beside.{IsFreeBeside}
 use Rattle.nav_types.specs.Directions.{step_cost, opposite, row_part, column_part}
-use Rattle.nav_types.specs.Walks.{Step, Joined, walk_cost}
+use Rattle.nav_types.specs.Walks.{Step}
 use Rattle.nav_types.proofs.Walking.{IsWalk-push, Step-opposite, step_cost_most, step_cost_some, free_is_legal, legal_is_free}
 use Rattle.walks.specs.Chosen.{preference}
 use Rattle.flow_field.specs.declared.spreading.Spread.{Spread}
-use Rattle.flow_field.specs.Flows.{LeadsToTarget}
-use Rattle.flow_field.specs.inner.Marks.{free, spot_of, mark_of, IsBesideSpot, IsSound, IsSettledAlong, IsSpreading, Waits, Every, NoStep}
-use Rattle.flow_field.specs.inner.Spreads.{WaitsIn, left, weight, Stays, Falls, AreFree, IsLowered, rank, StepsFrom, Relaxes, RelaxesAll, IsInner}
+use Rattle.flow_field.specs.inner.Marks.{free, spot_of, mark_of, IsBesideSpot, IsSound, IsSettledAlong, IsSpreading, Waits, Every}
+use Rattle.flow_field.specs.inner.Spreads.{WaitsIn, weight, IsLowered, rank, StepsFrom, Relaxes, RelaxesAll, IsInner}
 use Rattle.flow_field.proofs.Spots.{spot_of-lt, leads_beside, beside_leads, beside_same}
-use Rattle.flow_field.proofs.Lowering.{IsFall, IsQueued, known, known_is, spreading_fallen}
+use Rattle.flow_field.proofs.Lowering.{IsFall, IsQueued, known_is, spreading_fallen}
 
 pub cost_back : (dir : Dir) → step_cost (opposite dir) ≡ step_cost dir
 cost_back N = refl
@@ -178,8 +176,10 @@ relax_step passes hit start size here dir at to row column mark old new from (in
     let done : IsSettledAlong passes size marks here dir = λ other taken.
     let is_other = place_beside size here other passes dir at to from.is_here from.to_next taken in
     let parts = legal_is_free passes dir here (other, taken) in
-    let least = none (mark_beside passes hit start size here (row_part dir) at row marks sound from.is_here from.to_row parts.1.0,
-    mark_beside passes hit start size here (column_part dir) at column marks sound from.is_here from.to_column parts.1.1) in
+    let least = none (
+      mark_beside passes hit start size here (row_part dir) at row marks sound from.is_here from.to_row parts.1.0,
+      mark_beside passes hit start size here (column_part dir) at column marks sound from.is_here from.to_column parts.1.1,
+    ) in
     omega (arith, least, ap (λ (k : ℕ). get_or marks k 0) is_other, ap (λ (k : ℕ). get_or marks k 0) from.is_here, from.is) in
     let now = steps_fewer passes hit start size here dir marks (WaitsIn old) done spreads in
     let first = subst (λ (m : List ℕ). IsSpreading passes hit start size Every (StepsFrom here (rank dir + 1)) m (Waits old.straight old.diagonal)) (sym stays.marks) now in

@@ -1,6 +1,6 @@
 -- A field has one Far, one Next and one summary, and so has its area.
-use Rattle.std.proofs.Common.{ℕ, ◌≡◌, ◌≢◌, ◌+◌, ◌-◌, ◌<◌, ◌≤◌, ◌⊎◌, inl, inr, Bool, List, [], ◌∷◌, ◌++◌, IsTrue, length, get_or, map, take, drop, sum_by, Option, Some, None, refl, sym, ap, ◌∙◌, subst, arith}
-use Rattle.std.specs.List.{All, Contains, AllPairs}
+use Rattle.std.proofs.Common.{ℕ, ◌≡◌, ◌≢◌, ◌+◌, ◌≤◌, inl, inr, Bool, List, [], ◌∷◌, ◌++◌, take, drop, sum_by, Option, Some, None, refl, sym, ap, ◌∙◌, subst, arith}
+use Rattle.std.specs.List.{Contains, AllPairs}
 use Rattle.std.proofs.lemmas.List.{take-append-drop, drop_more}
 use Rattle.std.proofs.lemmas.List.Elements.{All-contains, Contains-append_left, Contains-append_right, Contains-append_cases}
 use Rattle.std.proofs.lemmas.List.Sums.{sum_by-cons, sum_by-append}
@@ -15,7 +15,7 @@ use Rattle.nav_types.proofs.Walking.{Joined-passes, Joined-sym, Joined-trans, st
 use Rattle.posts.specs.declared.notes.FlowSummary.{FlowSummary}
 use Rattle.walks.specs.Chosen.{preference, IsFirstIn, IsAnswer}
 use Rattle.walks.proofs.Tracing.{chosen_walk}
-use Rattle.flow_field.specs.Flows.{IsNearest, IsFar, Descends, IsNext, FieldCells, far_in, IsFieldOf, HasSummary}
+use Rattle.flow_field.specs.Flows.{IsFar, Descends, IsNext, FieldCells, far_in, IsFieldOf, HasSummary}
 use Rattle.flow_field.proofs.Reading.{IsNearest-unique}
 use Rattle.flow_field.proofs.Following.{first_within}
 

@@ -1,21 +1,20 @@
 -- The reached cells of a table, each with its distance, as one list.
-use Rattle.std.proofs.Common.{ℕ, ◌≡◌, ◌≢◌, ◌+◌, ◌-◌, ◌*◌, ◌<◌, ◌≤◌, ◌⊎◌, inl, inr, Bool, true, false, cond, List, [], ◌∷◌, ◌++◌, IsTrue, length, get_or, map, count_by, sum_by, suc, zero, max, take, refl, sym, ap, ◌∙◌, subst, arith}
+use Rattle.std.proofs.Common.{ℕ, ◌≡◌, ◌≢◌, ◌+◌, ◌-◌, ◌*◌, ◌<◌, ◌≤◌, inl, inr, Bool, true, false, cond, List, [], ◌∷◌, ◌++◌, length, get_or, map, count_by, sum_by, suc, zero, max, refl, sym, ap, ◌∙◌, subst, arith}
 use Rattle.std.specs.List.{All, Contains, AllPairs}
 use Rattle.std.proofs.lemmas.Bool.{cases_Bool, cases_lt, cond-true, cond-false, both_ways}
-use Rattle.std.proofs.lemmas.List.{get_or_past, get_or_append_left, get_or_push, length_push, take_more, length-take}
-use Rattle.std.proofs.lemmas.List.Elements.{All-nil, All-cons, All-from_get_or, Contains-get_or}
+use Rattle.std.proofs.lemmas.List.{get_or_past, get_or_append_left, get_or_push, length_push}
+use Rattle.std.proofs.lemmas.List.Elements.{Contains-get_or}
 use Rattle.std.proofs.lemmas.List.Sums.{sum_by-cons, sum_by_push, sum_by-le, count_by-le-length}
 use Rattle.nav_types.specs.declared.cells.Cell.{Cell}
 use Rattle.nav_types.specs.declared.cells.Size.{Size}
 use Rattle.nav_types.specs.Cells.{IsInside}
-use Rattle.nav_types.specs.Counting.{Lists}
 use Rattle.nav_types.specs.Walks.{Joined}
-use Rattle.nav_types.proofs.Items.{Contains-head, Contains-tail, Contains-cons_cases, Contains-none, Contains-map, AllPairs-nil, AllPairs-tail, AllPairs-front, head_apart}
+use Rattle.nav_types.proofs.Items.{Contains-head, Contains-tail, Contains-cons_cases, Contains-none, Contains-map, AllPairs-nil, AllPairs-front}
 use Rattle.nav_types.proofs.Walking.{Joined-passes}
 use Rattle.posts.specs.declared.notes.FlowSummary.{FlowSummary}
-use Rattle.flow_field.specs.Flows.{IsNearest, IsFar, IsFieldOf, HasSummary}
+use Rattle.flow_field.specs.Flows.{IsNearest, IsFieldOf, HasSummary}
 use Rattle.flow_field.specs.inner.Marks.{free, spot_of, cell_at_spot, mark_of, is_reached, cells_of, IsCellSpot, IsTable}
-use Rattle.flow_field.specs.inner.Ways.{IsReached, distance_of, IsSummaryOf}
+use Rattle.flow_field.specs.inner.Ways.{distance_of, IsSummaryOf}
 use Rattle.flow_field.proofs.Spots.{spot_of-lt, cell_at_spot-spot_of}
 use Rattle.flow_field.proofs.Reading.{reached_parts, reached_from, reached_far, joined_reached, IsNearest-unique}
 
@@ -74,8 +73,14 @@ listed_sum size at (mark ∷ marks) =
     let rest = listed_sum size (at + 1) marks in
     let sums = sum_by-cons distance_of mark marks in
     elim (cases_Bool (is_reached mark)) [
-      | inl is ↦ omega (arith, ap (λ (l : List (Cell × ℕ)). sum_by second l) (listed_yes size at mark marks is), sum_by-cons second (cell_at_spot size at, mark - 1) (listed size (at + 1) marks),
-      distance_yes mark is, sums, rest)
+      | inl is ↦ omega (
+        arith,
+        ap (λ (l : List (Cell × ℕ)). sum_by second l) (listed_yes size at mark marks is),
+        sum_by-cons second (cell_at_spot size at, mark - 1) (listed size (at + 1) marks),
+        distance_yes mark is,
+        sums,
+        rest,
+      )
       | inr not_is ↦ omega (arith, ap (λ (l : List (Cell × ℕ)). sum_by second l) (listed_no size at mark marks not_is), distance_no mark not_is, sums, rest)
     ]
 
@@ -297,8 +302,7 @@ distance_most mark = elim (cases_Bool (is_reached mark)) [
 pub summary_small : (marks : List ℕ) (summary : FlowSummary) → IsSummaryOf marks summary → length marks ≤ 4202500 → (summary.cells ≤ 4202500) × (summary.sum ≤ 4202500 * free)
 summary_small marks summary so_far few =
     let cells = so_far.cells in
-    let sum = so_far.sum in
-    (
+    let sum = so_far.sum in (
       omega (arith, count_by-le-length is_reached marks),
       omega (arith, sum_by-le distance_of free marks (λ k d below. distance_most (get_or marks k d))),
     )

@@ -1,15 +1,14 @@
 -- A place that is taken out of those that wait, and the end, where none waits.
-use Rattle.std.proofs.Common.{ℕ, ◌≡◌, ◌+◌, ◌-◌, ◌*◌, ◌<◌, ◌≤◌, ◌⊎◌, inl, inr, Bool, List, [], ◌∷◌, IsTrue, length, get_or, sum, count_by, refl, sym, ap, ◌∙◌, subst, arith}
+use Rattle.std.proofs.Common.{ℕ, ◌≡◌, ◌+◌, ◌<◌, ◌⊎◌, inl, inr, Bool, List, ◌∷◌, IsTrue, length, get_or, sum, sym, ap, ◌∙◌, subst, arith}
 use Rattle.std.specs.List.{Contains}
 use Rattle.std.proofs.lemmas.List.Elements.{Contains-get_or}
 use Rattle.nav_types.specs.declared.cells.Cell.{Cell}
 use Rattle.nav_types.specs.declared.cells.Size.{Size}
-use Rattle.nav_types.specs.declared.directions.Dir.{Dir}
 use Rattle.nav_types.proofs.Items.{Contains-head, Contains-tail, Contains-cons_cases}
 use Rattle.flow_field.specs.declared.spreading.Spread.{Spread}
 use Rattle.flow_field.specs.inner.Marks.{free, spot_of, IsSpreading, Every, NoStep}
-use Rattle.flow_field.specs.inner.Spreads.{WaitsIn, left, weight, IsTaken, StepsFrom, IsInner, RelaxesAll, IsSpreadingForSome, KeepsSpreading}
-use Rattle.flow_field.proofs.Spots.{few_spots, spot_of-lt, spot_of-low, spot_of-high, spot_of-inj}
+use Rattle.flow_field.specs.inner.Spreads.{WaitsIn, weight, IsTaken, StepsFrom, IsInner, RelaxesAll, IsSpreadingForSome, KeepsSpreading}
+use Rattle.flow_field.proofs.Spots.{few_spots, spot_of-low, spot_of-high, spot_of-inj}
 
 pub first_waits : (xs : List ℕ) (x : ℕ) → 0 < length xs → x ≡ get_or xs 0 0 → Contains xs x
 first_waits xs x some is = subst (λ (y : ℕ). Contains xs y) (sym is) (Contains-get_or xs 0 0 some)

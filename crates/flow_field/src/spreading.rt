@@ -1,7 +1,6 @@
 //! Marks that spread from the targets over a map.
 ghost use Rattle.std.specs.Prelude.{◌≡◌, ◌+◌, ◌<◌, ◌≤◌, ◌^◌, ℕ, length, slice_index, IfSome, IfNone, OnOk};
 ghost use Rattle.nav_types.specs.declared.limits.TheConstants.{STRAIGHT_COST, DIAGONAL_COST};
-
 ghost use Rattle.flow_field.specs.inner.Marks.{free};
 ghost use Rattle.flow_field.specs.inner.Spreads.{WaitsIn, IsLowered, IsTaken, IsInner, Relaxes, RelaxesAll, IsSpreadingForSome, KeepsSpreading};
 

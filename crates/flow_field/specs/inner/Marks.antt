@@ -1,7 +1,7 @@
 -- The table of marks from which a field is read, and how it is made. It has a place for each cell of the map and for a
 -- border of one cell round it, row by row. A mark is 0 where no cell is passable, `free` where a passable cell is not
 -- reached, and else one more than the cost of a walk from the cell to a target.
-use Rattle.std.specs.Prelude.{ℕ, Bool, false, ◌≡◌, ◌+◌, ◌-◌, ◌*◌, ◌/◌, ◌%◌, ◌<◌, ◌≤◌, ◌⊎◌, ◌&&◌, List, [], ◌++◌, ◌∷◌, length, map, slice_index, slice_set, sum, count_by, nat_lt, if◌then◌else◌, Contains, IsTrue, Option, Some, None}
+use Rattle.std.specs.Prelude.{ℕ, Bool, ◌≡◌, ◌+◌, ◌-◌, ◌*◌, ◌/◌, ◌%◌, ◌<◌, ◌≤◌, ◌⊎◌, ◌&&◌, List, length, map, slice_index, count_by, nat_lt, if◌then◌else◌, Contains, IsTrue, Option, Some, None}
 use Rattle.std.specs.List.{range_with_len}
 use Rattle.nav_types.specs.declared.limits.TheConstants.{DIAGONAL_COST}
 use Rattle.nav_types.specs.declared.cells.Cell.{Cell}

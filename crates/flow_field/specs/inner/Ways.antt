@@ -1,9 +1,7 @@
 -- The step that a finished table gives.
 use Rattle.std.specs.Prelude.{ℕ, ◌≡◌, ◌+◌, ◌-◌, ◌<◌, ◌≤◌, List, slice_index, count_by, sum_by, if◌then◌else◌}
-use Rattle.nav_types.specs.declared.cells.Cell.{Cell}
 use Rattle.nav_types.specs.declared.cells.Size.{Size}
 use Rattle.nav_types.specs.declared.directions.Dir.{Dir}
-use Rattle.nav_types.specs.Cells.{IsInside}
 use Rattle.nav_types.specs.Directions.{step_cost, row_part, column_part}
 use Rattle.flow_field.specs.inner.Marks.{free, is_reached, IsBesideSpot}
 use Rattle.posts.specs.declared.notes.FlowSummary.{FlowSummary}

@@ -1,12 +1,12 @@
-use Rattle.std.proofs.Common.{◌≡◌, ◌++◌, ◌∷◌, [], ℕ, List, Option, Some, None, inl, inr, get_or, sym, ap, ◌∙◌, subst, arith}
+use Rattle.std.proofs.Common.{◌≡◌, ℕ, List, Option, sym, subst}
 use Rattle.std.specs.Option.{IsSome}
 use Rattle.nav_types.specs.declared.directions.Dir.{Dir}
 use Rattle.nav_types.specs.Cells.{IsInside}
-use Rattle.flow_field.specs.Flows.{FieldCells, IsFar, IsFieldOf, far_in, Follows}
-use Rattle.flow_field.specs.inner.Marks.{spot_of, mark_of, far_of, cells_of}
+use Rattle.flow_field.specs.Flows.{FieldCells, IsFar, IsFieldOf, far_in}
+use Rattle.flow_field.specs.inner.Marks.{spot_of, cells_of}
 use Rattle.flow_field.specs.inner.Ways.{IsReached}
 use Rattle.flow_field.proofs.Spots.{IsCellSpot-of}
-use Rattle.flow_field.proofs.Reading.{far_in_is, far_at, known_of_far}
+use Rattle.flow_field.proofs.Reading.{known_of_far}
 use Rattle.flow_field.proofs.Following.{IsFollowedTo, followed_none, followed_more, followed_all, nearer_less, follows_arrives}
 use Rattle.flow_field.proofs.fields.Field.follow.Goals as goal
 

@@ -1,8 +1,8 @@
-use Rattle.std.proofs.Common.{◌≡◌, ℕ, inl, Option, None, get_or, sym, ap, ◌∙◌, subst, arith}
+use Rattle.std.proofs.Common.{◌≡◌, ℕ, inl, Option, get_or, sym, ap, subst, arith}
 use Rattle.nav_types.specs.Cells.{IsInside}
-use Rattle.flow_field.specs.Flows.{FieldCells, IsFar, IsFieldOf, far_in}
+use Rattle.flow_field.specs.Flows.{FieldCells, IsFar, IsFieldOf}
 use Rattle.flow_field.specs.inner.Marks.{spot_of, mark_of, cells_of}
-use Rattle.flow_field.proofs.Reading.{far_in_is, far_at, reached_of_some}
+use Rattle.flow_field.proofs.Reading.{far_at, reached_of_some}
 use Rattle.flow_field.proofs.Following.{next_of}
 use Rattle.flow_field.proofs.fields.Field.next.Goals as goal
 

@@ -6,7 +6,7 @@ use Rattle.nav_types.specs.Cells.{IsInside, IsInRect, cell_at}
 use Rattle.nav_types.proofs.Walking.{Joined-passes}
 use Rattle.flow_field.specs.inner.Marks.{IsSpreading, NoStep, Every}
 use Rattle.flow_field.specs.inner.Spreads.{WaitsIn, FoundBefore, FoundTo}
-use Rattle.flow_field.proofs.Fills.{spreading_as, spreading_none, to_before, next_row, none_before, all_before}
+use Rattle.flow_field.proofs.Fills.{spreading_as, to_before, all_before}
 use Rattle.flow_field.proofs.spreading.Spread.find_targets.Goals as goal
 
 pub loop-i-preserved : goal.loop-i-preserved

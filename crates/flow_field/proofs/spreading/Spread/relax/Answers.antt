@@ -1,6 +1,6 @@
 use Rattle.std.proofs.lemmas.Result.{on_ok_weaker}
 use Rattle.std.proofs.lemmas.List.{get_or_read}
-use Rattle.std.proofs.Common.{ℕ, ◌≡◌, ◌+◌, get_or, arith}
+use Rattle.std.proofs.Common.{◌≡◌, ◌+◌, get_or, arith}
 use Rattle.flow_field.proofs.Relaxing.{relax_all}
 use Rattle.flow_field.proofs.spreading.Spread.relax.Goals as goal
 

@@ -1,8 +1,8 @@
-use Rattle.std.proofs.Common.{◌≡◌, true, get_or, sym, ap, ◌∙◌, subst, arith}
+use Rattle.std.proofs.Common.{◌≡◌, get_or, sym, ◌∙◌, subst, arith}
 use Rattle.std.proofs.lemmas.Bool.{false≢true, both_ways}
 use Rattle.std.proofs.lemmas.List.{get_or_read}
 use Rattle.nav_types.specs.declared.directions.Dir.{Dir}
-use Rattle.flow_field.specs.inner.Marks.{cell_at_spot, is_reached}
+use Rattle.flow_field.specs.inner.Marks.{cell_at_spot}
 use Rattle.flow_field.specs.inner.Ways.{IsReachedBeside}
 use Rattle.flow_field.proofs.Spots.{spot_of-lt}
 use Rattle.flow_field.proofs.Following.{nearer_both, nearer_reached}
@@ -12,11 +12,10 @@ pub returns-then-not-is_reached : goal.returns-then-not-is_reached
 returns-then-not-is_reached c =
     let table = c.args.self.now in
     let marks = table.marks.items in
-    let read : c.index-mark.result.now ≡ get_or marks c.beside.result 0 = get_or_read marks c.beside.result c.index-mark.result.now c.beside.ensures.within c.index-mark.ensures 0 in
-    (
+    let read : c.index-mark.result.now ≡ get_or marks c.beside.result 0 = get_or_read marks c.beside.result c.index-mark.result.now c.beside.ensures.within c.index-mark.ensures 0 in (
       λ e. absurd (false≢true e),
       λ nearer. absurd (both_ways c.is_reached.result c.if-not-is_reached.true
-      (c.is_reached.ensures ∙ nearer_reached table.size marks c.args.at c.args.dir c.beside.result c.index-mark.result.now c.beside.ensures.value read nearer)),
+          (c.is_reached.ensures ∙ nearer_reached table.size marks c.args.at c.args.dir c.beside.result c.index-mark.result.now c.beside.ensures.value read nearer)),
     )
 
 pub returns : goal.returns
