@@ -1,0 +1,10 @@
+pub mod Spots
+pub mod Lowering
+pub mod Relaxing
+pub mod Taking
+pub mod Reading
+pub mod Ending
+pub mod Fills
+pub mod Summing
+pub mod Following
+pub mod SameFields

@@ -1,0 +1,5 @@
+use Rattle.flow_field.proofs.SameFields as law
+use Rattle.flow_field.proofs.laws.shared_summary.Goals as goal
+
+pub returns : goal.returns
+returns c = law.shared_summary

@@ -1,0 +1,3 @@
+pub mod Marks
+pub mod Spreads
+pub mod Ways
