@@ -1,11 +1,10 @@
 -- The smoothed places from one place on, by those from the places after it.
-use Rattle.std.proofs.Common.{ℕ, ◌≡◌, ◌+◌, ◌<◌, ◌≤◌, ◌⊎◌, inl, inr, List, [], ◌∷◌, ◌++◌, Bool, Option, Some, length, map, get_or, refl, sym, ap, ◌∙◌, subst, arith}
+use Rattle.std.proofs.Common.{ℕ, ◌≡◌, ◌+◌, ◌<◌, ◌≤◌, ◌⊎◌, inl, inr, List, [], ◌∷◌, Bool, Some, length, map, refl, sym, ap, ◌∙◌, subst, arith}
 use Rattle.std.specs.Prelude.{slice_get, slice_index}
 use Rattle.std.proofs.lemmas.Bool.{cases_order}
-use Rattle.std.proofs.lemmas.Option.{same_Some}
 use Rattle.nav_types.specs.declared.cells.Cell.{Cell}
 use Rattle.line_smooth.specs.Smoothed.{IsRise, IsSublist, IsLater, IsSmoothed, IsSmoothing}
-use Rattle.line_smooth.specs.inner.Plans.{HasHops, IsLedFrom, ArePlanned, Follows}
+use Rattle.line_smooth.specs.inner.Plans.{ArePlanned, Follows}
 
 -- the last place has none after it
 pub smoothed_last : (passes : Cell → Bool) (places : List Cell) (from : ℕ) → from + 1 ≡ length places → IsSmoothed passes places from []

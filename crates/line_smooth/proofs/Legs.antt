@@ -1,5 +1,5 @@
 -- Each leg of a legal walk is clear.
-use Rattle.std.proofs.Common.{ℕ, zero, suc, ◌≡◌, ◌+◌, ◌-◌, ◌*◌, ◌<◌, ◌≤◌, ◌⊎◌, inl, inr, Bool, true, false, not, ◌&&◌, cond, eqb, List, [], ◌∷◌, ◌++◌, Option, Some, IsTrue, length, refl, sym, ap, subst, ◌∙◌, arith}
+use Rattle.std.proofs.Common.{ℕ, zero, suc, ◌≡◌, ◌+◌, ◌*◌, ◌<◌, ◌≤◌, ◌⊎◌, inl, inr, Bool, true, not, ◌&&◌, cond, eqb, List, [], ◌∷◌, ◌++◌, Some, IsTrue, refl, sym, ap, subst, arith}
 use Rattle.std.specs.Prelude.{slice_get, if◌then◌else◌}
 use Rattle.std.proofs.lemmas.Bool.{cases_Bool, cases_eq, cases_lt, cases_order, and_parts, eqb-true}
 use Rattle.std.proofs.lemmas.Option.{same_Some, slice_get_within}
@@ -12,8 +12,8 @@ use Rattle.nav_types.specs.Directions.{east, west, north, south, Leads}
 use Rattle.nav_types.specs.Walks.{Step, IsWalk}
 use Rattle.nav_types.proofs.CellOrder.{same_cell}
 use Rattle.walks.specs.Waypoints.{cell_after, is_same_way, waypoints}
-use Rattle.line_smooth.specs.Segments.{gap, Touches, IsClear}
-use Rattle.line_smooth.specs.Smoothed.{IsClearBetween, AreCorners}
+use Rattle.line_smooth.specs.Segments.{gap, IsClear}
+use Rattle.line_smooth.specs.Smoothed.{AreCorners}
 use Rattle.line_smooth.specs.inner.Plans.{AreLegsClear}
 
 -- so many steps in one direction lead from one cell to another: the cells on the way are passable, and those beside its steps

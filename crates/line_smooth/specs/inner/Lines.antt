@@ -1,5 +1,5 @@
 -- Lines between the lines of two cells.
-use Rattle.std.specs.Prelude.{ℕ, ◌≤◌, ◌+◌, ◌≡◌}
+use Rattle.std.specs.Prelude.{ℕ, ◌+◌, ◌≡◌}
 use Rattle.line_smooth.specs.Segments.{gap}
 
 -- the number is one of the two others or lies between them

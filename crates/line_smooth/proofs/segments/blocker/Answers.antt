@@ -1,7 +1,5 @@
 use Rattle.std.proofs.Common.{◌≡◌, arith}
-use Rattle.nav_types.specs.declared.cells.Cell.{Cell}
-use Rattle.nav_types.specs.Lines.{cell_on, line_on}
-use Rattle.line_smooth.specs.Segments.{Touches}
+use Rattle.nav_types.specs.Lines.{line_on}
 use Rattle.line_smooth.specs.inner.Lines.{IsBetween}
 use Rattle.line_smooth.proofs.Sights.{clear_by_lines}
 use Rattle.line_smooth.proofs.segments.blocker.Goals as goal

@@ -1,8 +1,6 @@
 use Rattle.std.specs.Prelude.{slice_index}
-use Rattle.std.proofs.Common.{ℕ, ◌<◌, ◌∙◌, rules, ◌≡◌, ◌+◌, ◌-◌, sym, subst, ap, arith, length, get_or}
+use Rattle.std.proofs.Common.{ℕ, ◌<◌, ◌∙◌, rules, ◌+◌, ◌-◌, sym, subst, arith, length}
 use Rattle.std.proofs.lemmas.Bool.{both_ways}
-use Rattle.nav_types.specs.declared.cells.Cell.{Cell}
-use Rattle.line_smooth.specs.Smoothed.{IsRise}
 use Rattle.line_smooth.specs.inner.Plans.{IsBlocking}
 use Rattle.line_smooth.proofs.Candidates.{hops_below, place_inside, clear_between, clear_cells, IsBestSoFar, candidate_kept, candidate_taken}
 use Rattle.line_smooth.proofs.smoothing.best_next.Goals as goal

@@ -1,4 +1,4 @@
-use Rattle.std.proofs.Common.{◌-◌, ◌≤◌, length}
+use Rattle.std.proofs.Common.{◌-◌, length}
 use Rattle.line_smooth.specs.inner.Plans.{IsBlocking, AreHopsFrom, ArePlanned}
 use Rattle.line_smooth.proofs.smoothing.planned_rises.Given as goal
 

@@ -1,4 +1,4 @@
-use Rattle.std.proofs.Common.{ℕ, List, Some, ◌≡◌, ◌∷◌, ◌<◌, ◌∙◌, length, map, refl, sym, ap, subst, arith}
+use Rattle.std.proofs.Common.{ℕ, List, Some, ◌≡◌, ◌∷◌, ◌∙◌, length, map, sym, subst, arith}
 use Rattle.std.specs.Prelude.{slice_get}
 use Rattle.nav_types.specs.declared.cells.Cell.{Cell}
 use Rattle.line_smooth.specs.Smoothed.{IsSmoothing}

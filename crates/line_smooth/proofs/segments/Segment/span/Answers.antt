@@ -1,7 +1,5 @@
-use Rattle.std.proofs.Common.{refl, arith, ◌∙◌, ap}
+use Rattle.std.proofs.Common.{arith}
 use Rattle.line_smooth.proofs.Spans.{IsOn, span_up, span_down}
-use Rattle.line_smooth.specs.Segments.{gap}
-use Rattle.nav_types.specs.Lines.{cell_on, line_on, place_on}
 use Rattle.line_smooth.proofs.segments.Segment.span.Goals as goal
 
 pub returns-then-from-to-clause-exact : goal.returns-then-from-to-clause-exact
