@@ -54,21 +54,6 @@ pub record IsBestSoFar (passes : Cell → Bool) (places : List Cell) (hops : Lis
   pub each : (k : ℕ) → at < k → IsRise passes places from k
       → (bound ≤ slice_index hops k) × (slice_index hops k ≡ slice_index hops next → k ≤ next)
 
-pub first_candidate : (passes : Cell → Bool) (places : List Cell) (hops : List ℕ) (from at : ℕ) → AreLegsClear passes places → from + 1 < length places
-    → from < at → at ≤ from + 64 → at < length places → ((k : ℕ) → at < k → IsRise passes places from k → ⊥)
-    → IsBestSoFar passes places hops from (from + 1) (slice_index hops (from + 1) + 1) at
-first_candidate passes places hops from at legs long after few within none = record {
-  rise = record { rises = omega arith; few = omega arith; within = long; clear = legs from long };
-  after = after;
-  few = few;
-  within = within;
-  first = omega arith;
-  low = omega arith;
-  high = omega arith;
-  passed = inl (omega arith);
-  each = λ k past rise. absurd (none k past rise);
-}
-
 pub candidate_kept : (passes : Cell → Bool) (places : List Cell) (hops : List ℕ) (from next bound at : ℕ) → IsBestSoFar passes places hops from next bound at
     → from + 1 < at → (IsRise passes places from at → bound ≤ slice_index hops at) → IsBestSoFar passes places hops from next bound (at - 1)
 candidate_kept passes places hops from next bound at so_far more looked =
@@ -114,48 +99,12 @@ candidate_taken passes places hops from next bound at so_far more less clear =
       ];
     }
 
-pub best_found : (passes : Cell → Bool) (places : List Cell) (hops : List ℕ) (from next bound at : ℕ) → IsBestSoFar passes places hops from next bound at
-    → at ≤ from + 1 → IsBestNext passes places hops from next
-best_found passes places hops from next bound at so_far done = record {
-  rise = so_far.rise;
-  least = λ k rise.
-      (let up = rise.rises in let on = so_far.rise.rises in let first = so_far.first in let low = so_far.low in
-      elim (cases_eq k (from + 1)) [
-        | inl here ↦
-            let e : slice_index hops k ≡ slice_index hops (from + 1) = ap (slice_index hops) here in
-            elim (cases_order (slice_index hops next) (slice_index hops k)) [
-              | inl same ↦ inr (same, omega arith)
-              | inr order ↦ elim order [ inl less ↦ inl less | inr more ↦ absurd (omega arith) ]
-            ]
-        | inr other ↦
-            let old = so_far.each k (omega arith) rise in let least : so_far.low ≡ so_far.low = refl in let bounded = old.0 in
-            elim (cases_order (slice_index hops next) (slice_index hops k)) [
-              | inl same ↦ inr (same, old.1 (sym same))
-              | inr order ↦ elim order [ inl less ↦ inl less | inr more ↦ absurd (omega arith) ]
-            ]
-      ]);
-}
-
 -- a number of smoothed places is below that of all places
 pub hops_below : (passes : Cell → Bool) (places : List Cell) (at hops : ℕ) → HasHops passes places at hops → at + hops < length places
 hops_below passes places at hops has =
     let within = sublist_within passes places at has.0 has.1.0.sublist in let e = has.1.1 in omega arith
 
--- the tables before the first rise
-pub blank_hops : (passes : Cell → Bool) (places : List Cell) → AreHopsFrom passes places (replicate (length places) 0) (length places - 1)
-blank_hops passes places = record {
-  covers = length-replicate (length places) 0;
-  each = λ at low high.
-      ([], (smoothed_last passes places at (omega arith), sym (get_or-replicate (length places) at 0 0 high)));
-}
-
-pub blank_rises : (passes : Cell → Bool) (places : List Cell) → ArePlanned passes places (replicate (length places) 0) (length places - 1)
-blank_rises passes places = record {
-  covers = length-replicate (length places) 0;
-  each = λ from low high. absurd (omega arith);
-}
-
--- and with one more place
+-- the tables with one more place
 best_before : (passes : Cell → Bool) (places : List Cell) (hops : List ℕ) (from next : ℕ) → AreHopsFrom passes places hops (from + 1)
     → IsBestNext passes places hops from next → (rest : List ℕ) × (IsSmoothed passes places from (next ∷ rest) × (length rest ≡ slice_index hops next))
 best_before passes places hops from next known best =

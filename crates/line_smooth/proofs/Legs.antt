@@ -11,6 +11,8 @@ use Rattle.nav_types.specs.Cells.{cell_at}
 use Rattle.nav_types.specs.Directions.{east, west, north, south, Leads}
 use Rattle.nav_types.specs.Walks.{Step, IsWalk}
 use Rattle.nav_types.proofs.CellOrder.{same_cell}
+use Rattle.walks.specs.Chosen.{IsAnswer}
+use Rattle.walks.proofs.Tracing.{chosen_walk}
 use Rattle.walks.specs.Waypoints.{cell_after, is_same_way, waypoints}
 use Rattle.line_smooth.specs.Segments.{gap, IsClear}
 use Rattle.line_smooth.specs.Smoothed.{AreCorners}
@@ -222,3 +224,12 @@ clear_legs passes start corners are from long a b at_a at_b =
     let on : from + 1 ≡ suc from = omega arith in
     let Q = λ (k : ℕ). slice_get (start ∷ corners) k ≡ Some b in
     legs_at passes start corners legs from a b at_a (subst Q on at_b)
+
+-- the waypoints of a search's answer are corners of a legal walk
+pub corners_of_answer : (passes hit : Cell → Bool) (start end : Cell) (cost : ℕ) (points : List Cell) → IsAnswer passes start hit end cost points → AreCorners passes start points
+corners_of_answer passes hit start end cost points answer = record {
+  dirs = answer.walk.0;
+  end = end;
+  walk = chosen_walk passes start end answer.walk.0 answer.walk.1.0;
+  turns = answer.walk.1.1.1;
+}

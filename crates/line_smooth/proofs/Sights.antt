@@ -23,14 +23,7 @@ pub cell_on-self : (axis : Axis) (cell : Cell) → cell_on axis (line_on axis ce
 cell_on-self Row cell = refl
 cell_on-self Column cell = refl
 
--- cells that a segment touches lie in a map that has its ends
-pub touched_inside : (size : Size) (a b cell : Cell) → IsInside size a → IsInside size b → Touches a b cell → IsInside size cell
-touched_inside size a b cell in_a in_b touches =
-    let columns = touches.columns in let rows = touches.rows in
-    let east_a = in_a.column in let east_b = in_b.column in let north_a = in_a.row in let north_b = in_b.row in
-    record { column = omega arith; row = omega arith }
-
--- and on a line between theirs
+-- cells that a segment touches are on a line between those of its ends
 pub touched_between : (axis : Axis) (a b cell : Cell) → Touches a b cell → IsBetween (line_on axis a) (line_on axis b) (line_on axis cell)
 touched_between Row a b cell touches = touches.rows
 touched_between Column a b cell touches = touches.columns

@@ -86,10 +86,12 @@ fn touched(long: u32, short: u32, across: u32) -> Span
 }
 
 impl Segment {
-    /// The segment, along its longer side: so it has fewer lines than places along them.
+    /// The segment, along its longer side: so it touches no more lines than it needs.
     fn new(from: Cell, to: Cell) -> Segment
         ensures from { result.from ≡ from }
         ensures to { result.to ≡ to }
+        ensures along { gap (line_on result.axis from) (line_on result.axis to)
+            ≤ gap (place_on result.axis from) (place_on result.axis to) }
     {
         let axis = if gap(from.i, to.i) < gap(from.j, to.j) {
             Axis::Column

@@ -8,7 +8,7 @@ use crate::fixtures::maps::drawn;
 use crate::fixtures::searches::{are_cells, is_fit, is_found, search_of};
 use crate::fixtures::texts::fields_of;
 use line_smooth::{clear, smooth};
-use nav_types::{CellByCell, Cell, Class, FreeCells, View};
+use nav_types::{Cell, CellByCell, Class, FreeCells, View};
 use std::alloc::Global;
 use walks::{Found, Waypoints, plain_search};
 
