@@ -1,5 +1,5 @@
 -- The places of a line that a segment touches.
-use Rattle.std.proofs.Common.{ℕ, ◌≡◌, ◌+◌, ◌-◌, ◌*◌, ◌/◌, ◌<◌, ◌≤◌, ◌↔◌, inl, inr, sym, subst, arith}
+use Rattle.std.proofs.Common.{ℕ, zero, suc, ◌≡◌, ◌+◌, ◌-◌, ◌*◌, ◌/◌, ◌<◌, ◌≤◌, ◌↔◌, inl, inr, sym, ap, subst, arith}
 use Rattle.std.proofs.lemmas.Bool.{cases_lt}
 use Rattle.std.proofs.Math.Nat.{le-div_iff_mul-le, div-lt_iff_lt-mul, div-mul-le_self, mul-le-mul_left}
 use Rattle.nav_types.specs.declared.cells.Cell.{Cell}
@@ -9,40 +9,47 @@ use Rattle.nav_types.specs.Lines.{cell_on, line_on, place_on}
 use Rattle.line_smooth.specs.Segments.{gap, Touches}
 use Rattle.line_smooth.specs.inner.Lines.{IsBetween}
 
--- a quotient rounded up is at most one of a greater number rounded down, where those lie a unit apart
-rounded : (m s u x : ℕ) → 0 < u → u ≤ 2 * s → x ≡ m - s → (x + (u - 1)) / u ≤ (m + s) / u
-rounded m s u x some wide is =
-    let up = (x + (u - 1)) / u in
-    let below : up * u ≤ x + (u - 1) = div-mul-le_self (x + (u - 1)) u in
-    elim (cases_lt m s) [
-      | inl less ↦
-          let none : up < 1 = (div-lt_iff_lt-mul {k = u} {x = x + (u - 1)} {y = 1} some).1 (omega arith) in
-          omega arith
-      | inr more ↦ (le-div_iff_mul-le {k = u} {x = up} {y = m + s} some).1 (omega arith)
-    ]
+-- what makes a place so far along touched, where its line is so far across
+abbrev pub IsNear : ℕ → ℕ → ℕ → ℕ → Type 0
+IsNear long short across along = 2 * gap (long * across) (short * along) ≤ long + short
 
--- the first place of a line is not behind the segment's end
-reached : (m u x long : ℕ) → 0 < u → x ≤ m → m ≤ long * u → (x + (u - 1)) / u ≤ long
-reached m u x long some less within =
-    let below : (x + (u - 1)) / u < long + 1 = (div-lt_iff_lt-mul {k = u} {x = x + (u - 1)} {y = long + 1} some).1 (omega arith) in
+-- the place of a line that lies nearest to the segment is touched
+nearest_near : (long short across q : ℕ) → q * (2 * short) ≤ 2 * (long * across) + short → 2 * (long * across) < q * (2 * short) + short → IsNear long short across q
+nearest_near long short across q low high = omega arith
+
+on_a_line : (long across : ℕ) → across ≤ 0 → IsNear long 0 across 0
+on_a_line long across none =
+    let is : across ≡ 0 = omega arith in
+    let nought : long * across ≡ long * 0 = ap (λ (n : ℕ). long * n) is in
     omega arith
 
--- some place of each line is touched
-pub some_touched : (long short across x : ℕ) → 0 < short → across ≤ short → x ≡ 2 * long * across - (long + short)
-    → ((x + (2 * short - 1)) / (2 * short) ≤ long) × ((x + (2 * short - 1)) / (2 * short) ≤ (2 * long * across + (long + short)) / (2 * short))
-some_touched long short across x some within is =
-    let product = mul-le-mul_left (2 * long) within in (
-      reached (2 * long * across) (2 * short) x long (omega arith) (omega arith) (omega (arith, product)),
-      rounded (2 * long * across) (long + short) (2 * short) x (omega arith) (omega arith) is,
-    )
+nearest : (long short across : ℕ) → 0 < short → across ≤ short → (along : ℕ) × ((along ≤ long) × IsNear long short across along)
+nearest long short across some within =
+    let q = (2 * (long * across) + short) / (2 * short) in
+    let unit : 0 < 2 * short = omega arith in
+    let low : q * (2 * short) ≤ 2 * (long * across) + short = div-mul-le_self (2 * (long * across) + short) (2 * short) in
+    let next : 2 * (long * across) + short < (q + 1) * (2 * short) =
+    (div-lt_iff_lt-mul {k = 2 * short} {x = 2 * (long * across) + short} {y = q + 1} unit).0 (omega arith) in
+    let product = mul-le-mul_left long within in
+    let below : q < long + 1 = (div-lt_iff_lt-mul {k = 2 * short} {x = 2 * (long * across) + short} {y = long + 1} unit).1 (omega (arith, product)) in
+    (q, (omega arith, nearest_near long short across q low (omega arith)))
+
+pub some_touched : (long short across : ℕ) → across ≤ short → (along : ℕ) × ((along ≤ long) × IsNear long short across along)
+some_touched long zero across within = (0, (omega arith, on_a_line long across within))
+some_touched long (suc short) across within = nearest long (suc short) across (omega arith) within
+
+-- so a line has a first touched place and a last one
+pub some_span : (long short across first last : ℕ) → across ≤ short → ((along : ℕ) → along ≤ long → IsNear long short across along ↔ ((first ≤ along) × (along ≤ last)))
+    → first ≤ last
+some_span long short across first last within exact =
+    let near = some_touched long short across within in
+    let both = (exact near.0 near.1.0).0 near.1.1 in
+    let low : first ≤ near.0 = both.0 in let high : near.0 ≤ last = both.1 in
+    omega arith
 
 -- a cell of a line is touched by what is known of its place
 turn : (p q s t : ℕ) → 2 * gap p q ≤ s + t → 2 * gap q p ≤ t + s
 turn p q s t near = omega arith
-
--- what makes a place so far along touched, where its line is so far across
-abbrev pub IsNear : ℕ → ℕ → ℕ → ℕ → Type 0
-IsNear long short across along = 2 * gap (long * across) (short * along) ≤ long + short
 
 touches_line : (axis : Axis) (a b : Cell) (line place : ℕ) → IsBetween (line_on axis a) (line_on axis b) line
     → Touches a b (cell_on axis line place) ↔ (IsBetween (place_on axis a) (place_on axis b) place

@@ -63,7 +63,6 @@ fn touched(long: u32, short: u32, across: u32) -> Span
     requires long { long < MAX_SIDE }
     requires short { short < MAX_SIDE }
     requires across { across ≤ short }
-    ensures some { result.first ≤ result.last }
     ensures within { result.last ≤ long }
     ensures exact { (along : ℕ) → along ≤ long
         → (2 * gap (long * across) (short * along) ≤ long + short) ↔ ((result.first ≤ along) × (along ≤ result.last)) }

@@ -1,5 +1,5 @@
-use Rattle.std.proofs.Common.{arith}
-use Rattle.line_smooth.proofs.Spans.{IsOn, span_up, span_down}
+use Rattle.std.proofs.Common.{◌≤◌, arith, rules}
+use Rattle.line_smooth.proofs.Spans.{IsOn, some_span, span_up, span_down}
 use Rattle.line_smooth.proofs.segments.Segment.span.Goals as goal
 
 pub returns-then-from-to-clause-exact : goal.returns-then-from-to-clause-exact
@@ -34,4 +34,28 @@ returns-else-from-to-clause-exact c =
       across_is = (cc);
     } in
     span_down s.axis s.from s.to c.args.line c.place_on-from.result c.place_on-to.result c.gap.result c.gap-2.result c.gap-3.result
-    c.touched-along.result.first c.touched-along.result.last on long (omega arith) c.touched-along.ensures.some c.touched-along.ensures.within c.touched-along.ensures.exact
+    c.touched-along.result.first c.touched-along.result.last on long (omega arith) (some_span c.gap.result c.gap-2.result c.gap-3.result c.touched-along.result.first c.touched-along.result.last (omega arith) c.touched-along.ensures.exact) c.touched-along.ensures.within c.touched-along.ensures.exact
+
+pub overflow_add-result : goal.overflow_add-result
+overflow_add-result c =
+    let some : c.touched-along.result.first ≤ c.touched-along.result.last =
+    some_span c.gap.result c.gap-2.result c.gap-3.result c.touched-along.result.first c.touched-along.result.last (omega arith) c.touched-along.ensures.exact in
+    search rules
+
+pub overflow_sub-result-else-from-to : goal.overflow_sub-result-else-from-to
+overflow_sub-result-else-from-to c =
+    let some : c.touched-along.result.first ≤ c.touched-along.result.last =
+    some_span c.gap.result c.gap-2.result c.gap-3.result c.touched-along.result.first c.touched-along.result.last (omega arith) c.touched-along.ensures.exact in
+    omega arith
+
+pub returns-then-from-to-clause-some : goal.returns-then-from-to-clause-some
+returns-then-from-to-clause-some c =
+    let some : c.touched-along.result.first ≤ c.touched-along.result.last =
+    some_span c.gap.result c.gap-2.result c.gap-3.result c.touched-along.result.first c.touched-along.result.last (omega arith) c.touched-along.ensures.exact in
+    omega arith
+
+pub returns-else-from-to-clause-some : goal.returns-else-from-to-clause-some
+returns-else-from-to-clause-some c =
+    let some : c.touched-along.result.first ≤ c.touched-along.result.last =
+    some_span c.gap.result c.gap-2.result c.gap-3.result c.touched-along.result.first c.touched-along.result.last (omega arith) c.touched-along.ensures.exact in
+    omega arith
