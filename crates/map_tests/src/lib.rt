@@ -29,6 +29,8 @@ mod jump_search_tests;
 #[cfg(test)]
 mod lane_rows_tests;
 #[cfg(test)]
+mod line_smooth_tests;
+#[cfg(test)]
 mod nav_types_tests;
 #[cfg(test)]
 mod obstruction_shapes_tests;

@@ -1,0 +1,3 @@
+pub mod Segments
+pub mod Smoothed
+pub mod inner
