@@ -216,6 +216,9 @@ fn distances_are_those_of_searches(rt: HostRuntime) {
 #[test]
 fn summaries_are_as_the_rows_say(rt: HostRuntime) {
     for (line, first, summary) in SUMMARIES {
-        assert!(rt; told_by(rt.alloc(), line) == Some((first, summary)), "{line}");
+        assert!(rt;
+            told_by(rt.alloc(), line) == Some((first, summary)),
+            "{line}"
+        );
     }
 }
