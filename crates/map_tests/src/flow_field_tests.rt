@@ -1,25 +1,224 @@
 //! Flow fields over small maps that are drawn as text.
-ghost use Rattle.std.specs.Prelude.{◌<◌};
+ghost use Rattle.std.specs.Prelude.{◌≡◌, ◌<◌, IsTrue, IfSome};
+ghost use Rattle.nav_types.specs.Cells.{IsInside};
+ghost use Rattle.nav_types.specs.Walks.{CanReach};
 
-use crate::fixtures::searches::{is_fit, search_of};
-use crate::fixtures::texts::fields_of;
+use crate::fixtures::aims::parsed_targets;
+use crate::fixtures::texts::{fields_of, parsed_cell};
 use crate::fixtures::versions::drawn_version;
 use flow_field::{Field, FlowSummary, field};
-use nav_types::{Areas, Cell, Class, Cost, Dir, FreeCells, View};
+use nav_types::{Aim, Areas, Cell, Class, Dir, FreeCells, View};
 use std::alloc::Global;
 use walks::{cost, plain_search};
 
-/// In each line the rows of a map from the first up, `#` impassable, the start, the targets, the end and the cost of the
-/// answer to a search and its waypoints, and then the step to take at the start, the number of cells that have a distance,
-/// the greatest of these and their sum.
-const TABLE: &str = "\
-.../.../...;0,0;2,2;2,2;185364;2,2;NE;9;185364;987698
-...../.###./.....;2,0;1,2 2,2 3,2;1,2;327680;0,0 0,2 1,2;W;12;327680;1638400
+/// In each line the rows of a map from the first up, `#` impassable, a start, targets, and one of them that a walk joins to
+/// the start.
+const MAPS: &str = "\
+.#....##.#../...#....#..#/..#........./.#...#.....#/...#.##...##/#.#..###.#../....##....#./....#..#.#../............;5,8;10,5 8,7 3,7;10,5
+#........../....#....../.#.#......./..#...#..../.#......#../...##....#./..#..#..#../##.....#...;5,2;8,4 9,5 4,4 2,5 7,7;4,4
+...#......##/.........#../##..#......./..#...##..#./##...#..#..#/#...#..#...#/..........#./...#.#...#../............;1,7;0,5 5,6 7,7;5,6
+..##.###..#/##....##..#/#.#...##..#/.##..###.#./.#..##...##/##...##..#./.#.#.#.##../##.......##;3,3;4,2 7,7 9,6;4,2
+.....##.#.../###........./........#.../...#.#.#..../........##.#/#.......#..#/.###....#.#./........#.../#.#.....##..;7,7;11,3 2,1;11,3
+##...##../##...##../.#....##./......#.#/.#..#.#../....#.#../..##.#.../#.....###/#.....##./.#..##.../...#..#../...#.....;1,10;4,4 1,6 3,10;1,6
+#...##.#..#/...#......./.....#..#.#/.....##..#./.#........./....###.##./...##.##.../###.#.##...;10,3;0,4;0,4
+###......#./.###.##...#/.#..###.#../####...##../...#.###..#/......##.../....#.##.../..#........;3,6;10,2;10,2
+...#.#.#.#./....##...#./.#.......##/.##....#.../#.....##.#./.##.....#.#/#.......##./.#.....#..#;4,7;6,3 6,6;6,3
+..##.#....../##.........#/......#..#.#/#.#........#/...#.##...../#..#..#...../..##..###.##/...###.#.#../...#....##..;7,4;7,2;7,2
 ";
 
+/// Lines as in `MAPS`, the step to take at the start, and how many cells have a distance, the greatest of the distances and
+/// their sum.
+const SUMMARIES: [(&str, Option<Dir>, FlowSummary); 4] = [
+    (
+        ".../.../...;0,0;2,2;2,2",
+        Some(Dir::NE),
+        FlowSummary {
+            cells: 9,
+            farthest: 185_364,
+            sum: 987_698,
+        },
+    ),
+    (
+        ".../.#./...;0,0;2,2;2,2",
+        Some(Dir::N),
+        FlowSummary {
+            cells: 8,
+            farthest: 262_144,
+            sum: 1_048_576,
+        },
+    ),
+    (
+        ".../.../...;1,1;1,1;1,1",
+        None,
+        FlowSummary {
+            cells: 9,
+            farthest: 92_682,
+            sum: 632_872,
+        },
+    ),
+    (
+        "...../.###./.....;2,2;1,0 2,0 3,0;1,0",
+        Some(Dir::E),
+        FlowSummary {
+            cells: 12,
+            farthest: 327_680,
+            sum: 1_638_400,
+        },
+    ),
+];
+
+/// Whether a walk leads from the cell to the end, which is hit.
+fn can_reach<M: Areas, A: Aim>(map: &M, class: Class, cell: Cell, aim: &A, end: Cell) -> bool
+    requires class { class < M.class_count map.now }
+    requires aim { A.sound aim.now (M.extent map.now) }
+    requires inside { IsInside (M.extent map.now) cell }
+    requires end { IsInside (M.extent map.now) end }
+    ensures start { IsTrue result → IsTrue (M.passes map.now class cell) }
+    ensures reach { IsTrue result → CanReach (M.passes map.now class) cell (A.hit aim.now (M.extent map.now)) }
+{
+    if !map.passable(class, cell) {
+        return false;
+    }
+    if !map.passable(class, end) {
+        return false;
+    }
+    if !aim.hits(map.size(), end) {
+        return false;
+    }
+    map.area(class, cell) == map.area(class, end)
+}
+
+/// Whether the walk that the field gives from the cell costs the cell's distance.
+fn follows_at_its_cost(alloc: Global, field: &Field, cell: Cell) -> bool
+    requires { IsInside field.now.size cell }
+{
+    let Some(far) = field.far(cell) else {
+        return false;
+    };
+    match field.follow(alloc, cell) {
+        Ok(walk) => walk.len() < 1_000 && cost(&walk) == far,
+        Err(_) => false,
+    }
+}
+
+/// Whether the field has the distance of the cell that a search from it finds, and none where no walk leads to the end.
+fn agrees<M: Areas, A: Aim>(
+    alloc: Global,
+    map: &M,
+    aim: &A,
+    end: Cell,
+    field: &Field,
+    cell: Cell,
+) -> bool
+    requires class { 0 < M.class_count map.now }
+    requires aim { A.sound aim.now (M.extent map.now) }
+    requires end { IsInside (M.extent map.now) end }
+    requires size { field.now.size ≡ M.extent map.now }
+    requires inside { IsInside (M.extent map.now) cell }
+{
+    let class = Class::new(0);
+    if !can_reach(map, class, cell, aim, end) {
+        return field.far(cell).is_none();
+    }
+    match plain_search(alloc, map, class, cell, aim) {
+        Ok(found) => {
+            field.far(cell) == Some(found.cost) && follows_at_its_cost(alloc, field, cell)
+        }
+        Err(_) => false,
+    }
+}
+
+/// The field of a start. None where no walk leads from it to the end, or there is no memory.
+fn field_from<M: FreeCells + Areas, A: Aim>(
+    alloc: Global,
+    map: &M,
+    start: Cell,
+    aim: &A,
+    end: Cell,
+) -> Option<Field>
+    requires class { 0 < M.class_count map.now }
+    requires aim { A.sound aim.now (M.extent map.now) }
+    requires start { IsInside (M.extent map.now) start }
+    requires end { IsInside (M.extent map.now) end }
+    ensures { IfSome result (λ field. field.size ≡ M.extent map.now) }
+{
+    let class = Class::new(0);
+    if !can_reach(map, class, start, aim, end) {
+        return None;
+    }
+    match field(alloc, map, class, start, aim) {
+        Ok(field) => Some(field),
+        Err(_) => None,
+    }
+}
+
+/// Whether the field of a start agrees with searches from cells all over the map. None where there is no field.
+fn agrees_everywhere<M: FreeCells + Areas, A: Aim>(
+    alloc: Global,
+    map: &M,
+    start: Cell,
+    aim: &A,
+    end: Cell,
+) -> Option<bool>
+    requires class { 0 < M.class_count map.now }
+    requires aim { A.sound aim.now (M.extent map.now) }
+    requires start { IsInside (M.extent map.now) start }
+    requires end { IsInside (M.extent map.now) end }
+{
+    let size = map.size();
+    let field = field_from(alloc, map, start, aim, end)?;
+    for j in 0..size.h {
+        for i in 0..size.w {
+            // a search from each seventh cell, since each looks at the whole map
+            let is_asked = (i + 2 * j) % 7 == 0;
+            if is_asked && !agrees(alloc, map, aim, end, &field, Cell::new(i, j)) {
+                return Some(false);
+            }
+        }
+    }
+    Some(true)
+}
+
+/// Whether the field of a line agrees with searches from cells all over the map. None where the line has no field.
+fn agrees_on_the_map(alloc: Global, line: &str) -> Option<bool> {
+    let [map, start, targets, end, _, _, _] = fields_of(line);
+    let map = drawn_version(alloc, map)?;
+    let (start, end) = (parsed_cell(start)?, parsed_cell(end)?);
+    let targets = parsed_targets(alloc, targets)?;
+    let size = map.size();
+    if map.classes() < 1 || !targets.rect.is_inside(size) || !size.has(start) || !size.has(end) {
+        return None;
+    }
+    agrees_everywhere(alloc, &map, start, &targets, end)
+}
+
+/// The step to take at the start of a line, and the summary of its field.
+fn told_by(alloc: Global, line: &str) -> Option<(Option<Dir>, FlowSummary)> {
+    let [map, start, targets, end, _, _, _] = fields_of(line);
+    let map = drawn_version(alloc, map)?;
+    let (start, end) = (parsed_cell(start)?, parsed_cell(end)?);
+    let targets = parsed_targets(alloc, targets)?;
+    let size = map.size();
+    if map.classes() < 1 || !targets.rect.is_inside(size) || !size.has(start) || !size.has(end) {
+        return None;
+    }
+    let field = field_from(alloc, &map, start, &targets, end)?;
+    Some((field.next(start), field.summary()))
+}
+
 #[test]
-fn fields_are_as_the_table_says(rt: HostRuntime) {
-    for line in TABLE.lines() {
-        assert!(rt; line.len() > 0, "{line}");
+fn distances_are_those_of_searches(rt: HostRuntime) {
+    for line in MAPS.lines() {
+        assert!(rt; agrees_on_the_map(rt.alloc(), line) == Some(true), "{line}");
+    }
+}
+
+#[test]
+fn summaries_are_as_the_rows_say(rt: HostRuntime) {
+    for (line, first, summary) in SUMMARIES {
+        assert!(rt;
+            told_by(rt.alloc(), line) == Some((first, summary)),
+            "{line}"
+        );
     }
 }

@@ -15,6 +15,8 @@ mod fixed_point_tests;
 #[cfg(test)]
 mod fixtures;
 #[cfg(test)]
+mod flow_field_tests;
+#[cfg(test)]
 mod goal_reach_tests;
 #[cfg(test)]
 mod goal_shapes_tests;
