@@ -1,9 +1,9 @@
 -- The best rise from a place, candidate by candidate, and the tables one place further back.
-use Rattle.std.proofs.Common.{ℕ, zero, suc, ◌≡◌, ◌+◌, ◌-◌, ◌<◌, ◌≤◌, ◌⊎◌, inl, inr, List, [], ◌∷◌, Bool, IsTrue, length, get_or, set, refl, sym, ap, ◌∙◌, subst, arith}
-use Rattle.std.specs.Prelude.{slice_index, replicate}
-use Rattle.std.proofs.lemmas.Bool.{cases_eq, cases_order}
+use Rattle.std.proofs.Common.{ℕ, zero, suc, ◌≡◌, ◌+◌, ◌-◌, ◌<◌, ◌≤◌, ◌⊎◌, inl, inr, List, ◌∷◌, Bool, IsTrue, length, get_or, set, sym, ap, ◌∙◌, subst, arith}
+use Rattle.std.specs.Prelude.{slice_index}
+use Rattle.std.proofs.lemmas.Bool.{cases_eq}
 use Rattle.std.proofs.lemmas.Option.{get_or_from_slice_get, slice_get-get_or}
-use Rattle.std.proofs.lemmas.List.{length-set, length-replicate, get_or-set_same, get_or-set_other, get_or-replicate}
+use Rattle.std.proofs.lemmas.List.{length-set, get_or-set_same, get_or-set_other}
 use Rattle.nav_types.specs.declared.cells.Cell.{Cell}
 use Rattle.nav_types.specs.declared.cells.Size.{Size}
 use Rattle.nav_types.specs.Cells.{IsInside}
@@ -11,7 +11,7 @@ use Rattle.line_smooth.specs.Segments.{IsClear}
 use Rattle.line_smooth.specs.Smoothed.{IsClearBetween, IsRise, IsSmoothed}
 use Rattle.line_smooth.specs.inner.Plans.{AreLegsClear, HasHops, AreHopsFrom, IsBestNext, IsLedFrom, ArePlanned, AreRising}
 use Rattle.line_smooth.proofs.Sights.{touches_from, touches_to}
-use Rattle.line_smooth.proofs.BestPlaces.{smoothed_last, sublist_within, smoothed_by_best}
+use Rattle.line_smooth.proofs.BestPlaces.{sublist_within, smoothed_by_best}
 
 -- the segment between two places that are read is clear where that between the places is
 pub clear_between : (passes : Cell → Bool) (places : List Cell) (from next : ℕ) (none : Cell) → IsClear passes (get_or places from none) (get_or places next none)

@@ -2,10 +2,8 @@
 use Rattle.std.proofs.Common.{ℕ, ◌≡◌, ◌+◌, ◌<◌, ◌≤◌, Bool, IsTrue, refl, sym, ap, ◌∙◌, ◌*◌, subst, arith}
 use Rattle.std.proofs.lemmas.Bool.{not-false}
 use Rattle.nav_types.specs.declared.cells.Cell.{Cell}
-use Rattle.nav_types.specs.declared.cells.Size.{Size}
 use Rattle.nav_types.specs.declared.straights.Axis.{Axis}
 use Rattle.nav_types.specs.declared.straights.Axis.TheVariants.{Row, Column}
-use Rattle.nav_types.specs.Cells.{IsInside}
 use Rattle.nav_types.specs.Lines.{cell_on, line_on, place_on, IsFirstBlocked}
 use Rattle.line_smooth.specs.Segments.{gap, Touches, IsClear}
 use Rattle.line_smooth.specs.inner.Lines.{IsBetween}

@@ -7,8 +7,8 @@ abbrev pub gap : ℕ → ℕ → ℕ
 gap a b = (a - b) + (b - a)
 
 -- The segment from the middle of one cell to the middle of another meets the closed square of the cell: the cell's column
--- and row lie between theirs, and its middle lies within half a navcell along plus half a navcell up of the segment. A
--- segment through a corner point touches all cells about it.
+-- and row lie between theirs, in navcells, and the segment's line runs through its square or touches its rim. So a segment
+-- through a corner point touches all cells about it.
 pub record Touches (from to cell : Cell) : Type 0 where
   pub columns : gap from.i cell.i + gap cell.i to.i ≡ gap from.i to.i
   pub rows : gap from.j cell.j + gap cell.j to.j ≡ gap from.j to.j

@@ -39,7 +39,7 @@ pub fn smooth<V: FreeCells>(
 fn places_of(alloc: Global, start: Cell, corners: &Waypoints) -> Result<Vec<Cell>, NoMemory>
     ensures { IfOk result (λ places. places.items ≡ start ∷ corners.now) }
 {
-    let mut places = Vec::new(alloc);
+    let mut places = Vec::with_capacity(alloc, corners.len().saturating_add(1))?;
     places.push(start)?;
     places.extend_from_slice(corners.as_slice())?;
     Ok(places)

@@ -3,12 +3,11 @@
 ghost use Rattle.std.specs.Prelude.{◌<◌, IsTrue};
 ghost use Rattle.nav_types.specs.Walks.{CanReach};
 
-use crate::fixtures::aims::Targets;
 use crate::fixtures::maps::drawn;
 use crate::fixtures::searches::{are_cells, is_fit, is_found, search_of};
 use crate::fixtures::texts::fields_of;
 use line_smooth::{clear, smooth};
-use nav_types::{Cell, CellByCell, Class, FreeCells, View};
+use nav_types::{Aim, Cell, CellByCell, Class, FreeCells, View};
 use std::alloc::Global;
 use walks::{Found, Waypoints, plain_search};
 
@@ -96,17 +95,17 @@ fn clear_segments_are_those_of_the_inequality(rt: HostRuntime) {
 }
 
 /// The chosen walk, and its smoothed waypoints.
-fn found_and_smoothed<V: FreeCells>(
+fn found_and_smoothed<V: FreeCells, A: Aim>(
     alloc: Global,
     view: &V,
     class: Class,
     start: Cell,
-    aim: &Targets,
+    aim: &A,
 ) -> Option<(Found, Waypoints)>
     requires class { class < V.class_count view.now }
     requires start { IsTrue (V.passes view.now class start) }
-    requires aim { Targets.sound aim.now (V.extent view.now) }
-    requires reach { CanReach (V.passes view.now class) start (Targets.hit aim.now (V.extent view.now)) }
+    requires aim { A.sound aim.now (V.extent view.now) }
+    requires reach { CanReach (V.passes view.now class) start (A.hit aim.now (V.extent view.now)) }
 {
     let Ok(found) = plain_search(alloc, view, class, start, aim) else {
         return None;
