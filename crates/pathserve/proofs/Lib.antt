@@ -6,12 +6,8 @@ pub mod OneText
 pub mod Stops
 pub mod OneThread
 pub mod Passes
-pub mod Drawing
-pub mod Naming
-pub mod MapClasses
 pub mod ShortWalks
 pub mod FewReplies
-pub mod SmallJournals
 pub mod SummaryTexts
 pub mod Seeds
 pub mod AnsweredTurns

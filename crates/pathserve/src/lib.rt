@@ -4,7 +4,6 @@
 mod bad_lines;
 mod commands;
 mod laws;
-mod making;
 mod replay;
 mod serving;
 mod sessions;
@@ -20,7 +19,7 @@ pub use laws::{
     beginning_is_prefix, notes_are_one_thread, one_out, one_summary, stop_is_not_taken, taken_text,
     text_is_one_thread,
 };
-pub use making::{Made, make_script};
+pub use made_match::{Made, make_script};
 pub use replay::{run, run_replay};
 pub use serving::run_serve;
 pub use sessions::serve_session;

@@ -8,13 +8,13 @@ ghost use Rattle.posts.specs.Posts.{jobs};
 ghost use Rattle.turn_core.specs.Turns.{IsOneThread};
 ghost use Rattle.pathserve.specs.Output.{IsSummary, MakesTold, ComesByMaking};
 
-use crate::making::{Made, make_script};
 use crate::status::Status;
 use crate::told_turns::replied;
 use crate::writing::{status_of, write_text};
 use answer_text::summary_text;
 use grid_versions::MapSpec;
 use io_edges::{Gate, Sink};
+use made_match::{Made, make_script};
 use nav_types::{Bytes, NoMemory};
 use std::alloc::Global;
 use std::thread::Threads;

@@ -1,4 +1,5 @@
-use Rattle.pathserve.proofs.SmallJournals.{journal_jobs_few, replies_summed}
+use Rattle.made_match.proofs.SmallJournals.{journal_jobs_few}
+use Rattle.pathserve.proofs.FewReplies.{replies_summed}
 use Rattle.pathserve.proofs.summing.summary.Goals as goal
 
 pub all_replies-requires-clause-few : goal.all_replies-requires-clause-few

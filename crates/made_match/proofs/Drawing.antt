@@ -1,7 +1,7 @@
 -- Draws, one after another.
 use Rattle.std.proofs.Common.{◌≡◌, ℕ, add-one, ◌+◌, ◌^◌, ◌%◌, ◌<◌, zero, suc, arith, All, slice_index_or, List, [], ◌∷◌, ◌++◌, refl}
 use Rattle.std.proofs.Math.Nat.{mod-add-mod}
-use Rattle.pathserve.specs.Making.{Draw, drawn, draw_each}
+use Rattle.made_match.specs.Making.{Draw, drawn, draw_each}
 
 -- a step of the generator modulo 2^64
 pub wrapped : (n k : ℕ) → (n % 2 ^ 64 + k) % 2 ^ 64 ≡ (n + k) % 2 ^ 64

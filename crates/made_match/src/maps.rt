@@ -1,13 +1,13 @@
 //! The map of a match.
 ghost use Rattle.std.specs.Prelude.{◌≡◌, ◌<◌, IfOk, OnOk, All};
 ghost use Rattle.nav_types.specs.Cells.{IsRectInside};
-ghost use Rattle.pathserve.specs.Making.{base_drawn, classes, draw_base_rect, made_class, made_map, map_size};
+ghost use Rattle.made_match.specs.Making.{base_drawn, classes, draw_base_rect, made_class, made_map, map_size};
 
-use super::draws::Draws;
-use super::{drawn_posts, places};
+use crate::draws::Draws;
+use crate::{drawn_posts, places};
 use class_config::{ClassRefusal, ClassTable, PassabilityClass};
-use grid_versions::{BaseRects, MapSpec};
 use nav_types::{NoMemory, Rect, Sequence, Size};
+use posts::{BaseRects, MapSpec};
 use std::alloc::Global;
 
 /// The navcells along one side of the map.

@@ -1,8 +1,8 @@
 //! Points and shapes of a match.
 ghost use Rattle.std.specs.Prelude.{◌≡◌, ◌<◌, ◌≤◌, ◌+◌, ◌*◌, ◌^◌, pos};
-ghost use Rattle.pathserve.specs.Making.{draw_point, draw_near, draw_point_near, draw_rectangle, draw_unit, draw_square, draw_goal, draw_aim, draw};
+ghost use Rattle.made_match.specs.Making.{draw_point, draw_near, draw_point_near, draw_rectangle, draw_unit, draw_square, draw_goal, draw_aim, draw};
 
-use super::draws::Draws;
+use crate::draws::Draws;
 use fixed_point::{Fixed, Rectangle};
 use goal_shapes::Goal;
 use obstruction_shapes::Shape;

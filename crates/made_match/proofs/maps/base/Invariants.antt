@@ -1,8 +1,8 @@
 use Rattle.std.proofs.Common.{◌≡◌, ℕ, All}
 use Rattle.nav_types.specs.declared.cells.Rect.{Rect}
 use Rattle.nav_types.specs.Cells.{IsRectInside}
-use Rattle.pathserve.specs.Making.{drawn, draw_each, draw_base_rect, map_size}
-use Rattle.pathserve.proofs.making.maps.base.Given as goal
+use Rattle.made_match.specs.Making.{drawn, draw_each, draw_base_rect, map_size}
+use Rattle.made_match.proofs.maps.base.Given as goal
 
 abbrev pub invariant-loop-number : goal.invariant-loop-number
 invariant-loop-number l = record {

@@ -2,9 +2,9 @@ use Rattle.std.proofs.Common.{◌≡◌, ◌++◌, ◌∷◌, [], ℕ, List, All
 use Rattle.std.proofs.lemmas.List.Elements.{All-append}
 use Rattle.nav_types.specs.declared.cells.Rect.{Rect}
 use Rattle.nav_types.specs.Cells.{IsRectInside}
-use Rattle.pathserve.specs.Making.{draw_base_rect, map_size}
-use Rattle.pathserve.proofs.Drawing.{drawn_more, all_one}
-use Rattle.pathserve.proofs.making.maps.base.Goals as goal
+use Rattle.made_match.specs.Making.{draw_base_rect, map_size}
+use Rattle.made_match.proofs.Drawing.{drawn_more, all_one}
+use Rattle.made_match.proofs.maps.base.Goals as goal
 
 pub loop-number-preserved : goal.loop-number-preserved
 loop-number-preserved c =

@@ -1,12 +1,12 @@
 //! Turns of a match.
 ghost use Rattle.std.specs.Prelude.{◌≡◌, ◌<◌, ◌+◌, IfOk, OnOk};
-ghost use Rattle.pathserve.specs.Making.{draw_each, draw_turn};
+ghost use Rattle.made_match.specs.Making.{draw_each, draw_turn};
 
-use super::drawn_posts::posts;
-use super::draws::Draws;
+use crate::drawn_posts::posts;
+use crate::draws::Draws;
 use nav_types::{NoMemory, Sequence};
+use posts::{Journal, TurnPosts};
 use std::alloc::Global;
-use turn_core::{Journal, TurnPosts};
 
 /// How many turns a match has.
 const TURNS: u32 = 50;

@@ -1,18 +1,12 @@
-//! Matches made out of numbers: a map and a journal.
+//! A match as a whole: its map and its journal.
 ghost use Rattle.std.specs.Prelude.{◌≡◌, IfOk};
-ghost use Rattle.pathserve.specs.Making.{made_map, made_journal};
+ghost use Rattle.made_match.specs.Making.{made_map, made_journal};
 
-use draws::Draws;
-use grid_versions::MapSpec;
+use crate::draws::Draws;
+use crate::{maps, turns};
 use nav_types::NoMemory;
+use posts::{Journal, MapSpec};
 use std::alloc::Global;
-use turn_core::Journal;
-
-mod drawn_posts;
-mod draws;
-mod maps;
-mod places;
-mod turns;
 
 /// A match: its map, and what is posted in its turns.
 #[derive(Drop)]

@@ -1,17 +1,22 @@
 -- How large a journal is that a number makes.
-use Rattle.std.proofs.Common.{◌≡◌, ℕ, zero, suc, ◌+◌, ◌*◌, ◌<◌, ◌≤◌, ◌^◌, Bool, true, false, List, [], ◌∷◌, ◌++◌, length, refl, subst, arith}
+use Rattle.std.proofs.Common.{◌≡◌, ℕ, zero, suc, ◌+◌, ◌*◌, ◌<◌, ◌≤◌, ◌^◌, Bool, true, false, List, [], ◌∷◌, ◌++◌, length, refl, arith}
 use Rattle.std.specs.Prelude.{if◌then◌else◌, ◌==◌}
 use Rattle.std.specs.List.{AllByRecursion}
 use Rattle.std.proofs.lemmas.List.{length-append}
 use Rattle.std.proofs.lemmas.List.Sums.{sum_by-cons}
 use Rattle.posts.specs.declared.posts.Post.{Post}
-use Rattle.posts.specs.declared.replies.TurnReplies.{TurnReplies}
 use Rattle.posts.specs.Posts.{jobs, post_count}
-use Rattle.posts.specs.Maps.{Map}
 use Rattle.posts.proofs.PostCounts.{few_jobs}
-use Rattle.turn_core.specs.Turns.{IsOneThread}
-use Rattle.pathserve.specs.Making.{Draw, draw_each, one_in_four, draw_first_posts, draw_first_post, draw_removal, draw_addition, draw_path, draw_later_posts, draw_posts, draw_turn, base_drawn, made_map, made_journal, draw}
-use Rattle.pathserve.proofs.FewReplies.{AreUpTo, IsSmallTurn, CanBeSummed, summed}
+use Rattle.made_match.specs.Making.{Draw, draw_each, one_in_four, draw_first_posts, draw_first_post, draw_removal, draw_addition, draw_path, draw_later_posts, draw_posts, draw_turn, base_drawn, made_journal, draw}
+
+-- each list has at most so many items
+abbrev pub AreUpTo : {A : Type 0} → ℕ → List (List A) → Type 0
+AreUpTo most lists = AllByRecursion (λ items. length items ≤ most) lists
+
+-- a turn has at most 16 callers, and each posts at most 25 times
+pub record IsSmallTurn (turn : List (List Post)) : Type 0 where
+  pub callers : length turn ≤ 16
+  pub posts : AreUpTo 25 turn
 
 -- ---- things drawn one after another
 
@@ -110,12 +115,3 @@ each_few (turn ∷ journal) small = (jobs_few turn small.0, each_few journal sma
 
 pub journal_jobs_few : (number : ℕ) → AllByRecursion (λ (turn : List (List Post)). length (jobs turn) < 2 ^ 32) (made_journal number)
 journal_jobs_few number = each_few (made_journal number) (journal_small number)
-
--- ---- its replies
-
--- the replies to it can be summed up
-pub replies_summed : (number : ℕ) (m : Map) (journal : List (List (List Post))) (all : List TurnReplies) → m ≡ made_map number
-    → journal ≡ made_journal number → IsOneThread m journal all → CanBeSummed all
-replies_summed number m journal all map is told =
-    summed m (made_journal number) all (journal_small number) (journal_short number)
-    (subst (λ (j : List (List (List Post))). IsOneThread m j all) is told)

@@ -1,17 +1,15 @@
 //! Posts of a match.
 ghost use Rattle.std.specs.Prelude.{◌≡◌, ◌<◌, IfOk, OnOk, option_to_list};
-ghost use Rattle.pathserve.specs.Making.{add_of, class_name, draw_first_post, draw_removal, draw_addition, draw_path, draw_first_posts, draw_later_posts, draw_posts, one_in_four};
+ghost use Rattle.made_match.specs.Making.{add_of, class_name, draw_first_post, draw_removal, draw_addition, draw_path, draw_first_posts, draw_later_posts, draw_posts, one_in_four};
 
-use super::draws::Draws;
-use super::places;
+use crate::draws::Draws;
+use crate::places;
 use class_config::ClassName;
 use goal_shapes::GoalSpec;
-use grid_versions::Edit;
 use nav_types::{NoMemory, Sequence};
 use obstruction_shapes::{Obstruction, Shape};
-use posts::push_some;
+use posts::{Edit, Post, Posts, Request, push_some};
 use std::alloc::Global;
-use turn_core::{Post, Posts, Request};
 
 /// How many obstruction numbers each caller has.
 const NUMBERS_PER_CALLER: u32 = 25;
@@ -165,7 +163,7 @@ fn path(draws: &mut Draws, turn: u32, caller: u32) -> Post
 
 /// The name of the class of a number.
 #[tactic(auto, using(crate::proofs::Naming::one_digit, crate::proofs::Naming::is_name))]
-pub(super) fn class_name(class: u32) -> ClassName
+pub(crate) fn class_name(class: u32) -> ClassName
     requires { class < 8 }
     ensures { result ≡ class_name class }
 {

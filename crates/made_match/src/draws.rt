@@ -1,6 +1,6 @@
 //! The generator from which a match is drawn.
 ghost use Rattle.std.specs.Prelude.{◌≡◌, ◌<◌};
-ghost use Rattle.pathserve.specs.Making.{draw};
+ghost use Rattle.made_match.specs.Making.{draw};
 
 use std::marker::Model;
 

@@ -1,8 +1,8 @@
 use Rattle.std.proofs.Common.{◌≡◌, ◌∙◌}
 use Rattle.nav_types.proofs.Sizes.{same_size}
 use Rattle.posts.specs.Maps.{map_of}
-use Rattle.pathserve.specs.Making.{made_map, map_size}
-use Rattle.pathserve.proofs.making.maps.map.Goals as goal
+use Rattle.made_match.specs.Making.{made_map, map_size}
+use Rattle.made_match.proofs.maps.map.Goals as goal
 
 pub returns-clause-value : goal.returns-clause-value
 unfolding made_map

@@ -2,7 +2,7 @@
 use Rattle.std.proofs.Common.{◌≡◌, true, refl}
 use Rattle.std.specs.Fmt.{digits}
 use Rattle.class_config.specs.Classes.{is_table}
-use Rattle.pathserve.specs.Making.{classes}
+use Rattle.made_match.specs.Making.{classes}
 
 pub are_table : is_table classes ≡ true
 unfolding digits
