@@ -23,6 +23,8 @@ use Rattle.turn_core.specs.Solving.{IsAnswerTo, IsAnswerAt, IsPathFound, IsPathT
 use Rattle.turn_core.specs.Words.{Standing, bare, edited}
 use Rattle.turn_core.specs.Turns.{after, after_turn, Gets, AreReplies, AreTurnReplies, OneThread, IsOneThread, replies_in}
 use Rattle.answer_text.specs.Summaries.{path_cost, waypoint_count, turn_replies, all_replies, HasFewReplies, HasCountableCosts, HasCountableWaypoints}
+use Rattle.made_match.specs.Making.{made_map, made_journal}
+use Rattle.made_match.proofs.SmallJournals.{AreUpTo, IsSmallTurn, journal_small, journal_short}
 use Rattle.pathserve.proofs.ShortWalks.{IsNear, short_answer}
 
 -- ---- one reply
@@ -127,10 +129,6 @@ replies_few m final s (post ∷ posts) (reply ∷ replies) are =
     (more_few 1 (length posts) (reply ∷ []) replies (one_few reply (reply_small m final s post reply are.0))
     (replies_few m final (edited m s post) posts replies are.1))
 
--- each list has at most so many items
-abbrev pub AreUpTo : {A : Type 0} → ℕ → List (List A) → Type 0
-AreUpTo most lists = AllByRecursion (λ items. length items ≤ most) lists
-
 turn_few : (m : Map) (final s : Standing) (turn : List (List Post)) (replies : List (List Reply)) → AreUpTo 25 turn
     → AreTurnReplies m final s turn replies → AreFew (25 * length turn) (turn_replies replies)
 turn_few m final s [] [] up_to are = none_few
@@ -141,11 +139,6 @@ turn_few m final s (posts ∷ turn) (replies ∷ rest) up_to are =
     at_most (length posts + 25 * length turn) (25 * length (posts ∷ turn)) (replies ++ turn_replies rest) (omega (arith, short))
     (more_few (length posts) (25 * length turn) replies (turn_replies rest) (replies_few m final s posts replies are.0)
     (turn_few m final (after m s posts) turn rest up_to.1 are.1))
-
--- a turn has at most 16 callers, and each posts at most 25 times
-pub record IsSmallTurn (turn : List (List Post)) : Type 0 where
-  pub callers : length turn ≤ 16
-  pub posts : AreUpTo 25 turn
 
 journal_few : (m : Map) (s : Standing) (journal : List (List (List Post))) (all : List TurnReplies) → AllByRecursion IsSmallTurn journal
     → OneThread m s journal (replies_in all) → AreFew (400 * length journal) (all_replies all)
@@ -172,3 +165,12 @@ summed m journal all small short is =
     let few = journal_few m bare journal all small is.replies in
     let a = few.many in let b = few.costs in let c = few.points in
     record { few = omega (arith, a, short); costs = omega (arith, b, short); waypoints = omega (arith, c, short) }
+
+-- ---- the replies to a match that a number makes
+
+-- they can be summed up
+pub replies_summed : (number : ℕ) (m : Map) (journal : List (List (List Post))) (all : List TurnReplies) → m ≡ made_map number
+    → journal ≡ made_journal number → IsOneThread m journal all → CanBeSummed all
+replies_summed number m journal all map is told =
+    summed m (made_journal number) all (journal_small number) (journal_short number)
+    (subst (λ (j : List (List (List Post))). IsOneThread m j all) is told)

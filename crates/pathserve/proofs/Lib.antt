@@ -6,16 +6,13 @@ pub mod OneText
 pub mod Stops
 pub mod OneThread
 pub mod Passes
-pub mod Drawing
-pub mod Naming
-pub mod MapClasses
 pub mod ShortWalks
 pub mod FewReplies
-pub mod SmallJournals
 pub mod SummaryTexts
 pub mod Seeds
 pub mod AnsweredTurns
 pub mod BegunWorks
+pub mod EndedCallers
 pub mod JoinedPosts
 pub mod JournalSums
 pub mod SessionEnds

@@ -10,7 +10,7 @@ use Rattle.turn_core.proofs.Threads.{one_answer_list}
 use Rattle.answer_text.specs.Summaries.{summary_text}
 use Rattle.pathserve.specs.declared.status.Status.TheVariants.{Done}
 use Rattle.pathserve.specs.inner.Writing.{WritesText, status_after}
-use Rattle.pathserve.specs.Making.{made_map, made_journal}
+use Rattle.made_match.specs.Making.{made_map, made_journal}
 use Rattle.pathserve.specs.Output.{IsSummary, MakesTold, ComesByMaking}
 use Rattle.pathserve.proofs.Passes.{piece_taken}
 

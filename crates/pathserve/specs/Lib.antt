@@ -1,7 +1,7 @@
 pub mod Commands
 pub mod Words
 pub mod Output
-pub mod Making
 pub mod Serving
 pub mod Reasons
+pub mod Runs
 pub mod inner

@@ -15,7 +15,7 @@ use Rattle.script_text.specs.Script.{Item, begins, adds_base, ends_turn, map_aft
 use Rattle.answer_text.specs.Answers.{turn_text, bad_line_text}
 use Rattle.answer_text.specs.Noted.{noted_text}
 use Rattle.answer_text.specs.Summaries.{summary_text}
-use Rattle.pathserve.specs.Making.{made_map, made_journal}
+use Rattle.made_match.specs.Making.{made_map, made_journal}
 use Rattle.pathserve.specs.declared.status.Status.{Status}
 use Rattle.pathserve.specs.declared.status.Status.TheVariants.{Done, Usage, BadLine, ReadFault, WriteFault, NoMemory, TooLong}
 

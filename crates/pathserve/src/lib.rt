@@ -4,13 +4,13 @@
 mod bad_lines;
 mod commands;
 mod laws;
-mod making;
 mod replay;
+mod runs;
 mod serving;
 mod sessions;
 mod status;
 mod summing;
-mod told_turns;
+mod turn_answers;
 mod works;
 mod writing;
 
@@ -20,8 +20,9 @@ pub use laws::{
     beginning_is_prefix, notes_are_one_thread, one_out, one_summary, stop_is_not_taken, taken_text,
     text_is_one_thread,
 };
-pub use making::{Made, make_script};
-pub use replay::{run, run_replay};
+pub use made_match::{Made, make_script};
+pub use replay::run_replay;
+pub use runs::run;
 pub use serving::run_serve;
 pub use sessions::serve_session;
 pub use status::Status;

@@ -11,15 +11,10 @@ pub mod Threads
 pub mod CallerLists
 pub mod Sweeping
 pub mod FilledReplies
-pub mod StagedTurns
 pub mod TurnEdits
-pub mod DeliveredReplies
-pub mod ReplyPlaces
 pub mod Answering
 pub mod Keeping
 pub mod OneRun
 pub mod Settling
 pub mod Reaching
 pub mod Arriving
-pub mod MachineSteps
-pub mod HeldCounts

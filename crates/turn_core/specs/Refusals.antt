@@ -1,9 +1,7 @@
--- The texts of refused steps.
+-- The texts of why an event is not enabled.
 use Rattle.std.specs.Prelude.{ℕ, List, ◌++◌, codes, decimal}
 use Rattle.turn_core.specs.declared.events.Why.{Why}
 use Rattle.turn_core.specs.declared.events.Why.TheVariants.{Callers, Staged, Posted, NoneStaged, Running, NoneRunning, AllClaimed, Claimed, Answered, Unclaimed, Unanswered, Collected}
-use Rattle.turn_core.specs.declared.events.StepRefusal.{StepRefusal}
-use Rattle.turn_core.specs.declared.events.StepRefusal.TheVariants.{NotEnabled, NoMemory}
 
 -- why an event is not enabled
 abbrev pub why_text : Why → List ℕ
@@ -19,8 +17,3 @@ why_text (Answered job) = codes "job " ++ decimal job ++ codes " is answered"
 why_text (Unclaimed count) = codes "only " ++ decimal count ++ codes " jobs are claimed"
 why_text (Unanswered job) = codes "job " ++ decimal job ++ codes " is not answered"
 why_text (Collected count) = codes "all " ++ decimal count ++ codes " replies are collected"
-
--- a refused step
-abbrev pub refusal_text : StepRefusal → List ℕ
-refusal_text (NotEnabled why) = codes "the event is not enabled: " ++ why_text why
-refusal_text NoMemory = codes "there is no memory"

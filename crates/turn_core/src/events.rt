@@ -1,11 +1,10 @@
 //! Events of the turn machine, and why one is not enabled.
 ghost use Rattle.std.specs.Prelude.{◌≡◌, ◌++◌, Some, decimal};
 ghost use Rattle.std.specs.Fmt.{DisplaysOnOk};
-ghost use Rattle.turn_core.specs.Refusals.{why_text, refusal_text};
+ghost use Rattle.turn_core.specs.Refusals.{why_text};
 
-use nav_types::{NoMemory, Sequence};
+use nav_types::Sequence;
 use posts::Post;
-use std::error::Error;
 use std::fmt;
 
 /// How many posts of each caller a stage takes, by the callers' numbers.
@@ -60,25 +59,6 @@ pub enum Why {
     Collected(u64),
 }
 
-/// Why a step was not made.
-#[derive(Clone, Copy, Debug, PartialEq, Eq)]
-pub enum StepRefusal {
-    /// The event is not enabled.
-    NotEnabled(Why),
-    /// There was no memory.
-    NoMemory,
-}
-
-impl From<NoMemory> for StepRefusal {
-    ghost use Rattle.turn_core.specs.declared.events.StepRefusal.TheVariants.{NoMemory as no_memory};
-
-    ghost from_gives = { λ _ refusal. refusal ≡ no_memory };
-
-    fn from(_refused: NoMemory) -> StepRefusal {
-        StepRefusal::NoMemory
-    }
-}
-
 impl fmt::Display for Why {
     ghost output = { λ why. Some (why_text why) };
 
@@ -111,16 +91,3 @@ fn write_number<W: fmt::Write>(
 {
     write!(f, "{before}{number}{after}")
 }
-
-impl fmt::Display for StepRefusal {
-    ghost output = { λ refusal. Some (refusal_text refusal) };
-
-    fn fmt<W: fmt::Write>(&self, f: &mut fmt::Formatter<W>) -> fmt::Result {
-        match self {
-            StepRefusal::NotEnabled(why) => write!(f, "the event is not enabled: {why}"),
-            StepRefusal::NoMemory => f.write_str("there is no memory"),
-        }
-    }
-}
-
-impl Error for StepRefusal {}

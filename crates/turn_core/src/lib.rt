@@ -1,14 +1,15 @@
-//! Requests, turns and the turn machine: what callers post, what they get in reply, and in which order
-//! turns are staged, run and delivered.
+//! Requests and turns: what callers post, what they get in reply, and how a turn is answered.
+//!
+//! What turns are and in which order they are staged, run and delivered is said in `specs/`, as a machine with
+//! states, events and effects. Nothing here runs that machine: a service above is proved to follow it, and
+//! `turn_model` is it as a program, event by event.
 #![tactic(auto)]
 
-mod cores;
 mod edited_turns;
 mod events;
 mod journals;
 mod last_fields;
 pub mod laws;
-mod machines;
 mod named_goals;
 mod ready_turns;
 mod reply_lists;
@@ -19,8 +20,7 @@ mod searches;
 mod solving;
 mod turn_versions;
 
-pub use cores::Core;
-pub use events::{Event, StepRefusal, Takes, Why};
+pub use events::{Event, Takes, Why};
 pub use journals::{answer_turn, one_thread};
 pub use named_goals::goal_of;
 pub use posts::{

@@ -4,7 +4,8 @@ use grid_versions::EditReply;
 use nav_types::{Cell, Cost, NoMemory};
 use std::alloc::Global;
 use std::test::*;
-use turn_core::{Answer, Core, Event, Post, Reply, StepRefusal, Takes, Why};
+use turn_core::{Answer, Post, Reply};
+use turn_model::{Core, Event, StepRefusal, Takes, Why};
 
 /// The machine of a map of three columns and so many rows of navcells.
 fn core_of(alloc: Global, rows: u16, callers: u8) -> Option<Core> {

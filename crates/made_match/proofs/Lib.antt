@@ -1,0 +1,4 @@
+pub mod Drawing
+pub mod Naming
+pub mod MapClasses
+pub mod SmallJournals

@@ -1,6 +1,0 @@
-use Rattle.std.proofs.Common.{◌≡◌, ◌+◌}
-use Rattle.pathserve.specs.Making.{drawn, draw_each, draw_posts}
-use Rattle.pathserve.proofs.making.turns.turn.Given as goal
-
-abbrev pub invariant-loop-caller : goal.invariant-loop-caller
-invariant-loop-caller l = draw_each (draw_posts (l.before + 1)) l.caller l.fn.draws ≡ drawn l.turn l.draws

@@ -1,5 +1,0 @@
-use Rattle.turn_core.proofs.Reaching.{deliver_step}
-use Rattle.turn_core.proofs.laws.answered_turns_are_delivered.Goals as goal
-
-pub returns : goal.returns
-returns c = deliver_step

@@ -1,5 +1,0 @@
-use Rattle.turn_core.proofs.Keeping.{kept}
-use Rattle.turn_core.proofs.laws.facts_are_kept.Goals as goal
-
-pub returns : goal.returns
-returns c = kept

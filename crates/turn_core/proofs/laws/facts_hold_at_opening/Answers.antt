@@ -1,5 +1,0 @@
-use Rattle.turn_core.proofs.Keeping.{opened}
-use Rattle.turn_core.proofs.laws.facts_hold_at_opening.Goals as goal
-
-pub returns : goal.returns
-returns c = opened

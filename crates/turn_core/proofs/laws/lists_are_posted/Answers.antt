@@ -1,5 +1,0 @@
-use Rattle.turn_core.proofs.Reaching.{all_post}
-use Rattle.turn_core.proofs.laws.lists_are_posted.Goals as goal
-
-pub returns : goal.returns
-returns c = all_post

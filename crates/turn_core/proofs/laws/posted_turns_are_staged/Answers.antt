@@ -1,5 +1,0 @@
-use Rattle.turn_core.proofs.Reaching.{stage_step}
-use Rattle.turn_core.proofs.laws.posted_turns_are_staged.Goals as goal
-
-pub returns : goal.returns
-returns c = stage_step

@@ -1,5 +1,0 @@
-use Rattle.turn_core.proofs.Reaching.{run-append}
-use Rattle.turn_core.proofs.laws.runs_join.Goals as goal
-
-pub returns : goal.returns
-returns c = run-append

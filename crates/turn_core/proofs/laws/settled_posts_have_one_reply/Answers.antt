@@ -1,5 +1,0 @@
-use Rattle.turn_core.proofs.Settling.{settled}
-use Rattle.turn_core.proofs.laws.settled_posts_have_one_reply.Goals as goal
-
-pub returns : goal.returns
-returns c = settled

@@ -1,5 +1,0 @@
-use Rattle.turn_core.proofs.Reaching.{turn_answered}
-use Rattle.turn_core.proofs.laws.staged_turns_are_answered.Goals as goal
-
-pub returns : goal.returns
-returns c = turn_answered

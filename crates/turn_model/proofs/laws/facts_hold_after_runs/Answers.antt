@@ -1,0 +1,5 @@
+use Rattle.turn_core.proofs.Keeping.{kept_run_of}
+use Rattle.turn_model.proofs.laws.facts_hold_after_runs.Goals as goal
+
+pub returns : goal.returns
+returns c = kept_run_of

@@ -1,0 +1,5 @@
+use Rattle.turn_core.proofs.Reaching.{all_post}
+use Rattle.turn_model.proofs.laws.lists_are_posted.Goals as goal
+
+pub returns : goal.returns
+returns c = all_post

@@ -1,0 +1,5 @@
+use Rattle.turn_core.proofs.Reaching.{stage_step}
+use Rattle.turn_model.proofs.laws.posted_turns_are_staged.Goals as goal
+
+pub returns : goal.returns
+returns c = stage_step

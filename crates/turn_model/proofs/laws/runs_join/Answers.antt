@@ -1,0 +1,5 @@
+use Rattle.turn_core.proofs.Reaching.{run-append}
+use Rattle.turn_model.proofs.laws.runs_join.Goals as goal
+
+pub returns : goal.returns
+returns c = run-append

@@ -1,0 +1,5 @@
+use Rattle.turn_core.proofs.Reaching.{turn_answered}
+use Rattle.turn_model.proofs.laws.staged_turns_are_answered.Goals as goal
+
+pub returns : goal.returns
+returns c = turn_answered
