@@ -1,7 +1,7 @@
 -- How lines are found in bytes that are taken in parts.
 use Rattle.std.proofs.Common.{◌≡◌, ℕ, inl, inr, List, [], ◌∷◌, ◌++◌, true, false, eqb, refl, ap, ◌∙◌}
 use Rattle.std.proofs.lemmas.Bool.Decides.{eqb_tells}
-use Rattle.script_text.specs.Lines.{in_front, full_lines, tail_with, tail_of}
+use Rattle.input_lines.specs.Lines.{in_front, full_lines, tail_with, tail_of}
 
 front_append : (byte : ℕ) (lines : List (List ℕ)) (tail more : List ℕ) → eqb byte 10 ≡ false
     → in_front byte (lines ++ full_lines (tail ++ more)) ≡ in_front byte lines ++ full_lines (tail_with byte lines tail ++ more)

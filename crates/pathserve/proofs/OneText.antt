@@ -10,7 +10,7 @@ use Rattle.turn_core.specs.Words.{Standing}
 use Rattle.turn_core.specs.Turns.{after_turn}
 use Rattle.turn_core.proofs.Threads.{one_turn_told}
 use Rattle.turn_core.proofs.OneNote.{one_list_of_notes}
-use Rattle.script_text.specs.Lines.{full_lines, tail_of}
+use Rattle.input_lines.specs.Lines.{full_lines, tail_of}
 use Rattle.script_text.specs.Script.{Item, begins, adds_base, ends_turn, Place, beginning, Ends, Walk, arrived, chain, walk, last_line, reading}
 use Rattle.script_text.proofs.ReadWalk.{chain-assoc, walk-append}
 use Rattle.pathserve.proofs.Lines.{full_lines-append}

@@ -20,7 +20,7 @@ use Rattle.answer_text.specs.Answers.{turn_text}
 use Rattle.answer_text.specs.Noted.{noted_text}
 use Rattle.answer_text.proofs.NotesOfNothing.{text_of_nothing}
 use Rattle.script_text.specs.declared.forms.CallerPost.{CallerPost}
-use Rattle.script_text.specs.Lines.{full_lines, tail_of}
+use Rattle.input_lines.specs.Lines.{full_lines, tail_of}
 use Rattle.script_text.specs.Forms.{map_of, base_of, post_of, end_of}
 use Rattle.script_text.specs.declared.parts.Rules.{Rules}
 use Rattle.script_text.specs.declared.parts.Part.{Part}

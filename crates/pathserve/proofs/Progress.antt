@@ -2,11 +2,11 @@
 use Rattle.std.proofs.Common.{◌≡◌, ℕ, inl, inr, List, [], ◌∷◌, ◌++◌, take, refl, sym, ap, ◌∙◌, subst, append_assoc, append-nil, IsTrue}
 use Rattle.std.proofs.lemmas.Bool.{true≢false}
 use Rattle.posts.specs.declared.posts.Post.{Post}
-use Rattle.script_text.specs.Lines.{full_lines}
+use Rattle.input_lines.specs.Lines.{full_lines}
 use Rattle.script_text.specs.Script.{Item, begins, adds_base, ends_turn, map_after, turns_of, beginning, Stop, Walk, arrived, walk, reading}
 use Rattle.script_text.specs.Reader.{Held, unread, GoesOn, StopsAtFault, stuck_after}
 use Rattle.script_text.proofs.ReadNext.{goes_nowhere}
-use Rattle.script_text.proofs.ReadStill.{full_lines-behind}
+use Rattle.input_lines.proofs.LineLists.{full_lines-behind}
 use Rattle.script_text.proofs.ReadCalls.{fault_then}
 use Rattle.posts.specs.declared.notes.Report.{Report}
 use Rattle.pathserve.specs.Output.{Said, unsaid, with_map, Says, Gives, IsText, stop_text, ends_text, IsOut, IsBeginning, IsTakenText}

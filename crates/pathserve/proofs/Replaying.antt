@@ -10,9 +10,10 @@ use Rattle.posts.specs.declared.posts.Post.{Post}
 use Rattle.posts.specs.Maps.{Map}
 use Rattle.script_text.specs.declared.faults.ScriptFault.{ScriptFault}
 use Rattle.script_text.specs.declared.faults.ScriptFault.TheVariants as fault
-use Rattle.script_text.specs.Reader.{WhereTold, Held, unread, GoesOn, IsRead, stuck_after, RefusesMap, MapAnswers, MapTold, TurnAnswers, TurnTold}
+use Rattle.input_lines.specs.Held.{WhereTold}
+use Rattle.script_text.specs.Reader.{Held, unread, GoesOn, IsRead, stuck_after, RefusesMap, MapAnswers, MapTold, TurnAnswers, TurnTold}
 use Rattle.script_text.specs.Script.{Item, begins, ends_turn, map_after, beginning, Stop, whole_input, too_long, bad_line, Ends, stuck_by, Walk, reading}
-use Rattle.script_text.proofs.ReadTold.{told-same, told-then}
+use Rattle.input_lines.proofs.ToldLines.{told-same, told-then}
 use Rattle.script_text.proofs.ReadCalls.{goes_then, stuck_then}
 use Rattle.pathserve.specs.declared.status.Status.{Status}
 use Rattle.pathserve.specs.declared.status.Status.TheVariants.{Done, Usage, BadLine, ReadFault, WriteFault, NoMemory, TooLong}

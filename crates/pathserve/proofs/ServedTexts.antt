@@ -18,9 +18,10 @@ use Rattle.script_text.specs.declared.faults.ScriptFault.{ScriptFault}
 use Rattle.script_text.specs.declared.faults.ScriptFault.TheVariants as fault
 use Rattle.script_text.specs.Canon.{is_post_of, HaveLines}
 use Rattle.script_text.specs.Script.{Item, map_after, turns_of, beginning, Stop, whole_input, too_long, bad_line, Ends, stuck_by, Walk, reading}
-use Rattle.script_text.specs.Reader.{Held, unread, IsWholeMap, MapTold, StopsAtFault, WhereTold, stuck_after}
+use Rattle.script_text.specs.Reader.{Held, unread, IsWholeMap, MapTold, StopsAtFault, stuck_after}
+use Rattle.input_lines.specs.Held.{WhereTold}
 use Rattle.script_text.proofs.ReadCalls.{stuck_then, turns_of-append}
-use Rattle.script_text.proofs.ReadTold.{told-then, told-weaker}
+use Rattle.input_lines.proofs.ToldLines.{told-then, told-weaker}
 use Rattle.answer_text.specs.Answers.{bad_line_text}
 use Rattle.pathserve.specs.declared.status.Status.{Status}
 use Rattle.pathserve.specs.declared.status.Status.TheVariants.{Done, Usage, BadLine, ReadFault, WriteFault, NoMemory, TooLong}

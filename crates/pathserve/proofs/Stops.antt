@@ -6,7 +6,7 @@ use Rattle.serde_json.specs.Data.{Data}
 use Rattle.nav_types.specs.declared.cells.Rect.{Rect}
 use Rattle.posts.specs.Maps.{Map}
 use Rattle.script_text.specs.declared.forms.CallerPost.{CallerPost}
-use Rattle.script_text.specs.Lines.{full_lines, tail_of}
+use Rattle.input_lines.specs.Lines.{full_lines, tail_of}
 use Rattle.script_text.specs.Forms.{map_of, base_of, post_of, end_of}
 use Rattle.script_text.specs.declared.parts.Rules.{Rules}
 use Rattle.script_text.specs.declared.parts.Part.{Part}

@@ -12,10 +12,11 @@ use Rattle.script_text.specs.declared.faults.ScriptFault.TheVariants as fault
 use Rattle.script_text.specs.declared.parts.Part.{Part}
 use Rattle.script_text.specs.Canon.{is_post_of}
 use Rattle.script_text.specs.Script.{Item, ends_turn, bad_line, too_long, whole_input, turns_of}
-use Rattle.script_text.specs.Reader.{Held, GoesOn, Refuses, HaveLinesAt, TurnTold, WhereTold, rules_at, stuck_after}
+use Rattle.script_text.specs.Reader.{Held, GoesOn, Refuses, HaveLinesAt, TurnTold, rules_at, stuck_after}
+use Rattle.input_lines.specs.Held.{WhereTold}
 use Rattle.script_text.proofs.ReadNext.{goes_nowhere}
 use Rattle.script_text.proofs.ReadCalls.{fault_then, goes_then, stuck_then, turns_of-append}
-use Rattle.script_text.proofs.ReadTold.{told-same, told-then}
+use Rattle.input_lines.proofs.ToldLines.{told-same, told-then}
 use Rattle.pathserve.specs.inner.WholeScripts.{AllTold}
 use Rattle.turn_core.proofs.CallerLists.{joined_nothing}
 

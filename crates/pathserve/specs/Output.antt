@@ -10,7 +10,7 @@ use Rattle.turn_core.specs.Turns.{after_turn, IsTurnTold, IsOneThread}
 use Rattle.posts.specs.declared.notes.Note.{Note}
 use Rattle.posts.specs.declared.notes.Report.{Report}
 use Rattle.turn_core.specs.Notes.{AreNotes}
-use Rattle.script_text.specs.Lines.{full_lines}
+use Rattle.input_lines.specs.Lines.{full_lines}
 use Rattle.script_text.specs.Script.{Item, begins, adds_base, ends_turn, map_after_item, Place, beginning, Stop, whole_input, too_long, bad_line, Ends, at_place, stuck_by, arrived, walk, reading}
 use Rattle.answer_text.specs.Answers.{turn_text, bad_line_text}
 use Rattle.answer_text.specs.Noted.{noted_text}

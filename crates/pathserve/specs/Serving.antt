@@ -10,7 +10,7 @@ use Rattle.turn_core.specs.Turns.{IsOneThread}
 use Rattle.turn_core.specs.Facts.{HaveLists}
 use Rattle.request_lanes.specs.Ends.{Closing}
 use Rattle.path_service.specs.declared.closing.ClosedCaller.{ClosedCaller}
-use Rattle.script_text.specs.Lines.{full_lines}
+use Rattle.input_lines.specs.Lines.{full_lines}
 use Rattle.script_text.specs.Script.{Item, Place, beginning, Ends, at_place, stuck_by, whole_input, too_long, bad_line, arrived, map_after, turns_of, walk, reading}
 use Rattle.script_text.specs.ReadsBack.{canon_script}
 use Rattle.answer_text.specs.Answers.{bad_line_text}

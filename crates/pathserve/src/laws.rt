@@ -3,7 +3,7 @@
 ghost use Rattle.std.specs.Prelude.{◌≡◌, ◌≢◌, ◌++◌, ◌<◌, ℕ, List, length, None, Some};
 ghost use Rattle.posts.specs.declared.replies.TurnReplies.{TurnReplies};
 ghost use Rattle.posts.specs.Maps.{Map};
-ghost use Rattle.script_text.specs.Lines.{full_lines};
+ghost use Rattle.input_lines.specs.Lines.{full_lines};
 ghost use Rattle.script_text.specs.Script.{Stop, bad_line, stuck_by, beginning, walk, reading, map_after, turns_of};
 ghost use Rattle.posts.specs.declared.notes.Note.{Note};
 ghost use Rattle.posts.specs.declared.notes.Report.{Report};

@@ -3,7 +3,7 @@ use Rattle.std.specs.Prelude.{◌≡◌, Some}
 use Rattle.serde_json.specs.Data.{Data}
 use Rattle.serde_json.specs.Written.{compact_text}
 use Rattle.script_text.specs.Script.{reading_of}
-use Rattle.script_text.specs.Lines.{IsPlain}
+use Rattle.input_lines.specs.Lines.{IsPlain}
 
 -- the text of the value has no newline, and its reading says this
 pub record ReadsTo (d : Data) (Says : Data → Type 0) : Type 0 where

@@ -30,7 +30,7 @@ use Rattle.fixed_point.specs.Text.{fixed_text, fraction_digits, fraction_text}
 use Rattle.fixed_point.proofs.ReadsBack.{all_fraction_digits, magnitude_small}
 use Rattle.class_config.specs.Forms.{is_class_name}
 use Rattle.script_text.specs.inner.Plain.{is_plain}
-use Rattle.script_text.specs.Lines.{IsPlain}
+use Rattle.input_lines.specs.Lines.{IsPlain}
 use Rattle.script_text.proofs.BackForms.{ReadsTo}
 use Rattle.script_text.proofs.CanonTexts.{plain-decimal, plain-fixed_text, plain-name, quoted-plain}
 

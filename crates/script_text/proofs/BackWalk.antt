@@ -5,11 +5,11 @@ use Rattle.std.proofs.lemmas.Bool.{le-ltb, or_from}
 use Rattle.serde_json.specs.Data.{Data}
 use Rattle.serde_json.specs.Written.{compact_text}
 use Rattle.posts.specs.declared.posts.Post.{Post}
-use Rattle.script_text.specs.Lines.{full_lines}
+use Rattle.input_lines.specs.Lines.{full_lines}
 use Rattle.script_text.specs.declared.parts.Part.{Part}
 use Rattle.script_text.specs.Script.{Place, Item, Walk, too_long, arrived, stuck, chain, reading_of, counted, placed, is_long, accept, reading}
 use Rattle.script_text.specs.Canon.{line}
-use Rattle.script_text.proofs.ReadLines.{full_lines-line}
+use Rattle.input_lines.proofs.LineLists.{full_lines-line}
 use Rattle.script_text.proofs.ReadWalk.{reading-line}
 use Rattle.script_text.proofs.BackForms.{ReadsTo}
 

@@ -3,13 +3,13 @@ use Rattle.std.proofs.Common.{◌≡◌, ◌≢◌, ℕ, ◌+◌, ◌≤◌, Lis
 use Rattle.std.specs.Prelude.{IsSome}
 use Rattle.script_text.specs.declared.faults.ScriptFault.{ScriptFault}
 use Rattle.script_text.specs.declared.faults.ScriptFault.TheVariants.{BadLine, TooLong, ReadFault, NoMemory}
-use Rattle.script_text.specs.Lines.{IsPlain}
+use Rattle.input_lines.specs.Lines.{IsPlain, first_line}
 use Rattle.script_text.specs.Script.{Place, Walk, bad, bad_line, counted, placed, stuck, too_long, is_long, accept, reading_of}
 use Rattle.script_text.specs.Reader.{HoldsBad, HoldsRefused}
-use Rattle.script_text.specs.Causes.{cause, first_line}
-use Rattle.script_text.specs.inner.Taking.{HeldLine, newline_of, bytes_of, IsWholeLine}
+use Rattle.script_text.specs.Causes.{cause}
+use Rattle.input_lines.specs.Held.{HeldLine, newline_of, bytes_of, IsWholeLine}
 use Rattle.script_text.specs.inner.Judging.{IsBadAt, IsStuckBy, held_at}
-use Rattle.script_text.proofs.FirstLines.{first_of_whole, some_held}
+use Rattle.input_lines.proofs.FirstLines.{first_of_whole, some_held}
 use Rattle.script_text.proofs.CauseLemmas.{bad_line-cause}
 
 -- a bad line that is held first has its number and its cause

@@ -1,8 +1,4 @@
-pub mod ReadBytes
-pub mod ReadLines
-pub mod ReadTold
 pub mod ReadWalk
-pub mod ReadHeld
 pub mod FormKinds
 pub mod ReadSize
 pub mod ReadNext
@@ -27,7 +23,6 @@ pub mod BackLines
 pub mod BackWalk
 pub mod BackScript
 pub mod CauseLemmas
-pub mod FirstLines
 pub mod HeldCauses
 pub mod StopCauses
 pub mod WrongValues

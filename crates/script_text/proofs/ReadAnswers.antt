@@ -2,6 +2,9 @@
 use Rattle.std.proofs.Common.{◌≡◌, ℕ, List, Bool, false, Option, Some, None, Result, Ok, Err, IfOk, IfErr, IfSome, refl, ap, sym, subst, ◌∙◌}
 use Rattle.std.specs.Prelude.{IsErrOf, IsSome}
 use Rattle.posts.specs.declared.posts.Post.{Post}
+use Rattle.input_lines.specs.declared.faults.LineFault.{LineFault}
+use Rattle.input_lines.specs.declared.faults.LineFault.TheVariants as no_line
+use Rattle.script_text.specs.Faults.{script_fault}
 use Rattle.script_text.specs.declared.faults.ScriptFault.{ScriptFault}
 use Rattle.script_text.specs.declared.faults.ScriptFault.TheVariants.{BadLine, TooLong, ReadFault, NoMemory}
 use Rattle.script_text.specs.declared.parts.Part.{Part}
@@ -9,8 +12,8 @@ use Rattle.script_text.specs.declared.parts.Part.TheVariants.{BeforeMap, InBase,
 use Rattle.script_text.specs.declared.parts.Rules.{Rules}
 use Rattle.script_text.specs.Script.{Walk}
 use Rattle.script_text.specs.Reader.{Held, HoldsRefused, callers_of, is_last, rules_at}
-use Rattle.script_text.specs.declared.intake.LineEnd.{LineEnd}
-use Rattle.script_text.specs.inner.Taking.{Taken, HeldLine, HasEnd}
+use Rattle.input_lines.specs.declared.intake.LineEnd.{LineEnd}
+use Rattle.input_lines.specs.Held.{Taken, HeldLine, HasEnd}
 use Rattle.script_text.specs.inner.Judging.{IsNoBaseAt, IsNoBaseNext, IsStuckBy}
 use Rattle.script_text.proofs.ReadStill.{with_flags}
 
@@ -21,12 +24,22 @@ stuck_unread w TooLong stuck is = absurd (cc)
 stuck_unread w ReadFault stuck is = absurd stuck
 stuck_unread w NoMemory stuck is = absurd (cc)
 
--- what names no bad line leaves no line to be judged
-pub refused_good : (h : Held) (fault : ScriptFault) → ((n : ℕ) → fault ≡ BadLine n → ⊥) → HoldsRefused h fault
-refused_good h (BadLine n) good = absurd (good n refl)
-refused_good h TooLong good = tt
-refused_good h ReadFault good = tt
-refused_good h NoMemory good = tt
+-- a line that did not come is no bad line, and leaves none to be judged
+pub no_bad_line : (fault : LineFault) (n : ℕ) → script_fault fault ≡ BadLine n → ⊥
+no_bad_line no_line.TooLong n e = absurd (cc)
+no_bad_line no_line.ReadFault n e = absurd (cc)
+no_bad_line no_line.NoMemory n e = absurd (cc)
+
+pub refused_unread : (h : Held) (fault : LineFault) → HoldsRefused h (script_fault fault)
+refused_unread h no_line.TooLong = tt
+refused_unread h no_line.ReadFault = tt
+refused_unread h no_line.NoMemory = tt
+
+-- it did not come by a read where the script says so
+pub unread_err : {A B : Type 0} (fault : LineFault) → IsErrOf {T = A} (Err (script_fault fault)) ReadFault → IsErrOf {T = B} (Err fault) no_line.ReadFault
+unread_err no_line.TooLong is = absurd (cc)
+unread_err no_line.ReadFault is = refl
+unread_err no_line.NoMemory is = absurd (cc)
 
 -- whether calls may follow plays no part in what a refusal leaves
 refused_by : (h : Held) (over failed : Bool) (fault : ScriptFault) → HoldsRefused h fault → HoldsRefused (with_flags h over failed) fault

@@ -4,22 +4,25 @@ use Rattle.std.proofs.lemmas.List.Elements.{All-nil, All-append}
 use Rattle.posts.specs.declared.posts.Post.{Post}
 use Rattle.posts.specs.Maps.{Map, with_base}
 use Rattle.posts.specs.Posts.{post_count}
+use Rattle.input_lines.specs.declared.faults.LineFault.{LineFault}
+use Rattle.input_lines.specs.declared.faults.LineFault.TheVariants as no_line
+use Rattle.script_text.specs.Faults.{script_fault}
 use Rattle.script_text.specs.declared.faults.ScriptFault.{ScriptFault}
 use Rattle.script_text.specs.declared.faults.ScriptFault.TheVariants.{BadLine, TooLong, ReadFault, NoMemory}
-use Rattle.script_text.specs.declared.intake.LineEnd.{LineEnd}
-use Rattle.script_text.specs.declared.intake.LineEnd.TheVariants.{Newline, Input}
+use Rattle.input_lines.specs.declared.intake.LineEnd.{LineEnd}
+use Rattle.input_lines.specs.declared.intake.LineEnd.TheVariants.{Newline, Input}
 use Rattle.nav_types.specs.declared.cells.Rect.{Rect}
-use Rattle.script_text.specs.Lines.{unlines, IsPlain}
+use Rattle.input_lines.specs.Lines.{unlines, IsPlain}
 use Rattle.script_text.specs.declared.parts.Rules.{Rules}
 use Rattle.script_text.specs.declared.parts.Part.{Part}
 use Rattle.script_text.specs.declared.parts.Part.TheVariants.{BeforeMap, InBase, InTurns}
 use Rattle.script_text.specs.Script.{Place, beginning, Item, begins, adds_base, ends_turn, Stop, whole_input, too_long, arrived, stuck, chain, map_after, map_after_item, turns_of, counted, accept, walk, finish, reading}
-use Rattle.script_text.specs.Reader.{Held, UsesLines, GoesOn, StopsAtFault, Refuses, GivesMap, MapAnswers, MapTold, TurnTold, stuck_after, WhereTold}
-use Rattle.script_text.specs.inner.Taking.{Taken, HeldLine, newline_of, HasEnd, IsWholeLine, IsUsedUp, TakesNext, NextAnswer, NextTold}
-use Rattle.script_text.specs.inner.Judging.{IsBadAt, IsStuckBy, BeginsMap, UsesBase, KeepsLine, TakesBase, AddsToMap, BaseAnswers, BaseTold, IsInTurns, IsBetweenTurns, IsNoBaseAt, IsNoBaseLine, IsNoBaseNext, after_line, held_at}
+use Rattle.script_text.specs.Reader.{Held, UsesLines, GoesOn, StopsAtFault, Refuses, GivesMap, MapAnswers, MapTold, TurnTold, stuck_after}
+use Rattle.input_lines.specs.Held.{WhereTold, Taken, HeldLine, newline_of, HasEnd, IsWholeLine, IsUsedUp, TakesNext, NextAnswer, NextTold, after_line}
+use Rattle.script_text.specs.inner.Judging.{IsBadAt, IsStuckBy, BeginsMap, UsesBase, KeepsLine, TakesBase, AddsToMap, BaseAnswers, BaseTold, IsInTurns, IsBetweenTurns, IsNoBaseAt, IsNoBaseLine, IsNoBaseNext, held_at}
 use Rattle.script_text.specs.Forms.{base_of}
 use Rattle.script_text.proofs.ReadSize.{reading_of-nil}
-use Rattle.script_text.proofs.ReadTold.{told-same, told-weaker, told-then}
+use Rattle.input_lines.proofs.ToldLines.{told-same, told-weaker, told-then}
 use Rattle.script_text.proofs.ReadWalk.{walk-append}
 use Rattle.script_text.proofs.ReadNext.{not_ended, goes_nowhere, goes_next, goes_line, refuses_line, refuses_next, reading-used_up, stops_at_end, stops_line, stuck_line, took_more}
 
@@ -132,15 +135,14 @@ pub adds_refused : (old new : Held) (p q : Place) (h now after : HeldLine) (m m1
 adds_refused old new p q h now after m m1 m2 size room fault a b c stays w plain e told next =
     told-then a b c _ _ _ (λ x y z t n end. base_refused old new p h now m m1 m2 size x y z fault q after stays w plain e (t end) (n (t end).on.at_end)) told next
 
-next_refused : (old : Held) (p : Place) (h now : HeldLine) (m m1 : Map) (room : ℕ) (x y z : List ℕ) (fault : ScriptFault) → room + p.bytes ≡ 4294967296 → (IsTrue old.ended → IsTrue h.rest.ended) → IsPlain now.line
-    → AddsToMap old (held_at p h) x y m m1 → NextAnswer h now room (Err fault) y z → BaseAnswers old (held_at p now) m m1 (Err fault) x z
-next_refused old p h now m m1 room x y z (BadLine n) e stays plain a n' = absurd n'
-next_refused old p h now m m1 room x y z TooLong e stays plain a n = record { items = a.items; refused = refuses_next old p h now room x y z a.items TooLong e stays plain a.on n; no_turn = a.no_turn }
-next_refused old p h now m m1 room x y z ReadFault e stays plain a n = record { items = a.items; refused = refuses_next old p h now room x y z a.items ReadFault e stays plain a.on n; no_turn = a.no_turn }
-next_refused old p h now m m1 room x y z NoMemory e stays plain a n = tt
+next_refused : (old : Held) (p : Place) (h now : HeldLine) (m m1 : Map) (room : ℕ) (x y z : List ℕ) (fault : LineFault) → room + p.bytes ≡ 4294967296 → (IsTrue old.ended → IsTrue h.rest.ended) → IsPlain now.line
+    → AddsToMap old (held_at p h) x y m m1 → NextAnswer h now room (Err fault) y z → BaseAnswers old (held_at p now) m m1 (Err (script_fault fault)) x z
+next_refused old p h now m m1 room x y z no_line.TooLong e stays plain a n = record { items = a.items; refused = refuses_next old p h now room x y z a.items no_line.TooLong e stays plain a.on n; no_turn = a.no_turn }
+next_refused old p h now m m1 room x y z no_line.ReadFault e stays plain a n = record { items = a.items; refused = refuses_next old p h now room x y z a.items no_line.ReadFault e stays plain a.on n; no_turn = a.no_turn }
+next_refused old p h now m m1 room x y z no_line.NoMemory e stays plain a n = tt
 
-pub adds_fault : (old : Held) (p : Place) (h now : HeldLine) (m m1 : Map) (room : ℕ) (fault : ScriptFault) (a b c : Option (List ℕ)) → room + p.bytes ≡ 4294967296 → (IsTrue old.ended → IsTrue h.rest.ended) → IsPlain now.line
-    → AddsTold old (held_at p h) m m1 a b → NextTold h now b c room (Err fault) → BaseTold old (held_at p now) m m1 a c (Err fault)
+pub adds_fault : (old : Held) (p : Place) (h now : HeldLine) (m m1 : Map) (room : ℕ) (fault : LineFault) (a b c : Option (List ℕ)) → room + p.bytes ≡ 4294967296 → (IsTrue old.ended → IsTrue h.rest.ended) → IsPlain now.line
+    → AddsTold old (held_at p h) m m1 a b → NextTold h now b c room (Err fault) → BaseTold old (held_at p now) m m1 a c (Err (script_fault fault))
 adds_fault old p h now m m1 room fault a b c e stays plain told next =
     told-then a b c _ _ _ (λ x y z t n end. next_refused old p h now m m1 room x y z fault e stays plain (t end) (n (t end).on.at_end)) told next
 
@@ -180,17 +182,16 @@ pub first_missing : (p : Place) (h now : HeldLine) (room : ℕ) (a c : Option (L
 first_missing p h now room a c first stays u next =
     told-weaker a c _ _ (λ x z t end. (refl, stops_at_end (held_at p h) p now x z [] 1 u (ap (λ r. finish r) first) (first_on p h now x z end stays (t end)))) next
 
-first_refused : (p : Place) (h now : HeldLine) (room : ℕ) (x z : List ℕ) (fault : ScriptFault) → room + p.bytes ≡ 4294967296 → (IsTrue h.rest.ended → x ≡ []) → IsPlain now.line
-    → NextAnswer h now room (Err fault) x z → MapAnswers (held_at p h) (held_at p now) (Err fault) x z
-first_refused p h now room x z (BadLine n) e end plain a = absurd a
-first_refused p h now room x z TooLong e end plain a =
-    record { items = []; refused = refuses_next (held_at p h) p h now room x x z [] TooLong e (λ t. t) plain (goes_nowhere (held_at p h) x end) a; no_turn = refl }
-first_refused p h now room x z ReadFault e end plain a =
-    record { items = []; refused = refuses_next (held_at p h) p h now room x x z [] ReadFault e (λ t. t) plain (goes_nowhere (held_at p h) x end) a; no_turn = refl }
-first_refused p h now room x z NoMemory e end plain a = tt
+first_refused : (p : Place) (h now : HeldLine) (room : ℕ) (x z : List ℕ) (fault : LineFault) → room + p.bytes ≡ 4294967296 → (IsTrue h.rest.ended → x ≡ []) → IsPlain now.line
+    → NextAnswer h now room (Err fault) x z → MapAnswers (held_at p h) (held_at p now) (Err (script_fault fault)) x z
+first_refused p h now room x z no_line.TooLong e end plain a =
+    record { items = []; refused = refuses_next (held_at p h) p h now room x x z [] no_line.TooLong e (λ t. t) plain (goes_nowhere (held_at p h) x end) a; no_turn = refl }
+first_refused p h now room x z no_line.ReadFault e end plain a =
+    record { items = []; refused = refuses_next (held_at p h) p h now room x x z [] no_line.ReadFault e (λ t. t) plain (goes_nowhere (held_at p h) x end) a; no_turn = refl }
+first_refused p h now room x z no_line.NoMemory e end plain a = tt
 
-pub first_fault : (p : Place) (h now : HeldLine) (room : ℕ) (fault : ScriptFault) (a c : Option (List ℕ)) → room + p.bytes ≡ 4294967296 → IsPlain now.line → NextTold h now a c room (Err fault)
-    → MapTold (held_at p h) (held_at p now) a c (Err fault)
+pub first_fault : (p : Place) (h now : HeldLine) (room : ℕ) (fault : LineFault) (a c : Option (List ℕ)) → room + p.bytes ≡ 4294967296 → IsPlain now.line → NextTold h now a c room (Err fault)
+    → MapTold (held_at p h) (held_at p now) a c (Err (script_fault fault))
 first_fault p h now room fault a c e plain next = told-weaker a c _ _ (λ x z t end. first_refused p h now room x z fault e end plain (t end)) next
 
 -- ---- the map line, and then base lines
@@ -263,8 +264,8 @@ turn_refused old p q h now after size room fault a b c stays w plain e at kept t
     refuses_line old p q now size x z [] fault w plain e at (goes_next old p h now x y z [] stays (t end) (n (t end).at_end))) told next)
 
 -- no next line came
-pub turn_fault : (old : Held) (p : Place) (h now : HeldLine) (room : ℕ) (fault : ScriptFault) (a b c : Option (List ℕ)) → room + p.bytes ≡ 4294967296 → (IsTrue old.ended → IsTrue h.rest.ended) → IsPlain now.line
-    → GoesTold old (held_at p h) a b → NextTold h now b c room (Err fault) → TurnTold old (held_at p now) a c (Err fault)
+pub turn_fault : (old : Held) (p : Place) (h now : HeldLine) (room : ℕ) (fault : LineFault) (a b c : Option (List ℕ)) → room + p.bytes ≡ 4294967296 → (IsTrue old.ended → IsTrue h.rest.ended) → IsPlain now.line
+    → GoesTold old (held_at p h) a b → NextTold h now b c room (Err fault) → TurnTold old (held_at p now) a c (Err (script_fault fault))
 turn_fault old p h now room fault a b c e stays plain told next =
     told-then a b c _ _ _ (λ x y z t n end. refuses_next old p h now room x y z [] fault e stays plain (t end) (n (t end).at_end)) told next
 

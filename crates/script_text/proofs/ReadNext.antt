@@ -3,19 +3,21 @@ use Rattle.std.proofs.Common.{◌≡◌, ℕ, ◌+◌, ◌<◌, ◌≤◌, ◌�
 use Rattle.std.proofs.lemmas.List.{append-nil}
 use Rattle.std.proofs.lemmas.List.Elements.{All-nil, All-push}
 use Rattle.std.proofs.lemmas.Bool.{false≢true}
+use Rattle.input_lines.specs.declared.faults.LineFault.{LineFault}
+use Rattle.input_lines.specs.declared.faults.LineFault.TheVariants as no_line
+use Rattle.script_text.specs.Faults.{script_fault}
 use Rattle.script_text.specs.declared.faults.ScriptFault.{ScriptFault}
 use Rattle.script_text.specs.declared.faults.ScriptFault.TheVariants.{BadLine, TooLong, ReadFault, NoMemory}
-use Rattle.script_text.specs.declared.intake.LineEnd.{LineEnd}
-use Rattle.script_text.specs.declared.intake.LineEnd.TheVariants.{Newline, Input}
-use Rattle.script_text.specs.Lines.{full_lines, unlines, IsPlain}
+use Rattle.input_lines.specs.declared.intake.LineEnd.{LineEnd}
+use Rattle.input_lines.specs.declared.intake.LineEnd.TheVariants.{Newline, Input}
+use Rattle.input_lines.specs.Lines.{full_lines, unlines, IsPlain}
 use Rattle.script_text.specs.Script.{Place, Item, Walk, Stop, too_long, bad_line, arrived, stuck, chain, counted, accept, finish, reading}
 use Rattle.script_text.specs.Causes.{next_cause, stop_cause}
 use Rattle.script_text.specs.Reader.{Held, UsesLines, GoesOn, StopsAtFault, StopsAtBad, Refuses, stuck_after}
-use Rattle.script_text.specs.inner.Taking.{Taken, HeldLine, newline_of, bytes_of, HasEnd, IsWholeLine, IsUsedUp, TakesMore, TakesNext, IsPastLimit, BreaksOff, NextAnswer}
-use Rattle.script_text.specs.inner.Judging.{IsBadAt, IsStuckBy, after_line, held_at}
-use Rattle.script_text.proofs.ReadLines.{full_lines-plain, unlines-push}
-use Rattle.script_text.proofs.FirstLines.{next_cause-whole}
-use Rattle.script_text.proofs.StopCauses.{stop_cause-used, stop_cause-stuck}
+use Rattle.input_lines.specs.Held.{Taken, HeldLine, newline_of, bytes_of, HasEnd, IsWholeLine, IsUsedUp, TakesMore, TakesNext, IsPastLimit, BreaksOff, NextAnswer, after_line}
+use Rattle.script_text.specs.inner.Judging.{IsBadAt, IsStuckBy, held_at}
+use Rattle.input_lines.proofs.LineLists.{full_lines-plain, unlines-push}
+use Rattle.script_text.proofs.StopCauses.{next_cause-whole, stop_cause-used, stop_cause-stuck}
 use Rattle.script_text.proofs.ReadWalk.{line_at, walk-push, reading-line, reading-tail, reading-long, last_line-some}
 
 -- ---- the next line of an input
@@ -173,12 +175,11 @@ breaks_off old p h now x y z items stays plain g t b = record {
 }
 
 -- no next line came
-pub refuses_next : (old : Held) (p : Place) (h now : HeldLine) (room : ℕ) (x y z : List ℕ) (items : List Item) (fault : ScriptFault) → room + p.bytes ≡ 4294967296 → (IsTrue old.ended → IsTrue h.rest.ended)
-    → IsPlain now.line → GoesOn old (held_at p h) x y items → NextAnswer h now room (Err fault) y z → Refuses old (held_at p now) x z items fault
-refuses_next old p h now room x y z items (BadLine n) e stays plain g a = absurd a
-refuses_next old p h now room x y z items TooLong e stays plain g a = refuses_long old p h now room x y z items e plain g a.0 a.1
-refuses_next old p h now room x y z items ReadFault e stays plain g a = breaks_off old p h now x y z items stays plain g a.0 a.1
-refuses_next old p h now room x y z items NoMemory e stays plain g a = tt
+pub refuses_next : (old : Held) (p : Place) (h now : HeldLine) (room : ℕ) (x y z : List ℕ) (items : List Item) (fault : LineFault) → room + p.bytes ≡ 4294967296 → (IsTrue old.ended → IsTrue h.rest.ended)
+    → IsPlain now.line → GoesOn old (held_at p h) x y items → NextAnswer h now room (Err fault) y z → Refuses old (held_at p now) x z items (script_fault fault)
+refuses_next old p h now room x y z items no_line.TooLong e stays plain g a = refuses_long old p h now room x y z items e plain g a.0 a.1
+refuses_next old p h now room x y z items no_line.ReadFault e stays plain g a = breaks_off old p h now x y z items stays plain g a.0 a.1
+refuses_next old p h now room x y z items no_line.NoMemory e stays plain g a = tt
 
 -- ---- the end of the input
 

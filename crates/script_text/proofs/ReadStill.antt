@@ -1,58 +1,23 @@
 -- Where a whole line is held, nothing is read for it.
-use Rattle.std.proofs.Common.{◌≡◌, ◌≢◌, ℕ, ◌+◌, ◌⊎◌, inl, inr, List, [], ◌∷◌, ◌++◌, length, Bool, false, Option, Some, None, Result, Ok, Err, All, IsTrue, refl, ap, sym, subst, ◌∙◌, length-append}
+use Rattle.std.proofs.Common.{◌≡◌, ℕ, ◌+◌, ◌⊎◌, inl, inr, List, [], ◌∷◌, ◌++◌, length, Bool, false, Option, Some, None, Result, Ok, Err, refl, ap, sym, subst, ◌∙◌, length-append}
 use Rattle.std.proofs.lemmas.List.{append-nil}
-use Rattle.std.proofs.lemmas.List.Elements.{All-nil, All-cons, All-head, All-tail}
+use Rattle.std.proofs.lemmas.List.Elements.{All-nil, All-cons}
 use Rattle.posts.specs.declared.posts.Post.{Post}
 use Rattle.posts.specs.Maps.{Map}
 use Rattle.script_text.specs.declared.faults.ScriptFault.{ScriptFault}
 use Rattle.script_text.specs.declared.faults.ScriptFault.TheVariants.{BadLine, TooLong, ReadFault, NoMemory}
-use Rattle.script_text.specs.declared.intake.LineEnd.{LineEnd}
-use Rattle.script_text.specs.declared.intake.LineEnd.TheVariants.{Newline, Input}
-use Rattle.script_text.specs.Lines.{full_lines, unlines, IsPlain}
+use Rattle.input_lines.specs.declared.intake.LineEnd.{LineEnd}
+use Rattle.input_lines.specs.declared.intake.LineEnd.TheVariants.{Newline, Input}
+use Rattle.input_lines.specs.Lines.{full_lines, unlines, IsPlain}
 use Rattle.script_text.specs.Script.{Place, Item, ends_turn, arrived, chain, accept, walk}
 use Rattle.script_text.specs.Reader.{Held, HoldsTurn, UsesLines, GoesOn, Refuses, RefusesMap, MapAnswers, MapTold, ReadsForTurn, TakesNoneAhead, TurnAnswers, TurnTold}
-use Rattle.script_text.specs.inner.Taking.{Taken, HasLine, MovesPart, MovesAll, LineAnswer, LineTold, HeldLine, newline_of, bytes_of, HasEnd, IsWholeLine, TakesNext, NextTold}
-use Rattle.script_text.specs.inner.Judging.{after_line, held_at}
-use Rattle.script_text.proofs.ReadLines.{full_lines-plain, full_lines-line, unlines-line}
-use Rattle.script_text.proofs.ReadTold.{nothing_left, told-weaker}
-use Rattle.script_text.proofs.ReadHeld.{bytes_between}
+use Rattle.input_lines.specs.Held.{Taken, HasLine, HeldLine, newline_of, bytes_of, HasEnd, IsWholeLine, after_line}
+use Rattle.script_text.specs.inner.Judging.{held_at}
+use Rattle.input_lines.proofs.LineLists.{full_lines-plain, unlines-line, full_lines-behind}
+use Rattle.input_lines.proofs.ToldLines.{told-weaker}
 use Rattle.script_text.proofs.ReadCalls.{uses_then}
 
--- bytes with a whole line among them are some
-pub some_bytes : (bytes : List ℕ) → HasLine bytes → bytes ≢ []
-some_bytes bytes has none = has (ap full_lines none)
-
--- the first line that is held moves to an empty line
-pub moves_first : (old new : Taken) (line longer : List ℕ) → line ≡ [] → MovesPart old new line longer → longer ++ 10 ∷ new.bytes ≡ old.bytes
-moves_first old new line longer none m = ap (λ l. l ++ 10 ∷ new.bytes) (m.grown ∙ ap (λ l. l ++ m.part) none) ∙ sym m.bytes
-
--- where all moves, there was no whole line
-pub moves_no_line : {A : Type 0} (old new : Taken) (line longer : List ℕ) → MovesAll old new line longer → HasLine old.bytes → A
-moves_no_line old new line longer m has = absurd (has (full_lines-plain old.bytes m.plain))
-
--- while a whole line is held and nothing of it was moved, nothing is read, and nothing else happens
-pub first_unread : {S : Type 0} (first now : Taken) (line : List ℕ) (start old new : S) → (HasLine first.bytes → (old ≡ start) × (now ≡ first) × (line ≡ [])) → (now.bytes ≢ [] → new ≡ old)
-    → HasLine first.bytes → new ≡ start
-first_unread first now line start old new still none has =
-    let before = still has in
-    let HasOne : Taken → Type 0 = λ t. HasLine t.bytes in
-    none (some_bytes now.bytes (subst HasOne (sym before.1) has)) ∙ before.0
-
-pub first_kept : {S : Type 0} (first now next : Taken) (line : List ℕ) (start old : S) → (HasLine first.bytes → (old ≡ start) × (now ≡ first) × (line ≡ [])) → (now.bytes ≢ [] → next ≡ now)
-    → HasLine first.bytes → next ≡ first
-first_kept first now next line start old still none has =
-    let before = still has in
-    let HasOne : Taken → Type 0 = λ t. HasLine t.bytes in
-    none (some_bytes now.bytes (subst HasOne (sym before.1) has)) ∙ before.1
-
 -- ---- lines that are held
-
--- lines in front of bytes
-pub full_lines-behind : (lines : List (List ℕ)) (rest : List ℕ) → All IsPlain lines → full_lines (unlines lines ++ rest) ≡ lines ++ full_lines rest
-full_lines-behind [] rest plain = refl
-full_lines-behind (line ∷ lines) rest plain =
-    ap full_lines (unlines-line line lines rest) ∙ full_lines-line line (unlines lines ++ rest) (All-head IsPlain line lines plain)
-    ∙ ap (λ more. line ∷ more) (full_lines-behind lines rest (All-tail IsPlain line lines plain))
 
 -- a reader that held a turn, and has used lines without its end, still holds a line
 pub holds_line : (old new : Held) → HoldsTurn old → UsesLines old new [] [] → HasLine new.bytes
@@ -101,28 +66,6 @@ uses_none h = record { lines = []; plain = All-nil IsPlain; bytes = append-nil h
 -- nothing was read before, and a line is held
 pub still_unread : {S : Type 0} (first now : Held) (start old new : S) → (HoldsTurn first → (old ≡ start) × UsesLines first now [] []) → (HasLine now.bytes → new ≡ old) → HoldsTurn first → new ≡ start
 still_unread first now start old new before next holds = let s = before holds in next (holds_line first now holds s.1) ∙ s.0
-
--- ---- the answer to the next line
-
-found_by : (old : HeldLine) (t : Taken) (line : List ℕ) (end : LineEnd) (room : ℕ) (before after : List ℕ) → old.line ≡ [] → old.line_end ≡ None → (IsTrue old.rest.ended → before ≡ [])
-    → LineAnswer old.rest t line room (Ok end) before after → TakesNext old (record { line = line; line_end = Some end; rest = t }) before after
-found_by old t line Newline room before after none first at_end a = record {
-  more = record { taken = a.taken; took = a.took; bytes = ap (λ l. l ++ a.taken) (bytes_between old none first) ∙ a.bytes };
-  at_end = λ ended. nothing_left a.taken after (sym a.took ∙ at_end (sym a.ended ∙ ended));
-}
-found_by old t line Input room before after none first at_end a = record {
-  more = record {
-    taken = before;
-    took = sym (append-nil before) ∙ ap (λ l. before ++ l) (sym a.at_end);
-    bytes = ap (λ l. l ++ before) (bytes_between old none first) ∙ a.all ∙ sym (append-nil line) ∙ ap (λ l. line ++ l) (sym a.nothing);
-  };
-  at_end = λ ended. a.at_end;
-}
-
--- the next line came
-pub found_told : (old : HeldLine) (t : Taken) (line : List ℕ) (end : LineEnd) (size : Option ℕ) (room : ℕ) (a b : Option (List ℕ)) → old.line ≡ [] → old.line_end ≡ None
-    → LineTold old.rest t a b line room (Ok end) → NextTold old (record { line = line; line_end = Some end; rest = t }) a b room (Ok size)
-found_told old t line end size room a b none first said = told-weaker a b _ _ (λ x y answer at_end. found_by old t line end room x y none first at_end (answer at_end)) said
 
 -- ---- whether calls may follow plays no part in what is told
 

@@ -7,10 +7,10 @@ use Rattle.std.proofs.lemmas.List.Elements.{All-append}
 use Rattle.std.proofs.lemmas.Str.{IsUtf8-from_is_utf8, is_utf8-from_IsUtf8}
 use Rattle.serde_json.specs.Data.{Data}
 use Rattle.serde_json.specs.Read.{read}
-use Rattle.script_text.specs.Lines.{full_lines, tail_of, IsPlain}
+use Rattle.input_lines.specs.Lines.{full_lines, tail_of, IsPlain}
 use Rattle.script_text.specs.Script.{Place, Item, Walk, Ends, at_place, stuck_by, too_long, arrived, stuck, chain, chain_from, reading_of, counted, placed, is_long, accept, walk, finish, last_line, reading}
-use Rattle.script_text.proofs.ReadBytes.{cut_at_newline}
-use Rattle.script_text.proofs.ReadLines.{full_lines-plain, tail_of-plain, full_lines-line, tail_of-line}
+use Rattle.input_lines.proofs.Newlines.{cut_at_newline}
+use Rattle.input_lines.proofs.LineLists.{full_lines-plain, tail_of-plain, full_lines-line, tail_of-line}
 
 -- ---- the reading of a line
 

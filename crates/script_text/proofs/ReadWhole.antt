@@ -8,16 +8,16 @@ use Rattle.serde_json.specs.Data.{Data}
 use Rattle.posts.specs.Maps.{Map}
 use Rattle.script_text.specs.declared.faults.ScriptFault.{ScriptFault}
 use Rattle.script_text.specs.declared.forms.CallerPost.{CallerPost}
-use Rattle.script_text.specs.declared.intake.LineEnd.{LineEnd}
-use Rattle.script_text.specs.declared.intake.LineEnd.TheVariants.{Newline, Input}
+use Rattle.input_lines.specs.declared.intake.LineEnd.{LineEnd}
+use Rattle.input_lines.specs.declared.intake.LineEnd.TheVariants.{Newline, Input}
 use Rattle.script_text.specs.Forms.{base_of, post_of, end_of}
-use Rattle.script_text.specs.Lines.{full_lines, tail_of, IsPlain}
+use Rattle.input_lines.specs.Lines.{full_lines, tail_of, IsPlain}
 use Rattle.script_text.specs.declared.parts.Rules.{Rules}
 use Rattle.script_text.specs.declared.parts.Part.{Part}
 use Rattle.script_text.specs.declared.parts.Part.TheVariants.{BeforeMap, InBase, InTurns}
 use Rattle.script_text.specs.Script.{rules_of, Place, Item, Ends, at_place, stuck_by, Stop, whole_input, too_long, bad_line, Walk, stuck, chain, chain_from, map_after, reading_of, counted, end_line, turn_line, placed_in_turn, base_line, placed_in, is_long, is_empty, accept, walk, finish_in, last_line, reading}
 use Rattle.script_text.specs.Reader.{Held, GivesMap, MapTold, IsWholeMap}
-use Rattle.script_text.specs.inner.Taking.{Taken, HeldLine, newline_of, bytes_of, HasEnd}
+use Rattle.input_lines.specs.Held.{Taken, HeldLine, newline_of, bytes_of, HasEnd}
 use Rattle.script_text.specs.inner.Judging.{IsInTurns, IsNoBaseLine, HoldsNoBase, IsNoBaseNext, IsBetweenTurns, held_at}
 use Rattle.script_text.proofs.ReadWalk.{reading-line, reading-tail}
 use Rattle.script_text.proofs.ReadCalls.{map_after-append}

@@ -1,13 +1,14 @@
 -- Why an input stops, line by line.
-use Rattle.std.proofs.Common.{◌≡◌, ℕ, ◌+◌, ◌<◌, ◌≤◌, List, [], ◌∷◌, ◌++◌, length, Option, Some, None, IsTrue, refl, ap, sym, ◌∙◌, arith, append_assoc, length-append}
+use Rattle.std.proofs.Common.{◌≡◌, ◌≢◌, ℕ, ◌+◌, ◌<◌, ◌≤◌, List, [], ◌∷◌, ◌++◌, length, Option, Some, None, IsTrue, refl, ap, sym, subst, ◌∙◌, arith, append_assoc, length-append}
 use Rattle.std.proofs.lemmas.List.{append-nil}
-use Rattle.script_text.specs.declared.intake.LineEnd.{LineEnd}
-use Rattle.script_text.specs.declared.intake.LineEnd.TheVariants.{Newline, Input}
-use Rattle.script_text.specs.Lines.{full_lines, tail_of, IsPlain}
+use Rattle.input_lines.specs.declared.intake.LineEnd.{LineEnd}
+use Rattle.input_lines.specs.declared.intake.LineEnd.TheVariants.{Newline, Input}
+use Rattle.input_lines.specs.Lines.{first_line, full_lines, tail_of, IsPlain}
 use Rattle.script_text.specs.Script.{Place, Item, Stop, Walk, arrived, stuck, reading_of, accept}
-use Rattle.script_text.specs.Causes.{cause, cause_from, line_cause, lines_cause, last_cause, stop_cause}
-use Rattle.script_text.specs.inner.Taking.{Taken, HeldLine, newline_of, bytes_of, HasEnd, IsWholeLine}
-use Rattle.script_text.proofs.ReadLines.{full_lines-plain, tail_of-plain, full_lines-line, tail_of-line}
+use Rattle.script_text.specs.Causes.{cause, cause_from, next_cause, line_cause, lines_cause, last_cause, stop_cause}
+use Rattle.input_lines.specs.Held.{Taken, HeldLine, newline_of, bytes_of, HasEnd, IsWholeLine}
+use Rattle.input_lines.proofs.FirstLines.{first_of_whole, some_held}
+use Rattle.input_lines.proofs.LineLists.{full_lines-plain, tail_of-plain, full_lines-line, tail_of-line}
 
 stop_cause-line : (line rest : List ℕ) (p : Place) → IsPlain line → stop_cause (line ++ 10 ∷ rest) p ≡ line_cause (length line + 1) line p (stop_cause rest)
 stop_cause-line line rest p plain =
@@ -52,3 +53,15 @@ pub stop_cause-stuck : (h : HeldLine) (size : ℕ) (left : List ℕ) (p : Place)
 stop_cause-stuck h size left p s w plain at_end e =
     whole_by h.line h.line_end h.rest size left p w.ends w.counted w.some_byte plain at_end
     ∙ ap (λ (v : Walk). cause_from v.ends (cause p.part (p.turns + 1) (reading_of h.line)) (stop_cause (h.rest.bytes ++ left))) e
+
+-- ---- what is held
+
+next_cause-some : (p : Place) (bytes : List ℕ) → bytes ≢ [] → next_cause p bytes ≡ cause p.part (p.turns + 1) (reading_of (first_line bytes))
+next_cause-some p [] some = absurd (some refl)
+next_cause-some p (byte ∷ bytes) some = refl
+
+-- the next cause is that of the line that is held whole
+pub next_cause-whole : (p : Place) (h : HeldLine) (size : ℕ) → IsPlain h.line → IsWholeLine h size → next_cause p (bytes_of h) ≡ cause p.part (p.turns + 1) (reading_of h.line)
+next_cause-whole p h size plain whole =
+    let some = some_held h.line (newline_of h.line_end) h.rest.bytes (subst (λ m. 1 ≤ m) whole.counted whole.some_byte) in
+    next_cause-some p (bytes_of h) some ∙ ap (λ line. cause p.part (p.turns + 1) (reading_of line)) (first_of_whole h.line h.line_end h.rest plain whole.ends)

@@ -1,5 +1,5 @@
 -- Why a line is not in the grammar in its place.
-use Rattle.std.specs.Prelude.{ℕ, ◌≡◌, ◌⊎◌, ◌+◌, ◌==◌, ◌&&◌, ◌||◌, List, [], ◌∷◌, length, nat_le, nat_lt, Bool, true, false, if◌then◌else◌, Option, Some, None, is_some, option_and_then, codes}
+use Rattle.std.specs.Prelude.{ℕ, ◌≡◌, ◌⊎◌, ◌+◌, ◌&&◌, ◌||◌, List, [], ◌∷◌, length, nat_le, nat_lt, Bool, true, false, if◌then◌else◌, Option, Some, None, is_some, option_and_then, codes}
 use Rattle.std.specs.List.{list_all}
 use Rattle.serde_json.specs.Data.{Data}
 use Rattle.serde_json.specs.Find.{get}
@@ -20,7 +20,7 @@ use Rattle.script_text.specs.declared.parts.Part.{Part}
 use Rattle.script_text.specs.declared.parts.Part.TheVariants.{BeforeMap, InBase, InTurns}
 use Rattle.script_text.specs.Values.{under, whole_in, whole_below, class_name, array_items, point_of, round_of, rectangle_of, size_of}
 use Rattle.script_text.specs.Forms.{each, entry_of, add_keys, grown_of, goal_of}
-use Rattle.script_text.specs.Lines.{full_lines, tail_of}
+use Rattle.input_lines.specs.Lines.{full_lines, tail_of, first_line}
 use Rattle.script_text.specs.Script.{Place, Ends, at_place, stuck_by, is_empty, reading_of, accept}
 
 -- ---- keys, and what must stand under them
@@ -197,11 +197,6 @@ abbrev pub end_cause : Part → List (List Post) → Option Cause
 end_cause BeforeMap posts = Some NoLine
 end_cause (InBase rules) posts = None
 end_cause (InTurns rules) posts = if list_all is_empty posts then None else Some EndsInsideTurn
-
--- the bytes up to the first newline (10)
-abbrev pub first_line : List ℕ → List ℕ
-first_line [] = []
-first_line (byte ∷ bytes) = if byte == 10 then [] else byte ∷ first_line bytes
 
 -- why the first line of these bytes is not in the grammar at a place; where there is no byte, why an input may not end there
 abbrev pub next_cause : Place → List ℕ → Option Cause

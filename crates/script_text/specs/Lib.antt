@@ -1,9 +1,9 @@
 pub mod Canon
 pub mod CauseTexts
 pub mod Causes
+pub mod Faults
 pub mod Forms
 pub mod Grammar
-pub mod Lines
 pub mod Reader
 pub mod ReadsBack
 pub mod Script

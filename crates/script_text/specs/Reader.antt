@@ -2,10 +2,11 @@
 use Rattle.std.specs.Prelude.{ℕ, ◌≡◌, ◌≢◌, ◌≤◌, ◌⊎◌, List, [], ◌∷◌, ◌++◌, length, Bool, true, false, All, IsFalse, IsTrue, IsSome, Option, Some, None, Result, Ok, Err, ⊤}
 use Rattle.posts.specs.declared.posts.Post.{Post}
 use Rattle.posts.specs.Maps.{Map}
-use Rattle.script_text.specs.declared.intake.TheConstants.{READ_SIZE}
+use Rattle.input_lines.specs.declared.intake.TheConstants.{READ_SIZE}
+use Rattle.input_lines.specs.Held.{WhereTold}
 use Rattle.script_text.specs.declared.faults.ScriptFault.{ScriptFault}
 use Rattle.script_text.specs.declared.faults.ScriptFault.TheVariants.{BadLine, TooLong, ReadFault, NoMemory}
-use Rattle.script_text.specs.Lines.{full_lines, unlines, IsPlain}
+use Rattle.input_lines.specs.Lines.{full_lines, unlines, IsPlain}
 use Rattle.script_text.specs.declared.parts.Rules.{Rules}
 use Rattle.script_text.specs.declared.parts.Part.{Part}
 use Rattle.script_text.specs.declared.parts.Part.TheVariants.{BeforeMap, InBase, InTurns}
@@ -125,12 +126,6 @@ abbrev pub TurnAnswers : Held → Held → Result (Option (List (List Post))) Sc
 TurnAnswers old new (Ok (Some posts)) before after = GoesOn old new before after (ends_turn posts ∷ [])
 TurnAnswers old new (Ok None) before after = IsRead old before after
 TurnAnswers old new (Err fault) before after = Refuses old new before after [] fault
-
--- what is said of the bytes left in a source before and after, where it tells them
-abbrev pub WhereTold : Option (List ℕ) → Option (List ℕ) → (List ℕ → List ℕ → Type 0) → Type 0
-WhereTold None after Says = ⊤
-WhereTold (Some before) None Says = ⊥
-WhereTold (Some before) (Some after) Says = Says before after
 
 -- the same for any source, where it tells its bytes; a reader that has met the end finds nothing left
 abbrev pub MapTold : Held → Held → Option (List ℕ) → Option (List ℕ) → Result Map ScriptFault → Type 0

@@ -14,7 +14,7 @@ use Rattle.posts.specs.declared.edits.Edit.TheVariants.{Add, Remove, Move}
 use Rattle.posts.specs.declared.posts.Post.TheVariants.{Edit as Edits, Ask as Asks}
 use Rattle.posts.specs.declared.posts.Request.TheVariants.{Path, Region}
 use Rattle.posts.specs.Maps.{Map, IsMap}
-use Rattle.script_text.specs.Lines.{full_lines}
+use Rattle.input_lines.specs.Lines.{full_lines}
 use Rattle.script_text.specs.Script.{beginning, Item, whole_input, map_after, turns_of, reading}
 use Rattle.script_text.specs.Reader.{stuck_after}
 use Rattle.script_text.specs.Grammar.{rectangle_decimals, shape_decimals}

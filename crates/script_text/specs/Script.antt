@@ -13,7 +13,7 @@ use Rattle.script_text.specs.declared.forms.CallerPost.{CallerPost}
 use Rattle.script_text.specs.declared.parts.Rules.{Rules}
 use Rattle.script_text.specs.declared.parts.Part.{Part}
 use Rattle.script_text.specs.declared.parts.Part.TheVariants.{BeforeMap, InBase, InTurns}
-use Rattle.script_text.specs.Lines.{full_lines, tail_of}
+use Rattle.input_lines.specs.Lines.{full_lines, tail_of}
 use Rattle.script_text.specs.Forms.{map_of, base_of, post_of, end_of}
 
 -- what the lines after the map line keep to: the version of the script, the number of callers and the size of the map

@@ -1,4 +1,3 @@
 pub mod Judging
 pub mod Pieces
 pub mod Plain
-pub mod Taking

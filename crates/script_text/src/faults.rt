@@ -1,6 +1,7 @@
 //! Why no part of a script came.
 ghost use Rattle.std.specs.Prelude.{◌≡◌};
 
+use input_lines::LineFault;
 use nav_types::NoMemory;
 
 /// Why no part of a script came.
@@ -23,5 +24,19 @@ impl From<NoMemory> for ScriptFault {
 
     fn from(_none: NoMemory) -> ScriptFault {
         ScriptFault::NoMemory
+    }
+}
+
+impl From<LineFault> for ScriptFault {
+    ghost use Rattle.script_text.specs.Faults.{script_fault};
+
+    ghost from_gives = { λ line fault. fault ≡ script_fault line };
+
+    fn from(fault: LineFault) -> ScriptFault {
+        match fault {
+            LineFault::TooLong => ScriptFault::TooLong,
+            LineFault::ReadFault => ScriptFault::ReadFault,
+            LineFault::NoMemory => ScriptFault::NoMemory,
+        }
     }
 }

@@ -5,8 +5,6 @@ mod canon;
 mod causes;
 mod faults;
 mod forms;
-mod held_lines;
-mod intake;
 mod laws;
 mod parts;
 mod progress;
@@ -17,7 +15,7 @@ pub use canon::{write_journal, write_map};
 pub use causes::{Cause, Key, Wanted};
 pub use faults::ScriptFault;
 pub use forms::CallerPost;
-pub use intake::READ_SIZE;
+pub use input_lines::READ_SIZE;
 pub use laws::{
     base_lines, canonical_reads_back, end_causes, end_lines, line_causes, map_lines, one_line,
     post_lines, wrong_values,

@@ -5,7 +5,7 @@ ghost use Rattle.nav_types.specs.declared.limits.TheConstants.{MAX_INPUT_BYTES, 
 ghost use Rattle.io_edges.specs.Faults.{Rose};
 ghost use Rattle.io_edges.specs.Passing.{HasGiven};
 ghost use Rattle.posts.specs.Posts.{post_count};
-ghost use Rattle.script_text.specs.declared.intake.TheConstants.{READ_SIZE};
+ghost use Rattle.input_lines.specs.declared.intake.TheConstants.{READ_SIZE};
 ghost use Rattle.script_text.specs.declared.parts.Part.TheVariants.{InBase};
 ghost use Rattle.script_text.specs.Script.{accept, beginning, counted, rules_of};
 ghost use Rattle.script_text.specs.Reader.{HaveLinesAt, HoldsRefused, HoldsTurn, IsWholeMap, MapTold, TakesNoneAhead};
@@ -14,12 +14,12 @@ ghost use Rattle.script_text.specs.Reader.{callers_of, held_cause, is_last, rule
 ghost use Rattle.script_text.specs.inner.Judging.{BaseTold, BeginsMap, CountsPosts, GivesTurn, IsBadAt};
 ghost use Rattle.script_text.specs.inner.Judging.{IsBetweenTurns, IsInTurns, IsNoBaseAt, TakesBase};
 ghost use Rattle.script_text.specs.inner.Judging.{held_at};
-ghost use Rattle.script_text.specs.inner.Taking.{IsWholeLine, bytes_of};
+ghost use Rattle.input_lines.specs.Held.{IsWholeLine, bytes_of};
 
 use crate::causes::Cause;
 use crate::faults::ScriptFault;
-use crate::held_lines::HeldLines;
 use crate::progress::Progress;
+use input_lines::HeldLines;
 use io_edges::Source;
 use nav_types::NoMemory;
 use posts::{MapSpec, TurnPosts};
@@ -49,7 +49,7 @@ pub struct ScriptReader {
 
 impl Model for ScriptReader {
     ghost use Rattle.std.specs.Prelude.{IsFalse};
-    ghost use Rattle.script_text.specs.inner.Taking.{bytes_of};
+    ghost use Rattle.input_lines.specs.Held.{bytes_of};
     ghost use Rattle.script_text.specs.Reader.{Held};
     ghost use Rattle.script_text.specs.inner.Judging.{IsBetweenTurns};
 

@@ -7,7 +7,8 @@ use Rattle.posts.specs.Callers.{of_caller, list_of}
 use Rattle.turn_core.specs.Turns.{IsOneThread}
 use Rattle.script_text.specs.declared.faults.ScriptFault.{ScriptFault}
 use Rattle.script_text.specs.Script.{Item, beginning, map_after, whole_input, turns_of, reading}
-use Rattle.script_text.specs.Reader.{Held, unread, stuck_after, Refuses, WhereTold}
+use Rattle.script_text.specs.Reader.{Held, unread, stuck_after, Refuses}
+use Rattle.input_lines.specs.Held.{WhereTold}
 use Rattle.pathserve.specs.Serving.{IsJournalOf, journal_text}
 
 -- the input is whole and read to its end, and these are the posts of each caller in its turns

@@ -14,9 +14,9 @@ use Rattle.script_text.specs.Forms.{base_of}
 use Rattle.script_text.specs.declared.parts.Part.{Part}
 use Rattle.script_text.specs.declared.parts.Part.TheVariants.{BeforeMap, InBase, InTurns}
 use Rattle.script_text.specs.Script.{Place, Item, Walk, begins, adds_base, ends_turn, whole_input, too_long, bad_line, arrived, stuck, map_after, turns_of, reading_of, is_long, accept}
-use Rattle.script_text.specs.Reader.{Held, GoesOn, RefusesMap, callers_of, WhereTold}
-use Rattle.script_text.specs.Lines.{IsPlain}
-use Rattle.script_text.specs.inner.Taking.{HeldLine, HasEnd, bytes_of}
+use Rattle.script_text.specs.Reader.{Held, GoesOn, RefusesMap, callers_of}
+use Rattle.input_lines.specs.Held.{WhereTold, HeldLine, HasEnd, bytes_of, after_line}
+use Rattle.input_lines.specs.Lines.{IsPlain}
 
 -- base lines may stand here
 abbrev pub IsBase : Part → Type 0
@@ -97,10 +97,6 @@ AddsBase old new size line (Err TooLong) = accept size line old ≡ stuck too_lo
 AddsBase old new size line (Err NoMemory) = ⊤
 AddsBase old new size line (Err ReadFault) = ⊥
 AddsBase old new size line (Err (BadLine n)) = ⊥
-
--- the line that is held was used, with its newline
-abbrev pub after_line : HeldLine → HeldLine
-after_line h = record { line = []; line_end = None; rest = h.rest }
 
 -- the line that is held was used as a base line
 pub record UsesBase (old new : Place) (m now : Map) (h after : HeldLine) (size : ℕ) : Type 0 where

@@ -10,7 +10,7 @@ use Rattle.script_text.specs.Reader.{unread}
 use Rattle.pathserve.specs.Output.{Said, IsTurnText, unsaid, with_turn}
 use Rattle.pathserve.proofs.Progress.{going}
 use Rattle.pathserve.proofs.Replaying.{Stands, stands_unread, stands_map, stands_turn, told_turn, told_done, told_no_memory, tells_nothing, told_fault, map_refusal, turn_refusal, stop_done, stop_fault, stop_refused, refused_no_usage, refused_no_read, refused_by_fault, why_told}
-use Rattle.script_text.proofs.ReadTold.{rose-later}
+use Rattle.input_lines.proofs.ToldLines.{rose-later}
 use Rattle.io_edges.proofs.Passed.{given_more, taken_more}
 use Rattle.pathserve.proofs.Passes.{stands_given, stands_taken, some_taken, stop_taken, stop_read, reads_nothing, writes_nothing, none_named, done_no_read, done_no_write, no_memory_no_read, no_memory_no_write}
 use Rattle.pathserve.proofs.replay.run_replay.Goals as goal

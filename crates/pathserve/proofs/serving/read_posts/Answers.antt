@@ -13,7 +13,7 @@ use Rattle.script_text.specs.Reader.{callers_of}
 use Rattle.script_text.specs.declared.parts.Rules.{Rules}
 use Rattle.pathserve.proofs.JoinedPosts.{length-joined}
 use Rattle.pathserve.proofs.JournalSums.{count_joined}
-use Rattle.script_text.proofs.ReadTold.{rose-later}
+use Rattle.input_lines.proofs.ToldLines.{rose-later}
 use Rattle.pathserve.proofs.WholeReadings.{all_read, all_refused, all_short, lines_more, lines_none, read_none, read_turn}
 use Rattle.script_text.proofs.ReadAnswers.{same_callers}
 use Rattle.pathserve.proofs.serving.read_posts.Goals as goal

@@ -3,11 +3,12 @@ use Rattle.std.proofs.lemmas.Result.{err_from_is_err_and}
 use Rattle.io_edges.proofs.Passed.{given_none, given_more}
 use Rattle.posts.specs.Posts.{post_count}
 use Rattle.script_text.specs.Script.{rules_of}
-use Rattle.script_text.specs.inner.Taking.{Taken, FindsLine, NextTold}
+use Rattle.input_lines.specs.Held.{Taken, FindsLine, NextTold}
 use Rattle.script_text.specs.inner.Judging.{TakesBase, held_at}
 use Rattle.script_text.proofs.ReadCalls.{adds_nowhere, adds_line, adds_end, adds_kept, adds_refused, adds_fault, used_up_ready, no_base_ready, whole_between}
-use Rattle.script_text.proofs.ReadTold.{rose-later, same_err}
-use Rattle.script_text.proofs.ReadNeed.{given_by_need}
+use Rattle.input_lines.proofs.ToldLines.{rose-later}
+use Rattle.input_lines.proofs.NeededReads.{given_by_need}
+use Rattle.script_text.proofs.ReadAnswers.{no_bad_line, unread_err}
 use Rattle.script_text.proofs.reader.read_base_lines.Goals as goal
 
 pub lines-init : goal.lines-init
@@ -174,10 +175,10 @@ returns-then-not-branch-clause-stays g c =
     λ ended. subst Ended (sym c.take_base_line.ensures.rest) (c.next_line.ensures.stays (c.lines.invariant.stays ended))
 
 pub returns-in_err-size-clause-fault : goal.returns-in_err-size-clause-fault
-returns-in_err-size-clause-fault g c = let p = err_from_is_err_and c.from_residual.result c.from_residual.ensures.1 in rw (p.1, p.2) (λ is. rose-later _ _ _ c.lines.invariant.later (c.in_err-size.ensures.fault (same_err c.in_err-size.field-0.0 is)))
+returns-in_err-size-clause-fault g c = let p = err_from_is_err_and c.from_residual.result c.from_residual.ensures.1 in rw (p.1, p.2) (λ is. rose-later _ _ _ c.lines.invariant.later (c.in_err-size.ensures.fault (unread_err c.in_err-size.field-0.0 is)))
 
 pub returns-in_err-size-clause-good : goal.returns-in_err-size-clause-good
-returns-in_err-size-clause-good g c = let p = err_from_is_err_and c.from_residual.result c.from_residual.ensures.1 in rw (p.1, p.2) c.in_err-size.ensures.good
+returns-in_err-size-clause-good g c = let p = err_from_is_err_and c.from_residual.result c.from_residual.ensures.1 in rw (p.1, p.2) (no_bad_line c.in_err-size.field-0.0)
 
 pub lines-smaller : goal.lines-smaller
 lines-smaller g c =

@@ -1,11 +1,10 @@
 use Rattle.std.proofs.Common.{ℕ, Option, Ok, IsTrue, sym, subst}
 use Rattle.std.proofs.lemmas.Result.{err_from_is_err_and}
-use Rattle.script_text.specs.inner.Taking.{Taken, FindsLine, NextTold}
+use Rattle.input_lines.specs.Held.{Taken, FindsLine, NextTold}
 use Rattle.script_text.specs.inner.Judging.{held_at}
 use Rattle.script_text.proofs.ReadCalls.{first_told, first_fault}
-use Rattle.script_text.proofs.ReadTold.{same_err}
-use Rattle.script_text.proofs.ReadAnswers.{refused_good}
-use Rattle.script_text.proofs.ReadNeed.{given_by_need}
+use Rattle.script_text.proofs.ReadAnswers.{no_bad_line, refused_unread, unread_err}
+use Rattle.input_lines.proofs.NeededReads.{given_by_need}
 use Rattle.script_text.proofs.reader.read_first_line.Goals as goal
 
 -- line 1 is whole
@@ -45,10 +44,10 @@ pub returns-in_err-size-clause-later : goal.returns-in_err-size-clause-later
 returns-in_err-size-clause-later g c = c.next_line.ensures.later
 
 pub returns-in_err-size-clause-fault : goal.returns-in_err-size-clause-fault
-returns-in_err-size-clause-fault g c = let p = err_from_is_err_and c.from_residual.result c.from_residual.ensures.1 in rw (p.1, p.2) (λ is. c.in_err-size.ensures.fault (same_err c.in_err-size.field-0.0 is))
+returns-in_err-size-clause-fault g c = let p = err_from_is_err_and c.from_residual.result c.from_residual.ensures.1 in rw (p.1, p.2) (λ is. c.in_err-size.ensures.fault (unread_err c.in_err-size.field-0.0 is))
 
 pub returns-in_err-size-clause-bad_line : goal.returns-in_err-size-clause-bad_line
-returns-in_err-size-clause-bad_line g c = let p = err_from_is_err_and c.from_residual.result c.from_residual.ensures.1 in rw (p.1, p.2) (λ n is. absurd (c.in_err-size.ensures.good n is))
+returns-in_err-size-clause-bad_line g c = let p = err_from_is_err_and c.from_residual.result c.from_residual.ensures.1 in rw (p.1, p.2) (λ n is. absurd (no_bad_line c.in_err-size.field-0.0 n is))
 
 pub returns-in_err-size-clause-limit : goal.returns-in_err-size-clause-limit
 returns-in_err-size-clause-limit g c = c.room-room.ensures.limit
@@ -57,7 +56,7 @@ pub returns-in_err-size-clause-stays : goal.returns-in_err-size-clause-stays
 returns-in_err-size-clause-stays g c = c.next_line.ensures.stays
 
 pub returns-in_err-size-clause-bad : goal.returns-in_err-size-clause-bad
-returns-in_err-size-clause-bad g c = let p = err_from_is_err_and c.from_residual.result c.from_residual.ensures.1 in rw (p.1, p.2) (refused_good (held_at c.args.progress.now c.next_line.new.self) c.in_err-size.field-0.0 c.in_err-size.ensures.good)
+returns-in_err-size-clause-bad g c = let p = err_from_is_err_and c.from_residual.result c.from_residual.ensures.1 in rw (p.1, p.2) (refused_unread (held_at c.args.progress.now c.next_line.new.self) c.in_err-size.field-0.0)
 
 -- what else is said of line 1
 

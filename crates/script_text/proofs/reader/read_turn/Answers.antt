@@ -5,13 +5,13 @@ use Rattle.posts.specs.Posts.{post_count}
 use Rattle.script_text.specs.Script.{accept}
 use Rattle.script_text.specs.declared.parts.Rules.{Rules}
 use Rattle.script_text.specs.Reader.{UsesLines, callers_of}
-use Rattle.script_text.specs.inner.Taking.{Taken, HeldLine, FindsLine, NextTold}
+use Rattle.input_lines.specs.Held.{Taken, HeldLine, FindsLine, NextTold}
 use Rattle.script_text.specs.inner.Judging.{CountsPosts, GivesTurn, held_at}
 use Rattle.script_text.proofs.PostVersions.{have_all, have_on, none_have_at}
 use Rattle.script_text.proofs.ReadCalls.{goes_begun, goes_post, turn_told, turn_refused, turn_fault, turn_none, turn_missing, in_turns_next}
 use Rattle.script_text.proofs.ReadNeed.{ahead-none, ahead_on}
-use Rattle.script_text.proofs.ReadAnswers.{no_base_found, refused_good, same_callers, stuck_unread}
-use Rattle.script_text.proofs.ReadTold.{rose-later, same_err}
+use Rattle.script_text.proofs.ReadAnswers.{no_base_found, refused_unread, same_callers, stuck_unread, unread_err}
+use Rattle.input_lines.proofs.ToldLines.{rose-later}
 use Rattle.script_text.proofs.ReadStill.{holds_line, still_unread, uses_held, uses_none}
 use Rattle.script_text.proofs.reader.read_turn.Goals as goal
 
@@ -225,7 +225,7 @@ returns-in_err-size-clause-ready g c = rw (err_from_is_err_and c.from_residual.r
 pub returns-in_err-size-clause-fault : goal.returns-in_err-size-clause-fault
 returns-in_err-size-clause-fault g c =
     let p = err_from_is_err_and c.from_residual.result c.from_residual.ensures.1 in
-    rw (p.1, p.2) (λ is. rose-later _ _ _ c.lines.invariant.later (c.in_err-size.ensures.fault (same_err c.in_err-size.field-0.0 is)))
+    rw (p.1, p.2) (λ is. rose-later _ _ _ c.lines.invariant.later (c.in_err-size.ensures.fault (unread_err c.in_err-size.field-0.0 is)))
 
 pub returns-in_err-finish-clause-later : goal.returns-in_err-finish-clause-later
 returns-in_err-finish-clause-later g c = omega (arith, c.lines.invariant.later, c.next_line.ensures.later)
@@ -339,7 +339,7 @@ returns-in-Some-2-clause-bad g c = tt
 pub returns-in_err-size-clause-bad : goal.returns-in_err-size-clause-bad
 returns-in_err-size-clause-bad g c =
     let p = err_from_is_err_and c.from_residual.result c.from_residual.ensures.1 in
-    rw (p.1, p.2) (refused_good (held_at c.lines.progress c.next_line.new.self) c.in_err-size.field-0.0 c.in_err-size.ensures.good)
+    rw (p.1, p.2) (refused_unread (held_at c.lines.progress c.next_line.new.self) c.in_err-size.field-0.0)
 
 pub returns-in_err-turn-clause-bad : goal.returns-in_err-turn-clause-bad
 returns-in_err-turn-clause-bad g c = let p = err_from_is_err_and c.from_residual-in_err-turn.result c.from_residual-in_err-turn.ensures.1 in rw (p.1, p.2) c.in_err-turn.ensures.bad

@@ -1,0 +1,8 @@
+pub mod Newlines
+pub mod LineLists
+pub mod ToldLines
+pub mod NextLines
+pub mod StillLines
+pub mod NeededReads
+pub mod FirstLines
+pub mod PushedLines

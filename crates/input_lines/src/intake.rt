@@ -1,0 +1,208 @@
+//! What is taken from a source: its bytes, cut into lines.
+ghost use Rattle.std.specs.Prelude.{◌≡◌, ◌≢◌, ◌+◌, ◌∷◌, ◌≤◌, ◌<◌, ◌↔◌, ◌==◌, [], length, false, position, ℕ};
+ghost use Rattle.std.specs.Prelude.{IsTrue, IfErr, IfOk, IfSome, OnOk, OnErr, IsErrOf, vec_len, Ok};
+ghost use Rattle.std.specs.Io.{ReadsAtMost};
+ghost use Rattle.std.specs.Io.KnownBytes.{ReadConsumes};
+ghost use Rattle.nav_types.specs.declared.limits.TheConstants.{MAX_LINE_BYTES};
+ghost use Rattle.io_edges.specs.Faults.{Rose, ReadHasCause};
+
+use crate::faults::LineFault;
+use io_edges::{Failed, Source};
+use nav_types::NoMemory;
+use nav_types::limits::MAX_LINE_BYTES;
+use std::alloc::Global;
+use std::marker::Model;
+
+/// The most bytes of one read.
+pub const READ_SIZE: usize = 65_536;
+
+/// Where a line ended.
+#[derive(Clone, Copy)]
+pub enum LineEnd {
+    /// At its newline.
+    Newline,
+    /// At the end of the input. What stands there may be empty.
+    Input,
+}
+
+/// The bytes taken from a source that no line has used yet, and whether the end of the input was met.
+#[derive(Drop)]
+pub struct Intake {
+    buffer: Vec<u8>,
+    from: usize,
+    to: usize,
+    ended: bool,
+}
+
+impl Model for Intake {
+    ghost use Rattle.std.specs.Prelude.{◌≡◌, ◌≤◌, drop, take, vec_len};
+    ghost use Rattle.input_lines.specs.declared.intake.TheConstants.{READ_SIZE};
+    ghost use Rattle.input_lines.specs.Held.{Taken};
+
+    ghost Value = { Taken };
+
+    ghost view = { λ i. record { bytes = drop i.from (take i.to i.buffer.items); ended = i.ended } };
+
+    ghost invariant = { λ i. (i.from ≤ i.to) × (i.to ≤ READ_SIZE) × (vec_len i.buffer ≡ READ_SIZE) };
+}
+
+impl Intake {
+    ghost use Rattle.input_lines.specs.declared.intake.LineEnd.TheVariants.{Newline, Input};
+    ghost use Rattle.input_lines.specs.Held.{WhereTold};
+    ghost use Rattle.input_lines.specs.Held.{Taken, ReadsByNeedTold};
+    ghost use Rattle.input_lines.specs.inner.Taking.{RefillAnswer, MovesLine, LineTold};
+    ghost use Rattle.input_lines.specs.Held.{HasLine, IsHeldLine};
+    ghost use Rattle.input_lines.specs.inner.Taking.{HoldsNewline, end_of};
+
+    /// Nothing is taken yet. The buffer of one read is taken here, once.
+    pub fn new(alloc: Global) -> Result<Intake, NoMemory>
+        ensures { IfOk result (λ made. made ≡ record { bytes = []; ended = false }) }
+    {
+        let buffer = read_buffer(alloc)?;
+        Ok(Intake {
+            buffer,
+            from: 0,
+            to: 0,
+            ended: false,
+        })
+    }
+
+    /// How many bytes are held.
+    pub fn len(&self) -> usize
+        ensures { result ≡ length self.now.bytes }
+    {
+        self.to - self.from
+    }
+
+    /// Whether each byte that was taken was used.
+    fn is_used_up(&self) -> bool
+        ensures { IsTrue result ↔ (self.now.bytes ≡ []) }
+    {
+        self.from == self.to
+    }
+
+    /// The bytes that no line has used yet.
+    pub fn held(&self) -> &[u8]
+        ensures { result.now ≡ self.now.bytes }
+    {
+        &self.buffer[self.from..self.to]
+    }
+
+    /// Takes the next line from the source: its bytes without the newline. It reads only while no newline is held, and
+    /// no more once the line is longer than a line may be, or than the room that the input has left.
+    pub fn next_line<S: Source>(
+        &mut self,
+        source: &mut S,
+        line: &mut Vec<u8>,
+        room: u64,
+    ) -> Result<LineEnd, LineFault>
+        requires empty { line.old.items ≡ [] }
+        ensures stays { IsTrue self.old.ended → IsTrue self.new.ended }
+        ensures told { LineTold self.old self.new (S.left source.old) (S.left source.new) line.new.items room result }
+        ensures held { HasLine self.old.bytes
+            → (source.new ≡ source.old) × OnOk result (HoldsNewline self.old self.new line.new.items result) }
+        ensures reads { ReadsByNeedTold self.old.bytes self.old.ended (S.left source.old) (S.left source.new) }
+        ensures later { S.faults source.old ≤ S.faults source.new }
+        ensures fault { IsErrOf result LineFault.ReadFault → Rose (S.faults source.old) (S.faults source.new) }
+        ensures holds { IsHeldLine (record { line = line.new.items; line_end = end_of result; rest = self.new }) }
+    {
+        'parts: loop {
+            self.refill(source)?;
+            if self.is_used_up() {
+                return Ok(LineEnd::Input);
+            }
+            if self.move_line(line)? {
+                return Ok(LineEnd::Newline);
+            }
+            // Tested before the newline comes: a line without an end must not fill the memory.
+            let size = line.len() as u64;
+            if size > MAX_LINE_BYTES || size > room {
+                return Err(LineFault::TooLong);
+            }
+        }
+    }
+
+    /// Takes the next bytes from the source where none are held, and none once the end of the input was met.
+    fn refill<S: Source>(&mut self, source: &mut S) -> Result<(), LineFault>
+        ensures told { WhereTold (S.left source.old) (S.left source.new) (RefillAnswer self.old self.new result) }
+        ensures still { self.old.bytes ≢ [] → source.new ≡ source.old }
+        ensures reads { ReadsByNeedTold self.old.bytes self.old.ended (S.left source.old) (S.left source.new) }
+        ensures kept { self.old.bytes ≢ [] → self.new ≡ self.old }
+        ensures ended { OnOk result (self.new.bytes ≡ [] → IsTrue self.new.ended) }
+        ensures stays { IsTrue self.old.ended → IsTrue self.new.ended }
+        ensures going { OnOk result (0 < length self.new.bytes → self.new.ended ≡ self.old.ended) }
+        ensures few { length self.new.bytes ≤ READ_SIZE }
+        ensures failed { IfErr result (λ fault. fault ≡ LineFault.ReadFault) }
+        ensures later { S.faults source.old ≤ S.faults source.new }
+        ensures fault { IsErrOf result LineFault.ReadFault → Rose (S.faults source.old) (S.faults source.new) }
+    {
+        // A read that took nothing met the end, and a source may have bytes again after it: it is not asked again.
+        if self.ended {
+            return Ok(());
+        }
+        if self.from < self.to {
+            return Ok(());
+        }
+        self.from = 0;
+        self.to = 0;
+        match read_into(source, &mut self.buffer) {
+            Ok(count) => {
+                self.to = count;
+                self.ended = count == 0;
+                Ok(())
+            }
+            Err(Failed) => Err(LineFault::ReadFault),
+        }
+    }
+
+    /// Moves the bytes up to the first newline to the end of the line, and lets go of the newline. Where there is none,
+    /// all bytes move. It answers whether there is one.
+    fn move_line(&mut self, line: &mut Vec<u8>) -> Result<bool, NoMemory>
+        ensures moves { IfOk result (MovesLine self.old self.new line.old.items line.new.items) }
+        ensures fewer { length self.new.bytes ≤ length self.old.bytes }
+        ensures ended { self.new.ended ≡ self.old.ended }
+        ensures err { OnErr result ((line.new.items ≡ line.old.items) × (self.new ≡ self.old)) }
+    {
+        let held = self.held();
+        match first_newline(held) {
+            Some(at) => {
+                let (part, _) = held.split_at(at);
+                line.extend_from_slice(part)?;
+                self.from += at + 1;
+                Ok(true)
+            }
+            None => {
+                line.extend_from_slice(held)?;
+                self.from = self.to;
+                Ok(false)
+            }
+        }
+    }
+}
+
+/// The place of the first newline.
+pub(crate) fn first_newline(bytes: &[u8]) -> Option<usize>
+    ensures place { result ≡ position (λ byte. byte == 10) bytes.now }
+    ensures within { IfSome result (λ at. at < length bytes.now) }
+{
+    bytes.iter().position(|byte| *byte == b'\n')
+}
+
+/// A buffer of the size of one read.
+fn read_buffer(alloc: Global) -> Result<Vec<u8>, NoMemory>
+    ensures { IfOk result (λ made. vec_len made ≡ READ_SIZE) }
+{
+    let mut buffer = Vec::new(alloc);
+    buffer.resize(READ_SIZE, 0)?;
+    Ok(buffer)
+}
+
+/// One read into the buffer.
+fn read_into<S: Source>(source: &mut S, buffer: &mut Vec<u8>) -> Result<usize, Failed>
+    ensures size { vec_len buffer.new ≡ vec_len buffer.old }
+    ensures count { ReadsAtMost result buffer.new.items }
+    ensures bytes { ReadConsumes (S.left source.old) (S.left source.new) result buffer.new.items }
+    ensures cause { ReadHasCause (S.faults source.old) (S.faults source.new) result }
+{
+    source.read(buffer.as_mut_slice())
+}
