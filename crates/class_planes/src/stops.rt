@@ -96,8 +96,10 @@ fn push_band(
     requires band { band < map.now.count / 32 + 1 }
     requires up { AreStopsWhere (λ n i. ⊤) Way.Up map.now.lines.now map.now.count band stops.old.up }
     requires down { AreStopsWhere (λ n i. ⊤) Way.Down map.now.lines.now map.now.count band stops.old.down }
-    ensures up { OnOk result (AreStopsWhere (λ n i. ⊤) Way.Up map.now.lines.now map.now.count (band + 1) stops.new.up) }
-    ensures down { OnOk result (AreStopsWhere (λ n i. ⊤) Way.Down map.now.lines.now map.now.count (band + 1) stops.new.down) }
+    ensures up { OnOk result (AreStopsWhere (λ n i. ⊤) Way.Up map.now.lines.now map.now.count
+        (band + 1) stops.new.up) }
+    ensures down { OnOk result (AreStopsWhere (λ n i. ⊤) Way.Down map.now.lines.now map.now.count
+        (band + 1) stops.new.down) }
 {
     if !is_near(rects, BAND * band) {
         return stops.share(before, band);
@@ -137,7 +139,8 @@ fn updated_band(
     requires inside { All (IsRectOf map.now.count map.now.lines.now.words) rects.now }
     requires band { band < map.now.count / 32 + 1 }
     requires before { AreBandStops (IsFarFrom rects.now) way map.now.lines.now map.now.count (32 * band) old.now }
-    ensures { IfOk result (λ words. AreBandStops (λ n i. ⊤) way map.now.lines.now map.now.count (32 * band) words.items) }
+    ensures { IfOk result (λ words. AreBandStops (λ n i. ⊤) way map.now.lines.now map.now.count
+        (32 * band) words.items) }
 {
     let mut words = copied(alloc, old)?;
     write_rects(map, way, rects, BAND * band, &mut words);
@@ -165,10 +168,12 @@ fn write_rect(map: &MapLines<'_>, way: Way, rect: Rect, first: u16, band: &mut [
     requires low { first ≤ 4096 }
     requires band { length band.old ≡ 32 * map.now.lines.now.words }
     ensures stays { length band.new ≡ length band.old }
-    ensures near { (m i : ℕ) → m < 32 → first + m < map.now.count → i / 64 < map.now.lines.now.words → IsInTouchedWord rect (first + m) i
+    ensures near { (m i : ℕ) → m < 32 → first + m < map.now.count → i / 64 < map.now.lines.now.words
+        → IsInTouchedWord rect (first + m) i
         → IsBandStop way map.now.lines.now map.now.count first band.new m i }
     ensures kept { (m i : ℕ) → m < 32 → first + m < map.now.count → i / 64 < map.now.lines.now.words
-        → IsBandStop way map.now.lines.now map.now.count first band.old m i → IsBandStop way map.now.lines.now map.now.count first band.new m i }
+        → IsBandStop way map.now.lines.now map.now.count first band.old m i
+        → IsBandStop way map.now.lines.now map.now.count first band.new m i }
 {
     let from = rect.j0.saturating_sub(1).max(first);
     let to = (rect.j1 + 2).min(first + BAND).min(map.count);
@@ -186,9 +191,11 @@ fn write_line(map: &MapLines<'_>, way: Way, rect: Rect, n: u16, first: u16, band
     requires high { n < first + 32 }
     requires band { length band.old ≡ 32 * map.now.lines.now.words }
     ensures stays { length band.new ≡ length band.old }
-    ensures near { (m i : ℕ) → first + m ≡ n → IsInTouchedWord rect n i → IsBandStop way map.now.lines.now map.now.count first band.new m i }
+    ensures near { (m i : ℕ) → first + m ≡ n → IsInTouchedWord rect n i
+        → IsBandStop way map.now.lines.now map.now.count first band.new m i }
     ensures kept { (m i : ℕ) → m < 32 → first + m < map.now.count → i / 64 < map.now.lines.now.words
-        → IsBandStop way map.now.lines.now map.now.count first band.old m i → IsBandStop way map.now.lines.now map.now.count first band.new m i }
+        → IsBandStop way map.now.lines.now map.now.count first band.old m i
+        → IsBandStop way map.now.lines.now map.now.count first band.new m i }
 {
     let words = map.lines.words();
     let start = usize::from(n - first) * words;
@@ -202,8 +209,10 @@ fn renew_line(map: &MapLines<'_>, way: Way, rect: Rect, n: u16, stops: &mut [u64
     requires line { n < map.now.count }
     requires words { length stops.old ≡ map.now.lines.now.words }
     ensures stays { length stops.new ≡ length stops.old }
-    ensures near { (i : ℕ) → IsInTouchedWord rect n i → IsStopBit way (lanes_of map.now.lines.now map.now.count n) stops.new i }
-    ensures kept { (i : ℕ) → i / 64 < map.now.lines.now.words → IsStopBit way (lanes_of map.now.lines.now map.now.count n) stops.old i
+    ensures near { (i : ℕ) → IsInTouchedWord rect n i → IsStopBit way (lanes_of map.now.lines.now map.now.count n)
+        stops.new i }
+    ensures kept { (i : ℕ) → i / 64 < map.now.lines.now.words → IsStopBit way
+        (lanes_of map.now.lines.now map.now.count n) stops.old i
         → IsStopBit way (lanes_of map.now.lines.now map.now.count n) stops.new i }
 {
     let lanes = lanes_at(map.lines, map.count, n);

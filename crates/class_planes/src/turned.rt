@@ -94,9 +94,11 @@ fn push_band(
     requires inside { All (IsRectInside map.now.size) rects.now }
     requires before { AreColumnsBefore (record { size = map.now.size; rows = map.now.rows.now }) rects.now before.now }
     requires band { band < map.now.size.w / 32 + 1 }
-    requires lines { AreLines (λ i j. free_cell (record { size = map.now.size; rows = map.now.rows.now }) (cell_at i j)) band
+    requires lines { AreLines (λ i j. free_cell (record { size = map.now.size; rows = map.now.rows.now })
+        (cell_at i j)) band
         (map.now.size.h / 64 + 1) lines.old }
-    ensures { OnOk result (AreLines (λ i j. free_cell (record { size = map.now.size; rows = map.now.rows.now }) (cell_at i j)) (band + 1)
+    ensures { OnOk result (AreLines (λ i j. free_cell (record { size = map.now.size; rows = map.now.rows.now })
+        (cell_at i j)) (band + 1)
         (map.now.size.h / 64 + 1) lines.new) }
 {
     let span = words_met(rects, map.size, BAND * band);
@@ -160,11 +162,13 @@ fn column_band(
     requires rows { AreRows (record { size = map.now.size; rows = map.now.rows.now }) }
     requires span { old.now.stale.from < old.now.stale.to }
     requires within { old.now.stale.to ≤ map.now.size.h / 64 + 1 }
-    requires before { AreLinesBut (λ i j. free_cell (record { size = map.now.size; rows = map.now.rows.now }) (cell_at i j)) band
+    requires before { AreLinesBut (λ i j. free_cell (record { size = map.now.size; rows = map.now.rows.now })
+        (cell_at i j)) band
         old.now.stale.from old.now.stale.to (map.now.size.w / 32 + 1) (map.now.size.h / 64 + 1) old.now.lines.now }
     requires band { band < map.now.size.w / 32 + 1 }
     ensures { IfOk result (λ words. IsBand
-        (λ i j. free_cell (record { size = map.now.size; rows = map.now.rows.now }) (cell_at i j)) (32 * band) (map.now.size.h / 64 + 1) 32
+        (λ i j. free_cell (record { size = map.now.size; rows = map.now.rows.now }) (cell_at i j)) (32 * band)
+        (map.now.size.h / 64 + 1) 32
         words.items) }
 {
     let mut words = Vec::with_capacity(alloc, usize::from(BAND) * old.lines.words())?;
@@ -185,13 +189,16 @@ fn push_columns(
     requires rows { AreRows (record { size = map.now.size; rows = map.now.rows.now }) }
     requires span { old.now.stale.from < old.now.stale.to }
     requires within { old.now.stale.to ≤ map.now.size.h / 64 + 1 }
-    requires before { AreLinesBut (λ i j. free_cell (record { size = map.now.size; rows = map.now.rows.now }) (cell_at i j)) band
+    requires before { AreLinesBut (λ i j. free_cell (record { size = map.now.size; rows = map.now.rows.now })
+        (cell_at i j)) band
         old.now.stale.from old.now.stale.to (map.now.size.w / 32 + 1) (map.now.size.h / 64 + 1) old.now.lines.now }
     requires band { band < map.now.size.w / 32 + 1 }
     requires half { half < 2 }
-    requires words { IsBand (λ i j. free_cell (record { size = map.now.size; rows = map.now.rows.now }) (cell_at i j)) (32 * band)
+    requires words { IsBand (λ i j. free_cell (record { size = map.now.size; rows = map.now.rows.now })
+        (cell_at i j)) (32 * band)
         (map.now.size.h / 64 + 1) (16 * half) words.old.items }
-    ensures { OnOk result (IsBand (λ i j. free_cell (record { size = map.now.size; rows = map.now.rows.now }) (cell_at i j)) (32 * band)
+    ensures { OnOk result (IsBand (λ i j. free_cell (record { size = map.now.size; rows = map.now.rows.now })
+        (cell_at i j)) (32 * band)
         (map.now.size.h / 64 + 1) (16 * half + 16) words.new.items) }
 {
     let span = old.stale;
@@ -220,7 +227,8 @@ fn numbers_of(
     ensures long { IfOk result (λ numbers. length numbers.items ≡ 64 * (span.to - span.from)) }
     ensures bits { IfOk result (λ numbers. (j k : ℕ) → j < length numbers.items → k < 16
         → bit_at (slice_index numbers.items j) k
-        ≡ one_if (free_cell (record { size = size; rows = rows.now }) (cell_at (16 * group + k) (64 * span.from + j)))) }
+        ≡ one_if (free_cell (record { size = size; rows = rows.now }) (cell_at (16 * group + k)
+        (64 * span.from + j)))) }
 {
     let count = usize::from(span.to - span.from);
     let mut numbers = vec![in alloc; 0; 64 * count]?;
