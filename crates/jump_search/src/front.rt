@@ -214,15 +214,19 @@ impl Front {
     ) -> Result<(), NoMemory>
         requires class { problem.now.class < R.class_count problem.now.runs.now }
         requires cell { IsTrue (R.passes problem.now.runs.now problem.now.class node.now.state.cell) }
-        requires successors { IsTrue (holds dirs dir) ↔ IsSuccessor (R.passes problem.now.runs.now problem.now.class) node.now.state.cell
+        requires successors { IsTrue (holds dirs dir) ↔ IsSuccessor (R.passes problem.now.runs.now problem.now.class)
+            node.now.state.cell
             node.now.state.arrived dir }
         requires aim { A.sound problem.now.aim.now (R.extent problem.now.runs.now) }
-        requires followable { IsFollowable (R.passes problem.now.runs.now problem.now.class) (A.hit problem.now.aim.now (R.extent problem.now.runs.now)) rect.now
+        requires followable { IsFollowable (R.passes problem.now.runs.now problem.now.class)
+            (A.hit problem.now.aim.now (R.extent problem.now.runs.now)) rect.now
             node.now.state node.now.cost self.old.nodes self.old.waiting }
-        ensures follows { OnOk result (Follows problem.now.all (R.passes problem.now.runs.now problem.now.class) (A.hit problem.now.aim.now (R.extent problem.now.runs.now)) rect.now
+        ensures follows { OnOk result (Follows problem.now.all (R.passes problem.now.runs.now problem.now.class)
+            (A.hit problem.now.aim.now (R.extent problem.now.runs.now)) rect.now
             node.now.state node.now.cost
             (λ other. other ≡ dir) self.old.nodes self.new.nodes self.old.waiting self.new.waiting) }
-        ensures followable { OnOk result (IsFollowable (R.passes problem.now.runs.now problem.now.class) (A.hit problem.now.aim.now (R.extent problem.now.runs.now))
+        ensures followable { OnOk result (IsFollowable (R.passes problem.now.runs.now problem.now.class)
+            (A.hit problem.now.aim.now (R.extent problem.now.runs.now))
             rect.now node.now.state node.now.cost self.new.nodes self.new.waiting) }
     {
         if !dirs.has(dir) {
@@ -253,9 +257,11 @@ impl Front {
         requires class { problem.now.class < R.class_count problem.now.runs.now }
         requires cell { IsTrue (R.passes problem.now.runs.now problem.now.class node.now.state.cell) }
         requires aim { A.sound problem.now.aim.now (R.extent problem.now.runs.now) }
-        requires followable { IsFollowable (R.passes problem.now.runs.now problem.now.class) (A.hit problem.now.aim.now (R.extent problem.now.runs.now)) rect.now
+        requires followable { IsFollowable (R.passes problem.now.runs.now problem.now.class)
+            (A.hit problem.now.aim.now (R.extent problem.now.runs.now)) rect.now
             node.now.state node.now.cost self.old.nodes self.old.waiting }
-        ensures { OnOk result (Follows problem.now.all (R.passes problem.now.runs.now problem.now.class) (A.hit problem.now.aim.now (R.extent problem.now.runs.now)) rect.now
+        ensures { OnOk result (Follows problem.now.all (R.passes problem.now.runs.now problem.now.class)
+            (A.hit problem.now.aim.now (R.extent problem.now.runs.now)) rect.now
             node.now.state node.now.cost
             (λ other. Unit {0}) self.old.nodes self.new.nodes self.old.waiting self.new.waiting) }
     {

@@ -30,15 +30,21 @@ fn answered<R: Runs, A: Aim, L: Ledger>(
     requires class { problem.now.class < R.class_count problem.now.runs.now }
     requires start { IsTrue (R.passes problem.now.runs.now problem.now.class problem.now.start) }
     requires aim { A.sound problem.now.aim.now (R.extent problem.now.runs.now) }
-    requires reach { CanReach (R.passes problem.now.runs.now problem.now.class) problem.now.start (A.hit problem.now.aim.now (R.extent problem.now.runs.now)) }
-    ensures answer { IfOk result (λ traced. IsAnswer (R.passes problem.now.runs.now problem.now.class) problem.now.start (A.hit problem.now.aim.now (R.extent problem.now.runs.now))
+    requires reach { CanReach (R.passes problem.now.runs.now problem.now.class) problem.now.start
+        (A.hit problem.now.aim.now (R.extent problem.now.runs.now)) }
+    ensures answer { IfOk result (λ traced. IsAnswer (R.passes problem.now.runs.now problem.now.class)
+        problem.now.start (A.hit problem.now.aim.now (R.extent problem.now.runs.now))
         traced.found.end traced.found.cost.0 traced.found.waypoints) }
-    ensures opened { IfOk result (λ traced. IsTrue problem.now.all → CountsOpened (R.passes problem.now.runs.now problem.now.class)
-        (A.hit problem.now.aim.now (R.extent problem.now.runs.now)) (A.framed problem.now.aim.now (R.extent problem.now.runs.now)) (R.extent problem.now.runs.now) problem.now.start
+    ensures opened { IfOk result (λ traced. IsTrue problem.now.all → CountsOpened
+        (R.passes problem.now.runs.now problem.now.class)
+        (A.hit problem.now.aim.now (R.extent problem.now.runs.now)) (A.framed problem.now.aim.now
+        (R.extent problem.now.runs.now)) (R.extent problem.now.runs.now) problem.now.start
         traced.found.cost.0 traced.opened) }
     ensures ticks { IfOk result (λ traced. ticks.new ≡ ticks.old + traced.opened) }
-    ensures most { IsWithinOpened (R.passes problem.now.runs.now problem.now.class) (A.hit problem.now.aim.now (R.extent problem.now.runs.now))
-        (A.framed problem.now.aim.now (R.extent problem.now.runs.now)) (R.extent problem.now.runs.now) problem.now.start ticks.old ticks.new }
+    ensures most { IsWithinOpened (R.passes problem.now.runs.now problem.now.class) (A.hit problem.now.aim.now
+        (R.extent problem.now.runs.now))
+        (A.framed problem.now.aim.now (R.extent problem.now.runs.now)) (R.extent problem.now.runs.now)
+        problem.now.start ticks.old ticks.new }
 {
     let framed = Framed {
         aim: problem.aim,
@@ -85,7 +91,8 @@ pub fn jump_search_with<R: Runs, A: Aim, L: Ledger>(
     requires start { IsTrue (R.passes runs.now class start) }
     requires aim { A.sound aim.now (R.extent runs.now) }
     requires reach { CanReach (R.passes runs.now class) start (A.hit aim.now (R.extent runs.now)) }
-    ensures answer { IfOk result (λ traced. IsAnswer (R.passes runs.now class) start (A.hit aim.now (R.extent runs.now))
+    ensures answer { IfOk result (λ traced. IsAnswer (R.passes runs.now class) start (A.hit aim.now
+        (R.extent runs.now))
         traced.found.end traced.found.cost.0 traced.found.waypoints) }
     ensures opened { IfOk result (λ traced. CountsOpened (R.passes runs.now class)
         (A.hit aim.now (R.extent runs.now)) (A.framed aim.now (R.extent runs.now)) (R.extent runs.now) start
@@ -117,7 +124,8 @@ pub fn jump_search<V: View, A: Aim, L: Ledger>(
     requires start { IsTrue (V.passes view.now class start) }
     requires aim { A.sound aim.now (V.extent view.now) }
     requires reach { CanReach (V.passes view.now class) start (A.hit aim.now (V.extent view.now)) }
-    ensures answer { IfOk result (λ traced. IsAnswer (V.passes view.now class) start (A.hit aim.now (V.extent view.now))
+    ensures answer { IfOk result (λ traced. IsAnswer (V.passes view.now class) start (A.hit aim.now
+        (V.extent view.now))
         traced.found.end traced.found.cost.0 traced.found.waypoints) }
     ensures opened { IfOk result (λ traced. CountsOpened (V.passes view.now class)
         (A.hit aim.now (V.extent view.now)) (A.framed aim.now (V.extent view.now)) (V.extent view.now) start
@@ -146,7 +154,8 @@ pub fn jump_find_with<R: Runs, A: Aim, L: Ledger>(
     requires start { IsTrue (R.passes runs.now class start) }
     requires aim { A.sound aim.now (R.extent runs.now) }
     requires reach { CanReach (R.passes runs.now class) start (A.hit aim.now (R.extent runs.now)) }
-    ensures answer { IfOk result (λ found. IsAnswer (R.passes runs.now class) start (A.hit aim.now (R.extent runs.now))
+    ensures answer { IfOk result (λ found. IsAnswer (R.passes runs.now class) start (A.hit aim.now
+        (R.extent runs.now))
         found.end found.cost.0 found.waypoints) }
     ensures most { IsWithinOpened (R.passes runs.now class) (A.hit aim.now (R.extent runs.now))
         (A.framed aim.now (R.extent runs.now)) (R.extent runs.now) start ticks.old ticks.new }
@@ -175,7 +184,8 @@ pub fn jump_find<V: View, A: Aim, L: Ledger>(
     requires start { IsTrue (V.passes view.now class start) }
     requires aim { A.sound aim.now (V.extent view.now) }
     requires reach { CanReach (V.passes view.now class) start (A.hit aim.now (V.extent view.now)) }
-    ensures answer { IfOk result (λ found. IsAnswer (V.passes view.now class) start (A.hit aim.now (V.extent view.now))
+    ensures answer { IfOk result (λ found. IsAnswer (V.passes view.now class) start (A.hit aim.now
+        (V.extent view.now))
         found.end found.cost.0 found.waypoints) }
     ensures most { IsWithinOpened (V.passes view.now class) (A.hit aim.now (V.extent view.now))
         (A.framed aim.now (V.extent view.now)) (V.extent view.now) start ticks.old ticks.new }

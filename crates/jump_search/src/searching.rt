@@ -180,16 +180,21 @@ impl Search {
     ) -> Result<(), NoMemory>
         requires class { problem.now.class < R.class_count problem.now.runs.now }
         requires aim { A.sound problem.now.aim.now (R.extent problem.now.runs.now) }
-        requires frame { IsFrame (A.framed problem.now.aim.now (R.extent problem.now.runs.now)) (R.extent problem.now.runs.now) rect.now }
+        requires frame { IsFrame (A.framed problem.now.aim.now (R.extent problem.now.runs.now))
+            (R.extent problem.now.runs.now) rect.now }
         requires taken { (start : Cell) × ((floor : ℕ)
             × (IsTrue (R.passes problem.now.runs.now problem.now.class start)
-            × IsTaken problem.now.all (R.passes problem.now.runs.now problem.now.class) (A.hit problem.now.aim.now (R.extent problem.now.runs.now)) start rect.now floor
+            × IsTaken problem.now.all (R.passes problem.now.runs.now problem.now.class) (A.hit problem.now.aim.now
+            (R.extent problem.now.runs.now)) start rect.now floor
             self.old.front.nodes self.old.front.waiting self.old.best entry)) }
         requires opened { self.old.opened ≡ opened_count self.old.front.nodes }
-        ensures underway { OnOk result ((start : Cell) (floor : ℕ) → IsTrue (R.passes problem.now.runs.now problem.now.class start)
-            → IsTaken problem.now.all (R.passes problem.now.runs.now problem.now.class) (A.hit problem.now.aim.now (R.extent problem.now.runs.now)) start rect.now floor
+        ensures underway { OnOk result ((start : Cell) (floor : ℕ) → IsTrue
+            (R.passes problem.now.runs.now problem.now.class start)
+            → IsTaken problem.now.all (R.passes problem.now.runs.now problem.now.class) (A.hit problem.now.aim.now
+            (R.extent problem.now.runs.now)) start rect.now floor
             self.old.front.nodes self.old.front.waiting self.old.best entry
-            → IsUnderway problem.now.all (R.passes problem.now.runs.now problem.now.class) (A.hit problem.now.aim.now (R.extent problem.now.runs.now)) start rect.now
+            → IsUnderway problem.now.all (R.passes problem.now.runs.now problem.now.class)
+            (A.hit problem.now.aim.now (R.extent problem.now.runs.now)) start rect.now
             entry.priority.estimate
             self.new.front.nodes self.new.front.waiting self.new.best) }
         ensures even { OnOk result (length self.new.front.nodes + map.len self.old.front.waiting ≡ length
@@ -226,17 +231,20 @@ pub(crate) fn searched<R: Runs, A: Aim, L: Ledger>(
     requires class { problem.now.class < R.class_count problem.now.runs.now }
     requires start { IsTrue (R.passes problem.now.runs.now problem.now.class problem.now.start) }
     requires aim { A.sound problem.now.aim.now (R.extent problem.now.runs.now) }
-    ensures frame { (rect : Rect) × IsFrame (A.framed problem.now.aim.now (R.extent problem.now.runs.now)) (R.extent problem.now.runs.now) rect }
+    ensures frame { (rect : Rect) × IsFrame (A.framed problem.now.aim.now (R.extent problem.now.runs.now))
+        (R.extent problem.now.runs.now) rect }
     ensures ended { IfOk result (λ outcome. (rect : Rect)
         → IsFrame (A.framed problem.now.aim.now (R.extent problem.now.runs.now)) (R.extent problem.now.runs.now) rect
-        → HasEnded problem.now.all (R.passes problem.now.runs.now problem.now.class) (A.hit problem.now.aim.now (R.extent problem.now.runs.now)) problem.now.start rect outcome.nodes
+        → HasEnded problem.now.all (R.passes problem.now.runs.now problem.now.class) (A.hit problem.now.aim.now
+        (R.extent problem.now.runs.now)) problem.now.start rect outcome.nodes
         outcome.best) }
     ensures opened { IfOk result (λ outcome. outcome.opened ≡ opened_count outcome.nodes) }
     ensures ticks { IfOk result (λ outcome. ticks.new ≡ ticks.old + outcome.opened) }
     ensures halted { OnErr result ((rect : Rect)
         → IsFrame (A.framed problem.now.aim.now (R.extent problem.now.runs.now)) (R.extent problem.now.runs.now) rect
         → (ticks.new ≡ ticks.old) ⊎ ((nodes : List Node)
-        × ((floor : ℕ) × (IsHalted problem.now.all (R.passes problem.now.runs.now problem.now.class) (A.hit problem.now.aim.now (R.extent problem.now.runs.now)) problem.now.start rect floor
+        × ((floor : ℕ) × (IsHalted problem.now.all (R.passes problem.now.runs.now problem.now.class)
+        (A.hit problem.now.aim.now (R.extent problem.now.runs.now)) problem.now.start rect floor
         nodes
         × (ticks.new ≡ ticks.old + opened_count nodes))))) }
 {
