@@ -11,6 +11,13 @@ use crate::word_scans::Lanes;
 use nav_types::{NoMemory, Rect, Way};
 use std::alloc::Global;
 
+/// The first `count` of the lines: those of a map.
+#[derive(Drop)]
+struct MapLines<'a> {
+    lines: &'a Lines,
+    count: u16,
+}
+
 /// The stops of the runs along the first `count` lines.
 pub fn stops_of(alloc: Global, lines: &Lines, count: u16) -> Result<StopTable, NoMemory>
     requires { AreMapLines count lines.now }
@@ -19,13 +26,13 @@ pub fn stops_of(alloc: Global, lines: &Lines, count: u16) -> Result<StopTable, N
 {
     let words = lines.words();
     let blank = blank_stops(alloc, count / BAND + 1, words)?;
-    let map = Rect {
+    let whole = Rect {
         i0: 0,
         j0: 0,
         i1: 64 * words as u16 - 2,
         j1: count - 1,
     };
-    renewed_stops(alloc, lines, count, &blank, &[map])
+    renewed_stops(alloc, &MapLines { lines, count }, &blank, &[whole])
 }
 
 /// The stops of the runs along the first `count` lines, where `old` are those of `before`, which are the same outside of
@@ -48,28 +55,27 @@ pub fn updated_stops(
     ensures down { IfOk result (λ stops. AreStops Way.Down count lines.now stops.down) }
 {
     let tight = tight_rects(alloc, before, lines, count, rects)?;
-    renewed_stops(alloc, lines, count, old, &tight)
+    renewed_stops(alloc, &MapLines { lines, count }, old, &tight)
 }
 
-/// The stops of the runs along the first `count` lines, where those of before are right far from the rectangles.
+/// The stops of the runs along the lines of a map, where those of before are right far from the rectangles.
 fn renewed_stops(
     alloc: Global,
-    lines: &Lines,
-    count: u16,
+    map: &MapLines<'_>,
     before: &StopTable,
     rects: &[Rect],
 ) -> Result<StopTable, NoMemory>
-    requires lines { AreMapLines count lines.now }
-    requires inside { All (IsRectOf count lines.now.words) rects.now }
-    requires up { AreStopsBefore Way.Up rects.now count lines.now before.now.up }
-    requires down { AreStopsBefore Way.Down rects.now count lines.now before.now.down }
-    ensures up { IfOk result (λ stops. AreStops Way.Up count lines.now stops.up) }
-    ensures down { IfOk result (λ stops. AreStops Way.Down count lines.now stops.down) }
+    requires lines { AreMapLines map.now.count map.now.lines.now }
+    requires inside { All (IsRectOf map.now.count map.now.lines.now.words) rects.now }
+    requires up { AreStopsBefore Way.Up rects.now map.now.count map.now.lines.now before.now.up }
+    requires down { AreStopsBefore Way.Down rects.now map.now.count map.now.lines.now before.now.down }
+    ensures up { IfOk result (λ stops. AreStops Way.Up map.now.count map.now.lines.now stops.up) }
+    ensures down { IfOk result (λ stops. AreStops Way.Down map.now.count map.now.lines.now stops.down) }
 {
-    let bands = count / BAND + 1;
-    let mut stops = StopTable::with_capacity(alloc, usize::from(bands), lines.words())?;
+    let bands = map.count / BAND + 1;
+    let mut stops = StopTable::with_capacity(alloc, usize::from(bands), map.lines.words())?;
     for band in 0..bands {
-        push_band(alloc, lines, count, before, rects, band, &mut stops)?;
+        push_band(alloc, map, before, rects, band, &mut stops)?;
     }
     Ok(stops)
 }
@@ -77,39 +83,31 @@ fn renewed_stops(
 /// Appends a band to those before it. It is that of `before`, where no rectangle comes near it.
 fn push_band(
     alloc: Global,
-    lines: &Lines,
-    count: u16,
+    map: &MapLines<'_>,
     before: &StopTable,
     rects: &[Rect],
     band: u16,
     stops: &mut StopTable,
 ) -> Result<(), NoMemory>
-    requires lines { AreMapLines count lines.now }
-    requires inside { All (IsRectOf count lines.now.words) rects.now }
-    requires up_before { AreStopsBefore Way.Up rects.now count lines.now before.now.up }
-    requires down_before { AreStopsBefore Way.Down rects.now count lines.now before.now.down }
-    requires band { band < count / 32 + 1 }
-    requires up { AreStopsWhere (λ n i. ⊤) Way.Up lines.now count band stops.old.up }
-    requires down { AreStopsWhere (λ n i. ⊤) Way.Down lines.now count band stops.old.down }
-    ensures up { OnOk result (AreStopsWhere (λ n i. ⊤) Way.Up lines.now count (band + 1) stops.new.up) }
-    ensures down { OnOk result (AreStopsWhere (λ n i. ⊤) Way.Down lines.now count (band + 1) stops.new.down) }
+    requires lines { AreMapLines map.now.count map.now.lines.now }
+    requires inside { All (IsRectOf map.now.count map.now.lines.now.words) rects.now }
+    requires up_before { AreStopsBefore Way.Up rects.now map.now.count map.now.lines.now before.now.up }
+    requires down_before { AreStopsBefore Way.Down rects.now map.now.count map.now.lines.now before.now.down }
+    requires band { band < map.now.count / 32 + 1 }
+    requires up { AreStopsWhere (λ n i. ⊤) Way.Up map.now.lines.now map.now.count band stops.old.up }
+    requires down { AreStopsWhere (λ n i. ⊤) Way.Down map.now.lines.now map.now.count band stops.old.down }
+    ensures up { OnOk result (AreStopsWhere (λ n i. ⊤) Way.Up map.now.lines.now map.now.count
+        (band + 1) stops.new.up) }
+    ensures down { OnOk result (AreStopsWhere (λ n i. ⊤) Way.Down map.now.lines.now map.now.count
+        (band + 1) stops.new.down) }
 {
     if !is_near(rects, BAND * band) {
         return stops.share(before, band);
     }
-    let up = updated_band(
-        alloc,
-        lines,
-        count,
-        Way::Up,
-        before.band(Way::Up, band),
-        rects,
-        band,
-    )?;
+    let up = updated_band(alloc, map, Way::Up, before.band(Way::Up, band), rects, band)?;
     let down = updated_band(
         alloc,
-        lines,
-        count,
+        map,
         Way::Down,
         before.band(Way::Down, band),
         rects,
@@ -131,87 +129,93 @@ fn is_near(rects: &[Rect], first: u16) -> bool
 /// The stops along the 32 lines of a band, where the old ones are right far from the rectangles.
 fn updated_band(
     alloc: Global,
-    lines: &Lines,
-    count: u16,
+    map: &MapLines<'_>,
     way: Way,
     old: &[u64],
     rects: &[Rect],
     band: u16,
 ) -> Result<Vec<u64>, NoMemory>
-    requires lines { AreMapLines count lines.now }
-    requires inside { All (IsRectOf count lines.now.words) rects.now }
-    requires band { band < count / 32 + 1 }
-    requires before { AreBandStops (IsFarFrom rects.now) way lines.now count (32 * band) old.now }
-    ensures { IfOk result (λ words. AreBandStops (λ n i. ⊤) way lines.now count (32 * band) words.items) }
+    requires lines { AreMapLines map.now.count map.now.lines.now }
+    requires inside { All (IsRectOf map.now.count map.now.lines.now.words) rects.now }
+    requires band { band < map.now.count / 32 + 1 }
+    requires before { AreBandStops (IsFarFrom rects.now) way map.now.lines.now map.now.count (32 * band) old.now }
+    ensures { IfOk result (λ words. AreBandStops (λ n i. ⊤) way map.now.lines.now map.now.count
+        (32 * band) words.items) }
 {
     let mut words = copied(alloc, old)?;
-    write_rects(lines, count, way, rects, BAND * band, &mut words);
+    write_rects(map, way, rects, BAND * band, &mut words);
     Ok(words)
 }
 
 /// Makes the stops near the rectangles right along the 32 lines from `first` on. The other bits are right already.
-fn write_rects(lines: &Lines, count: u16, way: Way, rects: &[Rect], first: u16, band: &mut [u64])
-    requires lines { AreMapLines count lines.now }
-    requires inside { All (IsRectOf count lines.now.words) rects.now }
+fn write_rects(map: &MapLines<'_>, way: Way, rects: &[Rect], first: u16, band: &mut [u64])
+    requires lines { AreMapLines map.now.count map.now.lines.now }
+    requires inside { All (IsRectOf map.now.count map.now.lines.now.words) rects.now }
     requires low { first ≤ 4096 }
-    requires before { AreBandStops (IsFarFrom rects.now) way lines.now count first band.old }
+    requires before { AreBandStops (IsFarFrom rects.now) way map.now.lines.now map.now.count first band.old }
     ensures stays { length band.new ≡ length band.old }
-    ensures stops { AreBandStops (λ n i. ⊤) way lines.now count first band.new }
+    ensures stops { AreBandStops (λ n i. ⊤) way map.now.lines.now map.now.count first band.new }
 {
     for rect in rects {
-        write_rect(lines, count, way, *rect, first, band);
+        write_rect(map, way, *rect, first, band);
     }
 }
 
 /// Makes the stops near a rectangle right along the 32 lines from `first` on, and keeps the others right.
-fn write_rect(lines: &Lines, count: u16, way: Way, rect: Rect, first: u16, band: &mut [u64])
-    requires lines { AreMapLines count lines.now }
-    requires rect { IsRectOf count lines.now.words rect }
+fn write_rect(map: &MapLines<'_>, way: Way, rect: Rect, first: u16, band: &mut [u64])
+    requires lines { AreMapLines map.now.count map.now.lines.now }
+    requires rect { IsRectOf map.now.count map.now.lines.now.words rect }
     requires low { first ≤ 4096 }
-    requires band { length band.old ≡ 32 * lines.now.words }
+    requires band { length band.old ≡ 32 * map.now.lines.now.words }
     ensures stays { length band.new ≡ length band.old }
-    ensures near { (m i : ℕ) → m < 32 → first + m < count → i / 64 < lines.now.words → IsInTouchedWord rect (first + m) i
-        → IsBandStop way lines.now count first band.new m i }
-    ensures kept { (m i : ℕ) → m < 32 → first + m < count → i / 64 < lines.now.words
-        → IsBandStop way lines.now count first band.old m i → IsBandStop way lines.now count first band.new m i }
+    ensures near { (m i : ℕ) → m < 32 → first + m < map.now.count → i / 64 < map.now.lines.now.words
+        → IsInTouchedWord rect (first + m) i
+        → IsBandStop way map.now.lines.now map.now.count first band.new m i }
+    ensures kept { (m i : ℕ) → m < 32 → first + m < map.now.count → i / 64 < map.now.lines.now.words
+        → IsBandStop way map.now.lines.now map.now.count first band.old m i
+        → IsBandStop way map.now.lines.now map.now.count first band.new m i }
 {
     let from = rect.j0.saturating_sub(1).max(first);
-    let to = (rect.j1 + 2).min(first + BAND).min(count);
+    let to = (rect.j1 + 2).min(first + BAND).min(map.count);
     for n in from..to {
-        write_line(lines, count, way, rect, n, first, band);
+        write_line(map, way, rect, n, first, band);
     }
 }
 
 /// Makes the stops near a rectangle right along line `n` of the 32 lines from `first` on, and keeps the others right.
-fn write_line(lines: &Lines, count: u16, way: Way, rect: Rect, n: u16, first: u16, band: &mut [u64])
-    requires lines { AreMapLines count lines.now }
-    requires rect { IsRectOf count lines.now.words rect }
-    requires line { n < count }
+fn write_line(map: &MapLines<'_>, way: Way, rect: Rect, n: u16, first: u16, band: &mut [u64])
+    requires lines { AreMapLines map.now.count map.now.lines.now }
+    requires rect { IsRectOf map.now.count map.now.lines.now.words rect }
+    requires line { n < map.now.count }
     requires low { first ≤ n }
     requires high { n < first + 32 }
-    requires band { length band.old ≡ 32 * lines.now.words }
+    requires band { length band.old ≡ 32 * map.now.lines.now.words }
     ensures stays { length band.new ≡ length band.old }
-    ensures near { (m i : ℕ) → first + m ≡ n → IsInTouchedWord rect n i → IsBandStop way lines.now count first band.new m i }
-    ensures kept { (m i : ℕ) → m < 32 → first + m < count → i / 64 < lines.now.words
-        → IsBandStop way lines.now count first band.old m i → IsBandStop way lines.now count first band.new m i }
+    ensures near { (m i : ℕ) → first + m ≡ n → IsInTouchedWord rect n i
+        → IsBandStop way map.now.lines.now map.now.count first band.new m i }
+    ensures kept { (m i : ℕ) → m < 32 → first + m < map.now.count → i / 64 < map.now.lines.now.words
+        → IsBandStop way map.now.lines.now map.now.count first band.old m i
+        → IsBandStop way map.now.lines.now map.now.count first band.new m i }
 {
-    let words = lines.words();
+    let words = map.lines.words();
     let start = usize::from(n - first) * words;
-    renew_line(lines, count, way, rect, n, &mut band[start..start + words]);
+    renew_line(map, way, rect, n, &mut band[start..start + words]);
 }
 
 /// Makes the stops near a rectangle right along line `n`, and keeps the others right.
-fn renew_line(lines: &Lines, count: u16, way: Way, rect: Rect, n: u16, stops: &mut [u64])
-    requires lines { AreMapLines count lines.now }
-    requires rect { IsRectOf count lines.now.words rect }
-    requires line { n < count }
-    requires words { length stops.old ≡ lines.now.words }
+fn renew_line(map: &MapLines<'_>, way: Way, rect: Rect, n: u16, stops: &mut [u64])
+    requires lines { AreMapLines map.now.count map.now.lines.now }
+    requires rect { IsRectOf map.now.count map.now.lines.now.words rect }
+    requires line { n < map.now.count }
+    requires words { length stops.old ≡ map.now.lines.now.words }
     ensures stays { length stops.new ≡ length stops.old }
-    ensures near { (i : ℕ) → IsInTouchedWord rect n i → IsStopBit way (lanes_of lines.now count n) stops.new i }
-    ensures kept { (i : ℕ) → i / 64 < lines.now.words → IsStopBit way (lanes_of lines.now count n) stops.old i
-        → IsStopBit way (lanes_of lines.now count n) stops.new i }
+    ensures near { (i : ℕ) → IsInTouchedWord rect n i → IsStopBit way (lanes_of map.now.lines.now map.now.count n)
+        stops.new i }
+    ensures kept { (i : ℕ) → i / 64 < map.now.lines.now.words → IsStopBit way
+        (lanes_of map.now.lines.now map.now.count n) stops.old i
+        → IsStopBit way (lanes_of map.now.lines.now map.now.count n) stops.new i }
 {
-    let lanes = lanes_at(lines, count, n);
+    let lanes = lanes_at(map.lines, map.count, n);
     let first = usize::from(rect.i0.saturating_sub(1) / 64);
     let last = usize::from((rect.i1 + 1) / 64);
     match way {

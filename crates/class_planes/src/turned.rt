@@ -21,6 +21,20 @@ struct Span {
     to: u16,
 }
 
+/// The rows of a map of this size, as lines of bits.
+#[derive(Drop)]
+struct MapRows<'a> {
+    rows: &'a Lines,
+    size: Size,
+}
+
+/// The columns of an earlier map, which are right but for the words of a span.
+#[derive(Drop)]
+struct OldColumns<'a> {
+    lines: &'a Lines,
+    stale: Span,
+}
+
 /// The columns of the map whose rows these are, as lines of bits.
 pub fn columns_of(alloc: Global, rows: &Lines, size: Size) -> Result<Lines, NoMemory>
     requires { AreRows (record { size = size; rows = rows.now }) }
@@ -58,10 +72,11 @@ pub fn updated_columns(
     requires before { AreColumnsBefore (record { size = size; rows = rows.now }) rects.now before.now }
     ensures { IfOk result (AreColumns (record { size = size; rows = rows.now })) }
 {
+    let map = MapRows { rows, size };
     let count = size.w / BAND + 1;
     let mut lines = Lines::with_capacity(alloc, usize::from(count), before.words())?;
     for band in 0..count {
-        push_band(alloc, rows, size, before, rects, band, &mut lines)?;
+        push_band(alloc, &map, before, rects, band, &mut lines)?;
     }
     Ok(lines)
 }
@@ -69,27 +84,32 @@ pub fn updated_columns(
 /// Appends a band of columns to those before it. It is that of `before`, where no rectangle meets it.
 fn push_band(
     alloc: Global,
-    rows: &Lines,
-    size: Size,
+    map: &MapRows<'_>,
     before: &Lines,
     rects: &[Rect],
     band: u16,
     lines: &mut Lines,
 ) -> Result<(), NoMemory>
-    requires rows { AreRows (record { size = size; rows = rows.now }) }
-    requires inside { All (IsRectInside size) rects.now }
-    requires before { AreColumnsBefore (record { size = size; rows = rows.now }) rects.now before.now }
-    requires band { band < size.w / 32 + 1 }
-    requires lines { AreLines (λ i j. free_cell (record { size = size; rows = rows.now }) (cell_at i j)) band
-        (size.h / 64 + 1) lines.old }
-    ensures { OnOk result (AreLines (λ i j. free_cell (record { size = size; rows = rows.now }) (cell_at i j)) (band + 1)
-        (size.h / 64 + 1) lines.new) }
+    requires rows { AreRows (record { size = map.now.size; rows = map.now.rows.now }) }
+    requires inside { All (IsRectInside map.now.size) rects.now }
+    requires before { AreColumnsBefore (record { size = map.now.size; rows = map.now.rows.now }) rects.now before.now }
+    requires band { band < map.now.size.w / 32 + 1 }
+    requires lines { AreLines (λ i j. free_cell (record { size = map.now.size; rows = map.now.rows.now })
+        (cell_at i j)) band
+        (map.now.size.h / 64 + 1) lines.old }
+    ensures { OnOk result (AreLines (λ i j. free_cell (record { size = map.now.size; rows = map.now.rows.now })
+        (cell_at i j)) (band + 1)
+        (map.now.size.h / 64 + 1) lines.new) }
 {
-    let span = words_met(rects, size, BAND * band);
+    let span = words_met(rects, map.size, BAND * band);
     if span.from >= span.to {
         return lines.share(before, band);
     }
-    let words = column_band(alloc, rows, size, before, span, band)?;
+    let old = OldColumns {
+        lines: before,
+        stale: span,
+    };
+    let words = column_band(alloc, map, &old, band)?;
     lines.push(alloc, words)
 }
 
@@ -132,58 +152,60 @@ fn widened(span: Span, size: Size, rect: Rect, first: u16) -> Span
     }
 }
 
-/// The words of a band of columns, where those of before are right outside of the span.
+/// The words of a band of columns.
 fn column_band(
     alloc: Global,
-    rows: &Lines,
-    size: Size,
-    before: &Lines,
-    span: Span,
+    map: &MapRows<'_>,
+    old: &OldColumns<'_>,
     band: u16,
 ) -> Result<Vec<u64>, NoMemory>
-    requires rows { AreRows (record { size = size; rows = rows.now }) }
-    requires span { span.from < span.to }
-    requires within { span.to ≤ size.h / 64 + 1 }
-    requires before { AreLinesBut (λ i j. free_cell (record { size = size; rows = rows.now }) (cell_at i j)) band
-        span.from span.to (size.w / 32 + 1) (size.h / 64 + 1) before.now }
-    requires band { band < size.w / 32 + 1 }
+    requires rows { AreRows (record { size = map.now.size; rows = map.now.rows.now }) }
+    requires span { old.now.stale.from < old.now.stale.to }
+    requires within { old.now.stale.to ≤ map.now.size.h / 64 + 1 }
+    requires before { AreLinesBut (λ i j. free_cell (record { size = map.now.size; rows = map.now.rows.now })
+        (cell_at i j)) band
+        old.now.stale.from old.now.stale.to (map.now.size.w / 32 + 1) (map.now.size.h / 64 + 1) old.now.lines.now }
+    requires band { band < map.now.size.w / 32 + 1 }
     ensures { IfOk result (λ words. IsBand
-        (λ i j. free_cell (record { size = size; rows = rows.now }) (cell_at i j)) (32 * band) (size.h / 64 + 1) 32
+        (λ i j. free_cell (record { size = map.now.size; rows = map.now.rows.now }) (cell_at i j)) (32 * band)
+        (map.now.size.h / 64 + 1) 32
         words.items) }
 {
-    let mut words = Vec::with_capacity(alloc, usize::from(BAND) * before.words())?;
-    push_columns(alloc, rows, size, before, span, band, 0, &mut words)?;
-    push_columns(alloc, rows, size, before, span, band, 1, &mut words)?;
+    let mut words = Vec::with_capacity(alloc, usize::from(BAND) * old.lines.words())?;
+    push_columns(alloc, map, old, band, 0, &mut words)?;
+    push_columns(alloc, map, old, band, 1, &mut words)?;
     Ok(words)
 }
 
 /// Appends the first or the second 16 columns of a band.
 fn push_columns(
     alloc: Global,
-    rows: &Lines,
-    size: Size,
-    before: &Lines,
-    span: Span,
+    map: &MapRows<'_>,
+    old: &OldColumns<'_>,
     band: u16,
     half: u16,
     words: &mut Vec<u64>,
 ) -> Result<(), NoMemory>
-    requires rows { AreRows (record { size = size; rows = rows.now }) }
-    requires span { span.from < span.to }
-    requires within { span.to ≤ size.h / 64 + 1 }
-    requires before { AreLinesBut (λ i j. free_cell (record { size = size; rows = rows.now }) (cell_at i j)) band
-        span.from span.to (size.w / 32 + 1) (size.h / 64 + 1) before.now }
-    requires band { band < size.w / 32 + 1 }
+    requires rows { AreRows (record { size = map.now.size; rows = map.now.rows.now }) }
+    requires span { old.now.stale.from < old.now.stale.to }
+    requires within { old.now.stale.to ≤ map.now.size.h / 64 + 1 }
+    requires before { AreLinesBut (λ i j. free_cell (record { size = map.now.size; rows = map.now.rows.now })
+        (cell_at i j)) band
+        old.now.stale.from old.now.stale.to (map.now.size.w / 32 + 1) (map.now.size.h / 64 + 1) old.now.lines.now }
+    requires band { band < map.now.size.w / 32 + 1 }
     requires half { half < 2 }
-    requires words { IsBand (λ i j. free_cell (record { size = size; rows = rows.now }) (cell_at i j)) (32 * band)
-        (size.h / 64 + 1) (16 * half) words.old.items }
-    ensures { OnOk result (IsBand (λ i j. free_cell (record { size = size; rows = rows.now }) (cell_at i j)) (32 * band)
-        (size.h / 64 + 1) (16 * half + 16) words.new.items) }
+    requires words { IsBand (λ i j. free_cell (record { size = map.now.size; rows = map.now.rows.now })
+        (cell_at i j)) (32 * band)
+        (map.now.size.h / 64 + 1) (16 * half) words.old.items }
+    ensures { OnOk result (IsBand (λ i j. free_cell (record { size = map.now.size; rows = map.now.rows.now })
+        (cell_at i j)) (32 * band)
+        (map.now.size.h / 64 + 1) (16 * half + 16) words.new.items) }
 {
-    let numbers = numbers_of(alloc, rows, size, 2 * band + half, span)?;
+    let span = old.stale;
+    let numbers = numbers_of(alloc, map.rows, map.size, 2 * band + half, span)?;
     let mut part = vec![in alloc; 0; usize::from(span.to - span.from)]?;
     for k in 0..GROUP {
-        let line = before.line(BAND * band + 16 * half + u16::from(k));
+        let line = old.lines.line(BAND * band + 16 * half + u16::from(k));
         push_column(line, span.from, &numbers, k, &mut part, words)?;
     }
     Ok(())
@@ -205,7 +227,8 @@ fn numbers_of(
     ensures long { IfOk result (λ numbers. length numbers.items ≡ 64 * (span.to - span.from)) }
     ensures bits { IfOk result (λ numbers. (j k : ℕ) → j < length numbers.items → k < 16
         → bit_at (slice_index numbers.items j) k
-        ≡ one_if (free_cell (record { size = size; rows = rows.now }) (cell_at (16 * group + k) (64 * span.from + j)))) }
+        ≡ one_if (free_cell (record { size = size; rows = rows.now }) (cell_at (16 * group + k)
+        (64 * span.from + j)))) }
 {
     let count = usize::from(span.to - span.from);
     let mut numbers = vec![in alloc; 0; 64 * count]?;

@@ -13,6 +13,15 @@ use crate::rows::free_words;
 use nav_types::{Class, NoMemory, Rect, Rows};
 use std::alloc::Global;
 
+/// The rows of an earlier map, as lines of bits, with what may differ from them now: the rectangles, and no more than what
+/// was read of the map of now.
+#[derive(Drop)]
+struct OldRows<'a> {
+    lines: &'a Lines,
+    rects: &'a [Rect],
+    reads: &'a [ReadRect],
+}
+
 /// The rows of the view for the class, as lines of bits, where `before` are the rows of a map that is the same outside
 /// of the rectangles, and outside of what was read.
 pub fn updated_lines<V: Rows>(
@@ -33,41 +42,44 @@ pub fn updated_lines<V: Rows>(
         (AreLines (λ j i. V.passes view.now class (cell_at i j)) ((V.extent view.now).h / 32 + 1)
         ((V.extent view.now).w / 64 + 1)) }
 {
+    let old = OldRows {
+        lines: before,
+        rects,
+        reads,
+    };
     let count = view.size().h / BAND + 1;
     let mut lines = Lines::with_capacity(alloc, usize::from(count), before.words())?;
     for band in 0..count {
-        push_band(alloc, view, class, before, reads, rects, band, &mut lines)?;
+        push_band(alloc, view, class, &old, band, &mut lines)?;
     }
     Ok(lines)
 }
 
-/// Appends a band of the view's rows to those before it. It is that of `before`, where no rectangle meets it.
+/// Appends a band of the view's rows to those before it. It is the old one, where no rectangle meets it.
 fn push_band<V: Rows>(
     alloc: Global,
     view: &V,
     class: Class,
-    before: &Lines,
-    reads: &[ReadRect],
-    rects: &[Rect],
+    old: &OldRows<'_>,
     band: u16,
     lines: &mut Lines,
 ) -> Result<(), NoMemory>
     requires class { class < V.class_count view.now }
-    requires read { All (AreRead (V.extent view.now) (V.class_count view.now) (V.passes view.now)) reads.now }
-    requires before { AreLinesBefore (λ j i. V.passes view.now class (cell_at i j)) (IsOutside rects.now)
-        ((V.extent view.now).h / 32 + 1) ((V.extent view.now).w / 64 + 1) before.now }
-    requires unread { AreLinesBefore (λ j i. V.passes view.now class (cell_at i j)) (IsUnread reads.now)
-        ((V.extent view.now).h / 32 + 1) ((V.extent view.now).w / 64 + 1) before.now }
+    requires read { All (AreRead (V.extent view.now) (V.class_count view.now) (V.passes view.now)) old.now.reads.now }
+    requires before { AreLinesBefore (λ j i. V.passes view.now class (cell_at i j)) (IsOutside old.now.rects.now)
+        ((V.extent view.now).h / 32 + 1) ((V.extent view.now).w / 64 + 1) old.now.lines.now }
+    requires unread { AreLinesBefore (λ j i. V.passes view.now class (cell_at i j)) (IsUnread old.now.reads.now)
+        ((V.extent view.now).h / 32 + 1) ((V.extent view.now).w / 64 + 1) old.now.lines.now }
     requires band { band < (V.extent view.now).h / 32 + 1 }
     requires lines { AreLines (λ j i. V.passes view.now class (cell_at i j)) band
         ((V.extent view.now).w / 64 + 1) lines.old }
     ensures { OnOk result (AreLines (λ j i. V.passes view.now class (cell_at i j)) (band + 1)
         ((V.extent view.now).w / 64 + 1) lines.new) }
 {
-    if !is_met(rects, BAND * band) {
-        return lines.share(before, band);
+    if !is_met(old.rects, BAND * band) {
+        return lines.share(old.lines, band);
     }
-    let words = updated_band(alloc, view, class, before, reads, band)?;
+    let words = updated_band(alloc, view, class, old.lines, old.reads, band)?;
     lines.push(alloc, words)
 }
 

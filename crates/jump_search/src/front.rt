@@ -16,6 +16,7 @@ ghost use Rattle.jump_search.specs.inner.Underway.{IsFollowable, Follows};
 
 use crate::nodes::{Node, Nodes, Standing};
 use crate::octile::octile_to;
+use crate::problems::Problem;
 use crate::states::JumpState;
 use jump_scan::{Runs, successors};
 use nav_types::{Aim, Cell, Class, Dir, DirSet, NoMemory, Rect};
@@ -134,7 +135,7 @@ impl Front {
         ensures nodes { OnOk result (self.new.nodes ≡ self.old.nodes ++ node ∷ []) }
         ensures waiting { OnOk result (self.new.waiting ≡ map.insert self.old.waiting (length self.old.nodes)
             (priority_of rect.now node)) }
-        ensures few { OnOk result (length self.new.nodes ≤ 4294967296) }
+        ensures few { OnOk result (length self.new.nodes ≤ 2 ^ 32) }
     {
         let number = self.nodes.add(node)?;
         self.waiting.push(number, priority_of(rect, &node))?;
@@ -205,36 +206,43 @@ impl Front {
     #[inline(always)]
     fn follow_along<R: Runs, A: Aim>(
         &mut self,
-        runs: &R,
-        class: Class,
-        aim: &A,
+        problem: &Problem<'_, R, A>,
         rect: &Rect,
-        all: bool,
         node: &Node,
         dirs: DirSet,
         dir: Dir,
     ) -> Result<(), NoMemory>
-        requires class { class < R.class_count runs.now }
-        requires cell { IsTrue (R.passes runs.now class node.now.state.cell) }
-        requires successors { IsTrue (holds dirs dir) ↔ IsSuccessor (R.passes runs.now class) node.now.state.cell
+        requires class { problem.now.class < R.class_count problem.now.runs.now }
+        requires cell { IsTrue (R.passes problem.now.runs.now problem.now.class node.now.state.cell) }
+        requires successors { IsTrue (holds dirs dir) ↔ IsSuccessor (R.passes problem.now.runs.now problem.now.class)
+            node.now.state.cell
             node.now.state.arrived dir }
-        requires aim { A.sound aim.now (R.extent runs.now) }
-        requires followable { IsFollowable (R.passes runs.now class) (A.hit aim.now (R.extent runs.now)) rect.now
+        requires aim { A.sound problem.now.aim.now (R.extent problem.now.runs.now) }
+        requires followable { IsFollowable (R.passes problem.now.runs.now problem.now.class)
+            (A.hit problem.now.aim.now (R.extent problem.now.runs.now)) rect.now
             node.now.state node.now.cost self.old.nodes self.old.waiting }
-        ensures follows { OnOk result (Follows all (R.passes runs.now class) (A.hit aim.now (R.extent runs.now)) rect.now
+        ensures follows { OnOk result (Follows problem.now.all (R.passes problem.now.runs.now problem.now.class)
+            (A.hit problem.now.aim.now (R.extent problem.now.runs.now)) rect.now
             node.now.state node.now.cost
             (λ other. other ≡ dir) self.old.nodes self.new.nodes self.old.waiting self.new.waiting) }
-        ensures followable { OnOk result (IsFollowable (R.passes runs.now class) (A.hit aim.now (R.extent runs.now))
+        ensures followable { OnOk result (IsFollowable (R.passes problem.now.runs.now problem.now.class)
+            (A.hit problem.now.aim.now (R.extent problem.now.runs.now))
             rect.now node.now.state node.now.cost self.new.nodes self.new.waiting) }
     {
         if !dirs.has(dir) {
             return Ok(());
         }
-        let Some(stop) = stop_of(runs, class, node.state.cell, dir, aim) else {
+        let Some(stop) = stop_of(
+            problem.runs,
+            problem.class,
+            node.state.cell,
+            dir,
+            problem.aim,
+        ) else {
             return Ok(());
         };
         let next = landed(node, dir, stop);
-        self.note(rect, dir, all, next)?;
+        self.note(rect, dir, problem.all, next)?;
         Ok(())
     }
 
@@ -242,31 +250,35 @@ impl Front {
     /// is dearer than a node of its cell.
     pub(crate) fn follow<R: Runs, A: Aim>(
         &mut self,
-        runs: &R,
-        class: Class,
-        aim: &A,
+        problem: &Problem<'_, R, A>,
         rect: &Rect,
-        all: bool,
         node: &Node,
     ) -> Result<(), NoMemory>
-        requires class { class < R.class_count runs.now }
-        requires cell { IsTrue (R.passes runs.now class node.now.state.cell) }
-        requires aim { A.sound aim.now (R.extent runs.now) }
-        requires followable { IsFollowable (R.passes runs.now class) (A.hit aim.now (R.extent runs.now)) rect.now
+        requires class { problem.now.class < R.class_count problem.now.runs.now }
+        requires cell { IsTrue (R.passes problem.now.runs.now problem.now.class node.now.state.cell) }
+        requires aim { A.sound problem.now.aim.now (R.extent problem.now.runs.now) }
+        requires followable { IsFollowable (R.passes problem.now.runs.now problem.now.class)
+            (A.hit problem.now.aim.now (R.extent problem.now.runs.now)) rect.now
             node.now.state node.now.cost self.old.nodes self.old.waiting }
-        ensures { OnOk result (Follows all (R.passes runs.now class) (A.hit aim.now (R.extent runs.now)) rect.now
+        ensures { OnOk result (Follows problem.now.all (R.passes problem.now.runs.now problem.now.class)
+            (A.hit problem.now.aim.now (R.extent problem.now.runs.now)) rect.now
             node.now.state node.now.cost
             (λ other. Unit {0}) self.old.nodes self.new.nodes self.old.waiting self.new.waiting) }
     {
-        let dirs = successors(runs, class, node.state.cell, node.state.arrived);
-        self.follow_along(runs, class, aim, rect, all, node, dirs, Dir::N)?;
-        self.follow_along(runs, class, aim, rect, all, node, dirs, Dir::E)?;
-        self.follow_along(runs, class, aim, rect, all, node, dirs, Dir::S)?;
-        self.follow_along(runs, class, aim, rect, all, node, dirs, Dir::W)?;
-        self.follow_along(runs, class, aim, rect, all, node, dirs, Dir::NE)?;
-        self.follow_along(runs, class, aim, rect, all, node, dirs, Dir::SE)?;
-        self.follow_along(runs, class, aim, rect, all, node, dirs, Dir::SW)?;
-        self.follow_along(runs, class, aim, rect, all, node, dirs, Dir::NW)?;
+        let dirs = successors(
+            problem.runs,
+            problem.class,
+            node.state.cell,
+            node.state.arrived,
+        );
+        self.follow_along(problem, rect, node, dirs, Dir::N)?;
+        self.follow_along(problem, rect, node, dirs, Dir::E)?;
+        self.follow_along(problem, rect, node, dirs, Dir::S)?;
+        self.follow_along(problem, rect, node, dirs, Dir::W)?;
+        self.follow_along(problem, rect, node, dirs, Dir::NE)?;
+        self.follow_along(problem, rect, node, dirs, Dir::SE)?;
+        self.follow_along(problem, rect, node, dirs, Dir::SW)?;
+        self.follow_along(problem, rect, node, dirs, Dir::NW)?;
         Ok(())
     }
 

@@ -10,6 +10,7 @@ mod laws;
 mod nodes;
 mod octile;
 mod pages;
+mod problems;
 mod search;
 mod searching;
 mod states;

@@ -1,4 +1,4 @@
-ghost use Rattle.std.specs.Prelude.{◌≡◌, ◌<◌, ◌≤◌, ◌++◌, ◌∷◌, [], length, slice_get, slice_set, Some, IfSome, IfNone};
+ghost use Rattle.std.specs.Prelude.{◌≡◌, ◌<◌, ◌≤◌, ◌++◌, ◌∷◌, [], length, slice_get, slice_set, Some, IfSome, IfNone, ◌^◌};
 ghost use Rattle.std.specs.Prelude.{IsTrue, IfOk, OnOk, OnErr};
 ghost use Rattle.jump_search.specs.inner.Numbered.{arrival_number, key_of, same_key, HasState, LacksState, HasCheaper};
 ghost use Rattle.jump_search.specs.inner.Numbered.{IsSearchable, AreDown, IsStanding};
@@ -196,7 +196,7 @@ impl Nodes {
         requires { LacksState self.old node.state }
         ensures added { OnOk result (self.new ≡ self.old ++ node ∷ []) }
         ensures number { IfOk result (λ number. number ≡ length self.old) }
-        ensures few { OnOk result (length self.new ≤ 4294967296) }
+        ensures few { OnOk result (length self.new ≤ 2 ^ 32) }
         ensures kept { OnErr result (self.new ≡ self.old) }
     {
         let Ok(number) = u32::try_from(self.list.len()) else {

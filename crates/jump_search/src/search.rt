@@ -5,6 +5,7 @@ ghost use Rattle.walks.specs.Chosen.{IsAnswer};
 ghost use Rattle.jump_search.specs.JumpStates.{CountsOpened, IsWithinOpened};
 
 use crate::framed::Framed;
+use crate::problems::Problem;
 use crate::searching::searched;
 use crate::tracing::traced;
 use jump_scan::{CellRuns, Runs};
@@ -23,31 +24,41 @@ pub struct Traced {
 /// The answer of a search, which is for all jump states within the cost or not.
 fn answered<R: Runs, A: Aim, L: Ledger>(
     alloc: Global,
-    runs: &R,
-    class: Class,
-    start: Cell,
-    aim: &A,
-    all: bool,
+    problem: &Problem<'_, R, A>,
     ticks: &mut Ticks<L>,
 ) -> Result<Traced, NoMemory>
-    requires class { class < R.class_count runs.now }
-    requires start { IsTrue (R.passes runs.now class start) }
-    requires aim { A.sound aim.now (R.extent runs.now) }
-    requires reach { CanReach (R.passes runs.now class) start (A.hit aim.now (R.extent runs.now)) }
-    ensures answer { IfOk result (λ traced. IsAnswer (R.passes runs.now class) start (A.hit aim.now (R.extent runs.now))
+    requires class { problem.now.class < R.class_count problem.now.runs.now }
+    requires start { IsTrue (R.passes problem.now.runs.now problem.now.class problem.now.start) }
+    requires aim { A.sound problem.now.aim.now (R.extent problem.now.runs.now) }
+    requires reach { CanReach (R.passes problem.now.runs.now problem.now.class) problem.now.start
+        (A.hit problem.now.aim.now (R.extent problem.now.runs.now)) }
+    ensures answer { IfOk result (λ traced. IsAnswer (R.passes problem.now.runs.now problem.now.class)
+        problem.now.start (A.hit problem.now.aim.now (R.extent problem.now.runs.now))
         traced.found.end traced.found.cost.0 traced.found.waypoints) }
-    ensures opened { IfOk result (λ traced. IsTrue all → CountsOpened (R.passes runs.now class)
-        (A.hit aim.now (R.extent runs.now)) (A.framed aim.now (R.extent runs.now)) (R.extent runs.now) start
+    ensures opened { IfOk result (λ traced. IsTrue problem.now.all → CountsOpened
+        (R.passes problem.now.runs.now problem.now.class)
+        (A.hit problem.now.aim.now (R.extent problem.now.runs.now)) (A.framed problem.now.aim.now
+        (R.extent problem.now.runs.now)) (R.extent problem.now.runs.now) problem.now.start
         traced.found.cost.0 traced.opened) }
     ensures ticks { IfOk result (λ traced. ticks.new ≡ ticks.old + traced.opened) }
-    ensures most { IsWithinOpened (R.passes runs.now class) (A.hit aim.now (R.extent runs.now))
-        (A.framed aim.now (R.extent runs.now)) (R.extent runs.now) start ticks.old ticks.new }
+    ensures most { IsWithinOpened (R.passes problem.now.runs.now problem.now.class) (A.hit problem.now.aim.now
+        (R.extent problem.now.runs.now))
+        (A.framed problem.now.aim.now (R.extent problem.now.runs.now)) (R.extent problem.now.runs.now)
+        problem.now.start ticks.old ticks.new }
 {
     let framed = Framed {
-        aim,
-        rect: aim.bounds(runs.size()),
+        aim: problem.aim,
+        rect: problem.aim.bounds(problem.runs.size()),
     };
-    let outcome = searched(alloc, runs, class, start, &framed, all, ticks)?;
+    let start = problem.start;
+    let within = Problem {
+        runs: problem.runs,
+        class: problem.class,
+        start,
+        aim: &framed,
+        all: problem.all,
+    };
+    let outcome = searched(alloc, &within, ticks)?;
     let Some(best) = outcome.best else {
         unreachable!()
     };
@@ -80,7 +91,8 @@ pub fn jump_search_with<R: Runs, A: Aim, L: Ledger>(
     requires start { IsTrue (R.passes runs.now class start) }
     requires aim { A.sound aim.now (R.extent runs.now) }
     requires reach { CanReach (R.passes runs.now class) start (A.hit aim.now (R.extent runs.now)) }
-    ensures answer { IfOk result (λ traced. IsAnswer (R.passes runs.now class) start (A.hit aim.now (R.extent runs.now))
+    ensures answer { IfOk result (λ traced. IsAnswer (R.passes runs.now class) start (A.hit aim.now
+        (R.extent runs.now))
         traced.found.end traced.found.cost.0 traced.found.waypoints) }
     ensures opened { IfOk result (λ traced. CountsOpened (R.passes runs.now class)
         (A.hit aim.now (R.extent runs.now)) (A.framed aim.now (R.extent runs.now)) (R.extent runs.now) start
@@ -89,7 +101,14 @@ pub fn jump_search_with<R: Runs, A: Aim, L: Ledger>(
     ensures most { IsWithinOpened (R.passes runs.now class) (A.hit aim.now (R.extent runs.now))
         (A.framed aim.now (R.extent runs.now)) (R.extent runs.now) start ticks.old ticks.new }
 {
-    answered(alloc, runs, class, start, aim, true, ticks)
+    let problem = Problem {
+        runs,
+        class,
+        start,
+        aim,
+        all: true,
+    };
+    answered(alloc, &problem, ticks)
 }
 
 /// As [`jump_search_with`], over any view, cell by cell.
@@ -105,7 +124,8 @@ pub fn jump_search<V: View, A: Aim, L: Ledger>(
     requires start { IsTrue (V.passes view.now class start) }
     requires aim { A.sound aim.now (V.extent view.now) }
     requires reach { CanReach (V.passes view.now class) start (A.hit aim.now (V.extent view.now)) }
-    ensures answer { IfOk result (λ traced. IsAnswer (V.passes view.now class) start (A.hit aim.now (V.extent view.now))
+    ensures answer { IfOk result (λ traced. IsAnswer (V.passes view.now class) start (A.hit aim.now
+        (V.extent view.now))
         traced.found.end traced.found.cost.0 traced.found.waypoints) }
     ensures opened { IfOk result (λ traced. CountsOpened (V.passes view.now class)
         (A.hit aim.now (V.extent view.now)) (A.framed aim.now (V.extent view.now)) (V.extent view.now) start
@@ -134,12 +154,20 @@ pub fn jump_find_with<R: Runs, A: Aim, L: Ledger>(
     requires start { IsTrue (R.passes runs.now class start) }
     requires aim { A.sound aim.now (R.extent runs.now) }
     requires reach { CanReach (R.passes runs.now class) start (A.hit aim.now (R.extent runs.now)) }
-    ensures answer { IfOk result (λ found. IsAnswer (R.passes runs.now class) start (A.hit aim.now (R.extent runs.now))
+    ensures answer { IfOk result (λ found. IsAnswer (R.passes runs.now class) start (A.hit aim.now
+        (R.extent runs.now))
         found.end found.cost.0 found.waypoints) }
     ensures most { IsWithinOpened (R.passes runs.now class) (A.hit aim.now (R.extent runs.now))
         (A.framed aim.now (R.extent runs.now)) (R.extent runs.now) start ticks.old ticks.new }
 {
-    let traced = answered(alloc, runs, class, start, aim, false, ticks)?;
+    let problem = Problem {
+        runs,
+        class,
+        start,
+        aim,
+        all: false,
+    };
+    let traced = answered(alloc, &problem, ticks)?;
     Ok(traced.found)
 }
 
@@ -156,7 +184,8 @@ pub fn jump_find<V: View, A: Aim, L: Ledger>(
     requires start { IsTrue (V.passes view.now class start) }
     requires aim { A.sound aim.now (V.extent view.now) }
     requires reach { CanReach (V.passes view.now class) start (A.hit aim.now (V.extent view.now)) }
-    ensures answer { IfOk result (λ found. IsAnswer (V.passes view.now class) start (A.hit aim.now (V.extent view.now))
+    ensures answer { IfOk result (λ found. IsAnswer (V.passes view.now class) start (A.hit aim.now
+        (V.extent view.now))
         found.end found.cost.0 found.waypoints) }
     ensures most { IsWithinOpened (V.passes view.now class) (A.hit aim.now (V.extent view.now))
         (A.framed aim.now (V.extent view.now)) (V.extent view.now) start ticks.old ticks.new }

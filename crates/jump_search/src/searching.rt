@@ -15,6 +15,7 @@ ghost use Rattle.jump_search.specs.inner.Underway.{IsHalted, HasEnded};
 
 use crate::front::Front;
 use crate::nodes::{Node, Nodes};
+use crate::problems::Problem;
 use crate::states::JumpState;
 use jump_scan::Runs;
 use nav_types::{Aim, Cell, Class, NoMemory, Rect, Ticks};
@@ -172,26 +173,28 @@ impl Search {
     /// Opens the node of an entry that was taken from the open list, with one tick, or skips it.
     fn take<R: Runs, A: Aim, L: Ledger>(
         &mut self,
-        runs: &R,
-        class: Class,
-        aim: &A,
+        problem: &Problem<'_, R, A>,
         rect: &Rect,
-        all: bool,
         entry: Entry,
         ticks: &mut Ticks<L>,
     ) -> Result<(), NoMemory>
-        requires class { class < R.class_count runs.now }
-        requires aim { A.sound aim.now (R.extent runs.now) }
-        requires frame { IsFrame (A.framed aim.now (R.extent runs.now)) (R.extent runs.now) rect.now }
+        requires class { problem.now.class < R.class_count problem.now.runs.now }
+        requires aim { A.sound problem.now.aim.now (R.extent problem.now.runs.now) }
+        requires frame { IsFrame (A.framed problem.now.aim.now (R.extent problem.now.runs.now))
+            (R.extent problem.now.runs.now) rect.now }
         requires taken { (start : Cell) × ((floor : ℕ)
-            × (IsTrue (R.passes runs.now class start)
-            × IsTaken all (R.passes runs.now class) (A.hit aim.now (R.extent runs.now)) start rect.now floor
+            × (IsTrue (R.passes problem.now.runs.now problem.now.class start)
+            × IsTaken problem.now.all (R.passes problem.now.runs.now problem.now.class) (A.hit problem.now.aim.now
+            (R.extent problem.now.runs.now)) start rect.now floor
             self.old.front.nodes self.old.front.waiting self.old.best entry)) }
         requires opened { self.old.opened ≡ opened_count self.old.front.nodes }
-        ensures underway { OnOk result ((start : Cell) (floor : ℕ) → IsTrue (R.passes runs.now class start)
-            → IsTaken all (R.passes runs.now class) (A.hit aim.now (R.extent runs.now)) start rect.now floor
+        ensures underway { OnOk result ((start : Cell) (floor : ℕ) → IsTrue
+            (R.passes problem.now.runs.now problem.now.class start)
+            → IsTaken problem.now.all (R.passes problem.now.runs.now problem.now.class) (A.hit problem.now.aim.now
+            (R.extent problem.now.runs.now)) start rect.now floor
             self.old.front.nodes self.old.front.waiting self.old.best entry
-            → IsUnderway all (R.passes runs.now class) (A.hit aim.now (R.extent runs.now)) start rect.now
+            → IsUnderway problem.now.all (R.passes problem.now.runs.now problem.now.class)
+            (A.hit problem.now.aim.now (R.extent problem.now.runs.now)) start rect.now
             entry.priority.estimate
             self.new.front.nodes self.new.front.waiting self.new.best) }
         ensures even { OnOk result (length self.new.front.nodes + map.len self.old.front.waiting ≡ length
@@ -200,7 +203,7 @@ impl Search {
         ensures ticks { OnOk result (ticks.new + self.old.opened ≡ ticks.old + self.new.opened) }
         ensures none { OnErr result (ticks.new ≡ ticks.old) }
     {
-        if self.skips(all, entry.key) {
+        if self.skips(problem.all, entry.key) {
             return Ok(());
         }
         let node = Node {
@@ -208,8 +211,8 @@ impl Search {
             ..*self.front.nodes.at(entry.key)
         };
         self.front.nodes.put(entry.key, node);
-        self.front.follow(runs, class, aim, rect, all, &node)?;
-        self.best = best_with(runs, aim, self.best, &node);
+        self.front.follow(problem, rect, &node)?;
+        self.best = best_with(problem.runs, problem.aim, self.best, &node);
         self.opened += 1;
         ticks.tick();
         Ok(())
@@ -222,34 +225,33 @@ impl Search {
 /// Each node that is opened is one tick.
 pub(crate) fn searched<R: Runs, A: Aim, L: Ledger>(
     alloc: Global,
-    runs: &R,
-    class: Class,
-    start: Cell,
-    aim: &A,
-    all: bool,
+    problem: &Problem<'_, R, A>,
     ticks: &mut Ticks<L>,
 ) -> Result<Outcome, NoMemory>
-    requires class { class < R.class_count runs.now }
-    requires start { IsTrue (R.passes runs.now class start) }
-    requires aim { A.sound aim.now (R.extent runs.now) }
-    ensures frame { (rect : Rect) × IsFrame (A.framed aim.now (R.extent runs.now)) (R.extent runs.now) rect }
+    requires class { problem.now.class < R.class_count problem.now.runs.now }
+    requires start { IsTrue (R.passes problem.now.runs.now problem.now.class problem.now.start) }
+    requires aim { A.sound problem.now.aim.now (R.extent problem.now.runs.now) }
+    ensures frame { (rect : Rect) × IsFrame (A.framed problem.now.aim.now (R.extent problem.now.runs.now))
+        (R.extent problem.now.runs.now) rect }
     ensures ended { IfOk result (λ outcome. (rect : Rect)
-        → IsFrame (A.framed aim.now (R.extent runs.now)) (R.extent runs.now) rect
-        → HasEnded all (R.passes runs.now class) (A.hit aim.now (R.extent runs.now)) start rect outcome.nodes
+        → IsFrame (A.framed problem.now.aim.now (R.extent problem.now.runs.now)) (R.extent problem.now.runs.now) rect
+        → HasEnded problem.now.all (R.passes problem.now.runs.now problem.now.class) (A.hit problem.now.aim.now
+        (R.extent problem.now.runs.now)) problem.now.start rect outcome.nodes
         outcome.best) }
     ensures opened { IfOk result (λ outcome. outcome.opened ≡ opened_count outcome.nodes) }
     ensures ticks { IfOk result (λ outcome. ticks.new ≡ ticks.old + outcome.opened) }
     ensures halted { OnErr result ((rect : Rect)
-        → IsFrame (A.framed aim.now (R.extent runs.now)) (R.extent runs.now) rect
+        → IsFrame (A.framed problem.now.aim.now (R.extent problem.now.runs.now)) (R.extent problem.now.runs.now) rect
         → (ticks.new ≡ ticks.old) ⊎ ((nodes : List Node)
-        × ((floor : ℕ) × (IsHalted all (R.passes runs.now class) (A.hit aim.now (R.extent runs.now)) start rect floor
+        × ((floor : ℕ) × (IsHalted problem.now.all (R.passes problem.now.runs.now problem.now.class)
+        (A.hit problem.now.aim.now (R.extent problem.now.runs.now)) problem.now.start rect floor
         nodes
         × (ticks.new ≡ ticks.old + opened_count nodes))))) }
 {
-    let rect = aim.bounds(runs.size());
-    let mut search = Search::new(alloc, &rect, start)?;
+    let rect = problem.aim.bounds(problem.runs.size());
+    let mut search = Search::new(alloc, &rect, problem.start)?;
     'search: while let Some(entry) = search.next() {
-        search.take(runs, class, aim, &rect, all, entry, ticks)?;
+        search.take(problem, &rect, entry, ticks)?;
     }
     Ok(search.outcome())
 }

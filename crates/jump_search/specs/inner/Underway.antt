@@ -46,7 +46,7 @@ pub record IsGoing (all : Bool) (passes hit : Cell → Bool) (start : Cell) (rec
   pub met : AreMet passes hit start nodes
   pub queued : IsQueued all rect floor nodes queue
   pub costs : (number : ℕ) (node : Node) → slice_get nodes number ≡ Some node → node.cost ≤ most
-  pub few : length nodes ≤ 4294967296
+  pub few : length nodes ≤ 2 ^ 32
 
 -- one node for another of its state that is not dearer; an opened one stays so, at its cost
 pub record IsLaterNode (old new : Node) : Type 0 where
@@ -160,7 +160,7 @@ pub record IsUnderway (all : Bool) (passes hit : Cell → Bool) (start : Cell) (
   pub hits : IsBestSoFar hit nodes floor best
   pub costs : (number : ℕ) (node : Node) → slice_get nodes number ≡ Some node
       → node.cost + 189812736 * map.len queue ≤ 189812736 * length nodes
-  pub few : length nodes ≤ 4294967296
+  pub few : length nodes ≤ 2 ^ 32
 
 -- an estimate is not past the best hit's cost
 abbrev pub IsNotPast : Option Best → ℕ → Type 0

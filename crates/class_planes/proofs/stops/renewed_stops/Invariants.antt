@@ -5,6 +5,6 @@ use Rattle.class_planes.proofs.stops.renewed_stops.Given as goal
 
 abbrev pub invariant-loop-band : goal.invariant-loop-band
 invariant-loop-band l = record {
-  up : AreStopsWhere (λ n i. ⊤) Up l.lines l.count l.band l.stops.up;
-  down : AreStopsWhere (λ n i. ⊤) Down l.lines l.count l.band l.stops.down;
+  up : AreStopsWhere (λ n i. ⊤) Up l.map.lines.now l.map.count l.band l.stops.up;
+  down : AreStopsWhere (λ n i. ⊤) Down l.map.lines.now l.map.count l.band l.stops.down;
 }

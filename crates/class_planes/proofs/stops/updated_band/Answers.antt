@@ -7,7 +7,7 @@ use Rattle.class_planes.proofs.stops.updated_band.Goals as goal
 pub write_rects-requires-clause-before : goal.write_rects-requires-clause-before
 write_rects-requires-clause-before c =
     let same = c.deref_mut.ensures.value ∙ c.in_ok-words.ensures in
-    subst (λ (xs : List ℕ). AreBandStops (IsFarFrom c.args.rects.now) c.args.way c.args.lines.now c.args.count
+    subst (λ (xs : List ℕ). AreBandStops (IsFarFrom c.args.rects.now) c.args.way c.args.map.now.lines.now c.args.map.now.count
     (32 * c.args.band) xs) (sym same) c.requires.before
 
 pub write_rects-requires-clause-low : goal.write_rects-requires-clause-low
@@ -16,5 +16,5 @@ write_rects-requires-clause-low c = omega (arith, c.requires.band, c.requires.li
 pub returns : goal.returns
 returns c =
     let kept = with_items_is c.in_ok-words.words c.write_rects.new.band (c.write_rects.auto.band ∙ c.deref_mut.ensures.len) in
-    subst (λ (xs : List ℕ). AreBandStops (λ n i. ⊤) c.args.way c.args.lines.now c.args.count (32 * c.args.band) xs)
+    subst (λ (xs : List ℕ). AreBandStops (λ n i. ⊤) c.args.way c.args.map.now.lines.now c.args.map.now.count (32 * c.args.band) xs)
     (sym kept) c.write_rects.ensures.stops

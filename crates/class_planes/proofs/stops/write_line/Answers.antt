@@ -54,7 +54,7 @@ part_right way lines count first n m i k start wide band out new is same line wa
 
 pub renew_line-requires-clause-words : goal.renew_line-requires-clause-words
 renew_line-requires-clause-words c =
-    let words : ℕ = c.args.lines.now.words in
+    let words : ℕ = c.args.map.now.lines.now.words in
     let band : List ℕ = c.args.band.now in
     let k : ℕ = c.args.n - c.args.first in
     let start : ℕ = c.from.result * c.words-words.result in
@@ -67,7 +67,7 @@ renew_line-requires-clause-words c =
 
 pub returns-clause-near : goal.returns-clause-near
 returns-clause-near c m i line near =
-    let lines : LineTable = c.args.lines.now in
+    let lines : LineTable = c.args.map.now.lines.now in
     let k : ℕ = c.args.n - c.args.first in
     let band : List ℕ = c.args.band.now in
     let out : List ℕ = c.renew_line.new.stops in
@@ -76,13 +76,13 @@ returns-clause-near c m i line near =
     let below : k < 32 = omega (arith, c.requires.high, c.requires.low) in
     let put = put_of lines.words k start count band out (ap₂ (λ a b. a * b) c.from.ensures c.words-words.ensures)
     c.words-words.ensures c.requires.band below c.renew_line.ensures.stays in
-    here_right c.args.way lines c.args.count c.args.first c.args.n m i k start count band out
+    here_right c.args.way lines c.args.map.now.count c.args.first c.args.n m i k start count band out
     (take start band ++ (out ++ drop (start + count - start) (drop start band))) put c.requires.band below
     (omega (arith, line)) line (c.renew_line.ensures.near i near)
 
 pub returns-clause-kept : goal.returns-clause-kept
 returns-clause-kept c m i small inside within was =
-    let lines : LineTable = c.args.lines.now in
+    let lines : LineTable = c.args.map.now.lines.now in
     let k : ℕ = c.args.n - c.args.first in
     let band : List ℕ = c.args.band.now in
     let out : List ℕ = c.renew_line.new.stops in
@@ -96,11 +96,11 @@ returns-clause-kept c m i small inside within was =
     ⊎_elim
     (λ (line : c.args.first + m ≡ c.args.n).
     let same : m ≡ k = omega (arith, line) in
-    here_right c.args.way lines c.args.count c.args.first c.args.n m i k start count band out new put c.requires.band below
+    here_right c.args.way lines c.args.map.now.count c.args.first c.args.n m i k start count band out new put c.requires.band below
     same line (c.renew_line.ensures.kept i within
-    (part_right c.args.way lines c.args.count c.args.first c.args.n m i k start count band out new put same line was)))
+    (part_right c.args.way lines c.args.map.now.count c.args.first c.args.n m i k start count band out new put same line was)))
     (λ (other : c.args.first + m ≢ c.args.n).
-    stop_alike c.args.way (lanes_of lines c.args.count (c.args.first + m)) (line_in lines.words band m)
+    stop_alike c.args.way (lanes_of lines c.args.map.now.count (c.args.first + m)) (line_in lines.words band m)
     (line_in lines.words new m) i
     (λ j. put_other band out new lines.words k m j put.put c.requires.band below put.long
     (λ e. other (omega (arith, e, c.requires.low)))) was)

@@ -4,7 +4,7 @@ use Rattle.class_planes.proofs.stops.write_rect.Goals as goal
 
 pub loop-n-init : goal.loop-n-init
 loop-n-init c =
-    none_near c.args.way c.args.lines.now c.args.rect c.args.count c.args.first c.max-from.result c.args.band.now
+    none_near c.args.way c.args.map.now.lines.now c.args.rect c.args.map.now.count c.args.first c.max-from.result c.args.band.now
     (c.max-from.ensures ∙ ap (λ (j : ℕ). max j c.args.first) c.saturating_sub.ensures)
 
 pub write_line-requires-clause-line : goal.write_line-requires-clause-line
@@ -21,7 +21,7 @@ write_line-requires-clause-band c = c.loop-n.auto.band ∙ c.requires.band
 
 pub loop-n-preserved : goal.loop-n-preserved
 loop-n-preserved c =
-    line_near c.args.way c.args.lines.now c.args.rect c.args.count c.args.first c.loop-n.n c.args.band.now c.loop-n.band
+    line_near c.args.way c.args.map.now.lines.now c.args.rect c.args.map.now.count c.args.first c.loop-n.n c.args.band.now c.loop-n.band
     c.write_line.new.band c.write_line.ensures.near c.write_line.ensures.kept c.loop-n.invariant
 
 pub returns-clause-near : goal.returns-clause-near

@@ -8,9 +8,9 @@ use Rattle.class_planes.proofs.turned.push_band.Goals as goal
 
 pub returns-then-span : goal.returns-then-span
 returns-then-span c =
-    let table : RowTable = record { size = c.args.size; rows = c.args.rows.now } in
+    let table : RowTable = record { size = c.args.map.now.size; rows = c.args.map.now.rows.now } in
     let free : ℕ → ℕ → Bool = λ i j. free_cell table (cell_at i j) in
-    let words : ℕ = c.args.size.h / 64 + 1 in
+    let words : ℕ = c.args.map.now.size.h / 64 + 1 in
     let before = c.requires.before in
     let band = get_or c.args.before.now.bands c.args.band [] in
     both_ok c.share.result c.share.ensures.words c.share.ensures.bands (λ same more.
@@ -21,9 +21,9 @@ returns-then-span c =
 
 pub returns : goal.returns
 returns c =
-    let table : RowTable = record { size = c.args.size; rows = c.args.rows.now } in
+    let table : RowTable = record { size = c.args.map.now.size; rows = c.args.map.now.rows.now } in
     let free : ℕ → ℕ → Bool = λ i j. free_cell table (cell_at i j) in
-    let words : ℕ = c.args.size.h / 64 + 1 in
+    let words : ℕ = c.args.map.now.size.h / 64 + 1 in
     both_ok c.push.result c.push.ensures.words c.push.ensures.bands (λ same more.
     lines_more free c.args.band words c.args.lines.now c.push.new.self c.in_ok-words.words.items c.requires.lines same more
     c.in_ok-words.ensures)

@@ -14,7 +14,7 @@ pub line-line-requires-clause-long : goal.line-line-requires-clause-long
 line-line-requires-clause-long c =
     let lines = c.requires.before.lines in
     let n : ℕ = 32 * c.args.band + 16 * c.args.half + c.from-in-loop-k.result in
-    let below : n / 32 < c.args.size.w / 32 + 1 =
+    let below : n / 32 < c.args.map.now.size.w / 32 + 1 =
     omega (arith, c.requires.band, c.requires.half, c.from-in-loop-k.ensures) in
     (lines.each (n / 32) below).long ∙ ap (λ (words : ℕ). 32 * words) (sym lines.wide)
 
@@ -24,12 +24,12 @@ push_column-requires-clause-whole c = omega (arith, ap length c.deref.ensures.va
 pub push_column-requires-clause-within : goal.push_column-requires-clause-within
 push_column-requires-clause-within c =
     let before = c.requires.before in
-    let count : ℕ = c.args.size.w / 32 + 1 in
-    let words : ℕ = c.args.size.h / 64 + 1 in
+    let count : ℕ = c.args.map.now.size.w / 32 + 1 in
+    let words : ℕ = c.args.map.now.size.h / 64 + 1 in
     let n : ℕ = 32 * c.args.band + 16 * c.args.half + c.from-in-loop-k.result in
     let below : n / 32 < count = omega (arith, c.requires.band, c.requires.half, c.from-in-loop-k.ensures) in
     let long : length c.line-line.result.now ≡ words =
-    ap length c.line-line.ensures ∙ line_long before.earlier count words n c.args.before.now before.lines below in
+    ap length c.line-line.ensures ∙ line_long before.earlier count words n c.args.old.now.lines.now before.lines below in
     omega (arith, long, ap length c.deref.ensures.value, c.in_ok-numbers.ensures.long, c.requires.span, c.requires.within)
 
 pub push_column-requires-clause-room : goal.push_column-requires-clause-room
@@ -38,13 +38,13 @@ push_column-requires-clause-room c =
 
 pub loop-k-preserved : goal.loop-k-preserved
 loop-k-preserved c =
-    let table : RowTable = record { size = c.args.size; rows = c.args.rows.now } in
+    let table : RowTable = record { size = c.args.map.now.size; rows = c.args.map.now.rows.now } in
     let free : ℕ → ℕ → Bool = λ i j. free_cell table (cell_at i j) in
-    let old : LineTable = c.args.before.now in
+    let old : LineTable = c.args.old.now.lines.now in
     let band : ℕ = c.args.band in
     let half : ℕ = c.args.half in
     let k : ℕ = c.loop-k.k in
-    let from : ℕ = c.args.span.from in
+    let from : ℕ = c.args.old.now.stale.from in
     let numbers : List ℕ = c.in_ok-numbers.numbers.items in
     let words : List ℕ = c.loop-k.words.items in
     let more : List ℕ = c.push_column.new.words.items in
@@ -60,7 +60,7 @@ loop-k-preserved c =
     c.push_column.ensures.stays ∙ ap length c.deref_mut.ensures.value in
     record {
       room = ap length kept ∙ stays ∙ c.loop-k.invariant.room;
-      band = columns_more free band half k from c.args.span.to (c.args.size.w / 32 + 1) (c.args.size.h / 64 + 1) old numbers words
+      band = columns_more free band half k from c.args.old.now.stale.to (c.args.map.now.size.w / 32 + 1) (c.args.map.now.size.h / 64 + 1) old numbers words
           more c.loop-k.invariant.band c.requires.before c.requires.band c.requires.half c.loop-k-test.true c.requires.span
           c.in_ok-numbers.ensures.long (λ j below. c.in_ok-numbers.ensures.bits j k below c.loop-k-test.true) next;
     }

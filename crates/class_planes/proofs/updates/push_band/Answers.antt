@@ -10,10 +10,10 @@ returns-then-not-is_met g c =
     let words : ℕ = (g.V.View.extent view).w / 64 + 1 in
     let free : ℕ → ℕ → Bool = λ j i. g.V.View.passes view c.args.class (cell_at i j) in
     let before = c.requires.before in
-    let band = get_or c.args.before.now.bands c.args.band [] in
+    let band = get_or c.args.old.now.lines.now.bands c.args.band [] in
     both_ok c.share.result c.share.ensures.words c.share.ensures.bands (λ same more.
     lines_more free c.args.band words c.args.lines.now c.share.new.self band c.requires.lines same more
-    (band_stays before.earlier free c.args.rects.now (32 * c.args.band) words band
+    (band_stays before.earlier free c.args.old.now.rects.now (32 * c.args.band) words band
     (before.lines.each c.args.band c.requires.band) before.same (c.is_met.ensures c.if-not-is_met.true)))
 
 pub returns : goal.returns

@@ -13,16 +13,16 @@ use Rattle.jump_search.proofs.searching.searched.Goals as goal
 
 pub search-init : goal.search-init
 search-init g c =
-    let passes = g.R.View.passes c.args.runs.now c.args.class in
-    let hit = g.A.Aim.hit c.args.aim.now (g.R.View.extent c.args.runs.now) in
+    let passes = g.R.View.passes c.args.problem.now.runs.now c.args.problem.now.class in
+    let hit = g.A.Aim.hit c.args.problem.now.aim.now (g.R.View.extent c.args.problem.now.runs.now) in
     let made = c.in_ok-search.ensures in
     let none = made.none in
-    record { underway = (0, made.underway c.args.all passes hit); opened = made.opened; ticks = omega (arith, none) }
+    record { underway = (0, made.underway c.args.problem.now.all passes hit); opened = made.opened; ticks = omega (arith, none) }
 
 pub take-requires-clause-taken : goal.take-requires-clause-taken
 take-requires-clause-taken g c =
-    let passes = g.R.View.passes c.args.runs.now c.args.class in
-    let hit = g.A.Aim.hit c.args.aim.now (g.R.View.extent c.args.runs.now) in
+    let passes = g.R.View.passes c.args.problem.now.runs.now c.args.problem.now.class in
+    let hit = g.A.Aim.hit c.args.problem.now.aim.now (g.R.View.extent c.args.problem.now.runs.now) in
     let search = c.search.search in
     let next = c.next.new.self in
     let known = c.search.invariant.underway in
@@ -30,7 +30,7 @@ take-requires-clause-taken g c =
     let some = c.in-Some.ensures in
     let rect = c.bounds-rect.result in
     let entry = c.in-Some.entry in
-    let taken : IsTaken c.args.all passes hit c.args.start rect known.0 search.front.nodes next.front.waiting
+    let taken : IsTaken c.args.problem.now.all passes hit c.args.problem.now.start rect known.0 search.front.nodes next.front.waiting
     search.best entry =
     record {
       before = search.front.waiting;
@@ -40,14 +40,14 @@ take-requires-clause-taken g c =
       near =
           some.near;
     } in (
-      c.args.start,
+      c.args.problem.now.start,
       (
         known.0,
         (
           c.requires.start,
-          subst (λ (ns : List Node). IsTaken c.args.all passes hit c.args.start rect known.0 ns next.front.waiting
+          subst (λ (ns : List Node). IsTaken c.args.problem.now.all passes hit c.args.problem.now.start rect known.0 ns next.front.waiting
               next.best entry) (sym step.nodes)
-              (subst (λ (b : Option Best). IsTaken c.args.all passes hit c.args.start rect known.0 search.front.nodes
+              (subst (λ (b : Option Best). IsTaken c.args.problem.now.all passes hit c.args.problem.now.start rect known.0 search.front.nodes
               next.front.waiting b entry) (sym step.best) taken),
         ),
       ),
@@ -67,8 +67,8 @@ search-smaller g c =
 
 pub search-preserved : goal.search-preserved
 search-preserved g c =
-    let passes = g.R.View.passes c.args.runs.now c.args.class in
-    let hit = g.A.Aim.hit c.args.aim.now (g.R.View.extent c.args.runs.now) in
+    let passes = g.R.View.passes c.args.problem.now.runs.now c.args.problem.now.class in
+    let hit = g.A.Aim.hit c.args.problem.now.aim.now (g.R.View.extent c.args.problem.now.runs.now) in
     let search = c.search.search in
     let next = c.next.new.self in
     let known = c.search.invariant.underway in
@@ -76,7 +76,7 @@ search-preserved g c =
     let some = c.in-Some.ensures in
     let rect = c.bounds-rect.result in
     let entry = c.in-Some.entry in
-    let taken : IsTaken c.args.all passes hit c.args.start rect known.0 search.front.nodes next.front.waiting
+    let taken : IsTaken c.args.problem.now.all passes hit c.args.problem.now.start rect known.0 search.front.nodes next.front.waiting
     search.best entry =
     record {
       before = search.front.waiting;
@@ -86,36 +86,36 @@ search-preserved g c =
       near =
           some.near;
     } in
-    let taken_next = subst (λ (ns : List Node). IsTaken c.args.all passes hit c.args.start rect known.0 ns
+    let taken_next = subst (λ (ns : List Node). IsTaken c.args.problem.now.all passes hit c.args.problem.now.start rect known.0 ns
     next.front.waiting next.best entry) (sym step.nodes)
-    (subst (λ (b : Option Best). IsTaken c.args.all passes hit c.args.start rect known.0 search.front.nodes
+    (subst (λ (b : Option Best). IsTaken c.args.problem.now.all passes hit c.args.problem.now.start rect known.0 search.front.nodes
     next.front.waiting b entry) (sym step.best) taken) in
     let went = c.in_ok-take.ensures in
     let before = c.search.invariant.ticks in let ticked = went.ticks in let same = step.opened in
     record {
-      underway = (entry.priority.estimate, went.underway c.args.start known.0 c.requires.start taken_next);
+      underway = (entry.priority.estimate, went.underway c.args.problem.now.start known.0 c.requires.start taken_next);
       opened = went.opened;
       ticks = omega (arith, before, ticked, same);
     }
 
 pub returns-in_err-take-clause-halted : goal.returns-in_err-take-clause-halted
 returns-in_err-take-clause-halted g c =
-    let passes = g.R.View.passes c.args.runs.now c.args.class in
-    let size = g.R.View.extent c.args.runs.now in
-    let hit = g.A.Aim.hit c.args.aim.now size in
-    let framed = g.A.Aim.framed c.args.aim.now size in
+    let passes = g.R.View.passes c.args.problem.now.runs.now c.args.problem.now.class in
+    let size = g.R.View.extent c.args.problem.now.runs.now in
+    let hit = g.A.Aim.hit c.args.problem.now.aim.now size in
+    let framed = g.A.Aim.framed c.args.problem.now.aim.now size in
     let search = c.search.search in
     let known = c.search.invariant in
     let ticks : c.take.new.ticks ≡ c.args.ticks.now + opened_count search.front.nodes =
     c.in_err-take.ensures.none ∙ known.ticks ∙ ap (λ (n : ℕ). c.args.ticks.now + n) known.opened in
     let base = c.bounds-rect.result in
-    let frame : IsFrame framed size base = subst (λ s. IsFrame (g.A.Aim.framed c.args.aim.now s) s base) c.size.ensures
+    let frame : IsFrame framed size base = subst (λ s. IsFrame (g.A.Aim.framed c.args.problem.now.aim.now s) s base) c.size.ensures
     c.bounds-rect.ensures in
     let told : (rect : Rect) → IsFrame framed size rect → (c.take.new.ticks ≡ c.args.ticks.now)
-    ⊎ ((nodes : List Node) × ((floor : ℕ) × (IsHalted c.args.all passes hit c.args.start rect floor nodes
+    ⊎ ((nodes : List Node) × ((floor : ℕ) × (IsHalted c.args.problem.now.all passes hit c.args.problem.now.start rect floor nodes
     × (c.take.new.ticks ≡ c.args.ticks.now + opened_count nodes)))) = λ rect other.
     let same : base ≡ rect = one_frame framed size base rect frame other in
-    let is = halted c.args.all passes hit c.args.start base known.underway.0 search.front.nodes search.front.waiting
+    let is = halted c.args.problem.now.all passes hit c.args.problem.now.start base known.underway.0 search.front.nodes search.front.waiting
     search.best known.underway.1 in
     inr (
       search.front.nodes,
@@ -123,7 +123,7 @@ returns-in_err-take-clause-halted g c =
         known.underway.0,
         (
           subst
-              (λ (r : Rect). IsHalted c.args.all passes hit c.args.start r known.underway.0 search.front.nodes) same is,
+              (λ (r : Rect). IsHalted c.args.problem.now.all passes hit c.args.problem.now.start r known.underway.0 search.front.nodes) same is,
           ticks,
         ),
       ),
@@ -132,21 +132,21 @@ returns-in_err-take-clause-halted g c =
 
 pub returns-clause-ended : goal.returns-clause-ended
 returns-clause-ended g c = λ rect other.
-    let passes = g.R.View.passes c.args.runs.now c.args.class in
-    let size = g.R.View.extent c.args.runs.now in
-    let hit = g.A.Aim.hit c.args.aim.now size in
-    let framed = g.A.Aim.framed c.args.aim.now size in
+    let passes = g.R.View.passes c.args.problem.now.runs.now c.args.problem.now.class in
+    let size = g.R.View.extent c.args.problem.now.runs.now in
+    let hit = g.A.Aim.hit c.args.problem.now.aim.now size in
+    let framed = g.A.Aim.framed c.args.problem.now.aim.now size in
     let search = c.search.search in
     let known = c.search.invariant.underway in
     let base = c.bounds-rect.result in
-    let frame : IsFrame framed size base = subst (λ s. IsFrame (g.A.Aim.framed c.args.aim.now s) s base) c.size.ensures
+    let frame : IsFrame framed size base = subst (λ s. IsFrame (g.A.Aim.framed c.args.problem.now.aim.now s) s base) c.size.ensures
     c.bounds-rect.ensures in
     let same : base ≡ rect = one_frame framed size base rect frame other in
-    let is = ended c.args.all passes hit c.args.start base known.0 search.front.nodes search.front.waiting search.best
+    let is = ended c.args.problem.now.all passes hit c.args.problem.now.start base known.0 search.front.nodes search.front.waiting search.best
     known.1 c.in_default.ensures.past in
     let nodes : c.outcome.result.nodes ≡ search.front.nodes = c.outcome.ensures.nodes ∙ c.next.ensures.nodes in
     let best : c.outcome.result.best ≡ search.best = c.outcome.ensures.best ∙ c.next.ensures.best in
-    subst (λ (r : Rect). HasEnded c.args.all passes hit c.args.start r c.outcome.result.nodes c.outcome.result.best)
+    subst (λ (r : Rect). HasEnded c.args.problem.now.all passes hit c.args.problem.now.start r c.outcome.result.nodes c.outcome.result.best)
     same
-    (subst (λ (ns : List Node). HasEnded c.args.all passes hit c.args.start base ns c.outcome.result.best) (sym nodes)
-    (subst (λ (b : Option Best). HasEnded c.args.all passes hit c.args.start base search.front.nodes b) (sym best) is))
+    (subst (λ (ns : List Node). HasEnded c.args.problem.now.all passes hit c.args.problem.now.start base ns c.outcome.result.best) (sym nodes)
+    (subst (λ (b : Option Best). HasEnded c.args.problem.now.all passes hit c.args.problem.now.start base search.front.nodes b) (sym best) is))

@@ -5,10 +5,10 @@ use Rattle.jump_search.proofs.searching.searched.Given as goal
 
 abbrev pub invariant-search : goal.invariant-search
 invariant-search g l =
-    let passes = g.R.View.passes l.runs l.class in
-    let hit = g.A.Aim.hit l.aim (g.R.View.extent l.runs) in
+    let passes = g.R.View.passes l.problem.runs.now l.problem.class in
+    let hit = g.A.Aim.hit l.problem.aim.now (g.R.View.extent l.problem.runs.now) in
     record {
-      underway : (floor : ℕ) × IsUnderway l.all passes hit l.fn.start l.rect floor l.search.front.nodes
+      underway : (floor : ℕ) × IsUnderway l.problem.all passes hit l.problem.start l.rect floor l.search.front.nodes
           l.search.front.waiting l.search.best;
       opened : l.search.opened ≡ opened_count l.search.front.nodes;
       ticks : l.ticks ≡ l.initial.ticks + l.search.opened;

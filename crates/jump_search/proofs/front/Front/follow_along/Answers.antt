@@ -7,24 +7,24 @@ use Rattle.jump_search.proofs.front.Front.follow_along.Goals as goal
 
 pub returns-then-not-has-clause-follows : goal.returns-then-not-has-clause-follows
 returns-then-not-has-clause-follows g c =
-    let passes = g.R.View.passes c.args.runs.now c.args.class in
-    let hit = g.A.Aim.hit c.args.aim.now (g.R.View.extent c.args.runs.now) in
+    let passes = g.R.View.passes c.args.problem.now.runs.now c.args.problem.now.class in
+    let hit = g.A.Aim.hit c.args.problem.now.aim.now (g.R.View.extent c.args.problem.now.runs.now) in
     let node = c.args.node.now in
-    follows_pruned c.args.all passes hit c.args.rect.now node.state node.cost c.args.dir c.args.self.now.nodes
+    follows_pruned c.args.problem.now.all passes hit c.args.rect.now node.state node.cost c.args.dir c.args.self.now.nodes
     c.args.self.now.waiting
     (λ is. both_ways c.has.result c.if-not-has.true (c.has.ensures ∙ c.requires.successors.1 is))
 
 pub returns-in_default-clause-follows : goal.returns-in_default-clause-follows
 returns-in_default-clause-follows g c =
-    let passes = g.R.View.passes c.args.runs.now c.args.class in
-    let hit = g.A.Aim.hit c.args.aim.now (g.R.View.extent c.args.runs.now) in
+    let passes = g.R.View.passes c.args.problem.now.runs.now c.args.problem.now.class in
+    let hit = g.A.Aim.hit c.args.problem.now.aim.now (g.R.View.extent c.args.problem.now.runs.now) in
     let node = c.args.node.now in
-    follows_none c.args.all passes hit c.args.rect.now node.state node.cost c.args.dir c.args.self.now.nodes
+    follows_none c.args.problem.now.all passes hit c.args.rect.now node.state node.cost c.args.dir c.args.self.now.nodes
     c.args.self.now.waiting c.in_default.ensures.none
 
 pub landed-next-requires-clause-moves : goal.landed-next-requires-clause-moves
 landed-next-requires-clause-moves g c =
-    moves_to_stop (g.R.View.passes c.args.runs.now c.args.class) (g.A.Aim.hit c.args.aim.now (g.R.View.extent c.args.runs.now))
+    moves_to_stop (g.R.View.passes c.args.problem.now.runs.now c.args.problem.now.class) (g.A.Aim.hit c.args.problem.now.aim.now (g.R.View.extent c.args.problem.now.runs.now))
     c.args.dir c.args.node.now.state.cell c.in-Some.stop c.in-Some.ensures.some
 
 pub note-requires-clause-queued : goal.note-requires-clause-queued
@@ -47,19 +47,19 @@ note-requires-clause-queued g c =
 
 pub returns-clause-follows : goal.returns-clause-follows
 returns-clause-follows g c =
-    let passes = g.R.View.passes c.args.runs.now c.args.class in
-    let size = g.R.View.extent c.args.runs.now in
-    let hit = g.A.Aim.hit c.args.aim.now size in
+    let passes = g.R.View.passes c.args.problem.now.runs.now c.args.problem.now.class in
+    let size = g.R.View.extent c.args.problem.now.runs.now in
+    let hit = g.A.Aim.hit c.args.problem.now.aim.now size in
     let node = c.args.node.now in
     let made = c.landed-next.ensures in
     let landed : HasLanded node.state node.cost c.args.dir c.in-Some.stop c.landed-next.result =
     record { cell = made.cell; arrived = made.arrived; costs = made.cost; run = made.run } in
     let is = c.in-Some.ensures.some in
     let most = jump_most passes hit size c.args.dir node.state.cell c.in-Some.stop
-    (g.met.R.View.within c.args.runs.now c.args.class) c.requires.cell is in
+    (g.met.R.View.within c.args.problem.now.runs.now c.args.problem.now.class) c.requires.cell is in
     let kept : IsTrue (holds c.args.dirs c.args.dir) = sym c.has.ensures ∙ c.if-not-has.false in
     let successor = c.requires.successors.0 kept in
-    follows_noted c.args.all passes hit c.args.rect.now node.state node.cost c.args.dir c.in-Some.stop
+    follows_noted c.args.problem.now.all passes hit c.args.rect.now node.state node.cost c.args.dir c.in-Some.stop
     c.landed-next.result
     c.args.self.now.nodes c.note.new.self.nodes c.args.self.now.waiting c.note.new.self.waiting successor is landed
     most c.in_ok-note.ensures

@@ -9,79 +9,79 @@ use Rattle.jump_search.proofs.searching.Search.take.Goals as goal
 
 pub returns-then-skips-clause-underway : goal.returns-then-skips-clause-underway
 returns-then-skips-clause-underway g c = λ start floor free taken.
-    let passes = g.R.View.passes c.args.runs.now c.args.class in
-    let hit = g.A.Aim.hit c.args.aim.now (g.R.View.extent c.args.runs.now) in
+    let passes = g.R.View.passes c.args.problem.now.runs.now c.args.problem.now.class in
+    let hit = g.A.Aim.hit c.args.problem.now.aim.now (g.R.View.extent c.args.problem.now.runs.now) in
     let front = c.args.self.now.front in
     let skip = c.skips.ensures c.if-skips.true in
-    skipped c.args.all passes hit start c.args.rect.now floor front.nodes front.waiting c.args.self.now.best
+    skipped c.args.problem.now.all passes hit start c.args.rect.now floor front.nodes front.waiting c.args.self.now.best
     c.args.entry skip.1.0 taken skip.1.1.0 skip.0 skip.1.1.1
 
 pub at-requires : goal.at-requires
 at-requires g c =
-    let passes = g.R.View.passes c.args.runs.now c.args.class in
-    let hit = g.A.Aim.hit c.args.aim.now (g.R.View.extent c.args.runs.now) in
+    let passes = g.R.View.passes c.args.problem.now.runs.now c.args.problem.now.class in
+    let hit = g.A.Aim.hit c.args.problem.now.aim.now (g.R.View.extent c.args.problem.now.runs.now) in
     let front = c.args.self.now.front in
     let t = c.requires.taken in
-    let has = next_node c.args.all passes hit t.0 c.args.rect.now t.1.0 front.nodes front.waiting c.args.self.now.best
+    let has = next_node c.args.problem.now.all passes hit t.0 c.args.rect.now t.1.0 front.nodes front.waiting c.args.self.now.best
     c.args.entry t.1.1.1 in
     slice_get_within front.nodes c.args.entry.key has.0 has.1.known
 
 pub follow-requires-clause-cell : goal.follow-requires-clause-cell
 follow-requires-clause-cell g c =
-    let passes = g.R.View.passes c.args.runs.now c.args.class in
-    let hit = g.A.Aim.hit c.args.aim.now (g.R.View.extent c.args.runs.now) in
+    let passes = g.R.View.passes c.args.problem.now.runs.now c.args.problem.now.class in
+    let hit = g.A.Aim.hit c.args.problem.now.aim.now (g.R.View.extent c.args.problem.now.runs.now) in
     let front = c.args.self.now.front in
     let t = c.requires.taken in
     node_free passes hit t.0 front.nodes c.args.entry.key c.at.result.now t.1.1.0 t.1.1.1.underway.met c.at.ensures
 
 pub follow-requires-clause-followable : goal.follow-requires-clause-followable
 follow-requires-clause-followable g c =
-    let passes = g.R.View.passes c.args.runs.now c.args.class in
-    let hit = g.A.Aim.hit c.args.aim.now (g.R.View.extent c.args.runs.now) in
+    let passes = g.R.View.passes c.args.problem.now.runs.now c.args.problem.now.class in
+    let hit = g.A.Aim.hit c.args.problem.now.aim.now (g.R.View.extent c.args.problem.now.runs.now) in
     let front = c.args.self.now.front in
     let a = c.at.result.now in
     let t = c.requires.taken in
     subst (λ (ns : List Node). IsFollowable passes hit c.args.rect.now a.state a.cost ns front.waiting)
     (sym c.put.ensures)
-    (followable_opened c.args.all passes hit t.0 c.args.rect.now t.1.0 front.nodes front.waiting c.args.self.now.best
+    (followable_opened c.args.problem.now.all passes hit t.0 c.args.rect.now t.1.0 front.nodes front.waiting c.args.self.now.best
     c.args.entry a t.1.1.1 c.at.ensures)
 
 pub best_with-self-requires-clause-inside : goal.best_with-self-requires-clause-inside
 best_with-self-requires-clause-inside g c =
-    let passes = g.R.View.passes c.args.runs.now c.args.class in
-    let hit = g.A.Aim.hit c.args.aim.now (g.R.View.extent c.args.runs.now) in
+    let passes = g.R.View.passes c.args.problem.now.runs.now c.args.problem.now.class in
+    let hit = g.A.Aim.hit c.args.problem.now.aim.now (g.R.View.extent c.args.problem.now.runs.now) in
     let front = c.args.self.now.front in
     let t = c.requires.taken in
-    g.met.R.View.within c.args.runs.now c.args.class c.at.result.now.state.cell
+    g.met.R.View.within c.args.problem.now.runs.now c.args.problem.now.class c.at.result.now.state.cell
     (node_free passes hit t.0 front.nodes c.args.entry.key c.at.result.now t.1.1.0 t.1.1.1.underway.met c.at.ensures)
 
 pub returns-clause-underway : goal.returns-clause-underway
 returns-clause-underway g c = λ start floor free taken.
-    let passes = g.R.View.passes c.args.runs.now c.args.class in
-    let size = g.R.View.extent c.args.runs.now in
-    let hit = g.A.Aim.hit c.args.aim.now size in
+    let passes = g.R.View.passes c.args.problem.now.runs.now c.args.problem.now.class in
+    let size = g.R.View.extent c.args.problem.now.runs.now in
+    let hit = g.A.Aim.hit c.args.problem.now.aim.now size in
     let rect = c.args.rect.now in
     let front = c.args.self.now.front in
     let a = c.at.result.now in
     let new = c.follow.new.self in
     let met_free = node_free passes hit start front.nodes c.args.entry.key a free taken.underway.met c.at.ensures in
-    let inside = g.met.R.View.within c.args.runs.now c.args.class a.state.cell met_free in
-    let follows = subst (λ (ns : List Node). Follows c.args.all passes hit rect a.state a.cost (λ other. Unit {0}) ns new.nodes
+    let inside = g.met.R.View.within c.args.problem.now.runs.now c.args.problem.now.class a.state.cell met_free in
+    let follows = subst (λ (ns : List Node). Follows c.args.problem.now.all passes hit rect a.state a.cost (λ other. Unit {0}) ns new.nodes
     front.waiting new.waiting) c.put.ensures c.in_ok-follow.ensures in
-    opened_underway c.args.all passes hit start rect floor front.nodes new.nodes front.waiting new.waiting
+    opened_underway c.args.problem.now.all passes hit start rect floor front.nodes new.nodes front.waiting new.waiting
     c.args.self.now.best c.best_with-self.result c.args.entry a taken c.at.ensures
-    (λ is_hit. framed_none (g.A.Aim.framed c.args.aim.now size) size rect a.state.cell c.requires.frame inside
-    (g.met.A.Aim.hits_framed c.args.aim.now size a.state.cell c.requires.aim inside is_hit))
+    (λ is_hit. framed_none (g.A.Aim.framed c.args.problem.now.aim.now size) size rect a.state.cell c.requires.frame inside
+    (g.met.A.Aim.hits_framed c.args.problem.now.aim.now size a.state.cell c.requires.aim inside is_hit))
     follows c.best_with-self.ensures.hit c.best_with-self.ensures.missed
 
 pub returns-clause-opened : goal.returns-clause-opened
 returns-clause-opened g c =
-    let passes = g.R.View.passes c.args.runs.now c.args.class in
-    let hit = g.A.Aim.hit c.args.aim.now (g.R.View.extent c.args.runs.now) in
+    let passes = g.R.View.passes c.args.problem.now.runs.now c.args.problem.now.class in
+    let hit = g.A.Aim.hit c.args.problem.now.aim.now (g.R.View.extent c.args.problem.now.runs.now) in
     let front = c.args.self.now.front in
     let a = c.at.result.now in
     let t = c.requires.taken in
-    let has = next_node c.args.all passes hit t.0 c.args.rect.now t.1.0 front.nodes front.waiting c.args.self.now.best
+    let has = next_node c.args.problem.now.all passes hit t.0 c.args.rect.now t.1.0 front.nodes front.waiting c.args.self.now.best
     c.args.entry t.1.1.1 in
     let is = one_item front.nodes c.args.entry.key has.0 a has.1.known c.at.ensures in
     let not = subst (λ (n : Node). IsFalse n.opened) is has.1.unopened in
