@@ -42,6 +42,7 @@ function postAt(x, z) {
   return best;
 }
 
+const count = (n, name) => `${n} ${n === 1 ? name : name.endsWith("s") ? name + "es" : name + "s"}`;
 const brief = (it, most = 200) => (it.length > most ? it.slice(0, most) + " .." : it);
 
 function tipped(event) {
@@ -80,7 +81,7 @@ function chosenShown() {
 function listed() {
   const posts = shown(), at = Math.max(0, posts.indexOf(state.post)), from = Math.max(0, Math.min(at - ROWS / 2, posts.length - ROWS));
   const bad = new Set(now().wrong.map((it) => it.l));
-  by("posts-title").textContent = `${posts.length} posts of turn ${now().t}` + (posts.length > ROWS ? `, ${from + 1} to ${from + ROWS} here` : "");
+  by("posts-title").textContent = `${count(posts.length, "post")} of turn ${now().t}` + (posts.length > ROWS ? `, ${from + 1} to ${from + ROWS} here` : "");
   by("posts").replaceChildren(...posts.slice(from, from + ROWS).map((it) => {
     const row = made("li", `${it.c} ${it.n} ${brief(it.r[0] || "no reply", 60)} `);
     row.append(made("small", `line ${it.l}`));
@@ -297,6 +298,7 @@ function legended() {
   by("legend").replaceChildren(...rows.map(([text, paint]) => {
     const row = made("li"), sample = Object.assign(document.createElement("canvas"), { width: 56, height: 32 });
     paint(sample.getContext("2d"));
+    sample.className = WHAT.includes(text) ? "cell" : "";
     row.append(sample, made("span", text));
     return row;
   }));
@@ -304,8 +306,8 @@ function legended() {
 
 function panelled() {
   by("title").textContent = data.title;
-  by("about").textContent = `${data.w} × ${data.h} navcells, ${data.classes.length} classes, ${data.callers} callers, ${data.turns.length} turns with answers`;
-  data.classes.forEach((it, k) => by("class").append(new Option(`${it.name} (${it.clearance / SIDE})`, k)));
+  by("about").textContent = `${data.w} × ${data.h} navcells, ${count(data.classes.length, "class")}, ${count(data.callers, "caller")}, ${count(data.turns.length, "turn")} with answers`;
+  data.classes.forEach((it, k) => by("class").append(new Option(`${it.name} (${+(it.clearance / SIDE).toFixed(3)})`, k)));
   by("caller").append(new Option("all", -1));
   for (let c = 0; c < data.callers; c++) by("caller").append(new Option(c, c));
   by("turn").max = Math.max(0, data.turns.length - 1);
@@ -319,7 +321,7 @@ function panelled() {
   const wrong = [...data.turns.flatMap((turn, at) => turn.wrong.map((it) => [at, it])), ...data.wrong.map((it) => [0, it])];
   by("wrong").hidden = !wrong.length;
   by("alarm").hidden = !wrong.length && !data.bad;
-  by("alarm").textContent = [wrong.length ? `✕ ${wrong.length} contradictions` : "", data.bad ? `the script ends at its bad line ${data.bad}` : ""].filter(Boolean).join("; ");
+  by("alarm").textContent = [wrong.length ? `✕ ${count(wrong.length, "contradiction")}` : "", data.bad ? `the script ends at its bad line ${data.bad}` : ""].filter(Boolean).join("; ");
   by("alarm").onclick = wrongNext;
   by("wrong-list").replaceChildren(...wrong.slice(0, ROWS).map(([at, it]) => {
     const row = made("li", `✕ turn ${it.t}${it.l ? `, line ${it.l}` : ""}: ${it.text}`);

@@ -158,8 +158,10 @@ function drawn() {
   if (state.on.outlines) outlines(seen, inks);
   const posts = shown();
   if (state.on.goals) for (const it of posts) if (it.k === "path") goalDrawn(it, colour(it.c), 1.5);
+  pen.globalAlpha = state.post ? 0.35 : 1; // what is not chosen steps back
   if (state.on.paths) for (const it of posts) if (it !== state.post) pathDrawn(it, 2);
-  if (state.post && shown().includes(state.post)) {
+  pen.globalAlpha = 1;
+  if (state.post && posts.includes(state.post)) {
     if (state.post.k === "path") goalDrawn(state.post, colour(state.post.c), 2.5);
     pathDrawn(state.post, 4);
     pointDrawn(state.post);
