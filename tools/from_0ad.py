@@ -160,32 +160,6 @@ def spread(places):
             least = min(least + 1, SHORE_FAR)
 
 
-def rectangles(rows, side):
-    """Disjoint rectangles `[i0, j0, i1, j1, mask]` that have the classes' rows."""
-    found, open_ = [], {}
-    for j in range(side + 1):
-        mine = set()
-        if j < side:
-            lines = [it[j] for it in rows]
-            ends = 1 << side
-            for bits in lines:
-                ends |= bits ^ bits << 1
-            first = 0
-            while ends:
-                at = (ends & -ends).bit_length() - 1
-                ends &= ends - 1
-                if at > first:
-                    mask = sum((bits >> first & 1) << k for k, bits in enumerate(lines))
-                    if mask:
-                        mine.add((first, min(at, side) - 1, mask))
-                first = at
-        for key in [it for it in open_ if it not in mine]:
-            found.append([key[0], open_.pop(key), key[1], j - 1, key[2]])
-        for key in mine:
-            open_.setdefault(key, j)
-    return sorted(found, key=lambda it: (it[1], it[0]))
-
-
 # ---- what stands
 
 
@@ -280,16 +254,24 @@ def asked(rng, rows, side, names, count):
             yield {"caller": 0, "path": name, "from": places[0], "goal": {"point": places[1]}}
 
 
+def chosen(kinds, names):
+    """The classes of these names, in their order in the game; all of them where none is named."""
+    unknown = set(names) - {it.name for it in kinds}
+    if unknown:
+        raise game_files.NotThere(f"the game has no class {sorted(unknown)[0]} (it has {', '.join(it.name for it in kinds)})")
+    return [it for it in kinds if not names or it.name in names]
+
+
 class Map:
     """A map of the game, as the lines of a script."""
 
-    def __init__(self, mod, name, more, civ):
+    def __init__(self, mod, name, classes, more, civ):
         terrain = game_files.Terrain(mod.needed(f"maps/{name}.pmp"))
         scene = game_files.Scene(mod.needed(f"maps/{name}.xml"))
         self.side, self.more = TILE * terrain.tiles, more
         if self.side > MOST:
             raise game_files.NotThere(f"{name} has {self.side} navcells a side, and a script at most {MOST}")
-        self.kinds = game_files.passabilities(mod)
+        self.kinds = chosen(game_files.passabilities(mod), classes)
         self.standing = Standing(mod, scene, self.kinds, civ)
         ground = Ground(terrain, scene)
         self.rows = [ground.denied(it) for it in self.kinds]
@@ -298,7 +280,7 @@ class Map:
         for it in self.standing.squares:
             if not it.fits(self.side):
                 self.sink(it)
-        self.base = rectangles(self.rows, self.side)
+        self.base = mapscript.rectangles(self.rows, self.side)
 
     def clearance(self, kind):
         return kind.clearance + (self.more if kind.blocked_by == "pathfinding" else 0)
@@ -330,6 +312,7 @@ def words():
     parser.add_argument("map", nargs="?", help="a map's name below maps/, without its ending")
     parser.add_argument("--mod", required=True, help="the folder mods/public of the game, or its public.zip")
     parser.add_argument("--list", action="store_true", help="write the names of all maps, and nothing else")
+    parser.add_argument("--classes", default="", metavar="NAME,..", help="only these passability classes")
     parser.add_argument("--more", type=float, default=0.35, help="what to add to the clearances of moving classes (0.35)")
     parser.add_argument("--paths", type=int, default=20, help="how many paths each class with a clearance asks for (20)")
     parser.add_argument("--seed", type=int, default=1, help="which paths (1)")
@@ -347,7 +330,8 @@ def main():
         if said.list:
             print("\n".join(mod.maps()))
             return 0
-        made = Map(mod, said.map, round(said.more * SIDE), said.civ)
+        classes = [it for it in said.classes.split(",") if it]
+        made = Map(mod, said.map, classes, round(said.more * SIDE), said.civ)
     except game_files.NotThere as it:
         print(f"from_0ad.py: {it}", file=sys.stderr)
         return 2

@@ -85,6 +85,32 @@ def base_rows(map_):
     return found
 
 
+def rectangles(rows, side):
+    """Disjoint rectangles `[i0, j0, i1, j1, mask]` that have the classes' rows."""
+    found, open_ = [], {}
+    for j in range(side + 1):
+        mine = set()
+        if j < side:
+            lines = [it[j] for it in rows]
+            ends = 1 << side
+            for bits in lines:
+                ends |= bits ^ bits << 1
+            first = 0
+            while ends:
+                at = (ends & -ends).bit_length() - 1
+                ends &= ends - 1
+                if at > first:
+                    mask = sum((bits >> first & 1) << k for k, bits in enumerate(lines))
+                    if mask:
+                        mine.add((first, min(at, side) - 1, mask))
+                first = at
+        for key in [it for it in open_ if it not in mine]:
+            found.append([key[0], open_.pop(key), key[1], j - 1, key[2]])
+        for key in mine:
+            open_.setdefault(key, j)
+    return sorted(found, key=lambda it: (it[1], it[0]))
+
+
 def blocked_rows(square, clearance, w, h):
     """The rows that a square blocks for a clearance, as a dict from row to bits. What it blocks of a row hangs together."""
     x, z, ux, uz, hw, hh = square
