@@ -85,14 +85,14 @@ def base_rows(map_):
     return found
 
 
-def rectangles(rows, side):
+def rectangles(rows, width):
     """Disjoint rectangles `[i0, j0, i1, j1, mask]` that have the classes' rows."""
-    found, open_ = [], {}
-    for j in range(side + 1):
+    found, open_, height = [], {}, len(rows[0])
+    for j in range(height + 1):
         mine = set()
-        if j < side:
+        if j < height:
             lines = [it[j] for it in rows]
-            ends = 1 << side
+            ends = 1 << width
             for bits in lines:
                 ends |= bits ^ bits << 1
             first = 0
@@ -102,7 +102,7 @@ def rectangles(rows, side):
                 if at > first:
                     mask = sum((bits >> first & 1) << k for k, bits in enumerate(lines))
                     if mask:
-                        mine.add((first, min(at, side) - 1, mask))
+                        mine.add((first, min(at, width) - 1, mask))
                 first = at
         for key in [it for it in open_ if it not in mine]:
             found.append([key[0], open_.pop(key), key[1], j - 1, key[2]])
