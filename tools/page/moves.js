@@ -53,7 +53,7 @@ function tipped(event) {
   for (const it of standingAt(x, z).slice(0, 3)) tip.append(made("div", `obstruction ${it.id}, mask ${it.mask}, of caller ${it.post.c}, line ${it.post.l}`));
   const post = postAt(x, z);
   if (post) tip.append(made("div", `line ${post.l}, post ${post.c} ${post.n}: ${brief(post.x, 120)}`), made("div", `→ ${brief(post.r.join("; "), 120)}`));
-  for (const it of now().wrong) if (it.at && it.at[0] === i && it.at[1] === j) tip.append(made("b", `✕ ${it.text}`));
+  for (const it of wrongHere()) if (it.at[0] === i && it.at[1] === j) tip.append(made("b", `✕ ${it.text}`));
   tip.querySelectorAll("b").forEach((it) => (it.className = "bad"));
   const side = map.getBoundingClientRect();
   tip.style.left = `${Math.min(event.clientX - side.left + 16, side.width - tip.offsetWidth - 8)}px`;

@@ -65,6 +65,12 @@ const now = () => data.turns[state.turn] || { posts: [], wrong: [], line: "", t:
 /** The posts of the turn that the choice of caller and class leaves. */
 const shown = () => now().posts.filter((it) => (state.caller < 0 || it.c === state.caller) && (!it.cls || it.cls === data.classes[state.k].name));
 
+/** The contradictions at cells, of posts that are shown or of none. */
+function wrongHere() {
+  const lines = new Set(shown().map((it) => it.l));
+  return now().wrong.filter((it) => it.at && (!it.l || lines.has(it.l)));
+}
+
 // ---- the picture of the cells
 
 const hex = (it) => [1, 3, 5].map((n) => parseInt(it.slice(n, n + 2), 16));
@@ -166,7 +172,7 @@ function drawn() {
     pathDrawn(state.post, 4);
     pointDrawn(state.post);
   }
-  for (const it of now().wrong) if (it.at) cross(it.at, inks);
+  for (const it of wrongHere()) cross(it.at, inks);
 }
 
 function rules(seen, step, ink, width) {

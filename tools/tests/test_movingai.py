@@ -3,7 +3,7 @@ import os
 import tempfile
 import unittest
 
-from places import tool
+from places import read, tool
 import mapscript
 
 check = mapscript.check
@@ -56,6 +56,14 @@ class MovingAi(unittest.TestCase):
         answers = self.file("answers", check.predicted(self.script)[0])
         out, status, _ = tool("tools/from_movingai.py", self.map, self.scenario, "--check", answers)
         self.assertEqual((out, status), (b"4 of 4 lengths agree\n", 0))
+
+    def test_the_valley(self):
+        words = ["tools/from_movingai.py", "examples/valley.map", "examples/valley.map.scen"]
+        script = self.file("valley.script", tool(*words)[0])
+        answers = self.file("valley.answers", check.predicted(tool(*words)[0])[0])
+        self.assertEqual(tool(*words, "--check", answers)[0], b"5 of 5 lengths agree\n")
+        picture, status, told = tool("tools/view.py", "--svg", "1", script, answers)
+        self.assertEqual((picture, status), (read("docs/pictures/valley.svg"), 0), told)
 
     def test_another_length_differs(self):
         answers = self.file("answers", check.predicted(self.script)[0])

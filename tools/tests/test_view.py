@@ -124,6 +124,19 @@ class Page(unittest.TestCase):
         self.assertRegex(dom, r"field: \d+ cells, farthest \d+, sum \d+")
 
     @needs_browser
+    def test_keys_and_pointer(self):
+        # turn 2, second class, the other theme, the post after; then the pointer on the middle of the map, where the wall stands
+        code = """setTimeout(() => {
+          for (const key of ["ArrowRight", "c", "t", "j"]) document.dispatchEvent(new KeyboardEvent("keydown", { key, bubbles: true }));
+          const side = map.getBoundingClientRect(), half = { clientX: side.left + side.width / 2, clientY: side.top + side.height / 2 };
+          map.dispatchEvent(new PointerEvent("pointermove", { ...half, bubbles: true }));
+        }, 1500);"""
+        dom = shown(self.page.replace("</body>", f"<script>{code}</script></body>"), "turn=1&class=infantry")
+        self.assertIn("2 of 2", dom)
+        self.assertIn("line 8: post 1 0, path, siege", dom)
+        self.assertRegex(dom, "cell 6 4: blocked by a clearance for siege")
+
+    @needs_browser
     def test_its_cells_are_those_of_the_tools(self):
         maker = check.Maker(3)
         for _ in range(6):
