@@ -239,6 +239,10 @@ class Match:
             yield turn, line, replies
         self.check_end()
 
+    def go_through(self):
+        for _ in self.turns():
+            pass
+
     def edit(self, turn, replies):
         for post in turn.in_order():
             if post.kind not in check.EDITS:

@@ -25,6 +25,11 @@ import contradictions
 import mapscript
 import pictures
 
+
+class Unknown(Exception):
+    """A turn or a class that the script or its answers don't have."""
+
+
 FOLDER = os.path.join(os.path.dirname(os.path.abspath(__file__)), "page")
 
 
@@ -107,7 +112,7 @@ def panels(match, words, caller):
     wanted = [(it.partition(":")[0], it.partition(":")[2] or names[0]) for it in words.split(",")]
     for turn, name in wanted:
         if not turn.isdecimal() or name not in names:
-            sys.exit(f"view.py: no turn and class: {turn}:{name} (classes: {', '.join(names)})")
+            raise Unknown(f"no turn and class: {turn}:{name} (classes: {', '.join(names)})")
     found = {}
     for turn, _, replies in match.turns():
         for number, name in wanted:
@@ -115,7 +120,7 @@ def panels(match, words, caller):
                 found[number, name] = pictures.Panel(match, turn, replies, name, caller)
     missing = [it for it in wanted if it not in found]
     if missing:
-        sys.exit(f"view.py: there are no answers for turn {missing[0][0]}")
+        raise Unknown(f"there are no answers for turn {missing[0][0]}")
     return [found[it] for it in wanted]
 
 
@@ -134,6 +139,18 @@ def words():
     return parser.parse_args()
 
 
+def made(said, match):
+    """What the words ask for, as bytes."""
+    if said.svg:
+        return pictures.svg(panels(match, said.svg, said.caller), said.scale).encode()
+    if said.png:
+        return pictures.png(panels(match, said.png, said.caller)[0], said.scale)
+    if said.check:
+        match.go_through()
+        return b""
+    return page(match, said.title or os.path.basename(said.script)).encode()
+
+
 def main():
     said = words()
     with open(said.script, "rb") as file:
@@ -144,14 +161,11 @@ def main():
         print(f"view.py: {said.script} has no map line", file=sys.stderr)
         return 2
     match = contradictions.Match(script, answers)
-    if said.svg:
-        out = pictures.svg(panels(match, said.svg, said.caller), said.scale).encode()
-    elif said.png:
-        out = pictures.png(panels(match, said.png, said.caller)[0], said.scale)
-    elif said.check:
-        out = b"" if list(match.turns()) else b""
-    else:
-        out = page(match, said.title or os.path.basename(said.script)).encode()
+    try:
+        out = made(said, match)
+    except Unknown as it:
+        print(f"view.py: {it}", file=sys.stderr)
+        return 2
     sys.stdout.buffer.write(out)
     for it in match.found:
         print(f"contradiction: {it}", file=sys.stderr)

@@ -115,7 +115,7 @@ function seen(points) {
 
 // ---- moving through
 
-function turned_to(n) {
+function turnedTo(n) {
   state.turn = Math.max(0, Math.min(data.turns.length - 1, n));
   state.post = null;
   by("turn").value = state.turn;
@@ -171,7 +171,7 @@ function wentTo(number) {
   if (post.cls) state.k = Math.max(0, data.classes.findIndex((it) => it.name === post.cls));
   by("class").value = state.k;
   if (state.caller >= 0 && state.caller !== post.c) called(-1);
-  turned_to(at);
+  turnedTo(at);
   chosen(post, true);
 }
 
@@ -185,7 +185,7 @@ function wrongNext() {
 
 function wrongShown(at, it) {
   if (it.l) wentTo(it.l);
-  else if (at !== state.turn) turned_to(at);
+  else if (at !== state.turn) turnedTo(at);
   if (it.at) {
     view.scale = Math.max(view.scale, 12 * dpr());
     view.x = it.at[0] - map.width / view.scale / 2;
@@ -233,15 +233,15 @@ function pointing() {
   map.addEventListener("pointerleave", () => (by("tip").hidden = true));
 }
 
-function stepped(by_) {
+function stepped(step) {
   const posts = shown(), at = posts.indexOf(state.post);
-  if (posts.length) chosen(posts[(at + by_ + posts.length) % posts.length], true);
+  if (posts.length) chosen(posts[(at + step + posts.length) % posts.length], true);
 }
 
 function keyed(event) {
   if (event.ctrlKey || event.metaKey || event.altKey || ["INPUT", "SELECT"].includes(event.target.tagName) && event.target.type !== "range") return;
   const acts = {
-    ArrowLeft: () => turned_to(state.turn - 1), ArrowRight: () => turned_to(state.turn + 1), Home: () => turned_to(0), End: () => turned_to(data.turns.length - 1),
+    ArrowLeft: () => turnedTo(state.turn - 1), ArrowRight: () => turnedTo(state.turn + 1), Home: () => turnedTo(0), End: () => turnedTo(data.turns.length - 1),
     c: () => classed((state.k + 1) % data.classes.length), p: () => called(state.caller + 1 < data.callers ? state.caller + 1 : -1),
     "+": () => zoomed(1.5), "=": () => zoomed(1.5), "-": () => zoomed(1 / 1.5), 0: () => { fitted(); redraw(); }, f: () => layered("field", !state.on.field), n: wrongNext,
     j: () => stepped(1), k: () => stepped(-1), g: () => by("line").focus(), t: () => themed(state.theme === "dark" ? "light" : "dark"), Escape: () => chosen(null, false),
@@ -269,7 +269,7 @@ function recalled() {
   state.k = Math.max(0, data.classes.findIndex((it) => it.name === words.class));
   by("class").value = state.k;
   document.documentElement.dataset.theme = state.theme;
-  turned_to(Math.max(0, data.turns.findIndex((it) => it.t === +words.turn)));
+  turnedTo(Math.max(0, data.turns.findIndex((it) => it.t === +words.turn)));
   if (words.line) wentTo(+words.line);
   if (words.at) {
     const [x, z, scale] = words.at.split(",").map(Number);
@@ -328,7 +328,7 @@ function panelled() {
     row.onclick = () => wrongShown(at, it);
     return row;
   }));
-  by("turn").oninput = () => turned_to(+by("turn").value);
+  by("turn").oninput = () => turnedTo(+by("turn").value);
   by("class").onchange = () => classed(+by("class").value);
   by("caller").onchange = () => called(+by("caller").value);
   by("line").onchange = () => wentTo(+by("line").value);

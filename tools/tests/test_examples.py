@@ -27,7 +27,7 @@ class Examples(unittest.TestCase):
 
     @needs_program
     def test_two_callers(self):
-        ran = subprocess.run([sys.executable, f"{TOP}/examples/two_callers.py", PROGRAM], capture_output=True, timeout=120)
+        ran = subprocess.run([sys.executable, f"{TOP}/examples/two_callers.py", PROGRAM], capture_output=True, timeout=300)
         self.assertEqual(ran.returncode, 0, ran.stdout)
 
 

@@ -28,7 +28,7 @@ def match(script, answers):
 
 def wrong(script, answers):
     found = match(script, answers)
-    list(found.turns())
+    found.go_through()
     return [str(it) for it in found.found]
 
 
@@ -117,36 +117,29 @@ class Page(unittest.TestCase):
         self.assertEqual(unpacked(self.page, "base"), (bytes(14) + b"\xff\x0f") * 2)
 
     @needs_browser
-    def test_a_browser_reads_it(self):
-        dom = shown(self.page, "turn=2&class=siege&line=8&layers=paths,regions,field")
-        self.assertIn("2 of 2", dom)
-        self.assertIn("line 8: post 1 0, path, siege", dom)
-        self.assertRegex(dom, r"field: \d+ cells, farthest \d+, sum \d+")
-
-    @needs_browser
-    def test_keys_and_pointer(self):
-        # turn 2, second class, the other theme, the post after; then the pointer on the middle of the map, where the wall stands
+    def test_a_browser_moves_through_it(self):
+        # turn 2, second class, the post after, its field; then the pointer on the middle of the map, where the wall stands
         code = """setTimeout(() => {
-          for (const key of ["ArrowRight", "c", "t", "j"]) document.dispatchEvent(new KeyboardEvent("keydown", { key, bubbles: true }));
+          for (const key of ["ArrowRight", "c", "t", "j", "f"]) document.dispatchEvent(new KeyboardEvent("keydown", { key, bubbles: true }));
           const side = map.getBoundingClientRect(), half = { clientX: side.left + side.width / 2, clientY: side.top + side.height / 2 };
           map.dispatchEvent(new PointerEvent("pointermove", { ...half, bubbles: true }));
         }, 1500);"""
         dom = shown(self.page.replace("</body>", f"<script>{code}</script></body>"), "turn=1&class=infantry")
         self.assertIn("2 of 2", dom)
         self.assertIn("line 8: post 1 0, path, siege", dom)
-        self.assertRegex(dom, "cell 6 4: blocked by a clearance for siege")
+        self.assertIn("cell 6 4: blocked by a clearance for siege", dom)
+        # 84 cells south of the north wall, of which the moved wall takes 18
+        self.assertRegex(dom, "field: 66 cells, farthest [0-9]+, sum [0-9]+")
 
     @needs_browser
     def test_its_cells_are_those_of_the_tools(self):
         maker = check.Maker(3)
-        for _ in range(6):
-            script = mapscript.Script(maker.script())
-            if script.map:
-                self.assertIn("<p>agree</p>", shown(cells_page(script)))
+        scripts = [mapscript.Script(maker.script()) for _ in range(8)]
+        self.assertIn("<p>0 cells differ</p>", shown(cells_page([it for it in scripts if it.map])))
 
 
-def cells_page(script):
-    """A page that says whether the browser has the cells, regions and areas of each class that the tools have."""
+def wanted_cells(script):
+    """The map with what stands at the end of a script, and the region and area of each cell for each class."""
     ground, standing = mapscript.Ground(script.map), {}
     for turn in script.turns:
         for post in turn.in_order():
@@ -161,8 +154,13 @@ def cells_page(script):
         wanted.append([[labels.at(i, j) for i in range(w)] for j in range(h)])
     what = {"w": w, "h": h, "wanted": wanted, "base": list(view.base_bits(script.map)), "clearances": list(script.map.classes.values())}
     what["standing"] = [{"square": square, "mask": mask} for square, mask in standing.values()]
-    code = """const it = DATA; let bad = 0;
-      it.wanted.forEach((rows, k) => {
+    return what
+
+
+def cells_page(scripts):
+    """A page that says how many cells differ from those that the tools have, or regions, or areas."""
+    code = """let bad = 0;
+      for (const it of DATA) it.wanted.forEach((rows, k) => {
         const cells = new Cells(it.w, it.h, new Uint8Array(it.base), k, it.clearances[k], it.standing);
         cells.label();
         rows.forEach((row, j) => row.forEach(([region, area], i) => {
@@ -170,8 +168,9 @@ def cells_page(script):
           if (cells.region[at] !== region || cells.area[at] !== area || (cells.state[at] === FREE) !== (region > 0)) bad++;
         }));
       });
-      document.body.innerHTML = bad ? `<p>${bad} cells differ</p>` : "<p>agree</p>";"""
-    return f"<body></body><script>{view.part('cells.js')}\n{code.replace('DATA', json.dumps(what))}</script>"
+      document.body.innerHTML = `<p>${bad} cells differ</p>`;"""
+    data = json.dumps([wanted_cells(it) for it in scripts])
+    return f"<body></body><script>{view.part('cells.js')}\n{code.replace('DATA', data)}</script>"
 
 
 class Pictures(unittest.TestCase):
@@ -196,7 +195,7 @@ class Pictures(unittest.TestCase):
 
     def test_an_unknown_turn(self):
         _, status, told = tool("tools/view.py", "--svg", "9", "examples/skirmish.script", "examples/skirmish.answers")
-        self.assertEqual((status, told), (1, "view.py: there are no answers for turn 9\n"))
+        self.assertEqual((status, told), (2, "view.py: there are no answers for turn 9\n"))
 
 
 if __name__ == "__main__":
