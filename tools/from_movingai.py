@@ -1,0 +1,174 @@
+#!/usr/bin/env python3
+"""A grid map of the pathfinding literature as a script, and its scenario's optimal lengths against the answers' costs.
+
+Reads `.map` with `type octile` and `.scen` of version 1, as the benchmarks at movingai.com have them (Sturtevant,
+"Benchmarks for Grid-Based Pathfinding", 2012). The script has one class `walker` without a clearance. Cells `.`, `G` and
+`S` are passable, all others are not. A map's first row is its northernmost, so row y of the map is row height-1-y here.
+
+    from_movingai.py arena.map arena.map.scen > arena.script
+    ./pathserve replay < arena.script > arena.answers
+    from_movingai.py arena.map arena.map.scen --check arena.answers
+
+Both count steps that cut no corner. A diagonal step costs the square root of 2 there, and 92682/65536 here, which is more
+by 0.00011 percent. So a walk that is cheapest here is, measured as there, at most so much longer than the optimum, and no
+shorter: --check holds each walk to that, with 0.001 for the scenario's rounding. The status is 0 where all agree, 1 where
+some differ, and 2 where a file has another form.
+"""
+import argparse
+import json
+import math
+import sys
+
+import contradictions
+import mapscript
+
+PASSABLE = ".GS"
+STRAIGHT, DIAGONAL = 65536, 92682
+MORE = DIAGONAL / STRAIGHT / math.sqrt(2) - 1  # by how much a diagonal step costs more here
+ROUNDING = 0.001  # of a scenario's lengths
+MOST = 2048
+
+
+class BadFile(Exception):
+    pass
+
+
+def read_map(lines):
+    """The rows of a map from the north, each a text of one letter a cell."""
+    head, at = {}, 0
+    while at < len(lines) and lines[at].strip() != "map":
+        name, _, value = lines[at].strip().partition(" ")
+        head[name], at = value.strip(), at + 1
+    if at == len(lines) or head.get("type") != "octile" or not all(head.get(it, "").isdecimal() for it in ("height", "width")):
+        raise BadFile("a map has the lines 'type octile', 'height H', 'width W' and 'map', and then its rows")
+    height, width = int(head["height"]), int(head["width"])
+    rows = [it.rstrip("\r\n") for it in lines[at + 1:at + 1 + height]]
+    if len(rows) != height or any(len(it) != width for it in rows):
+        raise BadFile(f"the map does not have {height} rows of {width} cells")
+    if not 1 <= min(width, height) <= max(width, height) <= MOST:
+        raise BadFile(f"a script's map has 1 to {MOST} cells a side, and this one is {width} by {height}")
+    return rows
+
+
+class Query:
+    """Cells from and to, with columns from the west and rows from the north, and the optimal length."""
+
+    def __init__(self, words):
+        self.width, self.height, *places = map(int, words[2:8])
+        self.start, self.goal, self.length = places[:2], places[2:], float(words[8])
+
+
+def read_scenario(lines, rows, most):
+    found = []
+    for number, text in enumerate(lines, 1):
+        words = text.split("\t") if "\t" in text else text.split()
+        if not words or words[0] == "version":
+            continue
+        try:
+            query = Query(words)
+        except (ValueError, IndexError):
+            raise BadFile(f"line {number} of the scenario has not nine words") from None
+        if (query.width, query.height) != (len(rows[0]), len(rows)):
+            raise BadFile(f"line {number} of the scenario is for a map of {query.width} by {query.height}")
+        found.append(query)
+        if len(found) == most:
+            break
+    return found
+
+
+def script(rows, queries):
+    """The lines of the script, all paths in one turn."""
+    height, width = len(rows), len(rows[0])
+
+    def dump(value):
+        return json.dumps(value, separators=(",", ":"))
+
+    def place(cell):
+        return [f"{cell[0]}.5", f"{height - 1 - cell[1]}.5"]
+
+    yield dump({"version": 3, "size": [width, height], "callers": 1, "classes": [{"name": "walker", "clearance": "0"}]})
+    bits = [sum(1 << i for i, it in enumerate(row) if it not in PASSABLE) for row in reversed(rows)]
+    for it in mapscript.rectangles([bits], width):
+        yield dump({"base": [it]})
+    for it in queries:
+        yield dump({"caller": 0, "path": "walker", "from": place(it.start), "goal": {"point": place(it.goal)}})
+    yield dump({"end": 1})
+
+
+def steps(path):
+    """How many straight and diagonal steps a path has."""
+    straight = diagonal = 0
+    for a, b in zip(path.places(), path.places()[1:]):
+        di, dj = contradictions.direction(a, b)
+        count = max(abs(b[0] - a[0]), abs(b[1] - a[1]))
+        straight, diagonal = (straight, diagonal + count) if di and dj else (straight + count, diagonal)
+    return straight, diagonal
+
+
+def differs(query, said, height):
+    """Why the answer to a query does not fit its optimal length, or None."""
+    if not said or not said[0].startswith("path "):
+        return f"no path: {said[0] if said else 'no reply'}"
+    try:
+        path = contradictions.Path(said[0])
+        straight, diagonal = steps(path)
+    except contradictions.Wrong as it:
+        return str(it)
+    if path.word != "goal" or path.end != (query.goal[0], height - 1 - query.goal[1]):
+        return "the path does not end at the goal"
+    if straight * STRAIGHT + diagonal * DIAGONAL != path.cost:
+        return f"the walk does not cost {path.cost}"
+    length = straight + diagonal * math.sqrt(2)
+    if not query.length - ROUNDING <= length <= query.length * (1 + MORE) + ROUNDING:
+        return f"the walk is {length:.5f} long, and the optimum is {query.length}"
+    return None
+
+
+def checked(rows, queries, answers):
+    """Tells each query that differs, and how many agree."""
+    replies, wrong = answers.turns.get(1, ("", {}))[1], 0
+    for number, query in enumerate(queries):
+        why = differs(query, replies.get((0, number), []), len(rows))
+        if why:
+            wrong += 1
+            print(f"query {number + 1}: {why}")
+    print(f"{len(queries) - wrong} of {len(queries)} lengths agree")
+    return 1 if wrong else 0
+
+
+def words():
+    about, _, more = __doc__.partition("\n\n")
+    parser = argparse.ArgumentParser(description=about, epilog=more, formatter_class=argparse.RawDescriptionHelpFormatter)
+    parser.add_argument("map", help="the .map file")
+    parser.add_argument("scenario", nargs="?", help="the .scen file; without it the script asks for no path")
+    parser.add_argument("--most", type=int, default=0, metavar="N", help="only the first N queries of the scenario")
+    parser.add_argument("--check", metavar="ANSWERS", help="compare the lengths with these answers, and write no script")
+    said = parser.parse_args()
+    if said.check and not said.scenario:
+        parser.error("--check needs the scenario")
+    return said
+
+
+def lines_of(name):
+    with open(name, encoding="latin-1") as file:
+        return file.read().splitlines()
+
+
+def main():
+    said = words()
+    try:
+        rows = read_map(lines_of(said.map))
+        queries = read_scenario(lines_of(said.scenario), rows, said.most) if said.scenario else []
+    except BadFile as it:
+        print(f"from_movingai.py: {it}", file=sys.stderr)
+        return 2
+    if said.check:
+        with open(said.check, "rb") as file:
+            return checked(rows, queries, contradictions.Answers(file.read()))
+    for it in script(rows, queries):
+        print(it)
+    return 0
+
+
+if __name__ == "__main__":
+    sys.exit(main())

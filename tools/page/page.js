@@ -1,0 +1,348 @@
+// The page: what is drawn, and how it is moved through. `cells.js` stands before it.
+const LAYERS = [
+  ["paths", "paths", true], ["smooth", "smoothed waypoints", true], ["goals", "all goals", false], ["outlines", "obstructions", true],
+  ["chunks", "chunks", false], ["regions", "regions", false], ["areas", "areas", false], ["field", "field of the post", false],
+];
+// told apart by the colour-blind (after Okabe and Ito); a caller has a colour and a dash
+const CALLERS = { light: ["#0072b2", "#d55e00", "#007a5a", "#a3357a", "#8a6500", "#111111"], dark: ["#56b4e9", "#ff8c4a", "#2fd3a3", "#f0a3d0", "#f0e442", "#ffffff"] };
+const DASHES = [[], [9, 4], [3, 3], [12, 3, 3, 3], [18, 6], [2, 6]];
+const INKS = {
+  light: { cells: ["#fbfaf7", "#4b535d", "#e3d3a8", "#a9823f"], back: "#dcd9d2", line: "#5f4514", other: "#9a927f", chunk: "#5a626c", grid: "#e4e1da", halo: "#ffffff", alarm: "#c8102e", ink: "#111111" },
+  dark: { cells: ["#161b21", "#69747f", "#3b3422", "#9a7a3c"], back: "#0b0e11", line: "#e2c078", other: "#7d7461", chunk: "#8d99a6", grid: "#222931", halo: "#000000", alarm: "#ff5d73", ink: "#ffffff" },
+};
+const TINTS = { light: ["#cfe3f2", "#f6dcc4", "#cdeadd", "#efd3e3", "#efe9b5", "#d6d2ee"], dark: ["#1c3c52", "#52331c", "#154536", "#4a2440", "#4a4519", "#2f2b55"] };
+const FAR = [[0, 32, 76], [0, 67, 106], [87, 93, 109], [124, 123, 120], [165, 156, 116], [211, 193, 100], [255, 234, 70]];
+const by = (id) => document.getElementById(id);
+const made = (name, text) => Object.assign(document.createElement(name), { textContent: text ?? "" });
+
+let data, base, cells, field = null, view = { scale: 1, x: 0, z: 0 };
+const state = { turn: 0, k: 0, caller: -1, post: null, theme: "light", on: {} };
+const image = document.createElement("canvas"), map = by("map"), pen = map.getContext("2d");
+for (const [name, , on] of LAYERS) state.on[name] = on;
+
+// ---- data
+
+async function inflated(id) {
+  const bytes = Uint8Array.from(atob(by(id).textContent), (it) => it.charCodeAt(0));
+  const stream = new Blob([bytes]).stream().pipeThrough(new DecompressionStream("deflate"));
+  return new Response(stream).arrayBuffer();
+}
+
+/** What stands after a turn by what the answers say, number by number. */
+function standingAfter(turn) {
+  const found = new Map();
+  for (const { edits, posts } of data.turns.slice(0, turn + 1)) {
+    for (const p of edits.map((n) => posts[n])) {
+      const said = p.r[0] || "", old = found.get(p.id);
+      if (said.startsWith("added")) found.set(p.id, { id: p.id, square: p.s, mask: p.m, post: p });
+      else if (said.startsWith("removed")) found.delete(p.id);
+      else if (said.startsWith("moved") && old) found.set(p.id, { ...old, square: [...p.to, ...old.square.slice(2)] });
+    }
+  }
+  return found;
+}
+
+function pathOf(post) {
+  const words = (post.r[0] || "").split(" ");
+  if (words[0] !== "path") return null;
+  const cell = (it) => it.split(",").map(Number);
+  return { start: [+words[1], +words[2]], end: [+words[3], +words[4]], word: words[5], cost: +words[6], points: [[+words[1] + 0.5, +words[2] + 0.5], ...words.slice(8).map(cell)] };
+}
+
+function noteOf(post, word) {
+  return (post.r.find((it) => it.startsWith(word + " ")) || "").split(" ").slice(1);
+}
+
+/** The goal as [kind, numbers ..]; a goal by obstruction as the square that it is. */
+function goalOf(post) {
+  const [kind, ...n] = post.goal;
+  if (kind !== "obstruction") return post.goal;
+  const it = state.standing.get(n[0]);
+  return it && ["square", ...it.square.slice(0, 4), it.square[4] + n[1], it.square[5] + n[1]];
+}
+
+const now = () => data.turns[state.turn] || { posts: [], wrong: [], line: "", t: 0 };
+/** The posts of the turn that the choice of caller and class leaves. */
+const shown = () => now().posts.filter((it) => (state.caller < 0 || it.c === state.caller) && (!it.cls || it.cls === data.classes[state.k].name));
+
+/** The contradictions at cells, of posts that are shown or of none. */
+function wrongHere() {
+  const lines = new Set(shown().map((it) => it.l));
+  return now().wrong.filter((it) => it.at && (!it.l || lines.has(it.l)));
+}
+
+// ---- the picture of the cells
+
+const hex = (it) => [1, 3, 5].map((n) => parseInt(it.slice(n, n + 2), 16));
+const packed = ([r, g, b]) => (255 << 24 | b << 16 | g << 8 | r) >>> 0;
+
+function remade() {
+  const { w, h } = data;
+  state.standing = standingAfter(state.turn);
+  cells = new Cells(w, h, base, state.k, data.classes[state.k].clearance, state.standing.values());
+  field = null;
+  refield();
+}
+
+function refield() {
+  field = null;
+  const path = state.on.field && state.post && state.post.k === "path" && state.post.cls === data.classes[state.k].name && pathOf(state.post);
+  if (path && cells.free(...path.start)) {
+    cells.label();
+    const { w, h } = data, area = cells.area[path.start[1] * w + path.start[0]], goal = goalOf(state.post), targets = [];
+    if (path.word === "near") targets.push(path.end[1] * w + path.end[0]);
+    else if (goal) {
+      const [i0, j0, i1, j1] = goalBox(goal, w, h);
+      for (let j = j0; j <= j1; j++) for (let i = i0; i <= i1; i++) if (cells.area[j * w + i] === area && isGoal(goal, i, j)) targets.push(j * w + i);
+    }
+    field = new Field(cells, targets);
+  }
+  painted();
+}
+
+function painted() {
+  const { w, h } = data, inks = INKS[state.theme], tints = TINTS[state.theme].map(hex);
+  image.width = w;
+  image.height = h;
+  const paper = image.getContext("2d"), sheet = paper.createImageData(w, h), out = new Uint32Array(sheet.data.buffer);
+  const plain = inks.cells.map((it) => packed(hex(it))), tinted = tints.map(packed);
+  const ramp = Array.from({ length: 256 }, (_, n) => {
+    const at = n / 255 * (FAR.length - 1), low = Math.min(Math.floor(at), FAR.length - 2);
+    return packed(FAR[low].map((it, c) => it + (FAR[low + 1][c] - it) * (at - low)));
+  });
+  if (state.on.regions || state.on.areas) cells.label();
+  for (let j = 0; j < h; j++) {
+    for (let i = 0, at = j * w, to = (h - 1 - j) * w; i < w; i++, at++, to++) {
+      const what = cells.state[at];
+      if (what !== FREE) out[to] = plain[what];
+      else if (field && field.far[at] >= 0) out[to] = ramp[Math.floor(255 - 255 * field.far[at] / (field.most || 1))];
+      else if (state.on.regions) {
+        const chunk = 2 * Math.floor(i / CHUNK) + 3 * Math.floor(j / CHUNK);
+        out[to] = tinted[(cells.region[at] * 5 + chunk) % tints.length];
+      } else if (state.on.areas) out[to] = tinted[(cells.area[at] - 1) % tints.length];
+      else out[to] = plain[FREE];
+    }
+  }
+  paper.putImageData(sheet, 0, 0);
+  redraw();
+}
+
+// ---- drawing
+
+let waiting = false;
+function redraw() {
+  if (waiting) return;
+  waiting = true;
+  requestAnimationFrame(() => { waiting = false; drawn(); });
+}
+
+const toX = (x) => (x - view.x) * view.scale, toY = (z) => map.height - (z - view.z) * view.scale;
+const dpr = () => window.devicePixelRatio || 1;
+
+function fitted() {
+  const { w, h } = data, room = 0.96;
+  view.scale = Math.min(map.width * room / w, map.height * room / h);
+  view.x = w / 2 - map.width / view.scale / 2;
+  view.z = h / 2 - map.height / view.scale / 2;
+}
+
+function drawn() {
+  if (!cells) return;
+  const { w, h } = data, inks = INKS[state.theme], s = view.scale;
+  pen.setTransform(1, 0, 0, 1, 0, 0);
+  pen.fillStyle = inks.back;
+  pen.fillRect(0, 0, map.width, map.height);
+  // only the part that is seen, by whole cells, so that each cell keeps sharp sides
+  const i0 = Math.max(0, Math.floor(view.x)), j0 = Math.max(0, Math.floor(view.z));
+  const i1 = Math.min(w, Math.ceil(view.x + map.width / s)), j1 = Math.min(h, Math.ceil(view.z + map.height / s));
+  pen.imageSmoothingEnabled = s < 1;
+  if (i1 > i0 && j1 > j0) pen.drawImage(image, i0, h - j1, i1 - i0, j1 - j0, toX(i0), toY(j1), (i1 - i0) * s, (j1 - j0) * s);
+  const seen = { i0, j0, i1, j1 };
+  if (s >= 10 * dpr()) rules(seen, 1, inks.grid, 1);
+  if (state.on.chunks || state.on.regions) chunkRules(seen, inks);
+  if (field) arrows(seen, inks);
+  if (state.on.outlines) outlines(seen, inks);
+  const posts = shown();
+  if (state.on.goals) for (const it of posts) if (it.k === "path") goalDrawn(it, colour(it.c), 1.5);
+  pen.globalAlpha = state.post ? 0.35 : 1; // what is not chosen steps back
+  if (state.on.paths) for (const it of posts) if (it !== state.post) pathDrawn(it, 2);
+  pen.globalAlpha = 1;
+  if (state.post && posts.includes(state.post)) {
+    if (state.post.k === "path") goalDrawn(state.post, colour(state.post.c), 2.5);
+    pathDrawn(state.post, 4);
+    pointDrawn(state.post);
+  }
+  for (const it of wrongHere()) cross(it.at, inks);
+}
+
+function rules(seen, step, ink, width) {
+  pen.beginPath();
+  for (let i = Math.ceil(seen.i0 / step) * step; i <= seen.i1; i += step) { pen.moveTo(toX(i), toY(seen.j0)); pen.lineTo(toX(i), toY(seen.j1)); }
+  for (let j = Math.ceil(seen.j0 / step) * step; j <= seen.j1; j += step) { pen.moveTo(toX(seen.i0), toY(j)); pen.lineTo(toX(seen.i1), toY(j)); }
+  pen.strokeStyle = ink;
+  pen.lineWidth = width;
+  pen.setLineDash([]);
+  pen.stroke();
+}
+
+function chunkRules(seen, inks) {
+  rules(seen, CHUNK, inks.chunk, 1.5 * dpr());
+  if (CHUNK * view.scale < 60 * dpr()) return;
+  pen.fillStyle = inks.chunk;
+  pen.font = `${12 * dpr()}px system-ui, sans-serif`;
+  for (let c = Math.floor(seen.i0 / CHUNK); c * CHUNK < seen.i1; c++) {
+    for (let d = Math.floor(seen.j0 / CHUNK); d * CHUNK < seen.j1; d++) pen.fillText(`${c} ${d}`, toX(c * CHUNK) + 5 * dpr(), toY(d * CHUNK) - 5 * dpr());
+  }
+}
+
+const number = (it) => it / SIDE;
+function cornersOf(s, more = 0) {
+  const [x, z, ux, uz, hw, hh] = s.map(number), n = ux * ux + uz * uz, a = hw / n + more, b = hh / n + more;
+  return [[a, b], [a, -b], [-a, -b], [-a, b]].map(([u, v]) => [x + u * ux - v * uz, z + u * uz + v * ux]);
+}
+
+function ring(points) {
+  pen.beginPath();
+  points.forEach(([x, z], n) => (n ? pen.lineTo(toX(x), toY(z)) : pen.moveTo(toX(x), toY(z))));
+  pen.closePath();
+}
+
+function outlines(seen, inks) {
+  pen.lineWidth = 1.2 * dpr();
+  const far = (it) => it.square[0] / SIDE + 400 < seen.i0 || it.square[0] / SIDE - 400 > seen.i1 || it.square[1] / SIDE + 400 < seen.j0 || it.square[1] / SIDE - 400 > seen.j1;
+  for (const it of state.standing.values()) {
+    const size = Math.max(it.square[4], it.square[5]) / SIDE * view.scale;
+    if (size < 2 || far(it)) continue;
+    const mine = it.mask >> state.k & 1;
+    ring(cornersOf(it.square));
+    pen.strokeStyle = mine ? inks.line : inks.other;
+    pen.setLineDash(mine ? [] : [4 * dpr(), 4 * dpr()]);
+    pen.stroke();
+    if (size > 14 * dpr()) {
+      pen.font = `${11 * dpr()}px system-ui, sans-serif`;
+      label(`${it.id}`, toX(it.square[0] / SIDE), toY(it.square[1] / SIDE), inks.ink, inks.halo);
+    }
+  }
+  pen.setLineDash([]);
+}
+
+function label(text, x, y, ink, halo) {
+  pen.textAlign = "center";
+  pen.textBaseline = "middle";
+  pen.lineWidth = 3 * dpr();
+  pen.strokeStyle = halo;
+  pen.strokeText(text, x, y);
+  pen.fillStyle = ink;
+  pen.fillText(text, x, y);
+  pen.textAlign = "start";
+  pen.textBaseline = "alphabetic";
+}
+
+const colour = (c) => CALLERS[state.theme][c % 6];
+
+function line(points, ink, width, dash) {
+  pen.beginPath();
+  points.forEach(([x, z], n) => (n ? pen.lineTo(toX(x), toY(z)) : pen.moveTo(toX(x), toY(z))));
+  pen.lineJoin = pen.lineCap = "round";
+  pen.setLineDash([]);
+  pen.strokeStyle = INKS[state.theme].halo;
+  pen.lineWidth = width + 2.5 * dpr();
+  pen.stroke();
+  pen.strokeStyle = ink;
+  pen.lineWidth = width;
+  pen.setLineDash(dash);
+  pen.stroke();
+  pen.setLineDash([]);
+}
+
+function dot(x, z, size, ink, shape) {
+  const a = toX(x), b = toY(z);
+  pen.beginPath();
+  if (shape === "round") pen.arc(a, b, size, 0, 7);
+  else if (shape === "square") pen.rect(a - size, b - size, 2 * size, 2 * size);
+  else { pen.moveTo(a, b - 1.4 * size); pen.lineTo(a + 1.4 * size, b); pen.lineTo(a, b + 1.4 * size); pen.lineTo(a - 1.4 * size, b); pen.closePath(); }
+  pen.fillStyle = shape === "square" ? ink : INKS[state.theme].halo;
+  pen.fill();
+  pen.lineWidth = 2 * dpr();
+  pen.strokeStyle = ink;
+  pen.stroke();
+}
+
+function pathDrawn(post, width) {
+  const path = post.k === "path" && pathOf(post);
+  if (!path) return;
+  const ink = colour(post.c), wide = width * dpr(), size = Math.max(3.2, Math.min(7, view.scale / dpr() * 0.3)) * dpr();
+  const xs = path.points.map((it) => toX(it[0])), ys = path.points.map((it) => toY(it[1]));
+  if (Math.max(...xs) < 0 || Math.max(...ys) < 0 || Math.min(...xs) > map.width || Math.min(...ys) > map.height) return;
+  line(path.points, ink, wide, DASHES[Math.floor(post.c / 6) % 6].map((it) => it * dpr()));
+  const kept = state.on.smooth && noteOf(post, "smooth").slice(1).map((it) => it.split(",").map(Number));
+  if (kept && kept.length) {
+    line([path.points[0], ...kept], INKS[state.theme].ink, Math.max(1, wide / 2), [5 * dpr(), 4 * dpr()]);
+    for (const [x, z] of kept) dot(x, z, size * 0.6, INKS[state.theme].ink, "round");
+  }
+  if (view.scale > 4 * dpr()) for (const [x, z] of path.points.slice(1, -1)) dot(x, z, size * 0.45, ink, "round");
+  dot(...path.points[0], size, ink, "round");
+  dot(path.end[0] + 0.5, path.end[1] + 0.5, size, ink, path.word === "goal" ? "square" : "diamond");
+}
+
+function pointDrawn(post) {
+  const at = post.from || post.at;
+  if (!at) return;
+  const x = toX(at[0] / SIDE), y = toY(at[1] / SIDE), r = 9 * dpr();
+  pen.beginPath();
+  for (const [a, b] of [[-1, 0], [1, 0], [0, -1], [0, 1]]) { pen.moveTo(x + a * r * 0.4, y + b * r * 0.4); pen.lineTo(x + a * r, y + b * r); }
+  pen.strokeStyle = INKS[state.theme].ink;
+  pen.lineWidth = 2 * dpr();
+  pen.stroke();
+}
+
+function goalDrawn(post, ink, width) {
+  const goal = goalOf(post);
+  if (!goal) return;
+  const [kind, x, z] = goal, inverted = kind.startsWith("not-");
+  if (kind.endsWith("circle")) {
+    pen.beginPath();
+    pen.arc(toX(x / SIDE), toY(z / SIDE), goal[3] / SIDE * view.scale, 0, 7);
+  } else if (kind.endsWith("square")) ring(cornersOf(goal.slice(1)));
+  else {
+    const r = 7 * dpr(), a = toX(x / SIDE), b = toY(z / SIDE);
+    pen.beginPath();
+    pen.moveTo(a - r, b - r); pen.lineTo(a + r, b + r); pen.moveTo(a - r, b + r); pen.lineTo(a + r, b - r);
+  }
+  pen.setLineDash(inverted ? [2 * dpr(), 5 * dpr()] : [8 * dpr(), 3 * dpr()]);
+  pen.strokeStyle = ink;
+  pen.lineWidth = width * dpr();
+  pen.stroke();
+  pen.setLineDash([]);
+}
+
+function cross([i, j], inks) {
+  const x = toX(i + 0.5), y = toY(j + 0.5), r = Math.max(9 * dpr(), Math.min(view.scale, 26 * dpr()) * 0.5);
+  for (const [ink, width] of [[inks.halo, 6], [inks.alarm, 3]]) {
+    pen.beginPath();
+    pen.arc(x, y, r, 0, 7);
+    for (const a of [-1, 1]) { pen.moveTo(x - r * 0.6, y - a * r * 0.6); pen.lineTo(x + r * 0.6, y + a * r * 0.6); }
+    pen.strokeStyle = ink;
+    pen.lineWidth = width * dpr();
+    pen.stroke();
+  }
+}
+
+function arrows(seen, inks) {
+  const step = Math.max(1, Math.ceil(18 * dpr() / view.scale)), r = Math.min(view.scale * step * 0.34, 12 * dpr());
+  pen.lineWidth = 1.6 * dpr();
+  for (let j = Math.ceil(seen.j0 / step) * step; j < seen.j1; j += step) {
+    for (let i = Math.ceil(seen.i0 / step) * step; i < seen.i1; i += step) {
+      const next = field.next(i, j), far = field.far[j * data.w + i];
+      if (far < 0) continue;
+      pen.strokeStyle = pen.fillStyle = far < field.most * 0.5 ? "#111" : "#fff";
+      const x = toX(i + 0.5), y = toY(j + 0.5);
+      if (!next) { pen.beginPath(); pen.arc(x, y, r * 0.6, 0, 7); pen.fill(); continue; }
+      const n = Math.hypot(next[1], next[2]), a = next[1] / n * r, b = -next[2] / n * r;
+      pen.beginPath();
+      pen.moveTo(x - a, y - b); pen.lineTo(x + a, y + b);
+      pen.lineTo(x + a * 0.2 - b * 0.5, y + b * 0.2 + a * 0.5); pen.moveTo(x + a, y + b); pen.lineTo(x + a * 0.2 + b * 0.5, y + b * 0.2 - a * 0.5);
+      pen.stroke();
+    }
+  }
+}

@@ -1,0 +1,35 @@
+"""The examples beside the built program."""
+import subprocess
+import sys
+import unittest
+
+from places import PROGRAM, TOP, needs_program, read, tool
+import mapscript
+
+
+class Examples(unittest.TestCase):
+    def test_the_plain_program_has_their_answers(self):
+        for name in ("first", "skirmish"):
+            predicted = mapscript.check.predicted(read(f"examples/{name}.script"))
+            self.assertEqual(predicted, (read(f"examples/{name}.answers"), 0))
+
+    @needs_program
+    def test_made_scripts_are_answered_as_predicted(self):
+        out, status, _ = tool("examples/check.py", PROGRAM, "20", "4")
+        self.assertEqual(status, 0, out)
+
+    @needs_program
+    def test_a_client_over_a_pipe(self):
+        out, status, _ = tool("examples/client.py", PROGRAM)
+        words = [it.split()[:7] for it in out.decode().splitlines()]
+        self.assertEqual((status, [it[0] for it in words]), (0, ["turn", "0", "turn", "0", "0"]))
+        self.assertEqual(words[1], "0 0 path 1 1 10 1".split())
+
+    @needs_program
+    def test_two_callers(self):
+        ran = subprocess.run([sys.executable, f"{TOP}/examples/two_callers.py", PROGRAM], capture_output=True, timeout=300)
+        self.assertEqual(ran.returncode, 0, ran.stdout)
+
+
+if __name__ == "__main__":
+    unittest.main()

@@ -1,0 +1,83 @@
+"""Grid maps and scenarios of the literature, with lengths counted by hand."""
+import os
+import tempfile
+import unittest
+
+from places import read, tool
+import mapscript
+
+check = mapscript.check
+# two rooms with a door two rows high; `S`, `G` are passable, and water is not
+MAP = """type octile
+height 5
+width 7
+map
+...@...
+.S.W...
+.......
+..G....
+...T..@
+"""
+# bucket, map, width, height, column and row of start and goal, length. From corner to corner of the west room: four rows
+# down. Over the top: down to row 2, through the door and up: 6 columns with 4 diagonal steps, where the door forbids to cut.
+SCENARIO = """version 1
+0	two.map	7	5	0	0	0	4	4.0
+0	two.map	7	5	0	2	6	2	6
+1	two.map	7	5	0	0	6	0	7.65685425
+1	two.map	7	5	2	1	4	1	4.0
+"""
+
+
+class MovingAi(unittest.TestCase):
+    def setUp(self):
+        self.folder = tempfile.TemporaryDirectory()
+        self.map, self.scenario = self.file("two.map", MAP), self.file("two.map.scen", SCENARIO)
+        out, status, _ = tool("tools/from_movingai.py", self.map, self.scenario)
+        self.assertEqual(status, 0)
+        self.script = out
+
+    def tearDown(self):
+        self.folder.cleanup()
+
+    def file(self, name, text):
+        path = os.path.join(self.folder.name, name)
+        with open(path, "wb") as file:
+            file.write(text if isinstance(text, bytes) else text.encode())
+        return path
+
+    def test_the_cells(self):
+        made = mapscript.Script(self.script)
+        self.assertEqual((made.bad, made.map.w, made.map.h), (0, 7, 5))
+        rows = [bin(it | 1 << 7)[:2:-1] for it in mapscript.base_rows(made.map)[0]]
+        self.assertEqual(rows, ["0001001", "0000000", "0000000", "0001000", "0001000"])
+        self.assertIn(b'{"caller":0,"path":"walker","from":["0.5","4.5"],"goal":{"point":["0.5","0.5"]}}', self.script)
+
+    def test_the_lengths(self):
+        answers = self.file("answers", check.predicted(self.script)[0])
+        out, status, _ = tool("tools/from_movingai.py", self.map, self.scenario, "--check", answers)
+        self.assertEqual((out, status), (b"4 of 4 lengths agree\n", 0))
+
+    def test_the_valley(self):
+        words = ["tools/from_movingai.py", "examples/valley.map", "examples/valley.map.scen"]
+        script = self.file("valley.script", tool(*words)[0])
+        answers = self.file("valley.answers", check.predicted(tool(*words)[0])[0])
+        self.assertEqual(tool(*words, "--check", answers)[0], b"5 of 5 lengths agree\n")
+        picture, status, told = tool("tools/view.py", "--svg", "1", script, answers)
+        self.assertEqual((picture, status), (read("docs/pictures/valley.svg"), 0), told)
+
+    def test_another_length_differs(self):
+        answers = self.file("answers", check.predicted(self.script)[0])
+        other = self.file("other.scen", SCENARIO.replace("7.65685425", "7.65"))
+        out, status, _ = tool("tools/from_movingai.py", self.map, other, "--check", answers)
+        self.assertEqual(status, 1)
+        self.assertEqual(out, b"query 3: the walk is 7.65685 long, and the optimum is 7.65\n3 of 4 lengths agree\n")
+
+    def test_a_map_of_another_form(self):
+        for text, told in ((MAP.replace("octile", "tile"), "a map has the lines"), (MAP.replace("height 5", "height 6"), "6 rows of 7 cells")):
+            _, status, said = tool("tools/from_movingai.py", self.file("bad.map", text))
+            self.assertEqual(status, 2)
+            self.assertIn(told, said)
+
+
+if __name__ == "__main__":
+    unittest.main()

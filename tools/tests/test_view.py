@@ -1,0 +1,202 @@
+"""The viewer: what it finds wrong, the page and the pictures."""
+import base64
+import json
+import re
+import struct
+import tempfile
+import unittest
+import xml.etree.ElementTree as xml
+import zlib
+
+from places import TOP, needs_browser, read, shown, tool
+import contradictions
+import mapscript
+import view
+
+check = mapscript.check
+CORNER = b"""{"version":1,"size":[3,3],"callers":1,"classes":[{"name":"a","clearance":"0"}]}
+{"base":[[1,1,1,1,1]]}
+{"caller":0,"path":"a","from":["0.5","0.5"],"goal":{"point":["2.5","2.5"]}}
+{"end":1}
+"""
+ROUND = "turn 1 regions 1 edges 0 areas 1 relabelled 0\n0 0 path 0 0 2 2 goal 262144 2 2.5,0.5 2.5,2.5\n"
+
+
+def match(script, answers):
+    return contradictions.Match(mapscript.Script(script), contradictions.Answers(answers))
+
+
+def wrong(script, answers):
+    found = match(script, answers)
+    found.go_through()
+    return [str(it) for it in found.found]
+
+
+class Contradictions(unittest.TestCase):
+    def test_the_examples_have_none(self):
+        for name in ("first", "skirmish"):
+            self.assertEqual(wrong(read(f"examples/{name}.script"), read(f"examples/{name}.answers")), [])
+
+    def test_the_plain_program_has_none(self):
+        maker = check.Maker(8)
+        for _ in range(25):
+            script = maker.script()
+            for profile in (False, True):
+                if mapscript.Script(script).map:
+                    self.assertEqual(wrong(script, check.predicted(script, profile)[0]), [], script)
+
+    def test_each_wrong_answer_is_found(self):
+        script, right = read("examples/skirmish.script"), read("examples/skirmish.answers").decode()
+        cases = [
+            ("turn 1 regions 3", "turn 1 regions 4", "the turn line is to be 'turn 1 regions 3 edges 0 areas 3 relabelled 2'"),
+            ("0 0 added 1", "0 0 refused duplicate-id", "it is to be 'added 1'"),
+            ("goal 196608", "goal 196609", "the walk costs 196608, and not 196609"),
+            ("4 1 goal 196608", "4 1 near 196608", "a goal cell can be walked to"),
+            ("path 10 3 7 6 near", "path 10 3 7 6 goal", "the end is no goal cell at 7 6"),
+            ("path 1 1 4 1 goal 196608 1 4.5,1.5", "path 1 1 7 1 goal 393216 1 7.5,1.5", "goes over a blocked cell at 5 1"),
+            ("path 10 3 7 6", "path 9 3 7 6", "the start cell is 9 3"),
+            ("3 8.5,5.5 8.5,6.5 7.5,6.5", "3 8.5,5.5 7.5,7.5 7.5,6.5", "neither straight nor diagonal at 7 7"),
+            ("1 1 region 0 0 0 0", "1 1 region 0 0 1 1", "it is to be 'region 0 0 0 0'"),
+            ("0 1 refused unknown-id", "0 1 removed 2", "it is to be 'refused unknown-id'"),
+            ("0 0 moved 1\n", "", "it is to be 'moved 1'"),
+            ("1 1 region 0 0 0 0\n", "", "there is no reply"),
+            ("turn 2 regions", "1 2 region 0 0 0 0\nturn 2 regions", "a reply to no post: 1 2"),
+            ("turn 2 regions", "hello\nturn 2 regions", "line 6 of the answers has no form"),
+        ]
+        for old, new, text in cases:
+            self.assertEqual(right.count(old), 1, old)
+            found = wrong(script, right.replace(old, new).encode())
+            self.assertTrue(any(text in it for it in found), (new, found))
+
+    def test_a_cut_corner_is_found(self):
+        cut = ROUND.replace("262144 2 2.5,0.5 2.5,2.5", "223754 3 1.5,0.5 2.5,1.5 2.5,2.5")
+        self.assertIn("the path cuts a corner at 2 1", wrong(CORNER, cut.encode())[0])
+
+    def test_lines_behind_a_path(self):
+        right = ["opened 5", "flow N 8 262144 1048576", "smooth 2 2.5,0.5 2.5,2.5"]
+        bad = [
+            ("flow NE 8 262144 1048576", "over a blocked cell"), ("flow N 9 262144 1048576", "the area has 8 cells"), ("opened 0", "at least"),
+            ("smooth 1 2.5,2.5", "touches a blocked cell at 1 1"), ("smooth 1 2.5,0.5", "do not lead to the end"),
+            ("smooth 2 1.5,0.5 2.5,2.5", "none of the next"), ("leapt 3", "no such line"),
+        ]
+        for line in right:
+            self.assertEqual(wrong(CORNER, f"{ROUND}0 0 {line}\n".encode()), [])
+        for line, text in bad:
+            found = wrong(CORNER, f"{ROUND}0 0 {line}\n".encode())
+            self.assertTrue(found and text in found[0], (line, found))
+
+    def test_the_command_tells_them(self):
+        with tempfile.NamedTemporaryFile() as file:
+            file.write(read("examples/first.answers").replace(b"343582", b"343583"))
+            file.flush()
+            out, status, told = tool("tools/view.py", "--check", "examples/first.script", file.name)
+        self.assertEqual((out, status), (b"", 1))
+        self.assertIn("contradiction: turn 1, line 2, post 0 0: the walk costs 343582, and not 343583", told)
+
+
+def unpacked(page, name):
+    text = re.search(f'<script type="text/plain" id="{name}">([^<]*)</script>', page)[1]
+    return zlib.decompress(base64.b64decode(text))
+
+
+class Page(unittest.TestCase):
+    def setUp(self):
+        out, status, _ = tool("tools/view.py", "examples/skirmish.script", "examples/skirmish.answers")
+        self.assertEqual(status, 0)
+        self.page = out.decode()
+
+    def test_nothing_from_outside(self):
+        self.assertEqual(re.findall(r"https?://|\bsrc=|\bhref=|@import|url\(", self.page), [])
+        self.assertEqual(re.findall("@[A-Z]+@", self.page), [])
+
+    def test_the_data(self):
+        data = json.loads(unpacked(self.page, "data"))
+        self.assertEqual([len(it["posts"]) for it in data["turns"]], [4, 3])
+        self.assertEqual(data["turns"][1]["edits"], [1, 2])
+        # the northernmost of 8 rows of 12 cells is blocked, for two classes
+        self.assertEqual(unpacked(self.page, "base"), (bytes(14) + b"\xff\x0f") * 2)
+
+    @needs_browser
+    def test_a_browser_moves_through_it(self):
+        # turn 2, second class, the post after, its field; then the pointer on the middle of the map, where the wall stands
+        code = """setTimeout(() => {
+          for (const key of ["ArrowRight", "c", "t", "j", "f"]) document.dispatchEvent(new KeyboardEvent("keydown", { key, bubbles: true }));
+          const side = map.getBoundingClientRect(), half = { clientX: side.left + side.width / 2, clientY: side.top + side.height / 2 };
+          map.dispatchEvent(new PointerEvent("pointermove", { ...half, bubbles: true }));
+        }, 1500);"""
+        dom = shown(self.page.replace("</body>", f"<script>{code}</script></body>"), "turn=1&class=infantry")
+        self.assertIn("2 of 2", dom)
+        self.assertIn("line 8: post 1 0, path, siege", dom)
+        self.assertIn("cell 6 4: blocked by a clearance for siege", dom)
+        # 84 cells south of the north wall, of which the moved wall takes 18
+        self.assertRegex(dom, "field: 66 cells, farthest [0-9]+, sum [0-9]+")
+
+    @needs_browser
+    def test_its_cells_are_those_of_the_tools(self):
+        maker = check.Maker(3)
+        scripts = [mapscript.Script(maker.script()) for _ in range(8)]
+        self.assertIn("<p>0 cells differ</p>", shown(cells_page([it for it in scripts if it.map])))
+
+
+def wanted_cells(script):
+    """The map with what stands at the end of a script, and the region and area of each cell for each class."""
+    ground, standing = mapscript.Ground(script.map), {}
+    for turn in script.turns:
+        for post in turn.in_order():
+            if post.kind in check.EDITS:
+                check.edited(script.map, standing, post.values)
+    for number, (square, mask) in standing.items():
+        ground.put(number, square, mask)
+    ground.settle()
+    w, h, wanted = script.map.w, script.map.h, []
+    for k in range(len(script.map.classes)):
+        labels = mapscript.Labels(ground, k)
+        wanted.append([[labels.at(i, j) for i in range(w)] for j in range(h)])
+    what = {"w": w, "h": h, "wanted": wanted, "base": list(view.base_bits(script.map)), "clearances": list(script.map.classes.values())}
+    what["standing"] = [{"square": square, "mask": mask} for square, mask in standing.values()]
+    return what
+
+
+def cells_page(scripts):
+    """A page that says how many cells differ from those that the tools have, or regions, or areas."""
+    code = """let bad = 0;
+      for (const it of DATA) it.wanted.forEach((rows, k) => {
+        const cells = new Cells(it.w, it.h, new Uint8Array(it.base), k, it.clearances[k], it.standing);
+        cells.label();
+        rows.forEach((row, j) => row.forEach(([region, area], i) => {
+          const at = j * it.w + i;
+          if (cells.region[at] !== region || cells.area[at] !== area || (cells.state[at] === FREE) !== (region > 0)) bad++;
+        }));
+      });
+      document.body.innerHTML = `<p>${bad} cells differ</p>`;"""
+    data = json.dumps([wanted_cells(it) for it in scripts])
+    return f"<body></body><script>{view.part('cells.js')}\n{code.replace('DATA', data)}</script>"
+
+
+class Pictures(unittest.TestCase):
+    def test_svg(self):
+        words = ["--svg", "1:infantry,1:siege,2:siege", "examples/skirmish.script", "examples/skirmish.answers"]
+        out, status, _ = tool("tools/view.py", *words)
+        self.assertEqual(status, 0)
+        root = xml.fromstring(out)
+        names = [it.text for it in root.iter("{http://www.w3.org/2000/svg}text")]
+        self.assertEqual(names, ["turn 1, infantry", "turn 1, siege", "turn 2, siege"])
+        self.assertEqual(out, read("docs/pictures/skirmish.svg"), "docs/pictures/skirmish.svg was made by another viewer")
+
+    def test_png(self):
+        words = ["--png", "2:siege", "--scale", "4", "examples/skirmish.script", "examples/skirmish.answers"]
+        out, status, _ = tool("tools/view.py", *words)
+        self.assertEqual((status, out[:8]), (0, b"\x89PNG\r\n\x1a\n"))
+        self.assertEqual(struct.unpack_from(">II", out, 16), (48, 32))
+        size = struct.unpack_from(">I", out, 33)[0]
+        rows = zlib.decompress(out[41:41 + size])
+        self.assertEqual(rows[1:4].hex(), "4b535d")  # the north is blocked by the base map
+        self.assertEqual(rows[16 * 145 + 1:16 * 145 + 4].hex(), "fbfaf7")  # the west in the middle is free
+
+    def test_an_unknown_turn(self):
+        _, status, told = tool("tools/view.py", "--svg", "9", "examples/skirmish.script", "examples/skirmish.answers")
+        self.assertEqual((status, told), (2, "view.py: there are no answers for turn 9\n"))
+
+
+if __name__ == "__main__":
+    unittest.main()

@@ -1,0 +1,176 @@
+#!/usr/bin/env python3
+"""A script and its answers as one page for a browser, or as a picture.
+
+The page has nothing from outside: the map by class, what stands, chunks, regions, areas, paths, fields and smoothed
+waypoints, turn by turn, and marks where the answers contradict the script. It reads what `replay` and `profile` write,
+and lines `flow` and `smooth` behind a path. That a path is a cheapest one is not looked at: that takes a search.
+
+    view.py first.script first.answers > page.html
+    view.py --svg 2:siege first.script first.answers > picture.svg
+    view.py --svg 1:infantry,1:siege,2:siege first.script first.answers > three.svg
+    view.py --png 1 --scale 4 first.script first.answers > picture.png
+    view.py --check first.script first.answers
+
+Contradictions are told on standard error too, and --check writes nothing else. The status is 0 where there is none, 1
+where there are some, and 2 where the script has no map line or the words are others.
+"""
+import argparse
+import base64
+import json
+import os
+import sys
+import zlib
+
+import contradictions
+import mapscript
+import pictures
+
+
+class Unknown(Exception):
+    """A turn or a class that the script or its answers don't have."""
+
+
+FOLDER = os.path.join(os.path.dirname(os.path.abspath(__file__)), "page")
+
+
+def packed(data):
+    return base64.b64encode(zlib.compress(data, 9)).decode()
+
+
+def base_bits(map_):
+    """For each class the rows of its base bits, eight cells a byte, the first cell lowest."""
+    width = -(-map_.w // 8)
+    return b"".join(row.to_bytes(width, "little") for rows in mapscript.base_rows(map_) for row in rows)
+
+
+def post_data(post, replies):
+    """What the page knows of a post: its line, caller, number, kind, text and replies, and its values."""
+    values, data = post.values, {"l": post.line, "c": post.caller, "n": post.number, "k": post.kind}
+    data.update(x=post.text.strip(), r=replies)
+    if post.kind == "add":
+        data.update(id=values[2], s=values[3], m=values[4])
+    elif post.kind == "move":
+        data.update(id=values[2], to=values[3])
+    elif post.kind == "remove":
+        data.update(id=values[2])
+    elif post.kind == "path":
+        data.update({"cls": values[2], "from": values[3], "goal": [values[4][0], *values[4][1]]})
+    else:
+        data.update(cls=values[2], at=values[3])
+    return data
+
+
+def wrong_data(it):
+    data = {"t": it.turn, "text": it.text}
+    if it.post:
+        data["l"] = it.post.line
+    if it.cell:
+        data["at"] = it.cell
+    return data
+
+
+def turn_data(turn, line, replies):
+    places = {id(post): at for at, post in enumerate(turn.posts)}
+    posts = [post_data(it, replies.get((it.caller, it.number), [])) for it in turn.posts]
+    edits = [places[id(it)] for it in turn.in_order() if it.kind in mapscript.check.EDITS]
+    return {"t": turn.number, "line": line, "posts": posts, "edits": edits, "wrong": []}
+
+
+def page_data(match, title):
+    """All that the page shows, with the contradictions at their turns."""
+    map_ = match.script.map
+    turns = [turn_data(*it) for it in match.turns()]
+    rest = []
+    for it in match.found:
+        fits = 1 <= it.turn <= len(turns)
+        (turns[it.turn - 1]["wrong"] if fits else rest).append(wrong_data(it))
+    classes = [{"name": name, "clearance": raw} for name, raw in map_.classes.items()]
+    data = {"title": title, "w": map_.w, "h": map_.h, "callers": map_.callers, "classes": classes}
+    return {**data, "bad": match.script.bad, "turns": turns, "wrong": rest}
+
+
+def part(name):
+    with open(os.path.join(FOLDER, name), encoding="utf-8") as file:
+        return file.read().rstrip()
+
+
+def page(match, title):
+    data = json.dumps(page_data(match, title), separators=(",", ":")).encode()
+    safe = title.replace("&", "&amp;").replace("<", "&lt;")
+    code = "\n".join(part(it) for it in ("cells.js", "page.js", "moves.js"))
+    holes = {"@TITLE@": safe, "@STYLE@": part("page.css"), "@CODE@": code}
+    holes.update({"@DATA@": packed(data), "@BASE@": packed(base_bits(match.script.map))})
+    text = part("page.html")
+    for hole, value in holes.items():
+        text = text.replace(hole, value, 1)
+    return text + "\n"
+
+
+def panels(match, words, caller):
+    """The panels that words such as `1:infantry,2` ask for, each as the turn went."""
+    names = list(match.script.map.classes)
+    wanted = [(it.partition(":")[0], it.partition(":")[2] or names[0]) for it in words.split(",")]
+    for turn, name in wanted:
+        if not turn.isdecimal() or name not in names:
+            raise Unknown(f"no turn and class: {turn}:{name} (classes: {', '.join(names)})")
+    found = {}
+    for turn, _, replies in match.turns():
+        for number, name in wanted:
+            if int(number) == turn.number:
+                found[number, name] = pictures.Panel(match, turn, replies, name, caller)
+    missing = [it for it in wanted if it not in found]
+    if missing:
+        raise Unknown(f"there are no answers for turn {missing[0][0]}")
+    return [found[it] for it in wanted]
+
+
+def words():
+    about, _, more = __doc__.partition("\n\n")
+    parser = argparse.ArgumentParser(description=about, epilog=more, formatter_class=argparse.RawDescriptionHelpFormatter)
+    parser.add_argument("script", help="the script, as it was given to the program")
+    parser.add_argument("answers", help="what the program wrote for it")
+    kind = parser.add_mutually_exclusive_group()
+    kind.add_argument("--svg", metavar="TURN[:CLASS],..", help="a picture of lines, of one turn or several beside each other")
+    kind.add_argument("--png", metavar="TURN[:CLASS]", help="a picture of points, for large maps")
+    kind.add_argument("--check", action="store_true", help="only tell contradictions")
+    parser.add_argument("--scale", type=int, help="points a navcell in a picture (as fits by itself)")
+    parser.add_argument("--caller", type=int, help="only this caller's paths in a picture")
+    parser.add_argument("--title", help="the page's title (the script's name by itself)")
+    return parser.parse_args()
+
+
+def made(said, match):
+    """What the words ask for, as bytes."""
+    if said.svg:
+        return pictures.svg(panels(match, said.svg, said.caller), said.scale).encode()
+    if said.png:
+        return pictures.png(panels(match, said.png, said.caller)[0], said.scale)
+    if said.check:
+        match.go_through()
+        return b""
+    return page(match, said.title or os.path.basename(said.script)).encode()
+
+
+def main():
+    said = words()
+    with open(said.script, "rb") as file:
+        script = mapscript.Script(file.read())
+    with open(said.answers, "rb") as file:
+        answers = contradictions.Answers(file.read())
+    if script.map is None:
+        print(f"view.py: {said.script} has no map line", file=sys.stderr)
+        return 2
+    match = contradictions.Match(script, answers)
+    try:
+        out = made(said, match)
+    except Unknown as it:
+        print(f"view.py: {it}", file=sys.stderr)
+        return 2
+    sys.stdout.buffer.write(out)
+    for it in match.found:
+        print(f"contradiction: {it}", file=sys.stderr)
+    return 1 if match.found else 0
+
+
+if __name__ == "__main__":
+    sys.exit(main())
