@@ -79,12 +79,7 @@ fn write_note(text: &mut Bytes, caller: u64, post: u64, note: &Note) -> Result<(
 }
 
 /// The line of a note.
-fn write_note_line(
-    text: &mut Bytes,
-    caller: u64,
-    post: u64,
-    note: &Note,
-) -> Result<(), NoMemory>
+fn write_note_line(text: &mut Bytes, caller: u64, post: u64, note: &Note) -> Result<(), NoMemory>
     ensures { OnOk result (text.new ≡ text.old ++ note_line caller post note.now) }
 {
     text.push_decimal(caller)?;

@@ -201,18 +201,25 @@ fn any_number_of_workers_answers_alike(rt: HostRuntime) {
 }
 
 /// The map of 3 by 3 navcells of the scripts below.
-const MAP: &str = "{\"version\":1,\"size\":[3,3],\"callers\":1,\"classes\":[{\"name\":\"default\",\"clearance\":\"0\"}]}\n";
+const MAP: &str =
+    "{\"version\":1,\"size\":[3,3],\"callers\":1,\"classes\":[{\"name\":\"default\",\"clearance\":\"0\"}]}\n";
 
 /// Lines behind the map that ask for a path: straight to the goal, round a blocked cell, to the start's own cell, and by a
 /// corner that can be seen past.
-const STRAIGHT: &str = "{\"caller\":0,\"path\":\"default\",\"from\":[\"0.5\",\"0.5\"],\"goal\":{\"point\":[\"2.5\",\"2.5\"]}}\n\
+const STRAIGHT: &str =
+    "{\"caller\":0,\"path\":\"default\",\"from\":[\"0.5\",\"0.5\"],\"goal\":{\"point\":[\"2.5\",\"2.5\"]}}\n\
 {\"end\":1}\n";
+
 const ROUND: &str = "{\"base\":[[1,1,1,1,1]]}\n\
 {\"caller\":0,\"path\":\"default\",\"from\":[\"0.5\",\"0.5\"],\"goal\":{\"point\":[\"2.5\",\"2.5\"]}}\n\
 {\"end\":1}\n";
-const AT_GOAL: &str = "{\"caller\":0,\"path\":\"default\",\"from\":[\"1.5\",\"1.5\"],\"goal\":{\"point\":[\"1.25\",\"1.75\"]}}\n\
+
+const AT_GOAL: &str =
+    "{\"caller\":0,\"path\":\"default\",\"from\":[\"1.5\",\"1.5\"],\"goal\":{\"point\":[\"1.25\",\"1.75\"]}}\n\
 {\"end\":1}\n";
-const BENT: &str = "{\"caller\":0,\"path\":\"default\",\"from\":[\"0.5\",\"0.5\"],\"goal\":{\"point\":[\"2.5\",\"1.5\"]}}\n\
+
+const BENT: &str =
+    "{\"caller\":0,\"path\":\"default\",\"from\":[\"0.5\",\"0.5\"],\"goal\":{\"point\":[\"2.5\",\"1.5\"]}}\n\
 {\"end\":1}\n";
 
 /// A word, such lines, and the lines behind the turn line that the word writes for them.
@@ -264,8 +271,9 @@ fn words_tell_more_of_each_path(rt: HostRuntime) {
     for (word, lines, told) in REPORTS {
         let alloc = rt.alloc();
         let script = format!(in alloc; "{MAP}{lines}").expect(&rt, "memory");
-        let text = format!(in alloc; "turn 1 regions 1 edges 0 areas 1 relabelled 0\n{told}")
-            .expect(&rt, "memory");
+        let text = format!(in alloc;
+            "turn 1 regions 1 edges 0 areas 1 relabelled 0\n{told}"
+        ).expect(&rt, "memory");
         for words in [&[word][..], &[word, "--workers", "3"][..]] {
             let bytes = script.as_bytes();
             assert!(rt;

@@ -152,7 +152,10 @@ unfolding IsAnswerTo
 note_of_answer map standing (AsksPath name x z goal) (IsPath path) is =
     let asked = path_asked (passable_at map standing) x z (class_named map name) (is_on_map map.size x z) (goal_found map standing goal) path is in
     record {
-      class = asked.0; named = asked.1.1.1.0; goal = asked.1.0; found = asked.1.1.1.1.0;
+      class = asked.0;
+      named = asked.1.1.1.0;
+      goal = asked.1.0;
+      found = asked.1.1.1.1.0;
       noted = record { target = asked.1.1.0; targets = asked.1.1.1.1.1; told = refl };
     }
 note_of_answer map standing (AsksPath name x z goal) (IsRegion region) is = refl

@@ -24,9 +24,9 @@ pub use events::{Event, Takes, Why};
 pub use journals::{answer_turn, one_thread};
 pub use named_goals::goal_of;
 pub use posts::{
-    AllReplies, Answer, Answers, CallerReplies, Copied, FlowLine, FlowSummary, Jobs, Journal, Note, Noted, Notes,
-    PathAnswer, Post, Posts, RegionAnswer, Replies, Reply, Report, Request, TurnPosts, TurnReplies,
-    count_posts, empty_lists, push_post,
+    AllReplies, Answer, Answers, CallerReplies, Copied, FlowLine, FlowSummary, Jobs, Journal, Note,
+    Noted, Notes, PathAnswer, Post, Posts, RegionAnswer, Replies, Reply, Report, Request,
+    TurnPosts, TurnReplies, count_posts, empty_lists, push_post,
 };
 pub use ready_turns::{AnsweredTurn, ReadyTurn};
 pub use runners::{RunBy, Runner};

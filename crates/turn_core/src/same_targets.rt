@@ -31,11 +31,19 @@ fn is_same_goal(one: &Goal, other: &Goal) -> bool
             _ => false,
         },
         Goal::Circle { x, z, r } => match other {
-            Goal::Circle { x: i, z: j, r: radius } => *x == *i && *z == *j && *r == *radius,
+            Goal::Circle {
+                x: i,
+                z: j,
+                r: radius,
+            } => *x == *i && *z == *j && *r == *radius,
             _ => false,
         },
         Goal::NotCircle { x, z, r } => match other {
-            Goal::NotCircle { x: i, z: j, r: radius } => *x == *i && *z == *j && *r == *radius,
+            Goal::NotCircle {
+                x: i,
+                z: j,
+                r: radius,
+            } => *x == *i && *z == *j && *r == *radius,
             _ => false,
         },
         Goal::Square(square) => match other {

@@ -41,7 +41,12 @@ impl<'a> Search<'a> {
         let runs = PlaneRuns::new(self.version, self.version.planes());
         let mut ticks = Ticks::<L>::new(blank);
         jump_find_with(
-            alloc, &runs, self.class, self.start, self.target, &mut ticks,
+            alloc,
+            &runs,
+            self.class,
+            self.start,
+            self.target,
+            &mut ticks,
         )
     }
 
@@ -72,7 +77,12 @@ impl<'a> Search<'a> {
         let runs = PlaneRuns::new(self.version, self.version.planes());
         let mut ticks = Ticks::<L>::new(blank);
         jump_search_with(
-            alloc, &runs, self.class, self.start, self.target, &mut ticks,
+            alloc,
+            &runs,
+            self.class,
+            self.start,
+            self.target,
+            &mut ticks,
         )
     }
 }

@@ -13,8 +13,14 @@ returns-clause-answer c =
     let starts = subst (λ (s : SolverState). IsStartCell (passes_of s.state c.args.class) c.args.x c.args.z start) c.self.view_is c.in-Some.ensures.start in
     let targets = subst (λ (s : SolverState). AreTargets (passes_of s.state c.args.class) start c.args.goal.now target) c.self.view_is
     c.made_reachable-target.ensures.targets in
-    inr (_, (refl, path_answers c.args.self.now.state c.args.self.now.report c.args.class c.args.x c.args.z start c.args.goal.now target
-    c.in_ok-path.field-0 starts targets c.in_ok-path.ensures.path))
+    inr (
+      _,
+      (
+        refl,
+        path_answers c.args.self.now.state c.args.self.now.report c.args.class c.args.x c.args.z start c.args.goal.now target
+            c.in_ok-path.field-0 starts targets c.in_ok-path.ensures.path,
+      ),
+    )
 
 pub returns-clause-note : goal.returns-clause-note
 returns-clause-note c =
