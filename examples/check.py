@@ -1,10 +1,11 @@
 #!/usr/bin/env python3
 """Predicts the answers to scripts from docs/FORMAT.md alone, and compares a program with them.
 
-    check.py PROGRAM [COUNT [SEED]]   makes COUNT scripts (100), runs `PROGRAM replay` and `PROGRAM profile` on each
-                                      and compares
+    check.py PROGRAM [COUNT [SEED]]   makes COUNT scripts (100), runs `PROGRAM` with each of the words `replay`,
+                                      `profile`, `flow` and `smooth` on each and compares
     check.py --predict < SCRIPT       writes the answers to a script, and ends with its status
-    check.py --profile < SCRIPT       the same, with the opened numbers of its paths
+    check.py --profile < SCRIPT       the same, with the opened numbers of its paths; --flow with the lines of their
+                                      flow fields, and --smooth with their smoothed waypoints
     check.py --make FOLDER COUNT SEED writes COUNT scripts and their answers, as N, N.args and N.stdout
 
 The status is 0 where all agree. Only Python's own library is used.
@@ -21,6 +22,7 @@ import sys
 SIDE = 65536  # the raw side of a navcell
 CHUNK = 96
 EDITS = ("add", "remove", "move")
+WORDS = ("replay", "profile", "flow", "smooth")
 # in the order in which the chosen walk prefers them
 STEPS = {"N": (0, 1), "E": (1, 0), "S": (0, -1), "W": (-1, 0)}
 STEPS.update({"NE": (1, 1), "SE": (1, -1), "SW": (-1, -1), "NW": (-1, 1)})
@@ -296,8 +298,8 @@ class Cells:
         beside = [(cell[0] + di, cell[1]), (cell[0], cell[1] + dj), (cell[0] + di, cell[1] + dj)]
         return beside[2] if all(it in self.free for it in beside if it != cell) else None
 
-    def distances(self, start):
-        found, waiting = {}, [(0, start)]
+    def distances(self, *starts):
+        found, waiting = {}, [(0, start) for start in starts]
         while waiting:
             cost, cell = heapq.heappop(waiting)
             if cell in found:
@@ -320,8 +322,8 @@ class Cells:
 
         return min(self.free, key=rank)
 
-    def path(self, start, goal, profile):
-        """The path to a goal, and for a profile in a second line its opened number."""
+    def path(self, start, goal, word):
+        """The path to a goal, and under another word than `replay` in a second line what that tells of it."""
         distance = self.distances(start)
         hit = [cell for cell in distance if goal.has(cell)]
         if hit:
@@ -331,10 +333,44 @@ class Cells:
         points = self.waypoints(distance, start, end)
         numbers = [*start, *end, "goal" if hit else "near", distance[end], len(points)]
         text = " ".join(["path", *map(str, numbers), *(f"{i}.5,{j}.5" for i, j in points)])
-        if not profile:
-            return text
-        box = goal.box(*self.sides) if hit else (*end, *end)
-        return f"{text}\nopened {JumpStates(self, set(hit or [end])).opened(start, box, distance[end])}"
+        if word == "profile":
+            box = goal.box(*self.sides) if hit else (*end, *end)
+            return f"{text}\nopened {JumpStates(self, set(hit or [end])).opened(start, box, distance[end])}"
+        if word == "flow":
+            return f"{text}\nflow {self.flow(start, hit or [end])}"
+        if word == "smooth":
+            kept = self.smoothed([start, *points])
+            return f"{text}\n" + " ".join(["smooth", str(len(kept)), *(f"{i}.5,{j}.5" for i, j in kept)])
+        return text
+
+    def flow(self, start, targets):
+        """The first step of the start in the flow field of the targets, and what the field has in all."""
+        far = self.distances(*targets)
+        lead = (
+            name
+            for name in STEPS
+            if (there := self.step(start, name)) and far[there] + cost_of(name) == far[start]
+        )
+        return f"{next(lead, '-')} {len(far)} {max(far.values())} {sum(far.values())}"
+
+    def is_clear(self, a, b):
+        """Whether each cell that the segment between the middles of two cells touches is passable."""
+        di, dj = b[0] - a[0], b[1] - a[1]
+        return all(
+            (a[0] + ei, a[1] + ej) in self.free
+            for ei in range(min(0, di), max(0, di) + 1)
+            for ej in range(min(0, dj), max(0, dj) + 1)
+            if 2 * abs(di * ej - dj * ei) <= abs(di) + abs(dj)
+        )
+
+    def smoothed(self, places):
+        """The fewest of a start and its waypoints with clear segments between them, without the start."""
+        rest = {len(places) - 1: []}
+        for at in range(len(places) - 2, -1, -1):
+            ends = [k for k in range(at + 1, min(at + 64, len(places) - 1) + 1) if self.is_clear(places[at], places[k])]
+            best = min(ends, key=lambda k: (len(rest[k]), -k))
+            rest[at] = [best, *rest[best]]
+        return [places[k] for k in rest[0]]
 
     def waypoints(self, distance, start, end):
         """The waypoints of the chosen walk, which is found backwards from its end."""
@@ -453,7 +489,7 @@ def edited(map_, standing, post):
     return f"moved {number}"
 
 
-def answered(map_, standing, cells, post, profile):
+def answered(map_, standing, cells, post, word):
     """The reply to a path or region line."""
     name, (x, z) = post[2:4]
     if name not in map_.classes:
@@ -481,7 +517,7 @@ def answered(map_, standing, cells, post, profile):
             return "refused goal-outside"
     if not mine.free:
         return "nowhere"
-    return mine.path(mine.start_cell(x, z), goal, profile)
+    return mine.path(mine.start_cell(x, z), goal, word)
 
 
 def all_cells(map_, standing):
@@ -491,8 +527,8 @@ def all_cells(map_, standing):
 class Service:
     """A map, what stands on it, and the turn that is being read."""
 
-    def __init__(self, map_, profile):
-        self.map, self.profile, self.standing, self.before = map_, profile, {}, None
+    def __init__(self, map_, word):
+        self.map, self.word, self.standing, self.before = map_, word, {}, None
         self.turn, self.posts = 1, []
 
     def take(self, value):
@@ -520,14 +556,14 @@ class Service:
         out = [f"turn {self.turn} regions {regions} edges {edges} areas {areas} relabelled {changed}"]
         for caller, (mine, said) in enumerate(zip(lists, replies)):
             for place, post in enumerate(mine):
-                reply = said[place] or answered(self.map, self.standing, cells, post, self.profile)
+                reply = said[place] or answered(self.map, self.standing, cells, post, self.word)
                 out += [f"{caller} {place} {line}" for line in reply.split("\n")]
         self.before, self.posts, self.turn = cells, [], self.turn + 1
         return out
 
 
-def predicted(script, profile=False):
-    """The answers to a script, and the status."""
+def predicted(script, word="replay"):
+    """The answers to a script under a word, and the status."""
     lines = script.split(b"\n")
     if lines[-1] == b"":
         lines.pop()
@@ -536,7 +572,7 @@ def predicted(script, profile=False):
         for number, line in enumerate(lines, 1):
             value = value_of(line)
             if service is None:
-                service = Service(Map(value), profile)
+                service = Service(Map(value), word)
             else:
                 out += service.take(value)
         number += 1
@@ -642,8 +678,8 @@ class Maker:
 
 
 def main(words):
-    if words in (["--predict"], ["--profile"]):
-        text, status = predicted(sys.stdin.buffer.read(), words == ["--profile"])
+    if words in (["--predict"], ["--profile"], ["--flow"], ["--smooth"]):
+        text, status = predicted(sys.stdin.buffer.read(), words[0][2:].replace("predict", "replay"))
         sys.stdout.buffer.write(text)
         return status
     if len(words) == 4 and words[0] == "--make":
@@ -660,10 +696,10 @@ def main(words):
         return 2
     count, seed = int(words[1]) if len(words) > 1 else 100, int(words[2]) if len(words) > 2 else 1
     maker, differ, posts = Maker(seed), 0, 0
-    for k, word in itertools.product(range(count), ("replay", "profile")):
+    for k, word in itertools.product(range(count), WORDS):
         script = maker.script() if word == "replay" else script
         ran = subprocess.run([words[0], word], input=script, stdout=subprocess.PIPE)
-        wanted, status = predicted(script, word == "profile")
+        wanted, status = predicted(script, word)
         posts += wanted.count(b"\n")
         if (ran.stdout, ran.returncode) == (wanted, status):
             continue
@@ -674,7 +710,8 @@ def main(words):
         answers = itertools.zip_longest(ran.stdout.decode().splitlines(), wanted.decode().splitlines())
         got, want = next((pair for pair in answers if pair[0] != pair[1]), ("the same", "the same"))
         print(f"answered  {got}\npredicted {want}")
-    print(f"{2 * count - differ} of {2 * count} runs agree, with {posts} lines of answers")
+    runs = len(WORDS) * count
+    print(f"{runs - differ} of {runs} runs agree, with {posts} lines of answers")
     return 1 if differ else 0
 
 
