@@ -3,5 +3,4 @@ pub mod Words
 pub mod Output
 pub mod Serving
 pub mod Reasons
-pub mod Runs
 pub mod inner

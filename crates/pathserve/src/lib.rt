@@ -5,12 +5,11 @@ mod bad_lines;
 mod commands;
 mod laws;
 mod replay;
-mod runs;
 mod serving;
 mod sessions;
 mod status;
 mod summing;
-mod turn_answers;
+mod told_turns;
 mod works;
 mod writing;
 
@@ -21,8 +20,7 @@ pub use laws::{
     text_is_one_thread,
 };
 pub use made_match::{Made, make_script};
-pub use replay::run_replay;
-pub use runs::run;
+pub use replay::{run, run_replay};
 pub use serving::run_serve;
 pub use sessions::serve_session;
 pub use status::Status;
