@@ -5,8 +5,8 @@ use Rattle.nav_types.specs.declared.cells.Rect.{Rect}
 use Rattle.nav_types.specs.declared.sequences.NoMemory.{NoMemory}
 use Rattle.nav_types.specs.Frames.{IsFrame}
 use Rattle.walks.specs.declared.found_walk.Found.{Found}
-use Rattle.walks.proofs.Tracing.{chosen_walk}
 use Rattle.line_smooth.specs.Smoothed.{AreCorners}
+use Rattle.line_smooth.proofs.Legs.{corners_of_answer}
 use Rattle.goal_shapes.specs.declared.goals.Goal.{Goal}
 use Rattle.goal_reach.specs.declared.targets.Target.{Target}
 use Rattle.goal_reach.specs.Starts.{IsStartCell}
@@ -25,10 +25,8 @@ use Rattle.turn_core.specs.inner.Searching.{IsCountedTo, IsFoundTo, IsNotedPath,
 -- the waypoints of a walk that was found are the corners of a legal one
 pub found_corners : (state : MapState) (class : ℕ) (start : Cell) (target : Target) (found : Found) → IsFoundTo state class start target found
     → AreCorners (passes_of state class) start found.waypoints
-found_corners state class start target found is = record {
-  end = found.end;
-  walk = (is.walk.0, (chosen_walk (passes_of state class) start found.end is.walk.0 is.walk.1.0, is.walk.1.1.1));
-}
+found_corners state class start target found is =
+    corners_of_answer (passes_of state class) (hit_by target) start found.end found.cost.0 found.waypoints is
 
 -- the path of a walk that was found, with its note
 pub noted_path : (state : MapState) (report : Report) (class : ℕ) (start : Cell) (target : Target) (found : Found) (path : PathAnswer) (note : Note)
