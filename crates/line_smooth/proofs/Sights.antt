@@ -1,6 +1,6 @@
 -- What is seen of a segment line by line.
-use Rattle.std.proofs.Common.{ℕ, ◌≡◌, ◌+◌, ◌<◌, ◌≤◌, Bool, IsTrue, refl, sym, ap, ◌∙◌, ◌*◌, subst, arith}
-use Rattle.std.proofs.lemmas.Bool.{not-false}
+use Rattle.std.proofs.Common.{ℕ, ◌≡◌, ◌+◌, ◌<◌, ◌≤◌, inl, inr, Bool, IsTrue, refl, sym, ap, ◌∙◌, ◌*◌, subst, arith}
+use Rattle.std.proofs.lemmas.Bool.{cases_lt, not-false}
 use Rattle.nav_types.specs.declared.cells.Cell.{Cell}
 use Rattle.nav_types.specs.declared.straights.Axis.{Axis}
 use Rattle.nav_types.specs.declared.straights.Axis.TheVariants.{Row, Column}
@@ -77,3 +77,15 @@ clear_by_lines passes axis a b each cell touches =
     let P = λ (c : Cell). IsTrue (passes c) in
     let Q = λ (c : Cell). Touches a b c in
     subst P self (each (line_on axis cell) (place_on axis cell) (touched_between axis a b cell touches) (subst Q (sym self) touches))
+
+-- what holds of the lines less far across, and of the next one, holds of one line more
+pub one_line_more : (P : ℕ → Type 0) (from to across next line : ℕ) → IsBetween from to next → gap from next ≡ across
+    → ((line : ℕ) → IsBetween from to line → gap from line < across → P line) → P next
+    → IsBetween from to line → gap from line < across + 1 → P line
+one_line_more P from to across next line on is before here between near =
+    elim (cases_lt (gap from line) across) [
+      | inl less ↦ before line between less
+      | inr most ↦
+          let is : next ≡ line = omega arith in
+          subst P is here
+    ]

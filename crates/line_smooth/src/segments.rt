@@ -24,27 +24,57 @@ struct Segment {
 }
 
 /// How far apart two columns or two rows lie.
+#[inline(always)]
 fn gap(a: u16, b: u16) -> u32
     ensures { result ≡ gap a b }
 {
     u32::from(if a < b { b - a } else { a - b })
 }
 
+/// Whether a column or a row is one of two others or lies between them.
+#[inline(always)]
+fn is_between(a: u16, b: u16, at: u16) -> bool
+    ensures { IsTrue result ↔ IsBetween a b at }
+{
+    if a < b {
+        a <= at && at <= b
+    } else {
+        b <= at && at <= a
+    }
+}
+
+/// The line so many lines across from one line to another.
+#[inline(always)]
+fn line_across(from: u16, to: u16, across: u32) -> u16
+    requires { across ≤ gap from to }
+    ensures between { IsBetween from to result }
+    ensures across { gap from result ≡ across }
+{
+    let across = across as u16;
+    if from < to {
+        from + across
+    } else {
+        from - across
+    }
+}
+
 /// Whether the segment between the middles of two cells touches the cell.
+#[inline(always)]
 pub(crate) fn touches(from: Cell, to: Cell, cell: Cell) -> bool
     requires from { IsInGrid from }
     requires to { IsInGrid to }
     ensures { IsTrue result ↔ Touches from to cell }
 {
+    if !is_between(from.i, to.i, cell.i) || !is_between(from.j, to.j, cell.j) {
+        return false;
+    }
     let wide = gap(from.i, to.i);
     let high = gap(from.j, to.j);
-    let east = gap(from.i, cell.i);
-    let north = gap(from.j, cell.j);
-    let is_between = east + gap(cell.i, to.i) == wide && north + gap(cell.j, to.j) == high;
-    is_between && is_near(wide, high, east, north)
+    is_near(wide, high, gap(from.i, cell.i), gap(from.j, cell.j))
 }
 
 /// Whether a place so far along and so far across lies near enough to a segment so wide and high to be touched.
+#[inline(always)]
 fn is_near(wide: u32, high: u32, east: u32, north: u32) -> bool
     requires wide { wide < MAX_SIDE }
     requires high { high < MAX_SIDE }
@@ -59,6 +89,7 @@ fn is_near(wide: u32, high: u32, east: u32, north: u32) -> bool
 }
 
 /// How far along a segment of so many places along and across the touched places of a line so far across lie.
+#[inline(always)]
 fn touched(long: u32, short: u32, across: u32) -> Span
     requires long { long < MAX_SIDE }
     requires short { short < MAX_SIDE }
@@ -86,6 +117,7 @@ fn touched(long: u32, short: u32, across: u32) -> Span
 
 impl Segment {
     /// The segment, along its longer side: so it touches no more lines than it needs.
+    #[inline(always)]
     fn new(from: Cell, to: Cell) -> Segment
         ensures from { result.from ≡ from }
         ensures to { result.to ≡ to }
@@ -100,24 +132,21 @@ impl Segment {
         Segment { axis, from, to }
     }
 
-    /// The places of a line between its two cells that the segment touches.
-    fn span(self, line: u16) -> Span
+    /// The places of a line between its two cells, so far across from the first, that the segment touches.
+    #[inline(always)]
+    fn span(self, line: u16, across: u32) -> Span
         requires from { IsInGrid self.from }
         requires to { IsInGrid self.to }
         requires between { IsBetween (line_on self.axis self.from) (line_on self.axis self.to) line }
+        requires across { gap (line_on self.axis self.from) line ≡ across }
         ensures some { result.first ≤ result.last }
         ensures exact { (place : ℕ) → Touches self.from self.to (cell_on self.axis line place)
             ↔ ((result.first ≤ place) × (place ≤ result.last)) }
     {
         let from = place_on(self.axis, self.from);
         let to = place_on(self.axis, self.to);
-        let first_line = line_on(self.axis, self.from);
-        let last_line = line_on(self.axis, self.to);
-        let along = touched(
-            gap(from, to),
-            gap(first_line, last_line),
-            gap(first_line, line),
-        );
+        let short = gap(line_on(self.axis, self.from), line_on(self.axis, self.to));
+        let along = touched(gap(from, to), short, across);
         if from <= to {
             Span {
                 first: from + along.first,
@@ -131,18 +160,26 @@ impl Segment {
         }
     }
 
-    /// The first blocked cell of a line that the segment touches. None exactly where there is none.
-    fn blocker_on<V: FreeCells>(self, view: &V, class: Class, line: u16) -> Option<Cell>
+    /// The first blocked cell of a line so far across that the segment touches. None exactly where there is none.
+    #[inline(always)]
+    fn blocker_on<V: FreeCells>(
+        self,
+        view: &V,
+        class: Class,
+        line: u16,
+        across: u32,
+    ) -> Option<Cell>
         requires class { class < V.class_count view.now }
         requires from { IsInside (V.extent view.now) self.from }
         requires to { IsInside (V.extent view.now) self.to }
         requires between { IsBetween (line_on self.axis self.from) (line_on self.axis self.to) line }
+        requires across { gap (line_on self.axis self.from) line ≡ across }
         ensures touched { IfSome result (Touches self.from self.to) }
         ensures blocked { IfSome result (λ cell. IsFalse (V.passes view.now class cell)) }
         ensures none { IfNone result ((place : ℕ) → Touches self.from self.to (cell_on self.axis line place)
             → IsTrue (V.passes view.now class (cell_on self.axis line place))) }
     {
-        let span = self.span(line);
+        let span = self.span(line, across);
         let place = view.next_blocked(class, self.axis, cell_on(self.axis, line, span.first));
         if place <= span.last {
             Some(cell_on(self.axis, line, place))
@@ -154,7 +191,8 @@ impl Segment {
 
 /// A blocked cell that the segment between the middles of two cells touches. None exactly where the segment is clear.
 ///
-/// It looks at each row that the segment touches once, or at each column where the segment is higher than wide.
+/// It looks at each row that the segment touches once, or at each column where the segment is higher than wide, from the
+/// first cell on: what blocks near there blocks other segments from that cell too.
 pub fn blocker<V: FreeCells>(view: &V, class: Class, from: Cell, to: Cell) -> Option<Cell>
     requires class { class < V.class_count view.now }
     requires from { IsInside (V.extent view.now) from }
@@ -166,10 +204,9 @@ pub fn blocker<V: FreeCells>(view: &V, class: Class, from: Cell, to: Cell) -> Op
     let segment = Segment::new(from, to);
     let start = line_on(segment.axis, from);
     let end = line_on(segment.axis, to);
-    let low = start.min(end);
-    let high = start.max(end);
-    for line in low..high + 1 {
-        if let Some(cell) = segment.blocker_on(view, class, line) {
+    for across in 0..gap(start, end) + 1 {
+        let line = line_across(start, end, across);
+        if let Some(cell) = segment.blocker_on(view, class, line, across) {
             return Some(cell);
         }
     }

@@ -103,6 +103,7 @@ fn best_next<V: FreeCells>(
 }
 
 /// Whether the segment is clear. What blocked the last segment is tried first, and is remembered.
+#[inline(always)]
 fn is_clear<V: FreeCells>(
     view: &V,
     class: Class,
@@ -130,6 +131,7 @@ fn is_clear<V: FreeCells>(
 }
 
 /// Whether the remembered cell blocks the segment.
+#[inline(always)]
 fn is_blocked(from: Cell, to: Cell, blocked: Option<Cell>) -> bool
     requires from { IsInGrid from }
     requires to { IsInGrid to }
