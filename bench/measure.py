@@ -1,7 +1,8 @@
 #!/usr/bin/env python3
 """measure.py PROGRAM [PART ..]: what the program costs, in instructions counted by valgrind (Debian's package `valgrind`).
 
-The parts are basics, near, growth, classes, paths, profile, edits, crowd and workers; all of them where none is named.
+The parts are basics, near, growth, classes, paths, profile, fields, smoothing, edits, crowd and workers; all of them where
+none is named.
 A count is the difference of two scripts that differ by the work that is counted, so starting up, reading the map and
 building it are not in it unless it says so. Counts are in thousands of instructions with one worker; only the part
 workers is by the clock, and wants four processors that do nothing else. The maps and queries are drawn from fixed
@@ -241,6 +242,24 @@ def profile(bench):
         told(f"{kind}, 512 by 512", *each)
 
 
+def fields(bench):
+    print("fields: by flow less by replay, for each of 3 long paths to goals of their own, and in all for 100 to one goal")
+    for kind in KINDS:
+        script, queries = drawn(kind, 512, 100)
+        goal = queries[0][queries[0].index('"goal"') :]
+        group = [query[: query.index('"goal"')] + goal for query in queries]
+        more = lambda walks: bench.count([*script, *walks, end(1)], "flow") - bench.count([*script, *walks, end(1)])
+        told(f"{kind}, 512 by 512", more(queries[:3]) / 3, more(group))
+
+
+def smoothing(bench):
+    print("smoothing: by smooth less by replay, for one of 100 long paths")
+    for kind in KINDS:
+        script, queries = drawn(kind, 512, 100)
+        lines = [*script, *queries, end(1)]
+        told(f"{kind}, 512 by 512", (bench.count(lines, "smooth") - bench.count(lines)) / 100)
+
+
 def edits(bench):
     print("edits: an edit of one 6 by 6 building among others, 8 classes, by the side and the number of others")
     for side, others in ((512, 400), (512, 1600), (2048, 1600), (2048, 6400)):
@@ -271,7 +290,7 @@ def workers(bench):
         print(f"  {many:<58}{bench.seconds([*script, *queries, end(1)], many) - bare:13.2f}", flush=True)
 
 
-PARTS = [basics, near, growth, classes, paths, profile, edits, crowd, workers]
+PARTS = [basics, near, growth, classes, paths, profile, fields, smoothing, edits, crowd, workers]
 
 
 def main(words):
