@@ -14,16 +14,16 @@ use walks::{cost, plain_search};
 /// In each line the rows of a map from the first up, `#` impassable, a start, targets, and one of them that a walk joins to
 /// the start. Each map has several areas, and targets in two: some in the start's, and one in another.
 const MAPS: &str = "\
-.#....##.#../...#....#..#/..#........./.#...#.....#/...#.##...##/#.#..###.#../....##....#./....#..#.#../............;5,8;10,5 8,7 3,7 8,0;10,5
-#........../....#....../.#.#......./..#...#..../.#......#../...##....#./..#..##.#../##.....#...;5,2;8,4 9,5 4,4 2,5 7,7 2,7;4,4
-...#......##/.........#../##..#......./..#...##..#./##...#..#..#/#...#..#...#/..........#./...#.#...#../............;1,7;0,5 5,6 7,7 0,3;5,6
-..##.###..#/##....##..#/#.#...##..#/.##..###.#./.#..##...##/##...##..#./.#.#.#.##../##.......##;3,3;4,2 7,7 9,6;4,2
-.....##.#.../###........./........#.../...#.#.#..#./........##.#/#.......#..#/.###....#.#./........#.../#.#.....##..;7,7;11,3 2,1 0,0 9,5;11,3
-##...##../##...##../.#....##./......#.#/.#..#.#../....#.#../..##.#.../#.....###/#.....##./.#..##.../...#..#../...#.....;1,10;4,4 1,6 3,10 2,0 4,10;1,6
-#...##.#..#/...#......./.....#..#.#/.....##..#./.#........./....###.##./...##.##.../###.#.##...;10,3;0,4 5,1 5,6;0,4
-###......#./.###.##...#/.#..###.#../####...##../...#.###..#/......##.../....#.##.../..#........;3,6;10,2 3,0 0,1;10,2
-...#.#.#.#./....##...#./.#.......##/.##....#.../#.....##.#./.##.....#.#/#.......##./.#.....#..#;4,7;6,3 6,6 8,7;6,3
-..##.#....../##.........#/......#..#.#/#.#........#/...#.##...../#..#..#...../..##..###.##/...###.#.#../...#....##..;7,4;7,2 0,2 4,8;7,2
+..####.../..##.###./.#....#.#/####...../#.#.#..##/..#.#..#./#...#...#/....#.###;3,2;2,7 6,6 8,3;8,3
+..###.#./....#.../.#.#..../..#..#.#/##...#../..#...../#.#..###/.##....#;5,0;3,6 5,1 2,2 6,4;5,1
+#.#..#../.#...#.#/#####.../.#..##../.#..##../..#.#...;6,0;6,5 7,4 4,1 7,5;7,4
+.######./..#.##.#/#.##..#./.....#../.##..###/#.#.#.##/.###...#;0,3;2,3 5,5 4,2 1,3;2,3
+..##.#./.####../....###/###..##/.....##/#.....#/.#.#..#/#.###..;4,5;2,5 6,0 6,7 4,6;2,5
+..#.#.../.....##./##.#.#.#/.##.###./##.#...#/#......#/.#..#...;2,6;4,5 4,4 3,0 6,5;6,5
+....#.../.#....#./.......#/....#.#./..######/..#...../.#.#..../#.#.....;6,2;3,7 5,3 0,1 5,1;5,3
+#.#....../.#.###..#/......#../#.##..#../.##....../.##...##./#..#...#./.........;1,6;4,0 6,1 0,4 6,0;6,1
+.....#./..#.#.#/.#..#../##.#..#/...##.#/#...##./.....##;0,4;5,1 3,5 3,0 1,5;1,5
+...#.##./....#.../.....#.#/...#.#.#/.#..#..#/#...##.#;0,2;1,3 2,4 1,5 6,4;1,5
 ";
 
 /// Lines as in `MAPS`, the step to take at the start, and how many cells have a distance, the greatest of the distances and
@@ -152,7 +152,7 @@ fn field_from<M: FreeCells + Areas, A: Aim>(
     }
 }
 
-/// Whether the field of a start agrees with searches from cells all over the map. None where there is no field.
+/// Whether the field of a start agrees with a search from each cell of the map. None where there is no field.
 fn agrees_everywhere<M: FreeCells + Areas, A: Aim>(
     alloc: Global,
     map: &M,
@@ -169,9 +169,7 @@ fn agrees_everywhere<M: FreeCells + Areas, A: Aim>(
     let field = field_from(alloc, map, start, aim, end)?;
     for j in 0..size.h {
         for i in 0..size.w {
-            // a search from each seventh cell, since each looks at the whole map
-            let is_asked = (i + 2 * j) % 7 == 0;
-            if is_asked && !agrees(alloc, map, aim, end, &field, Cell::new(i, j)) {
+            if !agrees(alloc, map, aim, end, &field, Cell::new(i, j)) {
                 return Some(false);
             }
         }
@@ -179,7 +177,7 @@ fn agrees_everywhere<M: FreeCells + Areas, A: Aim>(
     Some(true)
 }
 
-/// Whether the field of a line agrees with searches from cells all over the map. None where the line has no field.
+/// Whether the field of a line agrees with a search from each cell of its map. None where the line has no field.
 fn agrees_on_the_map(alloc: Global, line: &str) -> Option<bool> {
     let [map, start, targets, end, _, _, _] = fields_of(line);
     let map = drawn_version(alloc, map)?;
