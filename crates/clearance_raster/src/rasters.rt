@@ -61,6 +61,13 @@ pub fn raster_in(
     raster_classes(patch, part, obstruction, classes, size);
 }
 
+/// A shape with the clearance that is kept round it.
+#[derive(Clone, Copy)]
+struct Grown {
+    shape: Shape,
+    clearance: Fixed,
+}
+
 /// Sets the bits of all classes of the mask, one clearance after another.
 fn raster_classes<C: Canvas>(
     canvas: &mut C,
@@ -102,35 +109,31 @@ fn raster_mask<C: Canvas>(
     ensures rect { C.rect_of canvas.new ≡ C.rect_of canvas.old }
     ensures set { IsRasterIn (C.rect_of canvas.old) part (λ k cell. has_class k mask && blocked shape.now clearance cell) (C.number canvas.old) (C.number canvas.new) }
 {
+    let grown = Grown {
+        shape: *shape,
+        clearance,
+    };
     if let Some(rect) = reach_in(shape, clearance, part, size) {
         for j in rect.j0..rect.j1 + 1 {
-            raster_row(canvas, part, shape, clearance, mask, rect, j);
+            raster_row(canvas, part, &grown, mask, rect, j);
         }
     }
 }
 
-/// Sets the bits of the mask in each cell of row `j` of the part that the shape blocks with this clearance. The
+/// Sets the bits of the mask in each cell of row `j` of the part that the shape blocks with its clearance. The
 /// rectangle lies in the part and holds all cells of it that the shape blocks.
-fn raster_row<C: Canvas>(
-    canvas: &mut C,
-    part: Rect,
-    shape: &Shape,
-    clearance: Fixed,
-    mask: u16,
-    rect: Rect,
-    j: u16,
-)
-    requires vector { HasUnitVector shape.now }
+fn raster_row<C: Canvas>(canvas: &mut C, part: Rect, grown: &Grown, mask: u16, rect: Rect, j: u16)
+    requires vector { HasUnitVector grown.now.shape }
     requires part { IsPartOf (C.rect_of canvas.old) part }
     requires inside { IsPartOf part rect }
     requires south { rect.j0 ≤ j }
     requires north { j ≤ rect.j1 }
-    requires reached { (cell : Cell) → IsInRect part cell → IsTrue (blocked shape.now clearance cell)
+    requires reached { (cell : Cell) → IsInRect part cell → IsTrue (blocked grown.now.shape grown.now.clearance cell)
         → IsInRect rect cell }
     ensures rect { C.rect_of canvas.new ≡ C.rect_of canvas.old }
-    ensures set { IsRasterIn (C.rect_of canvas.old) part (λ k cell. has_class k mask && cell.j == j && blocked shape.now clearance cell) (C.number canvas.old) (C.number canvas.new) }
+    ensures set { IsRasterIn (C.rect_of canvas.old) part (λ k cell. has_class k mask && cell.j == j && blocked grown.now.shape grown.now.clearance cell) (C.number canvas.old) (C.number canvas.new) }
 {
-    if let Some((first, last)) = run_in_row(shape, clearance, rect, j) {
+    if let Some((first, last)) = run_in_row(&grown.shape, grown.clearance, rect, j) {
         canvas.set_span(j, first, last, mask);
     }
 }

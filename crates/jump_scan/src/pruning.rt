@@ -91,31 +91,38 @@ fn after_diagonal<V: View>(view: &V, class: Class, cell: Cell, arrived: Dir) -> 
     with_where(along_both, arrived, is_onward)
 }
 
+/// A cell, and the direction of the step that came to it.
+#[derive(Clone, Copy)]
+struct Arrival {
+    cell: Cell,
+    dir: Dir,
+}
+
 /// The set, with the legal turns to the side where they are forced.
 #[inline(always)]
 fn with_turns<V: View>(
     view: &V,
     class: Class,
-    cell: Cell,
-    arrived: Dir,
+    arrival: Arrival,
     side: Side,
     onward: bool,
     set: DirSet,
 ) -> DirSet
     requires class { class < V.class_count view.now }
-    requires passable { IsTrue (V.passes view.now class cell) }
-    requires inside { IsInside (V.extent view.now) cell }
-    requires straight { IsTrue (is_straight arrived) }
-    requires onward { IsTrue onward ↔ IsFreeBeside (V.passes view.now class) cell arrived }
+    requires passable { IsTrue (V.passes view.now class arrival.cell) }
+    requires inside { IsInside (V.extent view.now) arrival.cell }
+    requires straight { IsTrue (is_straight arrival.dir) }
+    requires onward { IsTrue onward ↔ IsFreeBeside (V.passes view.now class) arrival.cell arrival.dir }
     ensures { (dir : Dir) → IsTrue (holds result dir)
-        ↔ (IsTrue (holds set dir) ⊎ IsLegalTurn (V.passes view.now class) cell arrived side dir) }
+        ↔ (IsTrue (holds set dir) ⊎ IsLegalTurn (V.passes view.now class) arrival.cell arrival.dir side dir) }
 {
-    if !is_forced_to(view, class, cell, arrived, side) {
+    let Arrival { cell, dir } = arrival;
+    if !is_forced_to(view, class, cell, dir, side) {
         return set;
     }
-    let ahead = ahead_to(side, arrived);
+    let ahead = ahead_to(side, dir);
     let legal = is_legal_between(view, class, cell, ahead, onward);
-    with_where(set.with(aside_to(side, arrived)), ahead, legal)
+    with_where(set.with(aside_to(side, dir)), ahead, legal)
 }
 
 /// The successors after a straight step: the one straight on, and the forced ones.
@@ -128,10 +135,11 @@ fn after_straight<V: View>(view: &V, class: Class, cell: Cell, arrived: Dir) -> 
     ensures { (dir : Dir) → IsTrue (holds result dir)
         ↔ IsSuccessor (V.passes view.now class) cell (Some arrived) dir }
 {
+    let arrival = Arrival { cell, dir: arrived };
     let onward = is_free_beside(view, class, cell, arrived);
     let ahead = with_where(DirSet::new(), arrived, onward);
-    let left = with_turns(view, class, cell, arrived, Side::Left, onward, ahead);
-    with_turns(view, class, cell, arrived, Side::Right, onward, left)
+    let left = with_turns(view, class, arrival, Side::Left, onward, ahead);
+    with_turns(view, class, arrival, Side::Right, onward, left)
 }
 
 /// The successors of a passable cell after a step. Each direction has a copy of its own of the code, in which the cells

@@ -8,5 +8,5 @@ use Rattle.clearance_raster.proofs.rasters.raster_mask.Given as goal
 abbrev pub invariant-loop-j : goal.invariant-loop-j
 invariant-loop-j g l = let rect_of = g.C.Canvas.rect_of in let number = g.C.Canvas.number in record {
   extent : rect_of l.canvas ≡ rect_of l.fn.canvas;
-  set : IsRasterIn (rect_of l.fn.canvas) l.part (RowsTest l.mask l.j (blocked l.shape l.clearance)) (number l.fn.canvas) (number l.canvas);
+  set : IsRasterIn (rect_of l.fn.canvas) l.part (RowsTest l.mask l.j (blocked l.shape l.fn.clearance)) (number l.fn.canvas) (number l.canvas);
 }
