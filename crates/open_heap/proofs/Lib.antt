@@ -1,6 +1,4 @@
-pub mod EntryOrder
-pub mod Rows
-pub mod Gaps
-pub mod Ends
-pub mod Queues
-pub mod Lowering
+pub mod Chains
+pub mod Falling
+pub mod Lists
+pub mod Tables

@@ -1,41 +1,58 @@
 //! The open list.
-ghost use Rattle.std.specs.Prelude.{◌≡◌, ◌↔◌, None, IsTrue, IsSomeAnd, IfSome, IfNone, IfOk, OnOk, OnErr};
+ghost use Rattle.std.specs.Prelude.{◌≡◌, ◌↔◌, ◌≤◌, ◌<◌, ◌^◌, ℕ, length, None, IsTrue, IsSomeAnd, IfSome, IfNone, IfOk};
+ghost use Rattle.std.specs.Prelude.{OnOk, OnErr};
 ghost use Rattle.std.specs.FinMap as map;
-ghost use Rattle.open_heap.specs.Queue.{IsNotMore, IsLeast};
+ghost use Rattle.open_heap.specs.Queue.{IsLeast};
+ghost use Rattle.open_heap.specs.inner.Buckets.{estimate_at};
 
-use crate::entries::{Entry, Priority};
-use crate::tree::Tree;
+use crate::buckets::{Buckets, known_estimate};
+use crate::entries::Entry;
 use nav_types::NoMemory;
 use std::alloc::Global;
 use std::marker::Model;
 
-/// The open list of a search: each of its keys once, with a priority. The entry that comes first is taken out,
-/// and the priority of each key can be lowered.
+/// The open list of a search: each of its keys once, with an estimate. An entry of least estimate is taken out, and the
+/// estimate of each key can be lowered.
 ///
-/// Contracts see the finite map from key to priority (`Queue`). A key is a number from 0, in the order in which
-/// a search meets its states: the list keeps a place for each number up to the greatest key that it has had, so
-/// that `lower` finds its entry at once. Adding, lowering and taking out look at a number of entries that grows
-/// with the logarithm of how many there are.
+/// Contracts see the finite map from key to estimate (`Queue`). It is made of buckets, in the exact order of estimates,
+/// and each adding, lowering and taking out looks at few entries. A lowered key gets a further entry, and its earlier
+/// one is left out when it is met. A key is a number from 0, in the order in which a search meets its states: the list
+/// keeps a place for each number up to the greatest key that it has had. It keeps one for each bucket too, so that
+/// estimates should lie near to one another: within some million steps.
 #[derive(Debug, Drop)]
 pub struct OpenHeap {
-    tree: Tree,
+    buckets: Buckets,
+    estimates: Vec<Option<u64>>,
+    count: usize,
 }
 
 impl Model for OpenHeap {
     ghost use Rattle.std.specs.FinMap as map;
     ghost use Rattle.std.specs.Coded.{coded_ℕ};
-    ghost use Rattle.open_heap.specs.contracts.entries.Priority.{the_row as priority_row};
     ghost use Rattle.open_heap.specs.Queue.{Queue};
 
     ghost Value = { Queue };
 
-    ghost coded = { map.code coded_ℕ priority_row.coded };
+    ghost coded = { map.code coded_ℕ coded_ℕ };
 
-    ghost use Rattle.open_heap.specs.inner.Trees.{queue_of, IsHeap};
+    ghost use Rattle.open_heap.specs.inner.Buckets.{queue_of, HasEach};
 
-    ghost view = { λ h. queue_of h.tree.entries.items };
+    ghost view = { λ h. queue_of h.estimates.items };
 
-    ghost invariant = { λ h. IsHeap h.tree.entries.items h.tree.places.items };
+    ghost invariant = { λ h. HasEach h.count h.buckets.start h.buckets.reached h.buckets.later.items
+        h.buckets.here.items h.estimates.items };
+}
+
+/// Makes room for the estimate of the key.
+fn make_room(estimates: &mut Vec<Option<u64>>, key: u32) -> Result<(), NoMemory>
+    ensures same { (other : ℕ) → estimate_at estimates.new.items other ≡ estimate_at estimates.old.items other }
+    ensures key { OnOk result (key < length estimates.new.items) }
+    ensures few { length estimates.new.items < 2 ^ 64 }
+{
+    'grow: while estimates.len() <= key as usize {
+        estimates.push(None)?;
+    }
+    Ok(())
 }
 
 impl OpenHeap {
@@ -44,10 +61,9 @@ impl OpenHeap {
         ensures { IfOk result (λ heap. heap ≡ map.empty) }
     {
         Ok(OpenHeap {
-            tree: Tree {
-                entries: Vec::new(alloc),
-                places: Vec::new(alloc),
-            },
+            buckets: Buckets::new(alloc),
+            estimates: Vec::new(alloc),
+            count: 0,
         })
     }
 
@@ -55,60 +71,79 @@ impl OpenHeap {
     pub fn len(&self) -> usize
         ensures { result ≡ map.len self.now }
     {
-        self.tree.entries.len()
+        self.count
     }
 
     /// Whether the list has no key.
     pub fn is_empty(&self) -> bool
         ensures { IsTrue result ↔ (self.now ≡ map.empty) }
     {
-        self.tree.entries.is_empty()
+        self.count == 0
     }
 
-    /// The priority of the key. None exactly where the list does not have it.
-    pub fn get(&self, key: u32) -> Option<Priority>
+    /// The estimate of the key. None exactly where the list does not have it.
+    pub fn get(&self, key: u32) -> Option<u64>
         ensures { result ≡ map.get self.now key }
     {
-        match self.tree.find(key) {
-            Some(entry) => Some(entry.priority),
-            None => None,
-        }
+        known_estimate(&self.estimates, key)
     }
 
-    /// Adds a key that the list does not have, with its priority. Where there is no memory the list stays.
-    pub fn push(&mut self, key: u32, priority: Priority) -> Result<(), NoMemory>
+    /// Takes out every key. It takes no memory, and keeps the room that the list has for more.
+    pub fn clear(&mut self)
+        ensures { self.new ≡ map.empty }
+    {
+        self.buckets.restart(u64::MAX);
+        self.estimates.clear();
+        self.count = 0;
+    }
+
+    /// Adds a key that the list does not have, with its estimate. Where there is no memory the list stays.
+    pub fn push(&mut self, key: u32, estimate: u64) -> Result<(), NoMemory>
         requires { map.get self.old key ≡ None }
-        ensures added { OnOk result (self.new ≡ map.insert self.old key priority) }
+        ensures added { OnOk result (self.new ≡ map.insert self.old key estimate) }
         ensures kept { OnErr result (self.new ≡ self.old) }
     {
-        self.tree.add(Entry { priority, key })
+        make_room(&mut self.estimates, key)?;
+        self.buckets.add(Entry { estimate, key })?;
+        self.estimates[key as usize] = Some(estimate);
+        self.count += 1;
+        Ok(())
     }
 
-    /// Gives a key that the list has a priority that is not more than its own. It takes no memory.
-    pub fn lower(&mut self, key: u32, priority: Priority)
-        requires { IsSomeAnd (map.get self.old key) (IsNotMore priority) }
-        ensures { self.new ≡ map.insert self.old key priority }
+    /// Gives a key that the list has an estimate that is not more than its own. Where there is no memory the list stays.
+    pub fn lower(&mut self, key: u32, estimate: u64) -> Result<(), NoMemory>
+        requires { IsSomeAnd (map.get self.old key) (λ known. estimate ≤ known) }
+        ensures lowered { OnOk result (self.new ≡ map.insert self.old key estimate) }
+        ensures kept { OnErr result (self.new ≡ self.old) }
     {
-        let place = self.tree.places[key as usize];
-        self.tree.rise(place, Entry { priority, key });
+        self.buckets.add(Entry { estimate, key })?;
+        self.estimates[key as usize] = Some(estimate);
+        Ok(())
     }
 
-    /// The entry that comes first: the one of least estimate, then of least order, then of least key. None exactly
-    /// where the list is empty.
-    pub fn peek_least(&self) -> Option<Entry>
-        ensures least { IfSome result (IsLeast self.now) }
-        ensures none { IfNone result (self.now ≡ map.empty) }
+    /// An entry of least estimate. None exactly where the list is empty. It takes no memory, and the list stays: what is
+    /// no longer the entry of its key is left out on the way.
+    pub fn peek_least(&mut self) -> Option<Entry>
+        ensures least { IfSome result (IsLeast self.old) }
+        ensures none { IfNone result (self.old ≡ map.empty) }
+        ensures kept { self.new ≡ self.old }
     {
-        self.tree.entries.first().copied()
+        self.buckets.least(&self.estimates)
     }
 
-    /// Takes out the entry that comes first, as `peek_least` answers it. It takes no memory.
+    /// Takes out an entry of least estimate. It takes no memory.
     pub fn pop_least(&mut self) -> Option<Entry>
         ensures least { IfSome result (IsLeast self.old) }
         ensures rest { IfSome result (λ entry. self.new ≡ map.remove self.old entry.key) }
         ensures none { IfNone result (self.old ≡ map.empty) }
         ensures kept { IfNone result (self.new ≡ map.empty) }
     {
-        self.tree.take_first()
+        let Some(entry) = self.buckets.least(&self.estimates) else {
+            return None;
+        };
+        self.buckets.take_last();
+        self.estimates[entry.key as usize] = None;
+        self.count -= 1;
+        Some(entry)
     }
 }

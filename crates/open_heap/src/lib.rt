@@ -1,11 +1,12 @@
-//! The open list of a search: keys with priorities, of which the entry that comes first is taken out.
+//! The open list of a search: keys with estimates, of which one of the least estimate is taken out.
 //!
-//! Contracts see a finite map from key to priority.
+//! Contracts see a finite map from key to estimate.
 #![tactic(auto)]
 
+mod buckets;
 mod entries;
 mod heaps;
-mod tree;
+mod taking;
 
-pub use entries::{Entry, Priority};
+pub use entries::Entry;
 pub use heaps::OpenHeap;

@@ -1,36 +1,44 @@
-use Rattle.std.proofs.Common.{ℕ, ◌≡◌, set, slice_index, sym, ap, ◌∙◌, subst, arith}
-use Rattle.std.proofs.lemmas.List.{get_or_read}
+use Rattle.std.proofs.Common.{ℕ, ◌≡◌, ◌≤◌, Some, length, ap, sym, ◌∙◌, arith}
 use Rattle.std.specs.FinMap as map
-use Rattle.open_heap.specs.Queue.{Queue, entry_of}
-use Rattle.open_heap.specs.inner.Trees.{CanRise, HasSame}
-use Rattle.open_heap.proofs.Queues.{queue_lowered}
-use Rattle.open_heap.proofs.Lowering.{IsHeld-from_some, rise_lowered}
+use Rattle.open_heap.specs.declared.entries.Entry.{Entry}
+use Rattle.open_heap.specs.Queue.{Queue}
+use Rattle.open_heap.specs.inner.Buckets.{queue_of}
+use Rattle.open_heap.proofs.Lists.{each_lowered, known_of, live_inside}
+use Rattle.open_heap.proofs.Tables.{get-queue, queue-insert}
 use Rattle.open_heap.proofs.heaps.OpenHeap.lower.Goals as goal
 
-pub index-place-requires : goal.index-place-requires
-index-place-requires c =
-    let tree = c.self.inside.tree in
-    let held = IsHeld-from_some tree.entries.items tree.places.items c.args.self.now c.args.key c.args.priority c.self.invariant c.self.view_is c.requires in
-    omega (arith, held.known, tree.places.ok.0)
+pub index_mut-requires : goal.index_mut-requires
+index_mut-requires c =
+    let table = c.self.inside.estimates in
+    let known = known_of (map.get c.args.self.now c.args.key) (λ known. c.args.estimate ≤ known) c.requires in
+    let some : map.get (queue_of table.items) c.args.key ≡ Some known.0 =
+    ap (λ (m : Queue). map.get m c.args.key) c.self.view_is ∙ known.1 in
+    let was : Entry = record { estimate = known.0; key = c.args.key } in
+    let inside = live_inside table.items was (sym (get-queue table.items c.args.key) ∙ some) in
+    let size = table.ok.0 in
+    omega (arith, inside, size)
 
-pub rise-requires : goal.rise-requires
-rise-requires c =
-    let tree = c.self.inside.tree in
-    let places = tree.places.items in
-    let held = IsHeld-from_some tree.entries.items places c.args.self.now c.args.key c.args.priority c.self.invariant c.self.view_is c.requires in
-    let entry = entry_of c.args.key c.args.priority in
-    let read : c.index-place.result.now ≡ slice_index places c.args.key = get_or_read places c.args.key c.index-place.result.now held.known c.index-place.ensures 0 in
-    let P = λ (place : ℕ). CanRise (set tree.entries.items place entry) places place in
-    subst P (sym read) (rise_lowered tree.entries.items places (slice_index places c.args.key) entry c.self.invariant held.within held.its_key held.less)
+pub invariant_of-self-2 : goal.invariant_of-self-2
+invariant_of-self-2 c =
+    let b = c.self.inside.buckets in
+    let a = c.add.new.self in
+    let table = c.self.inside.estimates.items in
+    let entry : Entry = record { estimate = c.args.estimate; key = c.args.key } in
+    let known = known_of (map.get c.args.self.now c.args.key) (λ known. c.args.estimate ≤ known) c.requires in
+    let some : map.get (queue_of table) c.args.key ≡ Some known.0 =
+    ap (λ (m : Queue). map.get m c.args.key) c.self.view_is ∙ known.1 in
+    let was : Entry = record { estimate = known.0; key = c.args.key } in
+    let inside = live_inside table was (sym (get-queue table c.args.key) ∙ some) in
+    each_lowered b.start b.reached b.later.items b.here.items a.start a.reached a.later.items a.here.items c.self.inside.count table entry
+    known.0 c.self.invariant c.add.ensures.kept c.in_ok-add.ensures.added inside some
 
-pub returns : goal.returns
-returns c =
-    let tree = c.self.inside.tree in
-    let places = tree.places.items in
-    let held = IsHeld-from_some tree.entries.items places c.args.self.now c.args.key c.args.priority c.self.invariant c.self.view_is c.requires in
-    let entry = entry_of c.args.key c.args.priority in
-    let read : c.index-place.result.now ≡ slice_index places c.args.key = get_or_read places c.args.key c.index-place.result.now held.known c.index-place.ensures 0 in
-    let P = λ (place : ℕ). HasSame (set tree.entries.items place entry) c.rise.new.self.entries.items in
-    queue_lowered tree.entries.items c.rise.new.self.entries.items places c.rise.new.self.places.items (slice_index places c.args.key) entry
-    c.self.invariant c.rise.ensures.heap held.within held.its_key (subst P read c.rise.ensures.same)
-    ∙ ap (λ (m : Queue). map.insert m c.args.key c.args.priority) c.self.view_is
+pub returns-clause-lowered : goal.returns-clause-lowered
+returns-clause-lowered c =
+    let table = c.self.inside.estimates.items in
+    let known = known_of (map.get c.args.self.now c.args.key) (λ known. c.args.estimate ≤ known) c.requires in
+    let some : map.get (queue_of table) c.args.key ≡ Some known.0 =
+    ap (λ (m : Queue). map.get m c.args.key) c.self.view_is ∙ known.1 in
+    let was : Entry = record { estimate = known.0; key = c.args.key } in
+    let inside = live_inside table was (sym (get-queue table c.args.key) ∙ some) in
+    queue-insert table c.args.key c.args.estimate inside
+    ∙ ap (λ (m : Queue). map.insert m c.args.key c.args.estimate) c.self.view_is

@@ -1,27 +1,73 @@
-use Rattle.std.proofs.Common.{◌∷◌, sym, ap, subst, ◌∙◌}
-use Rattle.std.proofs.lemmas.Option.{IfSome_then}
+use Rattle.std.proofs.Common.{ℕ, ◌≡◌, List, Option, sym, ap, subst, ◌∙◌, arith}
 use Rattle.std.specs.FinMap as map
 use Rattle.open_heap.specs.declared.entries.Entry.{Entry}
 use Rattle.open_heap.specs.Queue.{Queue, IsLeast}
-use Rattle.open_heap.specs.inner.Trees.{queue_of, HasSame, Lacks}
-use Rattle.open_heap.proofs.Queues.{least-top, queue_taken, if_both}
+use Rattle.open_heap.specs.inner.Buckets.{queue_of, IsLive}
+use Rattle.open_heap.proofs.Lists.{each_taken, least_of, none_of, live_inside}
+use Rattle.open_heap.proofs.Tables.{get-queue, queue-remove, some_keys}
 use Rattle.open_heap.proofs.heaps.OpenHeap.pop_least.Goals as goal
+
+pub index_mut-requires : goal.index_mut-requires
+index_mut-requires c =
+    let table = c.self.inside.estimates in
+    let entry = c.in-Some.entry in
+    let live : IsLive table.items entry =
+    subst (λ (t : List (Option ℕ)). IsLive t entry) c.deref.ensures.value c.in-Some.ensures.live in
+    let inside = live_inside table.items entry live in
+    let size = table.ok.0 in
+    omega (arith, inside, size)
+
+pub overflow_sub-self : goal.overflow_sub-self
+overflow_sub-self c =
+    let table = c.self.inside.estimates.items in
+    let entry = c.in-Some.entry in
+    let live : IsLive table entry = subst (λ (t : List (Option ℕ)). IsLive t entry) c.deref.ensures.value c.in-Some.ensures.live in
+    let some = some_keys (queue_of table) entry.key entry.estimate (get-queue table entry.key ∙ live) in
+    let counted = c.self.invariant.counted in
+    omega (arith, some, counted)
+
+pub invariant_of-self-2 : goal.invariant_of-self-2
+invariant_of-self-2 c =
+    let b = c.self.inside.buckets in
+    let a = c.take_last.new.self in
+    let table = c.self.inside.estimates.items in
+    let entry = c.in-Some.entry in
+    let live : IsLive table entry = subst (λ (t : List (Option ℕ)). IsLive t entry) c.deref.ensures.value c.in-Some.ensures.live in
+    each_taken b.start b.reached b.later.items b.here.items a.start a.reached a.later.items a.here.items c.self.inside.count table entry
+    c.self.invariant (λ other is held. c.take_last.ensures.kept entry other c.in-Some.ensures.last (c.least.ensures.kept other
+    (subst (λ (t : List (Option ℕ)). IsLive t other) (sym c.deref.ensures.value) is) held)) (live_inside table entry live) live
 
 pub returns-clause-least : goal.returns-clause-least
 returns-clause-least c =
-    let tree = c.self.inside.tree in
-    let entries = tree.entries.items in
-    let P = λ (entry : Entry). IsLeast (queue_of entries) entry in
-    IfSome_then c.take_first.result c.take_first.ensures.first (λ entry first.
-    let Q = λ (m : Queue). IsLeast m entry in
-    subst Q c.self.view_is (subst P (sym first.1) (least-top entries tree.places.items c.self.invariant first.0)))
+    let b = c.self.inside.buckets in
+    let table = c.self.inside.estimates.items in
+    let entry = c.in-Some.entry in
+    let live : IsLive table entry = subst (λ (t : List (Option ℕ)). IsLive t entry) c.deref.ensures.value c.in-Some.ensures.live in
+    subst (λ (m : Queue). IsLeast m entry) c.self.view_is
+    (least_of b.start b.reached b.later.items b.here.items b.start b.reached b.later.items b.here.items c.self.inside.count table entry
+    c.self.invariant live (λ other is held. c.in-Some.ensures.first other
+    (subst (λ (t : List (Option ℕ)). IsLive t other) (sym c.deref.ensures.value) is) held))
 
 pub returns-clause-rest : goal.returns-clause-rest
 returns-clause-rest c =
-    let tree = c.self.inside.tree in
-    let new = c.take_first.new.self in
-    let Rest = λ (entry : Entry). HasSame tree.entries.items (entry ∷ new.entries.items) in
-    let Gone = λ (entry : Entry). Lacks new.entries.items entry.key in
-    IfSome_then c.take_first.result (if_both c.take_first.result Rest Gone c.take_first.ensures.some c.take_first.ensures.gone) (λ entry both.
-    queue_taken tree.entries.items new.entries.items tree.places.items new.places.items entry c.self.invariant c.take_first.ensures.heap both.0 both.1
-    ∙ ap (λ (m : Queue). map.remove m entry.key) c.self.view_is)
+    let table = c.self.inside.estimates.items in
+    let entry = c.in-Some.entry in
+    let live : IsLive table entry = subst (λ (t : List (Option ℕ)). IsLive t entry) c.deref.ensures.value c.in-Some.ensures.live in
+    queue-remove table entry.key (live_inside table entry live) ∙ ap (λ (m : Queue). map.remove m entry.key) c.self.view_is
+
+pub returns-in_default-clause-none : goal.returns-in_default-clause-none
+returns-in_default-clause-none c =
+    let b = c.self.inside.buckets in
+    let table = c.self.inside.estimates.items in
+    sym c.self.view_is
+    ∙ none_of b.start b.reached b.later.items b.here.items b.start b.reached b.later.items b.here.items c.self.inside.count table
+    c.self.invariant (λ other is held. c.in_default.ensures.none other
+    (subst (λ (t : List (Option ℕ)). IsLive t other) (sym c.deref.ensures.value) is) held)
+
+pub returns-in_default-clause-kept : goal.returns-in_default-clause-kept
+returns-in_default-clause-kept c =
+    let b = c.self.inside.buckets in
+    let table = c.self.inside.estimates.items in
+    none_of b.start b.reached b.later.items b.here.items b.start b.reached b.later.items b.here.items c.self.inside.count table
+    c.self.invariant (λ other is held. c.in_default.ensures.none other
+    (subst (λ (t : List (Option ℕ)). IsLive t other) (sym c.deref.ensures.value) is) held)

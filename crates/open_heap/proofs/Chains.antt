@@ -1,0 +1,274 @@
+-- What waits in later buckets, linked by bucket.
+use Rattle.std.proofs.Common.{ℕ, suc, ◌≡◌, ◌≢◌, ◌<◌, ◌≤◌, ◌⊎◌, ◌↔◌, ◌+◌, ◌-◌, List, [], ◌∷◌, ◌++◌, length, length-append, set, slice_index, Option, None, Some, Contains, refl, ap, inl, inr, sym, subst, ◌∙◌, arith}
+use Rattle.std.specs.List.{slice_get}
+use Rattle.std.proofs.lemmas.Bool.{cases_eq, cases_lt}
+use Rattle.std.proofs.lemmas.Option.{slice_get_within, same_Some}
+use Rattle.std.proofs.lemmas.List.{get_or-set_same, get_or-set_other}
+use Rattle.std.proofs.lemmas.List.Elements.{Contains-append_left, Contains-push, Contains-push_cases}
+use Rattle.nav_types.proofs.Items.{Contains-from_slice_get, Contains-none, slice_get-before, slice_get-push_last}
+use Rattle.open_heap.specs.declared.buckets.Waiting.{Waiting}
+use Rattle.open_heap.specs.declared.entries.Entry.{Entry}
+use Rattle.open_heap.specs.inner.Buckets.{bucket_of, entry_of, AreFalling, IsLastOf, AreLinked, AreBuckets, IsWaiting, IsHeld, IsChain, AreGathered}
+use Rattle.open_heap.proofs.Falling.{last_is_least}
+
+abbrev pub blank : Waiting
+blank = record { estimate = 0; key = 0; next = 0 }
+
+-- ---- one more that waits
+pub last_before : (start : ℕ) (later : List Waiting) (more : Waiting) (bucket bound end : ℕ) → bound ≤ length later
+    → IsLastOf start later bucket bound end → IsLastOf start (later ++ more ∷ []) bucket bound end
+last_before start later more bucket bound end short is = record {
+  within = is.within;
+  here = λ number waiting last known.
+      let within = is.within in
+      is.here number waiting last (sym (slice_get-before later (more ∷ []) number (omega (arith, short, within, last))) ∙ known);
+  past = λ number waiting from to known.
+      is.past number waiting from to (sym (slice_get-before later (more ∷ []) number (omega (arith, short, to))) ∙ known);
+}
+
+-- what stands at the end is the one that was put there
+at_end : (later : List Waiting) (more waiting : Waiting) (number : ℕ) → number ≡ length later
+    → slice_get (later ++ more ∷ []) number ≡ Some waiting → more ≡ waiting
+at_end later more waiting number end known = same_Some more waiting (sym (slice_get-push_last later more)
+    ∙ ap (λ (k : ℕ). slice_get (later ++ more ∷ []) k) (sym end) ∙ known)
+
+pub last_other : (start : ℕ) (later : List Waiting) (more : Waiting) (bucket end : ℕ) → bucket_of start more.estimate ≢ bucket
+    → IsLastOf start later bucket (length later) end → IsLastOf start (later ++ more ∷ []) bucket (length later + 1) end
+last_other start later more bucket end apart is =
+    let before = last_before start later more bucket (length later) end (omega arith) is in
+    let within = is.within in
+    record {
+      within = omega (arith, within);
+      here = before.here;
+      past = λ number waiting from to known. elim (cases_lt number (length later)) [
+        | inl less ↦ before.past number waiting from less known
+        | inr past ↦
+            let end = at_end later more waiting number (omega (arith, to, past)) known in
+            subst (λ (w : Waiting). bucket_of start w.estimate ≢ bucket) end apart
+      ];
+    }
+
+pub last_same : (start : ℕ) (later : List Waiting) (more : Waiting) (bucket : ℕ) → bucket_of start more.estimate ≡ bucket
+    → IsLastOf start (later ++ more ∷ []) bucket (length later + 1) (length later + 1)
+last_same start later more bucket is = record {
+  within = omega arith;
+  here = λ number waiting last known.
+      let end = at_end later more waiting number (omega (arith, last)) known in
+      subst (λ (w : Waiting). bucket_of start w.estimate ≡ bucket) end is;
+  past = λ number waiting from to known same. omega (arith, from, to);
+}
+
+pub linked_more : (start : ℕ) (later : List Waiting) (more : Waiting) → AreLinked start later
+    → IsLastOf start later (bucket_of start more.estimate) (length later) more.next → AreLinked start (later ++ more ∷ [])
+linked_more start later more links last number waiting known =
+    let all = later ++ more ∷ [] in
+    let size : length all ≡ length later + 1 = length-append later (more ∷ []) in
+    let within = slice_get_within all number waiting known in
+    elim (cases_lt number (length later)) [
+      | inl less ↦
+          let was = sym (slice_get-before later (more ∷ []) number less) ∙ known in
+          last_before start later more (bucket_of start waiting.estimate) number waiting.next (omega (arith, less)) (links number waiting was)
+      | inr past ↦
+          let end : number ≡ length later = omega (arith, size, within, past) in
+          let same = at_end later more waiting number end known in
+          let is = last_before start later more (bucket_of start more.estimate) (length later) more.next (omega arith) last in
+          let P = λ (w : Waiting). IsLastOf start all (bucket_of start w.estimate) number w.next in
+          let Q = λ (k : ℕ). IsLastOf start all (bucket_of start more.estimate) k more.next in
+          subst P same (subst Q (sym end) is)
+    ]
+
+-- the heads where one more is put into its bucket
+pub heads_more : (start : ℕ) (heads : List ℕ) (later : List Waiting) (more : Waiting) (bucket : ℕ) → bucket_of start more.estimate ≡ bucket
+    → bucket < length heads → ((b : ℕ) → IsLastOf start later b (length later) (slice_index heads b))
+    → (b : ℕ) → IsLastOf start (later ++ more ∷ []) b (length later + 1) (slice_index (set heads bucket (length later + 1)) b)
+heads_more start heads later more bucket is known lasts b =
+    let P = λ (end : ℕ). IsLastOf start (later ++ more ∷ []) b (length later + 1) end in
+    elim (cases_eq b bucket) [
+      | inl same ↦
+          let at : slice_index (set heads bucket (length later + 1)) b ≡ length later + 1 =
+          ap (λ (k : ℕ). slice_index (set heads bucket (length later + 1)) k) same ∙ get_or-set_same heads bucket (length later + 1) 0 known in
+          subst P (sym at) (last_same start later more b (is ∙ sym same))
+      | inr other ↦
+          let at : slice_index (set heads bucket (length later + 1)) b ≡ slice_index heads b = get_or-set_other heads bucket b (length later + 1) 0 other in
+          subst P (sym at) (last_other start later more b (slice_index heads b) (λ same. other (sym same ∙ is)) (lasts b))
+    ]
+
+pub waiting_still : (start reached : ℕ) (later : List Waiting) (more : Waiting) (entry : Entry) → IsWaiting start reached later entry
+    → IsWaiting start reached (later ++ more ∷ []) entry
+waiting_still start reached later more entry is = record {
+  number = is.number;
+  waiting = is.waiting;
+  known = slice_get-before later (more ∷ []) is.number (slice_get_within later is.number is.waiting is.known) ∙ is.known;
+  same = is.same;
+  ahead = is.ahead;
+}
+
+-- ---- a bucket that is gathered
+pub record IsGathering (start : ℕ) (later : List Waiting) (bucket : ℕ) (old new : List Entry) (after : ℕ) : Type 0 where
+  pub within : after ≤ length later
+  pub top : (number : ℕ) (waiting : Waiting) → number + 1 ≡ after → slice_get later number ≡ Some waiting
+      → bucket_of start waiting.estimate ≡ bucket
+  pub done : (number : ℕ) (waiting : Waiting) → after ≤ number → slice_get later number ≡ Some waiting
+      → bucket_of start waiting.estimate ≡ bucket → Contains new (entry_of waiting)
+  pub only : (entry : Entry) → Contains new entry → Contains old entry ⊎ (bucket_of start entry.estimate ≡ bucket)
+
+pub gathering_begins : (start : ℕ) (later : List Waiting) (bucket end : ℕ) (here : List Entry) → IsChain start later bucket end
+    → IsGathering start later bucket here here end
+gathering_begins start later bucket end here chain = record {
+  within = chain.last.within;
+  top = chain.last.here;
+  done = λ number waiting from known is.
+      absurd (chain.last.past number waiting from (slice_get_within later number waiting known) known is);
+  only = λ entry has. inl has;
+}
+
+pub gathering_goes_on : (start : ℕ) (later : List Waiting) (bucket end : ℕ) (old new : List Entry) (after number : ℕ) (waiting : Waiting)
+    → IsChain start later bucket end → IsGathering start later bucket old new after → number + 1 ≡ after
+    → slice_get later number ≡ Some waiting → IsGathering start later bucket old (new ++ entry_of waiting ∷ []) waiting.next
+gathering_goes_on start later bucket end old new after number waiting chain going last known =
+    let link = chain.links number waiting known in
+    let here : bucket_of start waiting.estimate ≡ bucket = going.top number waiting last known in
+    let low = slice_get_within later number waiting known in
+    let next = link.within in
+    record {
+      within = omega (arith, low, next);
+      top = λ other w is at. link.here other w is at ∙ here;
+      done = λ other w from at is. elim (cases_lt other number) [
+        | inl less ↦ absurd (link.past other w from less at (is ∙ sym here))
+        | inr more ↦ elim (cases_eq other number) [
+          | inl same ↦
+              let one : waiting ≡ w = same_Some waiting w (sym known ∙ ap (λ (k : ℕ). slice_get later k) (sym same) ∙ at) in
+              subst (λ (x : Waiting). Contains (new ++ entry_of waiting ∷ []) (entry_of x)) one (Contains-push new (entry_of waiting))
+          | inr differ ↦ Contains-append_left new (entry_of waiting ∷ []) (entry_of w)
+              (going.done other w (omega (arith, last, more, differ)) at is)
+        ]
+      ];
+      only = λ entry has. elim (Contains-push_cases new (entry_of waiting) entry has) [
+        | inl was ↦ going.only entry was
+        | inr is ↦ inr (subst (λ (e : Entry). bucket_of start e.estimate ≡ bucket) is here)
+      ];
+    }
+
+pub gathering_ends : (start : ℕ) (later : List Waiting) (bucket : ℕ) (old new : List Entry) (after : ℕ) → after ≤ 0
+    → IsGathering start later bucket old new after → AreGathered start later bucket old new
+gathering_ends start later bucket old new after none going = record {
+  all = λ number waiting known is. going.done number waiting (omega (arith, none)) known is;
+  only = going.only;
+}
+
+-- ---- a bucket that becomes the current one
+pub nothing_waits : (start : ℕ) (later : List Waiting) (bucket end : ℕ) → IsLastOf start later bucket (length later) end → end ≡ 0
+    → (number : ℕ) (waiting : Waiting) → slice_get later number ≡ Some waiting → bucket_of start waiting.estimate ≢ bucket
+nothing_waits start later bucket end last none number waiting known =
+    last.past number waiting (omega (arith, none)) (slice_get_within later number waiting known) known
+
+-- what waits stands in the bucket of its estimate
+pub waits_there : (start reached : ℕ) (later : List Waiting) (entry : Entry) (is : IsWaiting start reached later entry)
+    → bucket_of start is.waiting.estimate ≡ bucket_of start entry.estimate
+waits_there start reached later entry is = ap (λ (e : Entry). bucket_of start e.estimate) is.same
+
+pub none_held : (start reached : ℕ) (heads : List ℕ) (later : List Waiting) (here : List Entry) (most : ℕ)
+    → AreBuckets start reached heads later here most → here ≡ []
+    → ((other : ℕ) → reached ≤ other → slice_index heads other ≡ 0) → (entry : Entry) → IsHeld start reached later here entry → ⊥
+none_held start reached heads later here most sound none empty entry (inl has) =
+    Contains-none entry (subst (λ (entries : List Entry). Contains entries entry) none has)
+none_held start reached heads later here most sound none empty entry (inr waits) =
+    let bucket = bucket_of start entry.estimate in
+    nothing_waits start later bucket (slice_index heads bucket) (sound.lasts bucket) (empty bucket waits.ahead) waits.number waits.waiting
+    waits.known (waits_there start reached later entry waits)
+
+pub buckets_taken : (start reached : ℕ) (heads : List ℕ) (later : List Waiting) (old gathered sorted : List Entry) (most more bucket : ℕ)
+    → AreBuckets start reached heads later old most → old ≡ [] → AreGathered start later bucket old gathered → AreFalling sorted
+    → ((entry : Entry) → Contains sorted entry ↔ Contains gathered entry) → more ≡ most
+    → AreBuckets start (bucket + 1) heads later sorted more
+buckets_taken start reached heads later old gathered sorted most more bucket sound none gather falling same room = record {
+  room = let was = sound.room in omega (arith, was, room);
+  falling = falling;
+  low = λ entry has. elim (gather.only entry ((same entry).0 has)) [
+    | inl was ↦ absurd (Contains-none entry (subst (λ (entries : List Entry). Contains entries entry) none was))
+    | inr is ↦ omega (arith, is)
+  ];
+  lasts = sound.lasts;
+  links = sound.links;
+}
+
+pub held_taken : (start reached : ℕ) (heads : List ℕ) (later : List Waiting) (old gathered sorted : List Entry) (most bucket : ℕ)
+    → AreBuckets start reached heads later old most → old ≡ [] → AreGathered start later bucket old gathered
+    → ((entry : Entry) → Contains sorted entry ↔ Contains gathered entry)
+    → ((other : ℕ) → reached ≤ other → other < bucket → slice_index heads other ≡ 0)
+    → (entry : Entry) → IsHeld start reached later old entry → IsHeld start (bucket + 1) later sorted entry
+held_taken start reached heads later old gathered sorted most bucket sound none gather same empty entry (inl has) =
+    absurd (Contains-none entry (subst (λ (entries : List Entry). Contains entries entry) none has))
+held_taken start reached heads later old gathered sorted most bucket sound none gather same empty entry (inr waits) =
+    let its = bucket_of start entry.estimate in
+    let there = waits_there start reached later entry waits in
+    elim (cases_eq its bucket) [
+      | inl here ↦ inl ((same entry).1 (subst (λ (e : Entry). Contains gathered e) waits.same
+          (gather.all waits.number waits.waiting waits.known (there ∙ here))))
+      | inr apart ↦ elim (cases_lt its bucket) [
+        | inl less ↦ absurd (nothing_waits start later its (slice_index heads its) (sound.lasts its) (empty its waits.ahead less)
+            waits.number waits.waiting waits.known there)
+        | inr more ↦ inr (record {
+          number = waits.number;
+          waiting = waits.waiting;
+          known = waits.known;
+          same = waits.same;
+          ahead = omega (arith, apart, more);
+        })
+      ]
+    ]
+
+-- ---- an entry of a later bucket
+pub buckets_later : (start reached : ℕ) (heads places : List ℕ) (later : List Waiting) (here : List Entry) (most room bucket : ℕ) (more : Waiting)
+    → AreBuckets start reached heads later here most → ((other : ℕ) → slice_index places other ≡ slice_index heads other)
+    → bucket_of start more.estimate ≡ bucket → bucket < length places → more.next ≡ slice_index places bucket → length later + 1 ≤ room
+    → AreBuckets start reached (set places bucket (length later + 1)) (later ++ more ∷ []) here room
+buckets_later start reached heads places later here most room bucket more sound same is known next enough =
+    let size : length (later ++ more ∷ []) ≡ length later + 1 = length-append later (more ∷ []) in
+    let lasts : (b : ℕ) → IsLastOf start later b (length later) (slice_index places b) = λ b.
+    subst (λ (end : ℕ). IsLastOf start later b (length later) end) (sym (same b)) (sound.lasts b) in
+    let heads = heads_more start places later more bucket is known lasts in
+    record {
+      room = omega (arith, size, enough);
+      falling = sound.falling;
+      low = sound.low;
+      lasts = λ b. subst (λ (bound : ℕ). IsLastOf start (later ++ more ∷ []) b bound (slice_index (set places bucket (length later + 1)) b))
+          (sym size) (heads b);
+      links = linked_more start later more sound.links
+          (subst (λ (b : ℕ). IsLastOf start later b (length later) more.next) (sym is)
+          (subst (λ (end : ℕ). IsLastOf start later bucket (length later) end) (sym next) (lasts bucket)));
+    }
+
+pub held_later : (start reached : ℕ) (later : List Waiting) (here : List Entry) (more : Waiting) (entry : Entry)
+    → IsHeld start reached later here entry → IsHeld start reached (later ++ more ∷ []) here entry
+held_later start reached later here more entry (inl has) = inl has
+held_later start reached later here more entry (inr waits) = inr (waiting_still start reached later more entry waits)
+
+pub held_now : (start reached : ℕ) (later : List Waiting) (here : List Entry) (more : Waiting) → reached ≤ bucket_of start more.estimate
+    → IsHeld start reached (later ++ more ∷ []) here (entry_of more)
+held_now start reached later here more ahead = inr (record {
+  number = length later;
+  waiting = more;
+  known = slice_get-push_last later more;
+  same = refl;
+  ahead = ahead;
+})
+
+-- ---- what is held
+pub held_still : (start reached : ℕ) (later : List Waiting) (here : List Entry) (from now : ℕ) (waits : List Waiting) (there : List Entry)
+    (entry : Entry) → from ≡ start → now ≡ reached → waits ≡ later → (Contains here entry → Contains there entry)
+    → IsHeld start reached later here entry → IsHeld from now waits there entry
+held_still start reached later here from now waits there entry starts same list keeps (inl has) = inl (keeps has)
+held_still start reached later here from now waits there entry starts same list keeps (inr is) =
+    inr (subst (λ (s : ℕ). IsWaiting s now waits entry) (sym starts) (subst (λ (r : ℕ). IsWaiting start r waits entry) (sym same)
+    (subst (λ (l : List Waiting). IsWaiting start reached l entry) (sym list) is)))
+
+pub least_held : (start reached : ℕ) (heads : List ℕ) (later : List Waiting) (here : List Entry) (most : ℕ)
+    → AreBuckets start reached heads later here most → (entry : Entry) → slice_get here (length here - 1) ≡ Some entry
+    → (other : Entry) → IsHeld start reached later here other → entry.estimate ≤ other.estimate
+least_held start reached heads later here most sound entry known other (inl has) =
+    last_is_least here entry sound.falling known other has
+least_held start reached heads later here most sound entry known other (inr waits) =
+    let low = sound.low entry (Contains-from_slice_get here (length here - 1) entry known) in
+    let ahead = waits.ahead in
+    omega (arith, low, ahead)

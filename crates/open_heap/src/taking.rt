@@ -1,0 +1,193 @@
+//! Adding entries to buckets, and taking the least out.
+ghost use Rattle.std.specs.Prelude.{◌≡◌, ◌<◌, ◌≤◌, ◌+◌, ◌-◌, ◌⊎◌, [], ℕ, length, Contains, slice_get, slice_index};
+ghost use Rattle.std.specs.Prelude.{IfSome, IfNone, OnOk, Some};
+ghost use Rattle.open_heap.specs.declared.entries.Entry.{Entry};
+ghost use Rattle.open_heap.specs.inner.Buckets.{bucket_of, IsLive};
+ghost use Rattle.open_heap.specs.inner.Held.{Holds};
+
+use crate::buckets::{
+    Buckets, WIDTH, Waiting, gather, is_live, make_places, place_of, sort_falling,
+};
+use crate::entries::Entry;
+use nav_types::NoMemory;
+use std::alloc::Global;
+
+impl Buckets {
+    /// No entry.
+    pub fn new(alloc: Global) -> Buckets {
+        Buckets {
+            start: u64::MAX,
+            reached: 1,
+            heads: Vec::new(alloc),
+            later: Vec::new(alloc),
+            here: Vec::new(alloc),
+        }
+    }
+
+    /// Takes out all entries. Buckets are counted from the estimate.
+    pub fn restart(&mut self, start: u64) {
+        self.start = start;
+        self.reached = 1;
+        self.heads.clear();
+        self.later.clear();
+        self.here.clear();
+    }
+
+    /// The bucket of an estimate.
+    fn bucket_of(&self, estimate: u64) -> usize
+        ensures { result ≡ bucket_of self.now.start estimate }
+    {
+        (estimate.saturating_sub(self.start) / WIDTH) as usize
+    }
+
+    /// Adds an entry of the current bucket, or of an earlier one.
+    fn add_here(&mut self, entry: Entry) -> Result<(), NoMemory>
+        requires { bucket_of self.old.start entry.estimate < self.old.reached }
+        ensures added { OnOk result (Holds self.new entry) }
+        ensures kept { (other : Entry) → Holds self.old other → Holds self.new other }
+    {
+        let place = place_of(&self.here, entry.estimate);
+        self.here.insert(place, entry)?;
+        Ok(())
+    }
+
+    /// Adds an entry of a later bucket.
+    fn add_later(&mut self, bucket: usize, entry: Entry) -> Result<(), NoMemory>
+        requires bucket { bucket ≡ bucket_of self.old.start entry.estimate }
+        requires later { self.old.reached ≤ bucket }
+        ensures added { OnOk result (Holds self.new entry) }
+        ensures kept { (other : Entry) → Holds self.old other → Holds self.new other }
+    {
+        let Ok(number) = u32::try_from(self.later.len()) else {
+            return Err(NoMemory);
+        };
+        let Some(after) = number.checked_add(1) else {
+            return Err(NoMemory);
+        };
+        self.later.reserve(1)?;
+        self.here.reserve(after as usize)?;
+        make_places(&mut self.heads, bucket)?;
+        let next = self.heads[bucket];
+        self.heads[bucket] = after;
+        self.later.push_reserved(Waiting {
+            estimate: entry.estimate,
+            key: entry.key,
+            next,
+        });
+        Ok(())
+    }
+
+    /// Where no entry is left, buckets are counted from the current one, or from an estimate before it. The first entry
+    /// of all is the first of its bucket.
+    fn rebase(&mut self, estimate: u64)
+        ensures kept { (other : Entry) → Holds self.old other → Holds self.new other }
+    {
+        if self.here.is_empty() && self.heads.len() <= self.reached {
+            let passed = WIDTH.saturating_mul(self.reached.saturating_sub(1) as u64);
+            self.restart(estimate.min(self.start.saturating_add(passed)));
+        }
+    }
+
+    /// Adds an entry. Where there is no memory the others stay.
+    pub fn add(&mut self, entry: Entry) -> Result<(), NoMemory>
+        ensures added { OnOk result (Holds self.new entry) }
+        ensures kept { (other : Entry) → Holds self.old other → Holds self.new other }
+    {
+        self.rebase(entry.estimate);
+        let bucket = self.bucket_of(entry.estimate);
+        if bucket < self.reached {
+            self.add_here(entry)
+        } else {
+            self.add_later(bucket, entry)
+        }
+    }
+
+    /// The last entry of the current bucket, where there is one that is its key's. Those behind it are taken out.
+    fn last_live(&mut self, estimates: &[Option<u64>]) -> Option<Entry>
+        ensures live { IfSome result (IsLive estimates.now) }
+        ensures last { IfSome result (λ entry. slice_get self.new.here.items (length self.new.here.items - 1)
+            ≡ Some entry) }
+        ensures kept { (other : Entry) → IsLive estimates.now other → Contains self.old.here.items other
+            → Contains self.new.here.items other }
+        ensures none { IfNone result (self.new.here.items ≡ []) }
+        ensures reached { self.new.reached ≡ self.old.reached }
+        ensures start { self.new.start ≡ self.old.start }
+        ensures later { self.new.later.items ≡ self.old.later.items }
+        ensures heads { self.new.heads.items ≡ self.old.heads.items }
+    {
+        'stale: while let Some(entry) = self.here.last().copied() {
+            if is_live(estimates, entry) {
+                return Some(entry);
+            }
+            self.here.pop();
+        }
+        None
+    }
+
+    /// The first of the later buckets that has entries.
+    fn next_bucket(&self) -> Option<usize>
+        ensures some { IfSome result (λ bucket. (self.now.reached ≤ bucket) × (bucket < length self.now.heads.items)) }
+        ensures first { IfSome result (λ bucket. (other : ℕ) → self.now.reached ≤ other → other < bucket
+            → slice_index self.now.heads.items other ≡ 0) }
+        ensures none { IfNone result ((other : ℕ) → self.now.reached ≤ other
+            → slice_index self.now.heads.items other ≡ 0) }
+    {
+        for bucket in self.reached..self.heads.len() {
+            if self.heads[bucket] > 0 {
+                return Some(bucket);
+            }
+        }
+        None
+    }
+
+    /// Makes a later bucket the current one, where all before it are empty.
+    fn take_bucket(&mut self, bucket: usize)
+        requires done { self.old.here.items ≡ [] }
+        requires later { self.old.reached ≤ bucket }
+        requires known { bucket < length self.old.heads.items }
+        requires first { (other : ℕ) → self.old.reached ≤ other → other < bucket
+            → slice_index self.old.heads.items other ≡ 0 }
+        ensures kept { (other : Entry) → Holds self.old other → Holds self.new other }
+        ensures reached { self.new.reached ≡ bucket + 1 }
+        ensures heads { length self.new.heads.items ≡ length self.old.heads.items }
+    {
+        gather(&self.later, self.heads[bucket], &mut self.here);
+        sort_falling(&mut self.here);
+        self.reached = bucket + 1;
+    }
+
+    /// An entry of least estimate of those that are their keys'. Those found before it that are not are taken out.
+    pub fn least(&mut self, estimates: &[Option<u64>]) -> Option<Entry>
+        ensures live { IfSome result (IsLive estimates.now) }
+        ensures last { IfSome result (λ entry. slice_get self.new.here.items (length self.new.here.items - 1)
+            ≡ Some entry) }
+        ensures first { IfSome result (λ entry. (other : Entry) → IsLive estimates.now other
+            → Holds self.old other
+            → entry.estimate ≤ other.estimate) }
+        ensures kept { (other : Entry) → IsLive estimates.now other
+            → Holds self.old other
+            → Holds self.new other }
+        ensures none { IfNone result ((other : Entry) → IsLive estimates.now other
+            → Holds self.old other → ⊥) }
+    {
+        'take: loop {
+            if let Some(entry) = self.last_live(estimates) {
+                return Some(entry);
+            }
+            let Some(bucket) = self.next_bucket() else {
+                return None;
+            };
+            self.take_bucket(bucket);
+        }
+    }
+
+    /// Takes out the last entry of the current bucket.
+    pub fn take_last(&mut self)
+        ensures kept { (last other : Entry)
+            → slice_get self.old.here.items (length self.old.here.items - 1) ≡ Some last
+            → Holds self.old other
+            → (last ≡ other) ⊎ Holds self.new other }
+    {
+        self.here.pop();
+    }
+}
