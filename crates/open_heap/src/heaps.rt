@@ -116,8 +116,9 @@ impl OpenHeap {
         ensures lowered { OnOk result (self.new ≡ map.insert self.old key estimate) }
         ensures kept { OnErr result (self.new ≡ self.old) }
     {
-        self.buckets.add(Entry { estimate, key })?;
-        self.estimates[key as usize] = Some(estimate);
+        let entry = Entry { estimate, key };
+        self.buckets.add(entry)?;
+        self.estimates[key as usize] = Some(entry.estimate);
         Ok(())
     }
 
