@@ -6,7 +6,6 @@ use Rattle.std.specs.FinMap as map
 use Rattle.std.proofs.lemmas.Bool.{both_ways}
 use Rattle.nav_types.specs.declared.cells.Cell.{Cell}
 use Rattle.nav_types.specs.declared.cells.Rect.{Rect}
-use Rattle.open_heap.specs.declared.entries.Priority.{Priority}
 use Rattle.open_heap.specs.Queue.{Queue}
 use Rattle.jump_search.specs.declared.nodes.Node.{Node}
 use Rattle.jump_search.specs.declared.searching.Best.{Best}
@@ -32,8 +31,8 @@ within_floor all rect floor nodes queue queued number node found opened = elim (
 waits_or_skipped : (all : Bool) (rect : Rect) (floor : ℕ) (nodes : List Node) (queue : Queue)
     → IsQueued all rect floor nodes queue
     → (number : ℕ) (node : Node) → slice_get nodes number ≡ Some node → IsFalse node.opened
-    → ((priority : Priority) × ((map.get queue number ≡ Some priority)
-    × ((priority.estimate ≡ estimate_of rect node) × (floor ≤ priority.estimate))))
+    → ((value : ℕ) × ((map.get queue number ≡ Some value)
+    × ((value ≡ estimate_of rect node) × (floor ≤ value))))
     ⊎ (IsFalse all × IsDearer nodes node)
 waits_or_skipped all rect floor nodes queue queued number node found not = elim (get_cases queue number) [
   | inl none ↦ elim (queued.taken number node found none).1 [
@@ -43,7 +42,7 @@ waits_or_skipped all rect floor nodes queue queued number node found not = elim 
   | inr some ↦
       let has = queued.waits number some.0 some.1 in
       let is = one_item nodes number has.0 node has.1.0 found in
-      inl (some.0, (some.1, (subst (λ (n : Node). some.0.estimate ≡ estimate_of rect n) is has.1.1.1.0, has.1.1.1.1.1)))
+      inl (some.0, (some.1, (subst (λ (n : Node). some.0 ≡ estimate_of rect n) is has.1.1.1.0, has.1.1.1.1)))
 ]
 
 none_passed : (hit : Cell → Bool) (nodes : List Node) (floor : ℕ) (best : Option Best) → IsBestSoFar hit nodes floor best
@@ -73,7 +72,7 @@ halted all passes hit start rect floor nodes queue best underway = record {
 pub ended : (all : Bool) (passes hit : Cell → Bool) (start : Cell) (rect : Rect) (floor : ℕ) (nodes : List Node)
     (queue : Queue) (best : Option Best)
     → IsUnderway all passes hit start rect floor nodes queue best
-    → ((number : ℕ) (priority : Priority) → map.get queue number ≡ Some priority → IsPast best priority.estimate)
+    → ((number : ℕ) (value : ℕ) → map.get queue number ≡ Some value → IsPast best value)
     → HasEnded all passes hit start rect nodes best
 ended all passes hit start rect floor nodes queue None underway past = record {
   met = underway.met;

@@ -1,10 +1,11 @@
 -- Numbers of cells by pages.
-use Rattle.std.proofs.Common.{ℕ, ◌≡◌, ◌≢◌, ◌+◌, ◌*◌, ◌<◌, ◌≤◌, List, length, get_or, set, inl, inr}
+use Rattle.std.proofs.Common.{ℕ, ◌≡◌, ◌≢◌, ◌+◌, ◌*◌, ◌<◌, ◌≤◌, List, ◌++◌, length, get_or, set, inl, inr}
 use Rattle.std.proofs.Common.{sym, subst, ap, ◌∙◌, arith}
-use Rattle.std.specs.Prelude.{replicate}
+use Rattle.std.specs.Prelude.{replicate, take, drop}
+use Rattle.std.proofs.Math.Seq.{take-length}
 use Rattle.std.proofs.lemmas.Bool.{cases_lt}
-use Rattle.std.proofs.lemmas.List.{get_or-replicate, get_or_past, length-replicate, get_or-set_same}
-use Rattle.std.proofs.lemmas.List.{get_or-set_other}
+use Rattle.std.proofs.lemmas.List.{get_or-replicate, get_or-take, get_or_past, length-replicate, length-take-le, take-append-le}
+use Rattle.std.proofs.lemmas.List.{get_or-set_same, get_or-set_other}
 use Rattle.nav_types.specs.declared.cells.Cell.{Cell}
 use Rattle.jump_search.specs.inner.Paged.{page_place, spot_of, slot_of, number_on_page, cell_number, ArePages, IsSet}
 
@@ -39,6 +40,40 @@ pub number_blank : (table numbers : List ℕ) (size : ℕ) → numbers ≡ repli
 unfolding cell_number
 number_blank table numbers size is cell =
     zero_in numbers size is (get_or table (page_place cell) 0 * 256 + spot_of cell)
+
+-- a table that was lent whole and filled with zeros
+pub filled : (table numbers : List ℕ) (size : ℕ) → size ≡ length table → numbers ≡ replicate (length table) 0
+    → take size (numbers ++ drop (length numbers) table) ≡ replicate (length table) 0
+filled table numbers size whole zeros =
+    let long : length numbers ≡ length table = ap length zeros ∙ length-replicate (length table) 0 in
+    let same : size ≡ length numbers = omega (arith, whole, long) in
+    take-append-le size numbers (drop (length numbers) table) (omega (arith, same))
+    ∙ ap (λ (n : ℕ). take n numbers) same ∙ take-length numbers ∙ zeros
+
+-- pages that were set back: the table is of zeros, and the first page is left
+pub pages_cleared : (table numbers cut short : List ℕ) → ArePages table numbers → cut ≡ replicate (length table) 0
+    → short ≡ take 256 numbers → ArePages cut short
+pages_cleared table numbers cut short pages zeros first =
+    let zero : (place : ℕ) → get_or cut place 0 ≡ 0 = zero_in cut (length table) zeros in
+    let long : length cut ≡ length table = ap length zeros ∙ length-replicate (length table) 0 in
+    let some = pages.inside 0 in
+    let wide = pages.wide in
+    let size : length short ≡ 256 = ap length first ∙ length-take-le 256 numbers (omega (arith, some)) in
+    record {
+      wide = omega (arith, wide, long);
+      whole = omega (arith, size);
+      inside = λ place. let page = zero place in omega (arith, page, size);
+      blank = λ spot low. ap (λ (l : List ℕ). get_or l spot 0) first ∙ get_or-take 256 numbers spot 0 low ∙ pages.blank spot low;
+      own = λ a b same more. let page = zero a in absurd (omega (arith, page, more));
+    }
+
+pub number_cleared : (table numbers cut short : List ℕ) → ArePages table numbers → cut ≡ replicate (length table) 0
+    → short ≡ take 256 numbers → (cell : Cell) → cell_number cut short cell ≡ 0
+unfolding cell_number
+number_cleared table numbers cut short pages zeros first cell =
+    let page : get_or cut (page_place cell) 0 ≡ 0 = zero_in cut (length table) zeros (page_place cell) in
+    let at : get_or cut (page_place cell) 0 * 256 + spot_of cell ≡ spot_of cell = omega (arith, page) in
+    ap (λ (n : ℕ). get_or short n 0) at ∙ (pages_cleared table numbers cut short pages zeros first).blank (spot_of cell) (spot_low cell)
 
 set_apart : (table numbers : List ℕ) (place spot value : ℕ) → ArePages table numbers → 0 < get_or table place 0
     → spot < 256 → (p s : ℕ) → s < 256 → p * 256 + s ≢ place * 256 + spot

@@ -5,21 +5,20 @@ use Rattle.std.proofs.lemmas.Bool.{cases_lt, cond-true, cond-false}
 use Rattle.std.specs.Cmp.{nat_cmp_total}
 use Rattle.std.specs.FinMap as map
 use Rattle.std.specs.Ordering.{nat_cmp, eq_by_cmp}
-use Rattle.open_heap.specs.declared.entries.Priority.{Priority}
 use Rattle.open_heap.specs.Queue.{Queue}
 use Rattle.nav_types.proofs.NumberTies.{ties_at, apart_at}
 
-pub inserted_here : (queue : Queue) (key : ℕ) (priority : Priority)
-    → map.get (map.insert queue key priority) key ≡ Some priority
-inserted_here queue key priority =
-    map.get-insert nat_cmp_total queue key priority key
-    ∙ cond-true (eq_by_cmp nat_cmp key key) (Some priority) (map.get queue key) (ties_at key key refl)
+pub inserted_here : (queue : Queue) (key : ℕ) (value : ℕ)
+    → map.get (map.insert queue key value) key ≡ Some value
+inserted_here queue key value =
+    map.get-insert nat_cmp_total queue key value key
+    ∙ cond-true (eq_by_cmp nat_cmp key key) (Some value) (map.get queue key) (ties_at key key refl)
 
-pub inserted_apart : (queue : Queue) (key : ℕ) (priority : Priority) (other : ℕ) → other ≢ key
-    → map.get (map.insert queue key priority) other ≡ map.get queue other
-inserted_apart queue key priority other apart =
-    map.get-insert nat_cmp_total queue key priority other
-    ∙ cond-false (eq_by_cmp nat_cmp other key) (Some priority) (map.get queue other) (apart_at other key apart)
+pub inserted_apart : (queue : Queue) (key : ℕ) (value : ℕ) (other : ℕ) → other ≢ key
+    → map.get (map.insert queue key value) other ≡ map.get queue other
+inserted_apart queue key value other apart =
+    map.get-insert nat_cmp_total queue key value other
+    ∙ cond-false (eq_by_cmp nat_cmp other key) (Some value) (map.get queue other) (apart_at other key apart)
 
 pub removed_here : (queue : Queue) (key : ℕ) → map.get (map.remove queue key) key ≡ None
 removed_here queue key =
@@ -32,43 +31,43 @@ removed_apart queue key other apart =
     map.get-remove nat_cmp_total queue key other
     ∙ cond-false (eq_by_cmp nat_cmp other key) None (map.get queue other) (apart_at other key apart)
 
-pub len_added : (queue : Queue) (key : ℕ) (priority : Priority) → map.get queue key ≡ None
-    → map.len (map.insert queue key priority) ≡ map.len queue + 1
-len_added queue key priority none =
-    map.len-insert nat_cmp_total queue key priority
+pub len_added : (queue : Queue) (key : ℕ) (value : ℕ) → map.get queue key ≡ None
+    → map.len (map.insert queue key value) ≡ map.len queue + 1
+len_added queue key value none =
+    map.len-insert nat_cmp_total queue key value
     ∙ cond-false (map.contains_key queue key) (map.len queue) (map.len queue + 1) (ap is_some none)
 
-pub len_lowered : (queue : Queue) (key : ℕ) (priority old : Priority) → map.get queue key ≡ Some old
-    → map.len (map.insert queue key priority) ≡ map.len queue
-len_lowered queue key priority old found =
-    map.len-insert nat_cmp_total queue key priority
+pub len_lowered : (queue : Queue) (key : ℕ) (value old : ℕ) → map.get queue key ≡ Some old
+    → map.len (map.insert queue key value) ≡ map.len queue
+len_lowered queue key value old found =
+    map.len-insert nat_cmp_total queue key value
     ∙ cond-true (map.contains_key queue key) (map.len queue) (map.len queue + 1) (ap is_some found)
 
 -- a map that has a key has a length
-pub len_some : (queue : Queue) (key : ℕ) (priority : Priority) → map.get queue key ≡ Some priority → 1 ≤ map.len queue
-len_some queue key priority found = elim (cases_lt 0 (map.len queue)) [
+pub len_some : (queue : Queue) (key : ℕ) (value : ℕ) → map.get queue key ≡ Some value → 1 ≤ map.len queue
+len_some queue key value found = elim (cases_lt 0 (map.len queue)) [
   | inl more ↦ more
   | inr none ↦
       let zero_len : map.len queue ≡ 0 = omega (arith, none) in
       let empty = map.empty_of_len queue zero_len in
       let lacks : map.get queue key ≡ None = ap (λ (m : Queue). map.get m key) empty ∙ map.get-empty nat_cmp key in
-      let bad : Some priority ≡ None = sym found ∙ lacks in
+      let bad : Some value ≡ None = sym found ∙ lacks in
       absurd (cc)
 ]
 
-pub len_taken : (queue : Queue) (key : ℕ) (priority : Priority) → map.get queue key ≡ Some priority
+pub len_taken : (queue : Queue) (key : ℕ) (value : ℕ) → map.get queue key ≡ Some value
     → map.len (map.remove queue key) + 1 ≡ map.len queue
-len_taken queue key priority found =
+len_taken queue key value found =
     let less = map.len-remove nat_cmp_total queue key
     ∙ cond-true (map.contains_key queue key) (map.len queue - 1) (map.len queue) (ap is_some found) in
-    let some = len_some queue key priority found in
+    let some = len_some queue key value found in
     omega (arith, less, some)
 
-none_or_some : (found : Option Priority) → (found ≡ None) ⊎ ((priority : Priority) × (found ≡ Some priority))
+none_or_some : (found : Option ℕ) → (found ≡ None) ⊎ ((value : ℕ) × (found ≡ Some value))
 none_or_some None = inl refl
-none_or_some (Some priority) = inr (priority, refl)
+none_or_some (Some value) = inr (value, refl)
 
 -- what a key has
 pub get_cases : (queue : Queue) (key : ℕ) → (map.get queue key ≡ None)
-    ⊎ ((priority : Priority) × (map.get queue key ≡ Some priority))
+    ⊎ ((value : ℕ) × (map.get queue key ≡ Some value))
 get_cases queue key = none_or_some (map.get queue key)

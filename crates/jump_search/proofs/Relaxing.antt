@@ -10,14 +10,13 @@ use Rattle.std.proofs.lemmas.Option.{same_Some, slice_get_within, get_or_from_sl
 use Rattle.nav_types.proofs.Items.{slice_get-append_left, slice_get-push_last, slice_get-push_cases}
 use Rattle.nav_types.specs.declared.cells.Cell.{Cell}
 use Rattle.nav_types.specs.declared.cells.Rect.{Rect}
-use Rattle.open_heap.specs.declared.entries.Priority.{Priority}
 use Rattle.open_heap.specs.Queue.{Queue}
 use Rattle.jump_search.specs.declared.nodes.Node.{Node}
 use Rattle.jump_search.specs.declared.states.JumpState.{JumpState}
 use Rattle.jump_search.specs.JumpStates.{octile_to}
 use Rattle.jump_search.specs.inner.Numbered.{LacksState, HasCheaper}
 use Rattle.jump_search.specs.inner.Searched.{IsKeptRun, HasOpenedParent, IsDearer}
-use Rattle.jump_search.specs.inner.Underway.{estimate_of, priority_of, opened_count, IsQueued, IsLaterNode, AreLater}
+use Rattle.jump_search.specs.inner.Underway.{estimate_of, opened_count, IsQueued, IsLaterNode, AreLater}
 use Rattle.jump_search.specs.inner.Underway.{Relaxes}
 use Rattle.jump_search.proofs.Listing.{get_set_same, get_set_other, get_set_cases, one_item}
 use Rattle.jump_search.proofs.Queueing.{inserted_here, inserted_apart, len_added, len_lowered, get_cases}
@@ -87,18 +86,18 @@ from_added passes hit nodes node lacks parent number b found = elim (slice_get-p
 queued_added : (all : Bool) (rect : Rect) (floor : ℕ) (nodes : List Node) (queue : Queue) (node : Node)
     → IsFalse node.opened
     → floor ≤ estimate_of rect node → IsQueued all rect floor nodes queue
-    → IsQueued all rect floor (nodes ++ node ∷ []) (map.insert queue (length nodes) (priority_of rect node))
+    → IsQueued all rect floor (nodes ++ node ∷ []) (map.insert queue (length nodes) (estimate_of rect node))
 queued_added all rect floor nodes queue node not early queued =
     let more = nodes ++ node ∷ [] in
-    let longer = map.insert queue (length nodes) (priority_of rect node) in
+    let longer = map.insert queue (length nodes) (estimate_of rect node) in
     let later = later_added nodes node not in
     record {
-      waits = λ number priority found. elim (cases_eq number (length nodes)) [
+      waits = λ number value found. elim (cases_eq number (length nodes)) [
         | inl end ↦
-            let here : map.get longer number ≡ Some (priority_of rect node) =
-            subst (λ (n : ℕ). map.get longer n ≡ Some (priority_of rect node)) (sym end)
-            (inserted_here queue (length nodes) (priority_of rect node)) in
-            let same = same_Some (priority_of rect node) priority (sym here ∙ found) in
+            let here : map.get longer number ≡ Some (estimate_of rect node) =
+            subst (λ (n : ℕ). map.get longer n ≡ Some (estimate_of rect node)) (sym end)
+            (inserted_here queue (length nodes) (estimate_of rect node)) in
+            let same = same_Some (estimate_of rect node) value (sym here ∙ found) in
             let at : slice_get more number ≡ Some node =
             subst (λ (n : ℕ). slice_get more n ≡ Some node) (sym end) (slice_get-push_last nodes node) in (
               node,
@@ -106,26 +105,26 @@ queued_added all rect floor nodes queue node not early queued =
                 at,
                 (
                   not,
-                  subst (λ (p : Priority). (p.estimate ≡ estimate_of rect node)
-                      × ((p.order ≡ 0) × (floor ≤ p.estimate))) same (refl, (refl, early)),
+                  subst (λ (p : ℕ). (p ≡ estimate_of rect node)
+                      × (floor ≤ p)) same (refl, early),
                 ),
               ),
             )
         | inr before ↦
-            let old = queued.waits number priority (sym
-            (inserted_apart queue (length nodes) (priority_of rect node) number before) ∙ found) in
+            let old = queued.waits number value (sym
+            (inserted_apart queue (length nodes) (estimate_of rect node) number before) ∙ found) in
             (old.0, (slice_get-append_left nodes (node ∷ []) number old.0 old.1.0, old.1.1))
       ];
       taken = λ number b found none. elim (cases_eq number (length nodes)) [
         | inl end ↦
-            let here : map.get longer number ≡ Some (priority_of rect node) =
-            subst (λ (n : ℕ). map.get longer n ≡ Some (priority_of rect node)) (sym end)
-            (inserted_here queue (length nodes) (priority_of rect node)) in
-            absurd (none-some (priority_of rect node) (sym none ∙ here))
+            let here : map.get longer number ≡ Some (estimate_of rect node) =
+            subst (λ (n : ℕ). map.get longer n ≡ Some (estimate_of rect node)) (sym end)
+            (inserted_here queue (length nodes) (estimate_of rect node)) in
+            absurd (none-some (estimate_of rect node) (sym none ∙ here))
         | inr before ↦ elim (slice_get-push_cases nodes node number b found) [
           | inl old ↦
               let was = queued.taken number b old (sym
-              (inserted_apart queue (length nodes) (priority_of rect node) number before) ∙ none) in (
+              (inserted_apart queue (length nodes) (estimate_of rect node) number before) ∙ none) in (
                 was.0,
                 elim was.1 [
                   | inl opened ↦ inl opened
@@ -152,7 +151,7 @@ none_waits all rect floor nodes queue queued = elim (get_cases queue (length nod
 pub relaxes_added : (rect : Rect) (node : Node) (nodes : List Node) (queue : Queue) → IsFalse node.opened
     → LacksState nodes node.state
     → map.get queue (length nodes) ≡ None → length (nodes ++ node ∷ []) ≤ 4294967296
-    → Relaxes rect node nodes (nodes ++ node ∷ []) queue (map.insert queue (length nodes) (priority_of rect node))
+    → Relaxes rect node nodes (nodes ++ node ∷ []) queue (map.insert queue (length nodes) (estimate_of rect node))
 relaxes_added rect node nodes queue not lacks none few =
     let more = nodes ++ node ∷ [] in
     let later = later_added nodes node not in
@@ -163,7 +162,7 @@ relaxes_added rect node nodes queue not lacks none few =
           arith,
           length-append nodes (node ∷ []),
           len_added queue
-              (length nodes) (priority_of rect node) none,
+              (length nodes) (estimate_of rect node) none,
         );
       };
       relaxed = record {
@@ -240,8 +239,8 @@ costs_set nodes number most a b found lower costs place x at = elim (get_set_cas
 pub lower_waits : (all : Bool) (rect : Rect) (floor : ℕ) (nodes : List Node) (queue : Queue) (number : ℕ) (a b : Node)
     → IsQueued all rect floor nodes queue → slice_get nodes number ≡ Some a → b.state ≡ a.state
     → floor ≤ estimate_of rect b → b.cost < a.cost
-    → (priority : Priority) × ((map.get queue number ≡ Some priority)
-    × (IsFalse a.opened × ((priority.estimate ≡ estimate_of rect a) × (priority.order ≡ 0))))
+    → (value : ℕ) × ((map.get queue number ≡ Some value)
+    × (IsFalse a.opened × (value ≡ estimate_of rect a)))
 lower_waits all rect floor nodes queue number a b queued found same early less =
     let alike : octile_to rect b.state.cell ≡ octile_to rect a.state.cell =
     ap (λ (s : JumpState). octile_to rect s.cell) same in
@@ -250,25 +249,25 @@ lower_waits all rect floor nodes queue number a b queued found same early less =
       | inr some ↦
           let has = queued.waits number some.0 some.1 in
           let is : has.0 ≡ a = one_item nodes number has.0 a has.1.0 found in
-          let P = λ (n : Node). IsFalse n.opened × ((some.0.estimate ≡ estimate_of rect n) × (some.0.order ≡ 0)) in
-          (some.0, (some.1, subst P is (has.1.1.0, (has.1.1.1.0, has.1.1.1.1.0))))
+          let P = λ (n : Node). IsFalse n.opened × (some.0 ≡ estimate_of rect n) in
+          (some.0, (some.1, subst P is (has.1.1.0, has.1.1.1.0)))
     ]
 
 queued_lowered : (all : Bool) (rect : Rect) (floor : ℕ) (nodes : List Node) (queue : Queue) (number : ℕ) (a b : Node)
     → IsFalse b.opened
     → AreLater nodes (set nodes number b) → slice_get nodes number ≡ Some a → floor ≤ estimate_of rect b
     → IsQueued all rect floor nodes queue
-    → IsQueued all rect floor (set nodes number b) (map.insert queue number (priority_of rect b))
+    → IsQueued all rect floor (set nodes number b) (map.insert queue number (estimate_of rect b))
 queued_lowered all rect floor nodes queue number a b not later found early queued =
     let low = slice_get_within nodes number a found in
-    let new = map.insert queue number (priority_of rect b) in
+    let new = map.insert queue number (estimate_of rect b) in
     record {
-      waits = λ place priority has. elim (cases_eq place number) [
+      waits = λ place value has. elim (cases_eq place number) [
         | inl here ↦
-            let is : map.get new place ≡ Some (priority_of rect b) =
-            subst (λ (n : ℕ). map.get new n ≡ Some (priority_of rect b)) (sym here)
-            (inserted_here queue number (priority_of rect b)) in
-            let same = same_Some (priority_of rect b) priority (sym is ∙ has) in
+            let is : map.get new place ≡ Some (estimate_of rect b) =
+            subst (λ (n : ℕ). map.get new n ≡ Some (estimate_of rect b)) (sym here)
+            (inserted_here queue number (estimate_of rect b)) in
+            let same = same_Some (estimate_of rect b) value (sym is ∙ has) in
             let at : slice_get (set nodes number b) place ≡ Some b =
             subst (λ (n : ℕ). slice_get (set nodes number b) n ≡ Some b) (sym here)
             (get_set_same nodes number b low) in (
@@ -277,24 +276,24 @@ queued_lowered all rect floor nodes queue number a b not later found early queue
                 at,
                 (
                   not,
-                  subst (λ (p : Priority). (p.estimate ≡ estimate_of rect b)
-                      × ((p.order ≡ 0) × (floor ≤ p.estimate))) same (refl, (refl, early)),
+                  subst (λ (p : ℕ). (p ≡ estimate_of rect b)
+                      × (floor ≤ p)) same (refl, early),
                 ),
               ),
             )
         | inr apart ↦
-            let old = queued.waits place priority (sym (inserted_apart queue number (priority_of rect b) place apart) ∙
+            let old = queued.waits place value (sym (inserted_apart queue number (estimate_of rect b) place apart) ∙
             has) in
             (old.0, (get_set_other nodes number place b old.0 apart old.1.0, old.1.1))
       ];
       taken = λ place x at none. elim (get_set_cases nodes number place b x at) [
         | inl here ↦
-            let is : map.get new place ≡ Some (priority_of rect b) =
-            subst (λ (n : ℕ). map.get new n ≡ Some (priority_of rect b)) (sym here.0)
-            (inserted_here queue number (priority_of rect b)) in
-            absurd (none-some (priority_of rect b) (sym none ∙ is))
+            let is : map.get new place ≡ Some (estimate_of rect b) =
+            subst (λ (n : ℕ). map.get new n ≡ Some (estimate_of rect b)) (sym here.0)
+            (inserted_here queue number (estimate_of rect b)) in
+            absurd (none-some (estimate_of rect b) (sym none ∙ is))
         | inr apart ↦
-            let was = queued.taken place x apart.1 (sym (inserted_apart queue number (priority_of rect b) place apart.0)
+            let was = queued.taken place x apart.1 (sym (inserted_apart queue number (estimate_of rect b) place apart.0)
             ∙ none) in (
               was.0,
               elim was.1 [
@@ -310,10 +309,10 @@ queued_lowered all rect floor nodes queue number a b not later found early queue
     }
 
 pub relaxes_lowered : (rect : Rect) (node : Node) (nodes : List Node) (queue : Queue) (number : ℕ) (a : Node)
-    (old : Priority) → IsFalse node.opened
+    (old : ℕ) → IsFalse node.opened
     → IsFalse a.opened → slice_get nodes number ≡ Some a → a.state ≡ node.state → node.cost < a.cost
     → map.get queue number ≡ Some old
-    → Relaxes rect node nodes (set nodes number node) queue (map.insert queue number (priority_of rect node))
+    → Relaxes rect node nodes (set nodes number node) queue (map.insert queue number (estimate_of rect node))
 relaxes_lowered rect node nodes queue number a old not was found same less waits =
     let low = slice_get_within nodes number a found in
     let next : IsLaterNode a node = record {
@@ -330,7 +329,7 @@ relaxes_lowered rect node nodes queue number a old not was found same less waits
           arith,
           length-set nodes number node,
           len_lowered queue number
-              (priority_of rect node) old waits,
+              (estimate_of rect node) old waits,
         );
       };
       relaxed = record {
@@ -365,8 +364,8 @@ queued_tied all rect floor nodes queue number a b same cost opened later found q
     ap (λ (n : ℕ). n + octile_to rect a.state.cell) (sym cost)
     ∙ ap (λ (s : JumpState). b.cost + octile_to rect s.cell) (sym same) in
     record {
-      waits = λ place priority has.
-          let old = queued.waits place priority has in
+      waits = λ place value has.
+          let old = queued.waits place value has in
           elim (cases_eq place number) [
             | inl here ↦
                 let is : old.0 ≡ a = one_item nodes number old.0 a
@@ -375,7 +374,7 @@ queued_tied all rect floor nodes queue number a b same cost opened later found q
                 subst (λ (n : ℕ). slice_get (set nodes number b) n ≡ Some b) (sym here)
                 (get_set_same nodes number b low) in
                 let facts = subst (λ (n : Node). IsFalse n.opened
-                × ((priority.estimate ≡ estimate_of rect n) × ((priority.order ≡ 0) × (floor ≤ priority.estimate))))
+                × ((value ≡ estimate_of rect n) × (floor ≤ value)))
                 is old.1.1 in
                 (b, (at, (opened ∙ facts.0, (facts.1.0 ∙ estimates, facts.1.1))))
             | inr apart ↦ (old.0, (get_set_other nodes number place b old.0 apart old.1.0, old.1.1))

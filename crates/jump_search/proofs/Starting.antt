@@ -8,12 +8,11 @@ use Rattle.std.proofs.lemmas.Bool.{cases_eq, both_ways}
 use Rattle.std.proofs.lemmas.Option.{same_Some, slice_get_within, none-some}
 use Rattle.nav_types.specs.declared.cells.Cell.{Cell}
 use Rattle.nav_types.specs.declared.cells.Rect.{Rect}
-use Rattle.open_heap.specs.declared.entries.Priority.{Priority}
 use Rattle.open_heap.specs.Queue.{Queue}
 use Rattle.jump_search.specs.declared.nodes.Node.{Node}
 use Rattle.jump_search.specs.JumpStates.{start_state}
 use Rattle.jump_search.specs.inner.Searched.{AreMet}
-use Rattle.jump_search.specs.inner.Underway.{estimate_of, priority_of, IsUnderway}
+use Rattle.jump_search.specs.inner.Underway.{estimate_of, IsUnderway}
 use Rattle.jump_search.proofs.Queueing.{inserted_here, inserted_apart, len_added}
 
 -- the node of the start
@@ -44,23 +43,23 @@ met_start passes hit start = record {
 
 pub underway_start : (all : Bool) (passes hit : Cell → Bool) (start : Cell) (rect : Rect)
     → IsUnderway all passes hit start rect 0 (start_node start ∷ [])
-    (map.insert map.empty 0 (priority_of rect (start_node start))) None
+    (map.insert map.empty 0 (estimate_of rect (start_node start))) None
 underway_start all passes hit start rect =
     let node = start_node start in
     let empty : Queue = map.empty in
-    let queue = map.insert empty 0 (priority_of rect node) in
+    let queue = map.insert empty 0 (estimate_of rect node) in
     let none : (number : ℕ) → map.get empty number ≡ None = λ number. map.get-empty nat_cmp number in
-    let longer = len_added empty 0 (priority_of rect node) (none 0) in
-    let zero_len : map.len empty ≡ 0 = map.len-empty nat_cmp Priority in
+    let longer = len_added empty 0 (estimate_of rect node) (none 0) in
+    let zero_len : map.len empty ≡ 0 = map.len-empty nat_cmp ℕ in
     record {
       met = met_start passes hit start;
       queued = record {
-        waits = λ number priority found. elim (cases_eq number 0) [
+        waits = λ number value found. elim (cases_eq number 0) [
           | inl here ↦
-              let is : map.get queue number ≡ Some (priority_of rect node) =
-              subst (λ (n : ℕ). map.get queue n ≡ Some (priority_of rect node)) (sym here)
-              (inserted_here empty 0 (priority_of rect node)) in
-              let same = same_Some (priority_of rect node) priority (sym is ∙ found) in
+              let is : map.get queue number ≡ Some (estimate_of rect node) =
+              subst (λ (n : ℕ). map.get queue n ≡ Some (estimate_of rect node)) (sym here)
+              (inserted_here empty 0 (estimate_of rect node)) in
+              let same = same_Some (estimate_of rect node) value (sym is ∙ found) in
               let at : slice_get (node ∷ []) number ≡ Some node =
               subst (λ (n : ℕ). slice_get (node ∷ []) n ≡ Some node) (sym here) refl in (
                 node,
@@ -68,20 +67,20 @@ underway_start all passes hit start rect =
                   at,
                   (
                     refl,
-                    subst (λ (p : Priority). (p.estimate ≡ estimate_of rect node)
-                        × ((p.order ≡ 0) × (0 ≤ p.estimate))) same (refl, (refl, omega arith)),
+                    subst (λ (p : ℕ). (p ≡ estimate_of rect node)
+                        × (0 ≤ p)) same (refl, omega arith),
                   ),
                 ),
               )
-          | inr apart ↦ absurd (none-some priority
-              (sym (inserted_apart empty 0 (priority_of rect node) number apart ∙ none number) ∙ found))
+          | inr apart ↦ absurd (none-some value
+              (sym (inserted_apart empty 0 (estimate_of rect node) number apart ∙ none number) ∙ found))
         ];
         taken = λ number x found lacks.
             let zero_is = (only start number x found).0 in
-            let is : map.get queue number ≡ Some (priority_of rect node) =
-            subst (λ (n : ℕ). map.get queue n ≡ Some (priority_of rect node)) (sym zero_is)
-            (inserted_here empty 0 (priority_of rect node)) in
-            absurd (none-some (priority_of rect node) (sym lacks ∙ is));
+            let is : map.get queue number ≡ Some (estimate_of rect node) =
+            subst (λ (n : ℕ). map.get queue n ≡ Some (estimate_of rect node)) (sym zero_is)
+            (inserted_here empty 0 (estimate_of rect node)) in
+            absurd (none-some (estimate_of rect node) (sym lacks ∙ is));
       };
       followed = λ number x found opened.
           let is = (only start number x found).1 in

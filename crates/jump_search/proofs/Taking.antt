@@ -12,7 +12,6 @@ use Rattle.nav_types.specs.declared.cells.Rect.{Rect}
 use Rattle.nav_types.specs.Cells.{IsNotAfter}
 use Rattle.nav_types.proofs.CellOrder.{IsNotAfter-trans}
 use Rattle.open_heap.specs.declared.entries.Entry.{Entry}
-use Rattle.open_heap.specs.declared.entries.Priority.{Priority}
 use Rattle.open_heap.specs.Queue.{Queue, IsLeast}
 use Rattle.jump_search.specs.declared.nodes.Node.{Node}
 use Rattle.jump_search.specs.declared.searching.Best.{Best}
@@ -34,58 +33,45 @@ use Rattle.jump_search.proofs.Relaxing.{unopened_none, opened_one, count_set}
 pub record IsNext (rect : Rect) (floor : ℕ) (nodes : List Node) (entry : Entry) (node : Node) : Type 0 where
   pub known : slice_get nodes entry.key ≡ Some node
   pub unopened : IsFalse node.opened
-  pub estimate : entry.priority.estimate ≡ estimate_of rect node
-  pub early : floor ≤ entry.priority.estimate
+  pub estimate : entry.estimate ≡ estimate_of rect node
+  pub early : floor ≤ entry.estimate
 
 pub next_node : (all : Bool) (passes hit : Cell → Bool) (start : Cell) (rect : Rect) (floor : ℕ) (nodes : List Node)
     (queue : Queue)
     (best : Option Best) (entry : Entry) → IsTaken all passes hit start rect floor nodes queue best entry
     → (node : Node) × IsNext rect floor nodes entry node
 next_node all passes hit start rect floor nodes queue best entry taken =
-    let has = taken.underway.queued.waits entry.key entry.priority taken.least.present in
-    (has.0, record { known = has.1.0; unopened = has.1.1.0; estimate = has.1.1.1.0; early = has.1.1.1.1.1 })
+    let has = taken.underway.queued.waits entry.key entry.estimate taken.least.present in
+    (has.0, record { known = has.1.0; unopened = has.1.1.0; estimate = has.1.1.1.0; early = has.1.1.1.1 })
 
 -- what waits after the entry was taken comes no sooner
-later_estimate : (before : Queue) (entry : Entry) (number : ℕ) (priority : Priority) → IsLeast before entry
-    → map.get before number ≡ Some priority
-    → entry.priority.estimate ≤ priority.estimate
-later_estimate before entry number priority least found = elim (least.first number priority found) [
-  | inl less ↦ omega (arith, less)
-  | inr same ↦ let is = same.0 in omega (arith, is)
-]
+later_estimate : (before : Queue) (entry : Entry) (number : ℕ) (value : ℕ) → IsLeast before entry
+    → map.get before number ≡ Some value
+    → entry.estimate ≤ value
+later_estimate before entry number value least found = least.first number value found
 
 -- the open list without the entry, where its node is opened or is skipped
 queued_taken : (all : Bool) (rect : Rect) (floor : ℕ) (nodes : List Node) (before : Queue) (entry : Entry) (node : Node)
     → IsQueued all rect floor nodes before → IsLeast before entry → IsNext rect floor nodes entry node
     → IsTrue node.opened ⊎ (IsFalse all × IsDearer nodes node)
-    → IsQueued all rect entry.priority.estimate nodes (map.remove before entry.key)
+    → IsQueued all rect entry.estimate nodes (map.remove before entry.key)
 queued_taken all rect floor nodes before entry node queued least next passed =
     let rest = map.remove before entry.key in
     let known = next.known in let estimate = next.estimate in let early = next.early in
     record {
-      waits = λ number priority found. elim (cases_eq number entry.key) [
+      waits = λ number value found. elim (cases_eq number entry.key) [
         | inl here ↦
             let none : map.get rest number ≡ None = subst (λ (n : ℕ). map.get rest n ≡ None) (sym here)
             (removed_here before entry.key) in
-            let bad : None ≡ Some priority = sym none ∙ found in
+            let bad : None ≡ Some value = sym none ∙ found in
             absurd (cc)
         | inr apart ↦
             let was = sym (removed_apart before entry.key number apart) ∙ found in
-            let old = queued.waits number priority was in (
+            let old = queued.waits number value was in (
               old.0,
               (
                 old.1.0,
-                (
-                  old.1.1.0,
-                  (
-                    old.1.1.1.0,
-                    (
-                      old.1.1.1.1.0,
-                      later_estimate before entry number priority
-                          least was,
-                    ),
-                  ),
-                ),
+                (old.1.1.0, (old.1.1.1.0, later_estimate before entry number value least was)),
               ),
             )
       ];
@@ -93,8 +79,8 @@ queued_taken all rect floor nodes before entry node queued least next passed =
         | inl here ↦
             let is = one_item nodes number node x (subst (λ (n : ℕ). slice_get nodes n ≡ Some node) (sym here) known)
             found in
-            let low : estimate_of rect node ≤ entry.priority.estimate = omega (arith, estimate) in
-            subst (λ (n : Node). (estimate_of rect n ≤ entry.priority.estimate)
+            let low : estimate_of rect node ≤ entry.estimate = omega (arith, estimate) in
+            subst (λ (n : Node). (estimate_of rect n ≤ entry.estimate)
             × (IsTrue n.opened ⊎ (IsFalse all × IsDearer nodes n))) is (low, passed)
         | inr apart ↦
             let was = queued.taken number x found (sym (removed_apart before entry.key number apart) ∙ none) in
@@ -115,20 +101,20 @@ pub skipped : (all : Bool) (passes hit : Cell → Bool) (start : Cell) (rect : R
     (queue : Queue)
     (best : Option Best) (entry : Entry) (node : Node) → IsTaken all passes hit start rect floor nodes queue best entry
     → slice_get nodes entry.key ≡ Some node → IsFalse all → IsDearer nodes node
-    → IsUnderway all passes hit start rect entry.priority.estimate nodes queue best
+    → IsUnderway all passes hit start rect entry.estimate nodes queue best
 skipped all passes hit start rect floor nodes queue best entry node taken found not dearer =
     let has = next_node all passes hit start rect floor nodes queue best entry taken in
     let is = one_item nodes entry.key node has.0 found has.1.known in
     let passed = subst (λ (n : Node). IsTrue n.opened ⊎ (IsFalse all × IsDearer nodes n)) is (inr (not, dearer)) in
     let before = taken.before in
     let queued = queued_taken all rect floor nodes before entry has.0 taken.underway.queued taken.least has.1 passed in
-    let shorter = len_taken before entry.key entry.priority taken.least.present in
+    let shorter = len_taken before entry.key entry.estimate taken.least.present in
     let rest : map.len queue ≡ map.len (map.remove before entry.key) = ap (λ (m : Queue). map.len m) taken.rest in
     record {
       met = taken.underway.met;
-      queued = subst (λ (m : Queue). IsQueued all rect entry.priority.estimate nodes m) (sym taken.rest) queued;
+      queued = subst (λ (m : Queue). IsQueued all rect entry.estimate nodes m) (sym taken.rest) queued;
       followed = taken.underway.followed;
-      hits = best_raised hit nodes floor entry.priority.estimate best taken.near taken.underway.hits;
+      hits = best_raised hit nodes floor entry.estimate best taken.near taken.underway.hits;
       costs = λ number x at. let most = taken.underway.costs number x at in omega (arith, most, shorter, rest);
       few = taken.underway.few;
     }
@@ -269,32 +255,32 @@ noted_opened all nodes number a state cost run found noted = elim noted [
 
 queued_opened : (all : Bool) (rect : Rect) (floor : ℕ) (nodes : List Node) (before : Queue) (entry : Entry) (a : Node)
     → IsQueued all rect floor nodes before → IsLeast before entry → IsNext rect floor nodes entry a
-    → IsQueued all rect entry.priority.estimate (set nodes entry.key (opened_node a)) (map.remove before entry.key)
+    → IsQueued all rect entry.estimate (set nodes entry.key (opened_node a)) (map.remove before entry.key)
 queued_opened all rect floor nodes before entry a queued least next =
     let rest = map.remove before entry.key in
     let found = next.known in let estimate = next.estimate in let early = next.early in
     let new = set nodes entry.key (opened_node a) in
     record {
-      waits = λ number priority has. elim (cases_eq number entry.key) [
+      waits = λ number value has. elim (cases_eq number entry.key) [
         | inl here ↦
             let none : map.get rest number ≡ None = subst (λ (n : ℕ). map.get rest n ≡ None) (sym here)
             (removed_here before entry.key) in
-            let bad : None ≡ Some priority = sym none ∙ has in
+            let bad : None ≡ Some value = sym none ∙ has in
             absurd (cc)
         | inr apart ↦
             let was = sym (removed_apart before entry.key number apart) ∙ has in
-            let old = queued.waits number priority was in (
+            let old = queued.waits number value was in (
               old.0,
               (
                 get_set_other nodes entry.key number (opened_node a) old.0 apart old.1.0,
-                (old.1.1.0, (old.1.1.1.0, (old.1.1.1.1.0, later_estimate before entry number priority least was))),
+                (old.1.1.0, (old.1.1.1.0, later_estimate before entry number value least was)),
               ),
             )
       ];
       taken = λ number x at none. elim (get_set_cases nodes entry.key number (opened_node a) x at) [
         | inl here ↦
-            let low : estimate_of rect (opened_node a) ≤ entry.priority.estimate = omega (arith, estimate) in
-            subst (λ (n : Node). (estimate_of rect n ≤ entry.priority.estimate)
+            let low : estimate_of rect (opened_node a) ≤ entry.estimate = omega (arith, estimate) in
+            subst (λ (n : Node). (estimate_of rect n ≤ entry.estimate)
             × (IsTrue n.opened ⊎ (IsFalse all × IsDearer new n))) here.1 (low, inl refl)
         | inr apart ↦
             let was = queued.taken number x apart.1 (sym (removed_apart before entry.key number apart.0) ∙ none) in
@@ -322,7 +308,7 @@ pub ready_opened : (all : Bool) (passes hit : Cell → Bool) (start : Cell) (rec
     (queue : Queue)
     (best : Option Best) (entry : Entry) (a : Node) → IsTaken all passes hit start rect floor nodes queue best entry
     → slice_get nodes entry.key ≡ Some a
-    → IsReady all passes hit start rect entry.priority.estimate (189812736 * (length nodes - map.len queue)) a.state
+    → IsReady all passes hit start rect entry.estimate (189812736 * (length nodes - map.len queue)) a.state
     a.cost (set nodes entry.key (opened_node a)) queue
 ready_opened all passes hit start rect floor nodes queue best entry a taken found =
     let has = next_node all passes hit start rect floor nodes queue best entry taken in
@@ -331,14 +317,14 @@ ready_opened all passes hit start rect floor nodes queue best entry a taken foun
     let before = taken.before in
     let low = slice_get_within nodes entry.key a found in
     let new = set nodes entry.key (opened_node a) in
-    let shorter = len_taken before entry.key entry.priority taken.least.present in
+    let shorter = len_taken before entry.key entry.estimate taken.least.present in
     let rest : map.len queue ≡ map.len (map.remove before entry.key) = ap (λ (m : Queue). map.len m) taken.rest in
     let few = taken.underway.few in
     let here = taken.underway.costs entry.key a found in
     record {
       going = record {
         met = met_opened passes hit start nodes entry.key a found next.unopened taken.underway.met;
-        queued = subst (λ (m : Queue). IsQueued all rect entry.priority.estimate new m) (sym taken.rest)
+        queued = subst (λ (m : Queue). IsQueued all rect entry.estimate new m) (sym taken.rest)
             (queued_opened all rect floor nodes before entry a taken.underway.queued taken.least next);
         costs = λ number x at.
             let was = was_before nodes entry.key number a x found at in
@@ -373,7 +359,7 @@ followable_opened all passes hit start rect floor nodes queue best entry a taken
     record {
       all = all;
       start = start;
-      floor = entry.priority.estimate;
+      floor = entry.estimate;
       most = 189812736 * (length nodes - map.len queue);
       going = ready.going;
       opened = ready.opened;
@@ -666,21 +652,21 @@ pub opened_underway : (all : Bool) (passes hit : Cell → Bool) (start : Cell) (
     → (IsTrue (hit a.state.cell) → IfSome result (λ r. IsBetter best (record { cell = a.state.cell; cost = a.cost }) r)
     × IsSome result)
     → (IsFalse (hit a.state.cell) → result ≡ best)
-    → IsUnderway all passes hit start rect entry.priority.estimate new after result
+    → IsUnderway all passes hit start rect entry.estimate new after result
 opened_underway all passes hit start rect floor nodes new queue after best result entry a taken found framed follows
     better missed =
     let has = next_node all passes hit start rect floor nodes queue best entry taken in
     let is = one_item nodes entry.key has.0 a has.1.known found in
     let next = subst (λ (n : Node). IsNext rect floor nodes entry n) is has.1 in
     let ready = ready_opened all passes hit start rect floor nodes queue best entry a taken found in
-    let higher = entry.priority.estimate in
+    let higher = entry.estimate in
     let most = 189812736 * (length nodes - map.len queue) in
     let estimate = ready.estimate in
     let going = follows.going all start higher most ready.going ready.opened (omega (arith, estimate)) ready.room in
     let regard = regards nodes new entry.key a found next.unopened follows.gains.later in
     let first = taken.underway.met.first in
     let head = taken.underway.costs 0 first.0 first.1.0 in
-    let shorter = len_taken taken.before entry.key entry.priority taken.least.present in
+    let shorter = len_taken taken.before entry.key entry.estimate taken.least.present in
     let rest : map.len queue ≡ map.len (map.remove taken.before entry.key) = ap (λ (m : Queue). map.len m) taken.rest in
     let even = follows.gains.even in
     record {

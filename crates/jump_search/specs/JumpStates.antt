@@ -10,10 +10,17 @@ use Rattle.nav_types.specs.declared.directions.Dir.{Dir}
 use Rattle.nav_types.specs.Counting.{Counts}
 use Rattle.nav_types.specs.Directions.{is_straight}
 use Rattle.nav_types.specs.Frames.{IsFrame}
+use Rattle.nav_types.specs.Walks.{CanReach}
 use Rattle.walks.specs.Chosen.{IsAnswer}
 use Rattle.jump_scan.specs.Stops.{IsStraightStop, IsDiagonalStop}
 use Rattle.jump_scan.specs.Successors.{IsSuccessor}
 use Rattle.jump_search.specs.declared.states.JumpState.{JumpState}
+
+-- A search can be made: its start is passable, its aim is sound for the map, and a cell that the aim hits can be reached.
+pub record CanSearch (passes hit : Cell → Bool) (IsSound : Type 0) (start : Cell) : Type 0 where
+  pub free : IsTrue (passes start)
+  pub sound : IsSound
+  pub reach : CanReach passes start hit
 
 -- the run from the cell in the direction stops there
 abbrev pub IsStopOf : (Cell → Bool) → (Cell → Bool) → Dir → Cell → Cell → Type 0

@@ -1,17 +1,17 @@
 //! The nodes that a search has met, and those of them that wait.
-ghost use Rattle.std.specs.Prelude.{◌≡◌, ◌↔◌, ◌<◌, ◌≤◌, ◌⊎◌, ◌++◌, ◌∷◌, ◌+◌, ◌^◌, [], ℕ, Bool, Some, None, length};
+ghost use Rattle.std.specs.Prelude.{◌≡◌, ◌↔◌, ◌<◌, ◌≤◌, ◌⊎◌, ◌++◌, ◌∷◌, ◌+◌, ◌^◌, [], ℕ, Bool, Some, None, length, slice_get};
 ghost use Rattle.std.specs.Prelude.{slice_set, IsTrue, IsFalse, IsSomeAnd, IfSome, IfNone, OnOk, IfOk};
 ghost use Rattle.std.specs.FinMap as map;
 ghost use Rattle.nav_types.specs.declared.cells.Cell.{Cell};
 ghost use Rattle.nav_types.specs.declared.directions.Dir.{Dir};
 ghost use Rattle.nav_types.specs.DirSets.{holds};
-ghost use Rattle.open_heap.specs.Queue.{IsNotMore};
 ghost use Rattle.jump_scan.specs.Successors.{IsSuccessor};
 ghost use Rattle.jump_search.specs.JumpStates.{IsStopOf, octile_between};
+ghost use Rattle.jump_search.specs.declared.nodes.Node.{Node};
 ghost use Rattle.jump_search.specs.inner.Numbered.{HasState, LacksState};
 ghost use Rattle.jump_search.specs.inner.Traced.{Moves};
 ghost use Rattle.jump_search.specs.inner.Searched.{IsKeptRun, IsDearer};
-ghost use Rattle.jump_search.specs.inner.Underway.{steps_over, estimate_of, priority_of, IsQueued, Relaxes, Notes};
+ghost use Rattle.jump_search.specs.inner.Underway.{steps_over, estimate_of, IsQueued, Relaxes, Notes};
 ghost use Rattle.jump_search.specs.inner.Underway.{IsFollowable, Follows};
 
 use crate::nodes::{Node, Nodes, Standing};
@@ -20,7 +20,7 @@ use crate::problems::Problem;
 use crate::states::JumpState;
 use jump_scan::{Runs, successors};
 use nav_types::{Aim, Cell, Class, Dir, DirSet, NoMemory, Rect};
-use open_heap::{OpenHeap, Priority};
+use open_heap::OpenHeap;
 use std::alloc::Global;
 
 /// The nodes that a search has met, and the open list of those that wait.
@@ -104,15 +104,12 @@ fn stop_of<R: Runs, A: Aim>(runs: &R, class: Class, from: Cell, dir: Dir, aim: &
     runs.diagonal(class, from, dir, aim)
 }
 
-/// When a node is taken from the open list: nodes of a lesser estimate come first.
-fn priority_of(rect: &Rect, node: &Node) -> Priority
+/// What jumps by the node to the rectangle cost at least: nodes of a lesser estimate are opened first.
+fn estimate_of(rect: &Rect, node: &Node) -> u64
     requires { node.now.cost < 2 ^ 63 }
-    ensures { result ≡ priority_of rect.now node.now }
+    ensures { result ≡ estimate_of rect.now node.now }
 {
-    Priority {
-        estimate: node.cost + octile_to(rect, node.state.cell),
-        order: 0,
-    }
+    node.cost + octile_to(rect, node.state.cell)
 }
 
 impl Front {
@@ -127,6 +124,15 @@ impl Front {
         })
     }
 
+    /// Takes out every node. It takes no memory, and keeps the room that there is for more.
+    pub(crate) fn clear(&mut self)
+        ensures nodes { self.new.nodes ≡ [] }
+        ensures waiting { self.new.waiting ≡ map.empty }
+    {
+        self.nodes.clear();
+        self.waiting.clear();
+    }
+
     /// Adds a node whose state has none, and lets it wait.
     pub(crate) fn meet(&mut self, rect: &Rect, node: Node) -> Result<(), NoMemory>
         requires lacks { LacksState self.old.nodes node.state }
@@ -134,46 +140,50 @@ impl Front {
         requires low { node.cost < 2 ^ 63 }
         ensures nodes { OnOk result (self.new.nodes ≡ self.old.nodes ++ node ∷ []) }
         ensures waiting { OnOk result (self.new.waiting ≡ map.insert self.old.waiting (length self.old.nodes)
-            (priority_of rect.now node)) }
+            (estimate_of rect.now node)) }
         ensures few { OnOk result (length self.new.nodes ≤ 2 ^ 32) }
     {
         let number = self.nodes.add(node)?;
-        self.waiting.push(number, priority_of(rect, &node))?;
+        self.waiting.push(number, estimate_of(rect, &node))?;
         Ok(())
     }
 
     /// Gives a node that waits a cost that is less.
-    fn lower(&mut self, rect: &Rect, number: u32, node: Node)
+    fn lower(&mut self, rect: &Rect, number: u32, node: Node) -> Result<(), NoMemory>
         requires same { HasState self.old.nodes node.state number }
-        requires waits { IsSomeAnd (map.get self.old.waiting number) (IsNotMore (priority_of rect.now node)) }
+        requires waits { IsSomeAnd (map.get self.old.waiting number) (λ known. estimate_of rect.now node ≤ known) }
         requires low { node.cost < 2 ^ 63 }
-        ensures nodes { self.new.nodes ≡ slice_set self.old.nodes number node }
-        ensures waiting { self.new.waiting ≡ map.insert self.old.waiting number (priority_of rect.now node) }
+        ensures nodes { OnOk result (self.new.nodes ≡ slice_set self.old.nodes number node) }
+        ensures waiting { OnOk result (self.new.waiting ≡ map.insert self.old.waiting number
+            (estimate_of rect.now node)) }
     {
         self.nodes.put(number, node);
-        self.waiting.lower(number, priority_of(rect, &node));
+        self.waiting.lower(number, estimate_of(rect, &node))?;
+        Ok(())
     }
 
     /// Notes that a jump leads to the node's state, which the node of the number has, at its cost and with its last run.
-    fn relax(&mut self, rect: &Rect, dir: Dir, number: u32, node: Node)
+    fn relax(&mut self, rect: &Rect, dir: Dir, number: u32, node: Node) -> Result<(), NoMemory>
         requires has { HasState self.old.nodes node.state number }
         requires arrived { node.state.arrived ≡ Some dir }
         requires waiting { IsFalse node.opened }
         requires low { node.cost < 2 ^ 63 }
         requires queued { (all : Bool) × ((floor : ℕ)
             × (IsQueued all rect.now floor self.old.nodes self.old.waiting × (floor ≤ estimate_of rect.now node))) }
-        ensures { Relaxes rect.now node self.old.nodes self.new.nodes self.old.waiting self.new.waiting }
+        ensures { OnOk result (Relaxes rect.now node self.old.nodes self.new.nodes self.old.waiting
+            self.new.waiting) }
     {
         let known = *self.nodes.at(number);
         if node.cost > known.cost {
-            return;
+            return Ok(());
         }
         if node.cost == known.cost {
             let run = kept_run(dir, known.run, node.run);
             self.nodes.put(number, Node { run, ..known });
-            return;
+            return Ok(());
         }
-        self.lower(rect, number, node);
+        self.lower(rect, number, node)?;
+        Ok(())
     }
 
     /// Notes that a jump leads to the node's state at its cost and with its last run. Where the search is not for all,
@@ -191,7 +201,7 @@ impl Front {
         match self.nodes.standing(node.state, bound_of(all, node.cost)) {
             Standing::Dearer => Ok(()),
             Standing::Known(number) => {
-                self.relax(rect, dir, number, node);
+                self.relax(rect, dir, number, node)?;
                 Ok(())
             }
             Standing::New => {
@@ -283,9 +293,19 @@ impl Front {
     }
 
     /// Whether some node of the same cell costs less.
-    pub(crate) fn is_dearer(&self, node: &Node) -> bool
+    fn is_dearer(&self, node: &Node) -> bool
         ensures { IsTrue result → IsDearer self.now.nodes node.now }
     {
         self.nodes.has_cheaper(node.state.cell, node.cost)
+    }
+
+    /// Whether the node of a number is not opened: it is dearer than another of its cell, and the search is not for
+    /// all.
+    pub(crate) fn skips(&self, all: bool, number: u32) -> bool
+        requires { number < length self.now.nodes }
+        ensures { IsTrue result → IsFalse all × ((node : Node)
+            × ((slice_get self.now.nodes number ≡ Some node) × IsDearer self.now.nodes node)) }
+    {
+        !all && self.is_dearer(self.nodes.at(number))
     }
 }

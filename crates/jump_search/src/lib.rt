@@ -17,5 +17,7 @@ mod states;
 mod tracing;
 
 pub use laws::{one_opened_number, one_pruned_cost};
-pub use search::{Traced, jump_find, jump_find_with, jump_search, jump_search_with};
+pub use search::{
+    Pool, Traced, jump_find, jump_find_in, jump_find_with, jump_search, jump_search_with,
+};
 pub use states::JumpState;

@@ -150,6 +150,15 @@ impl Nodes {
         })
     }
 
+    /// Takes out every node. It takes no memory, and keeps the room that there is for more.
+    pub(crate) fn clear(&mut self)
+        ensures { self.new ≡ [] }
+    {
+        self.list.clear();
+        self.links.clear();
+        self.pages.clear();
+    }
+
     /// How the state stands to the nodes. A node of its cell that costs less than the bound is told of where it is found
     /// before that of the state.
     pub(crate) fn standing(&self, state: JumpState, bound: u64) -> Standing

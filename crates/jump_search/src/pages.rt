@@ -1,5 +1,6 @@
 //! Numbers for the cells of a map.
-ghost use Rattle.std.specs.Prelude.{◌≡◌, ◌<◌, ℕ, length, slice_index, IfOk, OnOk, OnErr};
+ghost use Rattle.std.specs.Prelude.{◌≡◌, ◌<◌, ℕ, length, replicate, slice_index, IfOk, OnOk};
+ghost use Rattle.std.specs.Prelude.{OnErr};
 ghost use Rattle.jump_search.specs.inner.Paged.{page_place, spot_of, number_on_page, cell_number, ArePages, IsSet};
 ghost use Rattle.nav_types.specs.declared.cells.Cell.{Cell};
 
@@ -42,6 +43,13 @@ fn place(cell: Cell) -> usize
     usize::from(cell.j / 16 % 32) * 32 + usize::from(cell.i / 16 % 32)
 }
 
+/// Sets each number to 0.
+fn blank(numbers: &mut [u16])
+    ensures { numbers.new ≡ replicate (length numbers.old) 0 }
+{
+    numbers.fill(0);
+}
+
 impl Pages {
     /// Pages with 0 for each cell.
     pub(crate) fn new(alloc: Global) -> Result<Pages, NoMemory>
@@ -51,6 +59,14 @@ impl Pages {
         let mut numbers = Vec::with_capacity(alloc, ROOM * PAGE)?;
         numbers.resize(PAGE, 0)?;
         Ok(Pages { table, numbers })
+    }
+
+    /// Sets the number of each cell to 0. It takes no memory, and keeps the room of the pages that were made.
+    pub(crate) fn clear(&mut self)
+        ensures { (cell : Cell) → cell_number self.new.table.items self.new.numbers.items cell ≡ 0 }
+    {
+        blank(&mut self.table);
+        self.numbers.truncate(PAGE);
     }
 
     /// The number of a cell.

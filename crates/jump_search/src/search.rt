@@ -1,10 +1,10 @@
 //! The jump search, over a map that answers runs or over any view.
 ghost use Rattle.std.specs.Prelude.{◌≡◌, ◌<◌, ◌+◌, IsTrue, IfOk};
-ghost use Rattle.nav_types.specs.Walks.{CanReach};
 ghost use Rattle.walks.specs.Chosen.{IsAnswer};
-ghost use Rattle.jump_search.specs.JumpStates.{CountsOpened, IsWithinOpened};
+ghost use Rattle.jump_search.specs.JumpStates.{CanSearch, CountsOpened, IsWithinOpened};
 
 use crate::framed::Framed;
+use crate::front::Front;
 use crate::problems::Problem;
 use crate::searching::searched;
 use crate::tracing::traced;
@@ -13,6 +13,22 @@ use nav_types::{Aim, Cell, Class, Cost, NoMemory, Ticks, View};
 use std::alloc::Global;
 use std::sync::ledger::Ledger;
 use walks::{Found, waypoints};
+
+/// Room that searches keep from one to the next: what an earlier search in the same pool has taken, a later one does not
+/// take again. What a search answers does not depend on those before it, also where memory ran out in one of them.
+#[derive(Drop)]
+pub struct Pool {
+    front: Front,
+}
+
+impl Pool {
+    /// A pool in which nothing was searched.
+    pub fn new(alloc: Global) -> Result<Pool, NoMemory> {
+        Ok(Pool {
+            front: Front::new(alloc)?,
+        })
+    }
+}
 
 /// What a jump search finds, and how many jump states it opened.
 #[derive(Debug, Drop)]
@@ -23,15 +39,15 @@ pub struct Traced {
 
 /// The answer of a search, which is for all jump states within the cost or not.
 fn answered<R: Runs, A: Aim, L: Ledger>(
+    front: &mut Front,
     alloc: Global,
     problem: &Problem<'_, R, A>,
     ticks: &mut Ticks<L>,
 ) -> Result<Traced, NoMemory>
     requires class { problem.now.class < R.class_count problem.now.runs.now }
-    requires start { IsTrue (R.passes problem.now.runs.now problem.now.class problem.now.start) }
-    requires aim { A.sound problem.now.aim.now (R.extent problem.now.runs.now) }
-    requires reach { CanReach (R.passes problem.now.runs.now problem.now.class) problem.now.start
-        (A.hit problem.now.aim.now (R.extent problem.now.runs.now)) }
+    requires search { CanSearch (R.passes problem.now.runs.now problem.now.class)
+        (A.hit problem.now.aim.now (R.extent problem.now.runs.now))
+        (A.sound problem.now.aim.now (R.extent problem.now.runs.now)) problem.now.start }
     ensures answer { IfOk result (λ traced. IsAnswer (R.passes problem.now.runs.now problem.now.class)
         problem.now.start (A.hit problem.now.aim.now (R.extent problem.now.runs.now))
         traced.found.end traced.found.cost.0 traced.found.waypoints) }
@@ -58,11 +74,11 @@ fn answered<R: Runs, A: Aim, L: Ledger>(
         aim: &framed,
         all: problem.all,
     };
-    let outcome = searched(alloc, &within, ticks)?;
-    let Some(best) = outcome.best else {
+    let search = searched(front, &within, ticks)?;
+    let Some(best) = search.best else {
         unreachable!()
     };
-    let walk = traced(alloc, &outcome.nodes, start, best)?;
+    let walk = traced(alloc, &front.nodes, start, best)?;
     let waypoints = waypoints(alloc, start, &walk)?;
     Ok(Traced {
         found: Found {
@@ -70,7 +86,7 @@ fn answered<R: Runs, A: Aim, L: Ledger>(
             cost: Cost(best.cost),
             waypoints,
         },
-        opened: outcome.opened,
+        opened: search.opened,
     })
 }
 
@@ -88,9 +104,8 @@ pub fn jump_search_with<R: Runs, A: Aim, L: Ledger>(
     ticks: &mut Ticks<L>,
 ) -> Result<Traced, NoMemory>
     requires class { class < R.class_count runs.now }
-    requires start { IsTrue (R.passes runs.now class start) }
-    requires aim { A.sound aim.now (R.extent runs.now) }
-    requires reach { CanReach (R.passes runs.now class) start (A.hit aim.now (R.extent runs.now)) }
+    requires search { CanSearch (R.passes runs.now class) (A.hit aim.now (R.extent runs.now))
+        (A.sound aim.now (R.extent runs.now)) start }
     ensures answer { IfOk result (λ traced. IsAnswer (R.passes runs.now class) start (A.hit aim.now
         (R.extent runs.now))
         traced.found.end traced.found.cost.0 traced.found.waypoints) }
@@ -108,7 +123,8 @@ pub fn jump_search_with<R: Runs, A: Aim, L: Ledger>(
         aim,
         all: true,
     };
-    answered(alloc, &problem, ticks)
+    let mut front = Front::new(alloc)?;
+    answered(&mut front, alloc, &problem, ticks)
 }
 
 /// As [`jump_search_with`], over any view, cell by cell.
@@ -121,9 +137,8 @@ pub fn jump_search<V: View, A: Aim, L: Ledger>(
     ticks: &mut Ticks<L>,
 ) -> Result<Traced, NoMemory>
     requires class { class < V.class_count view.now }
-    requires start { IsTrue (V.passes view.now class start) }
-    requires aim { A.sound aim.now (V.extent view.now) }
-    requires reach { CanReach (V.passes view.now class) start (A.hit aim.now (V.extent view.now)) }
+    requires search { CanSearch (V.passes view.now class) (A.hit aim.now (V.extent view.now))
+        (A.sound aim.now (V.extent view.now)) start }
     ensures answer { IfOk result (λ traced. IsAnswer (V.passes view.now class) start (A.hit aim.now
         (V.extent view.now))
         traced.found.end traced.found.cost.0 traced.found.waypoints) }
@@ -141,8 +156,10 @@ pub fn jump_search<V: View, A: Aim, L: Ledger>(
 /// passable, and some hit cell must be joined to it.
 ///
 /// It opens no jump state that is dearer than another of its cell. Each that it opens is one tick, so there are no more
-/// than the opened number of [`jump_search_with`], also where memory runs out.
-pub fn jump_find_with<R: Runs, A: Aim, L: Ledger>(
+/// than the opened number of [`jump_search_with`], also where memory runs out. It takes no memory but that of its answer
+/// where an earlier search in the pool has taken as much.
+pub fn jump_find_in<R: Runs, A: Aim, L: Ledger>(
+    pool: &mut Pool,
     alloc: Global,
     runs: &R,
     class: Class,
@@ -151,9 +168,8 @@ pub fn jump_find_with<R: Runs, A: Aim, L: Ledger>(
     ticks: &mut Ticks<L>,
 ) -> Result<Found, NoMemory>
     requires class { class < R.class_count runs.now }
-    requires start { IsTrue (R.passes runs.now class start) }
-    requires aim { A.sound aim.now (R.extent runs.now) }
-    requires reach { CanReach (R.passes runs.now class) start (A.hit aim.now (R.extent runs.now)) }
+    requires search { CanSearch (R.passes runs.now class) (A.hit aim.now (R.extent runs.now))
+        (A.sound aim.now (R.extent runs.now)) start }
     ensures answer { IfOk result (λ found. IsAnswer (R.passes runs.now class) start (A.hit aim.now
         (R.extent runs.now))
         found.end found.cost.0 found.waypoints) }
@@ -167,8 +183,30 @@ pub fn jump_find_with<R: Runs, A: Aim, L: Ledger>(
         aim,
         all: false,
     };
-    let traced = answered(alloc, &problem, ticks)?;
+    let traced = answered(&mut pool.front, alloc, &problem, ticks)?;
     Ok(traced.found)
+}
+
+/// As [`jump_find_in`], in a pool of its own.
+pub fn jump_find_with<R: Runs, A: Aim, L: Ledger>(
+    alloc: Global,
+    runs: &R,
+    class: Class,
+    start: Cell,
+    aim: &A,
+    ticks: &mut Ticks<L>,
+) -> Result<Found, NoMemory>
+    requires class { class < R.class_count runs.now }
+    requires search { CanSearch (R.passes runs.now class) (A.hit aim.now (R.extent runs.now))
+        (A.sound aim.now (R.extent runs.now)) start }
+    ensures answer { IfOk result (λ found. IsAnswer (R.passes runs.now class) start (A.hit aim.now
+        (R.extent runs.now))
+        found.end found.cost.0 found.waypoints) }
+    ensures most { IsWithinOpened (R.passes runs.now class) (A.hit aim.now (R.extent runs.now))
+        (A.framed aim.now (R.extent runs.now)) (R.extent runs.now) start ticks.old ticks.new }
+{
+    let mut pool = Pool::new(alloc)?;
+    jump_find_in(&mut pool, alloc, runs, class, start, aim, ticks)
 }
 
 /// As [`jump_find_with`], over any view, cell by cell.
@@ -181,9 +219,8 @@ pub fn jump_find<V: View, A: Aim, L: Ledger>(
     ticks: &mut Ticks<L>,
 ) -> Result<Found, NoMemory>
     requires class { class < V.class_count view.now }
-    requires start { IsTrue (V.passes view.now class start) }
-    requires aim { A.sound aim.now (V.extent view.now) }
-    requires reach { CanReach (V.passes view.now class) start (A.hit aim.now (V.extent view.now)) }
+    requires search { CanSearch (V.passes view.now class) (A.hit aim.now (V.extent view.now))
+        (A.sound aim.now (V.extent view.now)) start }
     ensures answer { IfOk result (λ found. IsAnswer (V.passes view.now class) start (A.hit aim.now
         (V.extent view.now))
         found.end found.cost.0 found.waypoints) }

@@ -1,26 +1,23 @@
 //! The search: jump states are opened by their estimates until none is left within the cost of the best hit.
-ghost use Rattle.std.specs.Prelude.{◌≡◌, ◌<◌, ◌+◌, ◌⊎◌, ℕ, Bool, List, None, Some, length, slice_get, IsSome};
+ghost use Rattle.std.specs.Prelude.{◌≡◌, ◌<◌, ◌+◌, ◌⊎◌, ℕ, Bool, List, Some, length, IsSome};
 ghost use Rattle.std.specs.Prelude.{IsTrue, IsFalse, IfSome, IfNone, IfOk, OnOk, OnErr};
 ghost use Rattle.std.specs.FinMap as map;
 ghost use Rattle.nav_types.specs.declared.cells.Cell.{Cell};
 ghost use Rattle.nav_types.specs.declared.cells.Rect.{Rect};
 ghost use Rattle.nav_types.specs.Cells.{IsInside};
 ghost use Rattle.nav_types.specs.Frames.{IsFrame};
-ghost use Rattle.open_heap.specs.declared.entries.Priority.{Priority};
 ghost use Rattle.open_heap.specs.Queue.{IsLeast};
 ghost use Rattle.jump_search.specs.declared.nodes.Node.{Node};
-ghost use Rattle.jump_search.specs.inner.Searched.{IsDearer};
 ghost use Rattle.jump_search.specs.inner.Underway.{opened_count, IsBetter, IsNotPast, IsPast, IsTaken, IsUnderway};
 ghost use Rattle.jump_search.specs.inner.Underway.{IsHalted, HasEnded};
 
 use crate::front::Front;
-use crate::nodes::{Node, Nodes};
+use crate::nodes::Node;
 use crate::problems::Problem;
 use crate::states::JumpState;
 use jump_scan::Runs;
-use nav_types::{Aim, Cell, Class, NoMemory, Rect, Ticks};
+use nav_types::{Aim, Cell, NoMemory, Rect, Ticks};
 use open_heap::Entry;
-use std::alloc::Global;
 use std::sync::ledger::Ledger;
 
 /// A cell that is hit, with the cost of jumps to it.
@@ -30,21 +27,11 @@ pub struct Best {
     pub cost: u64,
 }
 
-/// A search that has ended: its nodes, the first in cell order of the nearest cells that are hit, and how many nodes
-/// it opened.
+/// What a search has found: the first in cell order of the nearest cells that are hit, and how many nodes it has opened.
 #[derive(Drop)]
-pub(crate) struct Outcome {
-    pub nodes: Nodes,
+pub(crate) struct Search {
     pub best: Option<Best>,
     pub opened: u64,
-}
-
-/// A search that goes on.
-#[derive(Drop)]
-struct Search {
-    front: Front,
-    best: Option<Best>,
-    opened: u64,
 }
 
 /// Whether an estimate is past the cost of the best hit.
@@ -92,11 +79,11 @@ fn best_with<R: Runs, A: Aim>(runs: &R, aim: &A, best: Option<Best>, node: &Node
 }
 
 impl Search {
-    /// A search in which the start waits.
-    fn new(alloc: Global, rect: &Rect, start: Cell) -> Result<Search, NoMemory>
+    /// A search over no node but that of the start, which waits.
+    fn new(front: &mut Front, rect: &Rect, start: Cell) -> Result<Search, NoMemory>
         ensures underway { IfOk result (λ search. (all : Bool) (passes hit : Cell → Bool)
-            → IsUnderway all passes hit start rect.now 0 search.front.nodes search.front.waiting search.best) }
-        ensures opened { IfOk result (λ search. search.opened ≡ opened_count search.front.nodes) }
+            → IsUnderway all passes hit start rect.now 0 front.new.nodes front.new.waiting search.best) }
+        ensures opened { IfOk result (λ search. search.opened ≡ opened_count front.new.nodes) }
         ensures none { IfOk result (λ search. search.opened ≡ 0) }
     {
         let state = JumpState {
@@ -109,10 +96,9 @@ impl Search {
             run: 0,
             opened: false,
         };
-        let mut front = Front::new(alloc)?;
+        front.clear();
         front.meet(rect, node)?;
         Ok(Search {
-            front,
             best: None,
             opened: 0,
         })
@@ -120,59 +106,27 @@ impl Search {
 
     /// Takes the next entry from the open list, where its estimate is not past the best hit's cost. None where the
     /// search has ended.
-    fn next(&mut self) -> Option<Entry>
-        ensures nodes { self.new.front.nodes ≡ self.old.front.nodes }
-        ensures best { self.new.best ≡ self.old.best }
-        ensures opened { self.new.opened ≡ self.old.opened }
-        ensures least { IfSome result (IsLeast self.old.front.waiting) }
-        ensures rest { IfSome result (λ entry. self.new.front.waiting ≡ map.remove self.old.front.waiting entry.key) }
-        ensures near { IfSome result (λ entry. IsNotPast self.old.best entry.priority.estimate) }
-        ensures past { IfNone result ((number : ℕ) (priority : Priority)
-            → map.get self.old.front.waiting number ≡ Some priority
-            → IsPast self.old.best priority.estimate) }
+    fn next(&self, front: &mut Front) -> Option<Entry>
+        ensures nodes { front.new.nodes ≡ front.old.nodes }
+        ensures least { IfSome result (IsLeast front.old.waiting) }
+        ensures rest { IfSome result (λ entry. front.new.waiting ≡ map.remove front.old.waiting entry.key) }
+        ensures near { IfSome result (λ entry. IsNotPast self.now.best entry.estimate) }
+        ensures past { IfNone result ((number estimate : ℕ) → map.get front.old.waiting number ≡ Some estimate
+            → IsPast self.now.best estimate) }
     {
-        let Some(entry) = self.front.waiting.pop_least() else {
+        let Some(entry) = front.waiting.pop_least() else {
             return None;
         };
-        if is_past(self.best, entry.priority.estimate) {
+        if is_past(self.best, entry.estimate) {
             return None;
         }
         Some(entry)
     }
 
-    /// What a search that has ended has found.
-    fn outcome(self) -> Outcome
-        ensures nodes { result.nodes ≡ self.front.nodes }
-        ensures best { result.best ≡ self.best }
-        ensures opened { result.opened ≡ self.opened }
-    {
-        let Search {
-            front,
-            best,
-            opened,
-        } = self;
-        let Front { nodes, waiting } = front;
-        drop(waiting);
-        Outcome {
-            nodes,
-            best,
-            opened,
-        }
-    }
-
-    /// Whether the node of a number is not opened: it is dearer than another of its cell, and the search is not for
-    /// all.
-    fn skips(&self, all: bool, number: u32) -> bool
-        requires { number < length self.now.front.nodes }
-        ensures { IsTrue result → IsFalse all × ((node : Node)
-            × ((slice_get self.now.front.nodes number ≡ Some node) × IsDearer self.now.front.nodes node)) }
-    {
-        !all && self.front.is_dearer(self.front.nodes.at(number))
-    }
-
     /// Opens the node of an entry that was taken from the open list, with one tick, or skips it.
     fn take<R: Runs, A: Aim, L: Ledger>(
         &mut self,
+        front: &mut Front,
         problem: &Problem<'_, R, A>,
         rect: &Rect,
         entry: Entry,
@@ -186,32 +140,32 @@ impl Search {
             × (IsTrue (R.passes problem.now.runs.now problem.now.class start)
             × IsTaken problem.now.all (R.passes problem.now.runs.now problem.now.class) (A.hit problem.now.aim.now
             (R.extent problem.now.runs.now)) start rect.now floor
-            self.old.front.nodes self.old.front.waiting self.old.best entry)) }
-        requires opened { self.old.opened ≡ opened_count self.old.front.nodes }
+            front.old.nodes front.old.waiting self.old.best entry)) }
+        requires opened { self.old.opened ≡ opened_count front.old.nodes }
         ensures underway { OnOk result ((start : Cell) (floor : ℕ) → IsTrue
             (R.passes problem.now.runs.now problem.now.class start)
             → IsTaken problem.now.all (R.passes problem.now.runs.now problem.now.class) (A.hit problem.now.aim.now
             (R.extent problem.now.runs.now)) start rect.now floor
-            self.old.front.nodes self.old.front.waiting self.old.best entry
+            front.old.nodes front.old.waiting self.old.best entry
             → IsUnderway problem.now.all (R.passes problem.now.runs.now problem.now.class)
             (A.hit problem.now.aim.now (R.extent problem.now.runs.now)) start rect.now
-            entry.priority.estimate
-            self.new.front.nodes self.new.front.waiting self.new.best) }
-        ensures even { OnOk result (length self.new.front.nodes + map.len self.old.front.waiting ≡ length
-            self.old.front.nodes + map.len self.new.front.waiting) }
-        ensures opened { OnOk result (self.new.opened ≡ opened_count self.new.front.nodes) }
+            entry.estimate
+            front.new.nodes front.new.waiting self.new.best) }
+        ensures even { OnOk result (length front.new.nodes + map.len front.old.waiting ≡ length
+            front.old.nodes + map.len front.new.waiting) }
+        ensures opened { OnOk result (self.new.opened ≡ opened_count front.new.nodes) }
         ensures ticks { OnOk result (ticks.new + self.old.opened ≡ ticks.old + self.new.opened) }
         ensures none { OnErr result (ticks.new ≡ ticks.old) }
     {
-        if self.skips(problem.all, entry.key) {
+        if front.skips(problem.all, entry.key) {
             return Ok(());
         }
         let node = Node {
             opened: true,
-            ..*self.front.nodes.at(entry.key)
+            ..*front.nodes.at(entry.key)
         };
-        self.front.nodes.put(entry.key, node);
-        self.front.follow(problem, rect, &node)?;
+        front.nodes.put(entry.key, node);
+        front.follow(problem, rect, &node)?;
         self.best = best_with(problem.runs, problem.aim, self.best, &node);
         self.opened += 1;
         ticks.tick();
@@ -220,26 +174,27 @@ impl Search {
 }
 
 /// Searches from the start until no node is left within the cost of the best hit. Where the search is for all, each
-/// node within it is opened, and else those alone that are not dearer than another of their cell.
+/// node within it is opened, and else those alone that are not dearer than another of their cell. The front has the
+/// nodes then, whatever it had before.
 ///
 /// Each node that is opened is one tick.
 pub(crate) fn searched<R: Runs, A: Aim, L: Ledger>(
-    alloc: Global,
+    front: &mut Front,
     problem: &Problem<'_, R, A>,
     ticks: &mut Ticks<L>,
-) -> Result<Outcome, NoMemory>
+) -> Result<Search, NoMemory>
     requires class { problem.now.class < R.class_count problem.now.runs.now }
     requires start { IsTrue (R.passes problem.now.runs.now problem.now.class problem.now.start) }
     requires aim { A.sound problem.now.aim.now (R.extent problem.now.runs.now) }
     ensures frame { (rect : Rect) × IsFrame (A.framed problem.now.aim.now (R.extent problem.now.runs.now))
         (R.extent problem.now.runs.now) rect }
-    ensures ended { IfOk result (λ outcome. (rect : Rect)
+    ensures ended { IfOk result (λ search. (rect : Rect)
         → IsFrame (A.framed problem.now.aim.now (R.extent problem.now.runs.now)) (R.extent problem.now.runs.now) rect
         → HasEnded problem.now.all (R.passes problem.now.runs.now problem.now.class) (A.hit problem.now.aim.now
-        (R.extent problem.now.runs.now)) problem.now.start rect outcome.nodes
-        outcome.best) }
-    ensures opened { IfOk result (λ outcome. outcome.opened ≡ opened_count outcome.nodes) }
-    ensures ticks { IfOk result (λ outcome. ticks.new ≡ ticks.old + outcome.opened) }
+        (R.extent problem.now.runs.now)) problem.now.start rect front.new.nodes
+        search.best) }
+    ensures opened { IfOk result (λ search. search.opened ≡ opened_count front.new.nodes) }
+    ensures ticks { IfOk result (λ search. ticks.new ≡ ticks.old + search.opened) }
     ensures halted { OnErr result ((rect : Rect)
         → IsFrame (A.framed problem.now.aim.now (R.extent problem.now.runs.now)) (R.extent problem.now.runs.now) rect
         → (ticks.new ≡ ticks.old) ⊎ ((nodes : List Node)
@@ -249,9 +204,9 @@ pub(crate) fn searched<R: Runs, A: Aim, L: Ledger>(
         × (ticks.new ≡ ticks.old + opened_count nodes))))) }
 {
     let rect = problem.aim.bounds(problem.runs.size());
-    let mut search = Search::new(alloc, &rect, problem.start)?;
-    'search: while let Some(entry) = search.next() {
-        search.take(problem, &rect, entry, ticks)?;
+    let mut search = Search::new(front, &rect, problem.start)?;
+    'search: while let Some(entry) = search.next(front) {
+        search.take(front, problem, &rect, entry, ticks)?;
     }
-    Ok(search.outcome())
+    Ok(search)
 }

@@ -6,7 +6,6 @@ use Rattle.nav_types.specs.declared.cells.Cell.{Cell}
 use Rattle.nav_types.specs.declared.cells.Rect.{Rect}
 use Rattle.nav_types.specs.declared.directions.Dir.{Dir}
 use Rattle.nav_types.specs.Cells.{IsNotAfter}
-use Rattle.open_heap.specs.declared.entries.Priority.{Priority}
 use Rattle.open_heap.specs.declared.entries.Entry.{Entry}
 use Rattle.open_heap.specs.Queue.{Queue, IsLeast}
 use Rattle.jump_search.specs.declared.nodes.Node.{Node}
@@ -33,9 +32,9 @@ opened_count nodes = count_by (λ (node : Node). node.opened) nodes
 -- taken from it at estimates within that: each was opened, or was dearer than another of its cell where the search is
 -- not for all.
 pub record IsQueued (all : Bool) (rect : Rect) (floor : ℕ) (nodes : List Node) (queue : Queue) : Type 0 where
-  pub waits : (number : ℕ) (priority : Priority) → map.get queue number ≡ Some priority
+  pub waits : (number estimate : ℕ) → map.get queue number ≡ Some estimate
       → (node : Node) × ((slice_get nodes number ≡ Some node) × (IsFalse node.opened
-      × ((priority.estimate ≡ estimate_of rect node) × ((priority.order ≡ 0) × (floor ≤ priority.estimate)))))
+      × ((estimate ≡ estimate_of rect node) × (floor ≤ estimate))))
   pub taken : (number : ℕ) (node : Node) → slice_get nodes number ≡ Some node → map.get queue number ≡ None
       → (estimate_of rect node ≤ floor) × (IsTrue node.opened ⊎ (IsFalse all × IsDearer nodes node))
 
@@ -77,10 +76,6 @@ abbrev pub IsFollowedAlong : Bool → (Cell → Bool) → (Cell → Bool) → Li
 IsFollowedAlong all passes hit nodes from cost dir = (state : JumpState) (run : ℕ) → IsJump passes hit from state
     → state.arrived ≡ Some dir
     → IsLastRun passes from.cell state run → IsNoted all nodes state (cost + octile_between from.cell state.cell) run
-
--- what an open list has for a node
-abbrev pub priority_of : Rect → Node → Priority
-priority_of rect node = record { estimate = estimate_of rect node; order = 0 }
 
 -- what a search gains by a step from one list of nodes and open list to the other: the nodes get later, and as many
 -- have been taken from the open list as before
@@ -188,7 +183,7 @@ pub record IsTaken (all : Bool) (passes hit : Cell → Bool) (start : Cell) (rec
   pub underway : IsUnderway all passes hit start rect floor nodes before best
   pub least : IsLeast before entry
   pub rest : queue ≡ map.remove before entry.key
-  pub near : IsNotPast best entry.priority.estimate
+  pub near : IsNotPast best entry.estimate
 
 -- Nodes of a search that has not ended: nodes are opened up to the estimate `floor`, and all that are opened have been
 -- followed. No hit of less cost has been passed by.

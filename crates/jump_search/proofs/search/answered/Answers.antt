@@ -5,19 +5,19 @@ use Rattle.walks.proofs.Tracing.{chosen_walk, stays_in_grid}
 use Rattle.jump_search.proofs.Answering.{ended_able, ended_some, ended_ticks, halted_ticks, answer_of, counts_of}
 use Rattle.jump_search.proofs.search.answered.Goals as goal
 
-pub returns-in_err-outcome-clause-most : goal.returns-in_err-outcome-clause-most
-returns-in_err-outcome-clause-most g c =
+pub returns-in_err-search-clause-most : goal.returns-in_err-search-clause-most
+returns-in_err-search-clause-most g c =
     let passes = g.R.View.passes c.args.problem.now.runs.now c.args.problem.now.class in
     let size = g.R.View.extent c.args.problem.now.runs.now in
     let hit = g.A.Aim.hit c.args.problem.now.aim.now size in
     let framed = g.A.Aim.framed c.args.problem.now.aim.now size in
     let within = g.met.R.View.within c.args.problem.now.runs.now c.args.problem.now.class in
     let hits_framed : (cell : Cell) → IsInside size cell → IsTrue (hit cell) → IsTrue (framed cell) =
-    λ cell inside is. g.met.A.Aim.hits_framed c.args.problem.now.aim.now size cell c.requires.aim inside is in
+    λ cell inside is. g.met.A.Aim.hits_framed c.args.problem.now.aim.now size cell c.requires.search.sound inside is in
     λ end cost points rect n answer frame counts.
     halted_ticks c.args.problem.now.all passes hit framed c.args.problem.now.start size rect c.args.ticks.now c.searched.new.ticks within
-    hits_framed c.requires.start frame
-    (c.in_err-outcome.ensures.halted rect frame) end cost points answer n counts
+    hits_framed c.requires.search.free frame
+    (c.in_err-search.ensures.halted rect frame) end cost points answer n counts
 
 pub unreachable-requires : goal.unreachable-requires
 unreachable-requires g c =
@@ -27,12 +27,12 @@ unreachable-requires g c =
     let framed = g.A.Aim.framed c.args.problem.now.aim.now size in
     let within = g.met.R.View.within c.args.problem.now.runs.now c.args.problem.now.class in
     let hits_framed : (cell : Cell) → IsInside size cell → IsTrue (hit cell) → IsTrue (framed cell) =
-    λ cell inside is. g.met.A.Aim.hits_framed c.args.problem.now.aim.now size cell c.requires.aim inside is in
-    let rect = c.in_ok-outcome.ensures.frame.0 in
-    let frame = c.in_ok-outcome.ensures.frame.1 in
-    ended_some c.args.problem.now.all passes hit framed c.args.problem.now.start size rect c.in_ok-outcome.outcome.nodes
-    c.in_ok-outcome.outcome.best within hits_framed
-    c.requires.start frame c.requires.reach (c.in_ok-outcome.ensures.ended rect frame) c.in_default.is
+    λ cell inside is. g.met.A.Aim.hits_framed c.args.problem.now.aim.now size cell c.requires.search.sound inside is in
+    let rect = c.in_ok-search.ensures.frame.0 in
+    let frame = c.in_ok-search.ensures.frame.1 in
+    ended_some c.args.problem.now.all passes hit framed c.args.problem.now.start size rect c.searched.new.front.nodes
+    c.in_ok-search.search.best within hits_framed
+    c.requires.search.free frame c.requires.search.reach (c.in_ok-search.ensures.ended rect frame) c.in_default.is
 
 pub traced-requires : goal.traced-requires
 traced-requires g c =
@@ -42,13 +42,13 @@ traced-requires g c =
     let framed = g.A.Aim.framed c.args.problem.now.aim.now size in
     let within = g.met.R.View.within c.args.problem.now.runs.now c.args.problem.now.class in
     let hits_framed : (cell : Cell) → IsInside size cell → IsTrue (hit cell) → IsTrue (framed cell) =
-    λ cell inside is. g.met.A.Aim.hits_framed c.args.problem.now.aim.now size cell c.requires.aim inside is in
-    let rect = c.in_ok-outcome.ensures.frame.0 in
-    let frame = c.in_ok-outcome.ensures.frame.1 in
+    λ cell inside is. g.met.A.Aim.hits_framed c.args.problem.now.aim.now size cell c.requires.search.sound inside is in
+    let rect = c.in_ok-search.ensures.frame.0 in
+    let frame = c.in_ok-search.ensures.frame.1 in
     let able =
-    ended_able c.args.problem.now.all passes hit framed c.args.problem.now.start size rect c.in_ok-outcome.outcome.nodes
-    c.in_ok-outcome.outcome.best c.in-Some.best within hits_framed
-    c.requires.start frame (c.in_ok-outcome.ensures.ended rect frame) c.in-Some.is in
+    ended_able c.args.problem.now.all passes hit framed c.args.problem.now.start size rect c.searched.new.front.nodes
+    c.in_ok-search.search.best c.in-Some.best within hits_framed
+    c.requires.search.free frame (c.in_ok-search.ensures.ended rect frame) c.in-Some.is in
     (c.args.problem.now.all, (passes, (hit, (rect, able))))
 
 pub returns-in_err-walk-clause-most : goal.returns-in_err-walk-clause-most
@@ -59,15 +59,15 @@ returns-in_err-walk-clause-most g c =
     let framed = g.A.Aim.framed c.args.problem.now.aim.now size in
     let within = g.met.R.View.within c.args.problem.now.runs.now c.args.problem.now.class in
     let hits_framed : (cell : Cell) → IsInside size cell → IsTrue (hit cell) → IsTrue (framed cell) =
-    λ cell inside is. g.met.A.Aim.hits_framed c.args.problem.now.aim.now size cell c.requires.aim inside is in
+    λ cell inside is. g.met.A.Aim.hits_framed c.args.problem.now.aim.now size cell c.requires.search.sound inside is in
     λ end cost points rect n answer frame counts.
     (let able =
-    ended_able c.args.problem.now.all passes hit framed c.args.problem.now.start size rect c.in_ok-outcome.outcome.nodes
-    c.in_ok-outcome.outcome.best c.in-Some.best within hits_framed
-    c.requires.start frame (c.in_ok-outcome.ensures.ended rect frame) c.in-Some.is in
+    ended_able c.args.problem.now.all passes hit framed c.args.problem.now.start size rect c.searched.new.front.nodes
+    c.in_ok-search.search.best c.in-Some.best within hits_framed
+    c.requires.search.free frame (c.in_ok-search.ensures.ended rect frame) c.in-Some.is in
     ended_ticks c.args.problem.now.all passes hit c.args.problem.now.start rect c.in-Some.best.cell c.in-Some.best.cost
-    c.in_ok-outcome.outcome.nodes c.args.ticks.now c.searched.new.ticks
-    c.in_ok-outcome.outcome.opened able c.in_ok-outcome.ensures.opened c.in_ok-outcome.ensures.ticks end cost points
+    c.searched.new.front.nodes c.args.ticks.now c.searched.new.ticks
+    c.in_ok-search.search.opened able c.in_ok-search.ensures.opened c.in_ok-search.ensures.ticks end cost points
     answer n counts)
 
 pub waypoints-requires : goal.waypoints-requires
@@ -78,15 +78,15 @@ waypoints-requires g c =
     let framed = g.A.Aim.framed c.args.problem.now.aim.now size in
     let within = g.met.R.View.within c.args.problem.now.runs.now c.args.problem.now.class in
     let hits_framed : (cell : Cell) → IsInside size cell → IsTrue (hit cell) → IsTrue (framed cell) =
-    λ cell inside is. g.met.A.Aim.hits_framed c.args.problem.now.aim.now size cell c.requires.aim inside is in
-    let rect = c.in_ok-outcome.ensures.frame.0 in
-    let frame = c.in_ok-outcome.ensures.frame.1 in
+    λ cell inside is. g.met.A.Aim.hits_framed c.args.problem.now.aim.now size cell c.requires.search.sound inside is in
+    let rect = c.in_ok-search.ensures.frame.0 in
+    let frame = c.in_ok-search.ensures.frame.1 in
     let able =
-    ended_able c.args.problem.now.all passes hit framed c.args.problem.now.start size rect c.in_ok-outcome.outcome.nodes
-    c.in_ok-outcome.outcome.best c.in-Some.best within hits_framed
-    c.requires.start frame (c.in_ok-outcome.ensures.ended rect frame) c.in-Some.is in
+    ended_able c.args.problem.now.all passes hit framed c.args.problem.now.start size rect c.searched.new.front.nodes
+    c.in_ok-search.search.best c.in-Some.best within hits_framed
+    c.requires.search.free frame (c.in_ok-search.ensures.ended rect frame) c.in-Some.is in
     let chosen = c.in_ok-walk.ensures c.args.problem.now.all passes hit rect able in
-    stays_in_grid passes size within c.in_ok-walk.walk c.args.problem.now.start c.in-Some.best.cell c.requires.start
+    stays_in_grid passes size within c.in_ok-walk.walk c.args.problem.now.start c.in-Some.best.cell c.requires.search.free
     (chosen_walk passes c.args.problem.now.start c.in-Some.best.cell c.in_ok-walk.walk chosen)
 
 pub returns-in_err-waypoints-clause-most : goal.returns-in_err-waypoints-clause-most
@@ -97,15 +97,15 @@ returns-in_err-waypoints-clause-most g c =
     let framed = g.A.Aim.framed c.args.problem.now.aim.now size in
     let within = g.met.R.View.within c.args.problem.now.runs.now c.args.problem.now.class in
     let hits_framed : (cell : Cell) → IsInside size cell → IsTrue (hit cell) → IsTrue (framed cell) =
-    λ cell inside is. g.met.A.Aim.hits_framed c.args.problem.now.aim.now size cell c.requires.aim inside is in
+    λ cell inside is. g.met.A.Aim.hits_framed c.args.problem.now.aim.now size cell c.requires.search.sound inside is in
     λ end cost points rect n answer frame counts.
     (let able =
-    ended_able c.args.problem.now.all passes hit framed c.args.problem.now.start size rect c.in_ok-outcome.outcome.nodes
-    c.in_ok-outcome.outcome.best c.in-Some.best within hits_framed
-    c.requires.start frame (c.in_ok-outcome.ensures.ended rect frame) c.in-Some.is in
+    ended_able c.args.problem.now.all passes hit framed c.args.problem.now.start size rect c.searched.new.front.nodes
+    c.in_ok-search.search.best c.in-Some.best within hits_framed
+    c.requires.search.free frame (c.in_ok-search.ensures.ended rect frame) c.in-Some.is in
     ended_ticks c.args.problem.now.all passes hit c.args.problem.now.start rect c.in-Some.best.cell c.in-Some.best.cost
-    c.in_ok-outcome.outcome.nodes c.args.ticks.now c.searched.new.ticks
-    c.in_ok-outcome.outcome.opened able c.in_ok-outcome.ensures.opened c.in_ok-outcome.ensures.ticks end cost points
+    c.searched.new.front.nodes c.args.ticks.now c.searched.new.ticks
+    c.in_ok-search.search.opened able c.in_ok-search.ensures.opened c.in_ok-search.ensures.ticks end cost points
     answer n counts)
 
 pub returns-clause-answer : goal.returns-clause-answer
@@ -116,15 +116,15 @@ returns-clause-answer g c =
     let framed = g.A.Aim.framed c.args.problem.now.aim.now size in
     let within = g.met.R.View.within c.args.problem.now.runs.now c.args.problem.now.class in
     let hits_framed : (cell : Cell) → IsInside size cell → IsTrue (hit cell) → IsTrue (framed cell) =
-    λ cell inside is. g.met.A.Aim.hits_framed c.args.problem.now.aim.now size cell c.requires.aim inside is in
-    let rect = c.in_ok-outcome.ensures.frame.0 in
-    let frame = c.in_ok-outcome.ensures.frame.1 in
+    λ cell inside is. g.met.A.Aim.hits_framed c.args.problem.now.aim.now size cell c.requires.search.sound inside is in
+    let rect = c.in_ok-search.ensures.frame.0 in
+    let frame = c.in_ok-search.ensures.frame.1 in
     let able =
-    ended_able c.args.problem.now.all passes hit framed c.args.problem.now.start size rect c.in_ok-outcome.outcome.nodes
-    c.in_ok-outcome.outcome.best c.in-Some.best within hits_framed
-    c.requires.start frame (c.in_ok-outcome.ensures.ended rect frame) c.in-Some.is in
+    ended_able c.args.problem.now.all passes hit framed c.args.problem.now.start size rect c.searched.new.front.nodes
+    c.in_ok-search.search.best c.in-Some.best within hits_framed
+    c.requires.search.free frame (c.in_ok-search.ensures.ended rect frame) c.in-Some.is in
     answer_of c.args.problem.now.all passes hit c.args.problem.now.start rect c.in-Some.best.cell c.in-Some.best.cost
-    c.in_ok-outcome.outcome.nodes able c.in_ok-walk.walk
+    c.searched.new.front.nodes able c.in_ok-walk.walk
     (c.in_ok-walk.ensures c.args.problem.now.all passes hit rect able) c.in_ok-waypoints.waypoints c.in_ok-waypoints.ensures
 
 pub returns-clause-opened : goal.returns-clause-opened
@@ -135,15 +135,15 @@ returns-clause-opened g c =
     let framed = g.A.Aim.framed c.args.problem.now.aim.now size in
     let within = g.met.R.View.within c.args.problem.now.runs.now c.args.problem.now.class in
     let hits_framed : (cell : Cell) → IsInside size cell → IsTrue (hit cell) → IsTrue (framed cell) =
-    λ cell inside is. g.met.A.Aim.hits_framed c.args.problem.now.aim.now size cell c.requires.aim inside is in
+    λ cell inside is. g.met.A.Aim.hits_framed c.args.problem.now.aim.now size cell c.requires.search.sound inside is in
     λ is rect frame.
     (let able =
-    ended_able c.args.problem.now.all passes hit framed c.args.problem.now.start size rect c.in_ok-outcome.outcome.nodes
-    c.in_ok-outcome.outcome.best c.in-Some.best within hits_framed
-    c.requires.start frame (c.in_ok-outcome.ensures.ended rect frame) c.in-Some.is in
+    ended_able c.args.problem.now.all passes hit framed c.args.problem.now.start size rect c.searched.new.front.nodes
+    c.in_ok-search.search.best c.in-Some.best within hits_framed
+    c.requires.search.free frame (c.in_ok-search.ensures.ended rect frame) c.in-Some.is in
     counts_of c.args.problem.now.all passes hit c.args.problem.now.start rect c.in-Some.best.cell c.in-Some.best.cost
-    c.in_ok-outcome.outcome.nodes able.searched is
-    c.in_ok-outcome.outcome.opened c.in_ok-outcome.ensures.opened)
+    c.searched.new.front.nodes able.searched is
+    c.in_ok-search.search.opened c.in_ok-search.ensures.opened)
 
 pub returns-clause-most : goal.returns-clause-most
 returns-clause-most g c =
@@ -153,13 +153,13 @@ returns-clause-most g c =
     let framed = g.A.Aim.framed c.args.problem.now.aim.now size in
     let within = g.met.R.View.within c.args.problem.now.runs.now c.args.problem.now.class in
     let hits_framed : (cell : Cell) → IsInside size cell → IsTrue (hit cell) → IsTrue (framed cell) =
-    λ cell inside is. g.met.A.Aim.hits_framed c.args.problem.now.aim.now size cell c.requires.aim inside is in
+    λ cell inside is. g.met.A.Aim.hits_framed c.args.problem.now.aim.now size cell c.requires.search.sound inside is in
     λ end cost points rect n answer frame counts.
     (let able =
-    ended_able c.args.problem.now.all passes hit framed c.args.problem.now.start size rect c.in_ok-outcome.outcome.nodes
-    c.in_ok-outcome.outcome.best c.in-Some.best within hits_framed
-    c.requires.start frame (c.in_ok-outcome.ensures.ended rect frame) c.in-Some.is in
+    ended_able c.args.problem.now.all passes hit framed c.args.problem.now.start size rect c.searched.new.front.nodes
+    c.in_ok-search.search.best c.in-Some.best within hits_framed
+    c.requires.search.free frame (c.in_ok-search.ensures.ended rect frame) c.in-Some.is in
     ended_ticks c.args.problem.now.all passes hit c.args.problem.now.start rect c.in-Some.best.cell c.in-Some.best.cost
-    c.in_ok-outcome.outcome.nodes c.args.ticks.now c.searched.new.ticks
-    c.in_ok-outcome.outcome.opened able c.in_ok-outcome.ensures.opened c.in_ok-outcome.ensures.ticks end cost points
+    c.searched.new.front.nodes c.args.ticks.now c.searched.new.ticks
+    c.in_ok-search.search.opened able c.in_ok-search.ensures.opened c.in_ok-search.ensures.ticks end cost points
     answer n counts)

@@ -24,16 +24,17 @@ take-requires-clause-taken g c =
     let passes = g.R.View.passes c.args.problem.now.runs.now c.args.problem.now.class in
     let hit = g.A.Aim.hit c.args.problem.now.aim.now (g.R.View.extent c.args.problem.now.runs.now) in
     let search = c.search.search in
-    let next = c.next.new.self in
+    let front = c.search.front in
+    let next = c.next.new.front in
     let known = c.search.invariant.underway in
     let step = c.next.ensures in
     let some = c.in-Some.ensures in
     let rect = c.bounds-rect.result in
     let entry = c.in-Some.entry in
-    let taken : IsTaken c.args.problem.now.all passes hit c.args.problem.now.start rect known.0 search.front.nodes next.front.waiting
+    let taken : IsTaken c.args.problem.now.all passes hit c.args.problem.now.start rect known.0 front.nodes next.waiting
     search.best entry =
     record {
-      before = search.front.waiting;
+      before = front.waiting;
       underway = known.1;
       least = some.least;
       rest = some.rest;
@@ -45,24 +46,21 @@ take-requires-clause-taken g c =
         known.0,
         (
           c.requires.start,
-          subst (λ (ns : List Node). IsTaken c.args.problem.now.all passes hit c.args.problem.now.start rect known.0 ns next.front.waiting
-              next.best entry) (sym step.nodes)
-              (subst (λ (b : Option Best). IsTaken c.args.problem.now.all passes hit c.args.problem.now.start rect known.0 search.front.nodes
-              next.front.waiting b entry) (sym step.best) taken),
+          subst (λ (ns : List Node). IsTaken c.args.problem.now.all passes hit c.args.problem.now.start rect known.0 ns next.waiting
+              search.best entry) (sym step.nodes) taken,
         ),
       ),
     )
 
 pub search-smaller : goal.search-smaller
 search-smaller g c =
-    let search = c.search.search in
     let entry = c.in-Some.entry in
     let known = c.search.invariant.underway.1 in
     let few = known.few in
     let even = c.in_ok-take.ensures.even in
     let nodes = ap (λ (ns : List Node). length ns) c.next.ensures.nodes in
     let waiting = ap (λ (m : Queue). map.len m) c.in-Some.ensures.rest in
-    let shorter = len_taken search.front.waiting entry.key entry.priority c.in-Some.ensures.least.present in
+    let shorter = len_taken c.search.front.waiting entry.key entry.estimate c.in-Some.ensures.least.present in
     omega (arith, few, even, nodes, waiting, shorter)
 
 pub search-preserved : goal.search-preserved
@@ -70,16 +68,17 @@ search-preserved g c =
     let passes = g.R.View.passes c.args.problem.now.runs.now c.args.problem.now.class in
     let hit = g.A.Aim.hit c.args.problem.now.aim.now (g.R.View.extent c.args.problem.now.runs.now) in
     let search = c.search.search in
-    let next = c.next.new.self in
+    let front = c.search.front in
+    let next = c.next.new.front in
     let known = c.search.invariant.underway in
     let step = c.next.ensures in
     let some = c.in-Some.ensures in
     let rect = c.bounds-rect.result in
     let entry = c.in-Some.entry in
-    let taken : IsTaken c.args.problem.now.all passes hit c.args.problem.now.start rect known.0 search.front.nodes next.front.waiting
+    let taken : IsTaken c.args.problem.now.all passes hit c.args.problem.now.start rect known.0 front.nodes next.waiting
     search.best entry =
     record {
-      before = search.front.waiting;
+      before = front.waiting;
       underway = known.1;
       least = some.least;
       rest = some.rest;
@@ -87,15 +86,13 @@ search-preserved g c =
           some.near;
     } in
     let taken_next = subst (λ (ns : List Node). IsTaken c.args.problem.now.all passes hit c.args.problem.now.start rect known.0 ns
-    next.front.waiting next.best entry) (sym step.nodes)
-    (subst (λ (b : Option Best). IsTaken c.args.problem.now.all passes hit c.args.problem.now.start rect known.0 search.front.nodes
-    next.front.waiting b entry) (sym step.best) taken) in
+    next.waiting search.best entry) (sym step.nodes) taken in
     let went = c.in_ok-take.ensures in
-    let before = c.search.invariant.ticks in let ticked = went.ticks in let same = step.opened in
+    let before = c.search.invariant.ticks in let ticked = went.ticks in
     record {
-      underway = (entry.priority.estimate, went.underway c.args.problem.now.start known.0 c.requires.start taken_next);
+      underway = (entry.estimate, went.underway c.args.problem.now.start known.0 c.requires.start taken_next);
       opened = went.opened;
-      ticks = omega (arith, before, ticked, same);
+      ticks = omega (arith, before, ticked);
     }
 
 pub returns-in_err-take-clause-halted : goal.returns-in_err-take-clause-halted
@@ -106,7 +103,7 @@ returns-in_err-take-clause-halted g c =
     let framed = g.A.Aim.framed c.args.problem.now.aim.now size in
     let search = c.search.search in
     let known = c.search.invariant in
-    let ticks : c.take.new.ticks ≡ c.args.ticks.now + opened_count search.front.nodes =
+    let ticks : c.take.new.ticks ≡ c.args.ticks.now + opened_count c.search.front.nodes =
     c.in_err-take.ensures.none ∙ known.ticks ∙ ap (λ (n : ℕ). c.args.ticks.now + n) known.opened in
     let base = c.bounds-rect.result in
     let frame : IsFrame framed size base = subst (λ s. IsFrame (g.A.Aim.framed c.args.problem.now.aim.now s) s base) c.size.ensures
@@ -115,15 +112,15 @@ returns-in_err-take-clause-halted g c =
     ⊎ ((nodes : List Node) × ((floor : ℕ) × (IsHalted c.args.problem.now.all passes hit c.args.problem.now.start rect floor nodes
     × (c.take.new.ticks ≡ c.args.ticks.now + opened_count nodes)))) = λ rect other.
     let same : base ≡ rect = one_frame framed size base rect frame other in
-    let is = halted c.args.problem.now.all passes hit c.args.problem.now.start base known.underway.0 search.front.nodes search.front.waiting
+    let is = halted c.args.problem.now.all passes hit c.args.problem.now.start base known.underway.0 c.search.front.nodes c.search.front.waiting
     search.best known.underway.1 in
     inr (
-      search.front.nodes,
+      c.search.front.nodes,
       (
         known.underway.0,
         (
           subst
-              (λ (r : Rect). IsHalted c.args.problem.now.all passes hit c.args.problem.now.start r known.underway.0 search.front.nodes) same is,
+              (λ (r : Rect). IsHalted c.args.problem.now.all passes hit c.args.problem.now.start r known.underway.0 c.search.front.nodes) same is,
           ticks,
         ),
       ),
@@ -142,11 +139,7 @@ returns-clause-ended g c = λ rect other.
     let frame : IsFrame framed size base = subst (λ s. IsFrame (g.A.Aim.framed c.args.problem.now.aim.now s) s base) c.size.ensures
     c.bounds-rect.ensures in
     let same : base ≡ rect = one_frame framed size base rect frame other in
-    let is = ended c.args.problem.now.all passes hit c.args.problem.now.start base known.0 search.front.nodes search.front.waiting search.best
+    let is = ended c.args.problem.now.all passes hit c.args.problem.now.start base known.0 c.search.front.nodes c.search.front.waiting search.best
     known.1 c.in_default.ensures.past in
-    let nodes : c.outcome.result.nodes ≡ search.front.nodes = c.outcome.ensures.nodes ∙ c.next.ensures.nodes in
-    let best : c.outcome.result.best ≡ search.best = c.outcome.ensures.best ∙ c.next.ensures.best in
-    subst (λ (r : Rect). HasEnded c.args.problem.now.all passes hit c.args.problem.now.start r c.outcome.result.nodes c.outcome.result.best)
-    same
-    (subst (λ (ns : List Node). HasEnded c.args.problem.now.all passes hit c.args.problem.now.start base ns c.outcome.result.best) (sym nodes)
-    (subst (λ (b : Option Best). HasEnded c.args.problem.now.all passes hit c.args.problem.now.start base search.front.nodes b) (sym best) is))
+    subst (λ (r : Rect). HasEnded c.args.problem.now.all passes hit c.args.problem.now.start r c.next.new.front.nodes search.best) same
+    (subst (λ (ns : List Node). HasEnded c.args.problem.now.all passes hit c.args.problem.now.start base ns search.best) (sym c.next.ensures.nodes) is)

@@ -8,11 +8,11 @@ invariant-search g l =
     let passes = g.R.View.passes l.problem.runs.now l.problem.class in
     let hit = g.A.Aim.hit l.problem.aim.now (g.R.View.extent l.problem.runs.now) in
     record {
-      underway : (floor : ℕ) × IsUnderway l.problem.all passes hit l.problem.start l.rect floor l.search.front.nodes
-          l.search.front.waiting l.search.best;
-      opened : l.search.opened ≡ opened_count l.search.front.nodes;
+      underway : (floor : ℕ) × IsUnderway l.problem.all passes hit l.problem.start l.rect floor l.front.nodes
+          l.front.waiting l.search.best;
+      opened : l.search.opened ≡ opened_count l.front.nodes;
       ticks : l.ticks ≡ l.initial.ticks + l.search.opened;
     }
 
 abbrev pub decreases-search : goal.decreases-search
-decreases-search g l = (4294967297 + map.len l.search.front.waiting) - length l.search.front.nodes
+decreases-search g l = (4294967297 + map.len l.front.waiting) - length l.front.nodes

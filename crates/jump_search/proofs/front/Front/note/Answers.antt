@@ -14,8 +14,8 @@ returns-in-Dearer c =
       (refl, refl),
     )
 
-pub returns-in-Known : goal.returns-in-Known
-returns-in-Known c = inl c.relax.ensures
+pub returns-in_ok-relax-in-Known : goal.returns-in_ok-relax-in-Known
+returns-in_ok-relax-in-Known c = inl c.in_ok-relax-in-Known.ensures
 
 pub returns-in_ok-meet-in-New : goal.returns-in_ok-meet-in-New
 returns-in_ok-meet-in-New c =

@@ -61,7 +61,7 @@ returns c =
     let less : node.cost < a.cost = omega (arith, most, differ) in
     let waits = lower_waits q.0 rect q.1.0 nodes queue number a node q.1.1.0 c.at-known.ensures (sym same) q.1.1.1
     less in
-    subst (λ (ns : List Node). Relaxes rect node nodes ns queue c.lower.new.self.waiting) (sym c.lower.ensures.nodes)
-    (subst (λ (m : Queue). Relaxes rect node nodes (set nodes number node) queue m) (sym c.lower.ensures.waiting)
+    subst (λ (ns : List Node). Relaxes rect node nodes ns queue c.lower.new.self.waiting) (sym c.in_ok-lower.ensures.nodes)
+    (subst (λ (m : Queue). Relaxes rect node nodes (set nodes number node) queue m) (sym c.in_ok-lower.ensures.waiting)
     (relaxes_lowered rect node nodes queue number a waits.0 c.requires.waiting waits.1.1.0 c.at-known.ensures same
     less waits.1.0))

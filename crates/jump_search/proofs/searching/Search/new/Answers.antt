@@ -3,26 +3,26 @@ use Rattle.std.specs.FinMap as map
 use Rattle.std.specs.Ordering.{nat_cmp}
 use Rattle.open_heap.specs.Queue.{Queue}
 use Rattle.jump_search.specs.declared.nodes.Node.{Node}
-use Rattle.jump_search.specs.inner.Underway.{priority_of, IsUnderway}
+use Rattle.jump_search.specs.inner.Underway.{estimate_of, IsUnderway}
 use Rattle.jump_search.proofs.Starting.{start_node, underway_start}
 use Rattle.jump_search.proofs.searching.Search.new.Goals as goal
 
 pub meet-requires-clause-waits : goal.meet-requires-clause-waits
 meet-requires-clause-waits c =
-    let number = length c.in_ok-front.front.nodes in
-    ap (λ (m : Queue). map.get m number) c.in_ok-front.ensures.waiting ∙ map.get-empty nat_cmp number
+    let number = length c.clear.new.self.nodes in
+    ap (λ (m : Queue). map.get m number) c.clear.ensures.waiting ∙ map.get-empty nat_cmp number
 
 pub returns-clause-underway : goal.returns-clause-underway
 returns-clause-underway c = λ all passes hit.
     let start = c.args.start in let rect = c.args.rect.now in
     let node = start_node start in
-    let empty = c.in_ok-front.ensures in
+    let empty = c.clear.ensures in
     let made = c.in_ok-meet.ensures in
     let nodes : c.meet.new.self.nodes ≡ node ∷ [] = made.nodes ∙ ap (λ (ns : List Node). ns ++ node ∷ []) empty.nodes in
-    let waiting : c.meet.new.self.waiting ≡ map.insert map.empty 0 (priority_of rect node) =
-    made.waiting ∙ ap (λ (m : Queue). map.insert m (length c.in_ok-front.front.nodes) (priority_of rect node))
+    let waiting : c.meet.new.self.waiting ≡ map.insert map.empty 0 (estimate_of rect node) =
+    made.waiting ∙ ap (λ (m : Queue). map.insert m (length c.clear.new.self.nodes) (estimate_of rect node))
     empty.waiting
-    ∙ ap (λ (ns : List Node). map.insert map.empty (length ns) (priority_of rect node)) empty.nodes in
+    ∙ ap (λ (ns : List Node). map.insert map.empty (length ns) (estimate_of rect node)) empty.nodes in
     subst (λ (ns : List Node). IsUnderway all passes hit start rect 0 ns c.meet.new.self.waiting None) (sym nodes)
     (subst (λ (m : Queue). IsUnderway all passes hit start rect 0 (node ∷ []) m None) (sym waiting)
     (underway_start all passes hit start rect))

@@ -6,6 +6,6 @@ use Rattle.open_heap.specs.Queue.{Queue}
 use Rattle.jump_search.proofs.searching.Search.next.Goals as goal
 
 pub returns-in_default-clause-past : goal.returns-in_default-clause-past
-returns-in_default-clause-past c = λ number priority found.
+returns-in_default-clause-past c = λ number value found.
     let empty = c.in_default.ensures.none in
-    absurd (none-some priority (sym (ap (λ (m : Queue). map.get m number) empty ∙ map.get-empty nat_cmp number) ∙ found))
+    absurd (none-some value (sym (ap (λ (m : Queue). map.get m number) empty ∙ map.get-empty nat_cmp number) ∙ found))

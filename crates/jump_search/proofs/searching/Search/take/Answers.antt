@@ -11,7 +11,7 @@ pub returns-then-skips-clause-underway : goal.returns-then-skips-clause-underway
 returns-then-skips-clause-underway g c = λ start floor free taken.
     let passes = g.R.View.passes c.args.problem.now.runs.now c.args.problem.now.class in
     let hit = g.A.Aim.hit c.args.problem.now.aim.now (g.R.View.extent c.args.problem.now.runs.now) in
-    let front = c.args.self.now.front in
+    let front = c.args.front.now in
     let skip = c.skips.ensures c.if-skips.true in
     skipped c.args.problem.now.all passes hit start c.args.rect.now floor front.nodes front.waiting c.args.self.now.best
     c.args.entry skip.1.0 taken skip.1.1.0 skip.0 skip.1.1.1
@@ -20,7 +20,7 @@ pub at-requires : goal.at-requires
 at-requires g c =
     let passes = g.R.View.passes c.args.problem.now.runs.now c.args.problem.now.class in
     let hit = g.A.Aim.hit c.args.problem.now.aim.now (g.R.View.extent c.args.problem.now.runs.now) in
-    let front = c.args.self.now.front in
+    let front = c.args.front.now in
     let t = c.requires.taken in
     let has = next_node c.args.problem.now.all passes hit t.0 c.args.rect.now t.1.0 front.nodes front.waiting c.args.self.now.best
     c.args.entry t.1.1.1 in
@@ -30,7 +30,7 @@ pub follow-requires-clause-cell : goal.follow-requires-clause-cell
 follow-requires-clause-cell g c =
     let passes = g.R.View.passes c.args.problem.now.runs.now c.args.problem.now.class in
     let hit = g.A.Aim.hit c.args.problem.now.aim.now (g.R.View.extent c.args.problem.now.runs.now) in
-    let front = c.args.self.now.front in
+    let front = c.args.front.now in
     let t = c.requires.taken in
     node_free passes hit t.0 front.nodes c.args.entry.key c.at.result.now t.1.1.0 t.1.1.1.underway.met c.at.ensures
 
@@ -38,7 +38,7 @@ pub follow-requires-clause-followable : goal.follow-requires-clause-followable
 follow-requires-clause-followable g c =
     let passes = g.R.View.passes c.args.problem.now.runs.now c.args.problem.now.class in
     let hit = g.A.Aim.hit c.args.problem.now.aim.now (g.R.View.extent c.args.problem.now.runs.now) in
-    let front = c.args.self.now.front in
+    let front = c.args.front.now in
     let a = c.at.result.now in
     let t = c.requires.taken in
     subst (λ (ns : List Node). IsFollowable passes hit c.args.rect.now a.state a.cost ns front.waiting)
@@ -50,7 +50,7 @@ pub best_with-self-requires-clause-inside : goal.best_with-self-requires-clause-
 best_with-self-requires-clause-inside g c =
     let passes = g.R.View.passes c.args.problem.now.runs.now c.args.problem.now.class in
     let hit = g.A.Aim.hit c.args.problem.now.aim.now (g.R.View.extent c.args.problem.now.runs.now) in
-    let front = c.args.self.now.front in
+    let front = c.args.front.now in
     let t = c.requires.taken in
     g.met.R.View.within c.args.problem.now.runs.now c.args.problem.now.class c.at.result.now.state.cell
     (node_free passes hit t.0 front.nodes c.args.entry.key c.at.result.now t.1.1.0 t.1.1.1.underway.met c.at.ensures)
@@ -61,7 +61,7 @@ returns-clause-underway g c = λ start floor free taken.
     let size = g.R.View.extent c.args.problem.now.runs.now in
     let hit = g.A.Aim.hit c.args.problem.now.aim.now size in
     let rect = c.args.rect.now in
-    let front = c.args.self.now.front in
+    let front = c.args.front.now in
     let a = c.at.result.now in
     let new = c.follow.new.self in
     let met_free = node_free passes hit start front.nodes c.args.entry.key a free taken.underway.met c.at.ensures in
@@ -78,7 +78,7 @@ pub returns-clause-opened : goal.returns-clause-opened
 returns-clause-opened g c =
     let passes = g.R.View.passes c.args.problem.now.runs.now c.args.problem.now.class in
     let hit = g.A.Aim.hit c.args.problem.now.aim.now (g.R.View.extent c.args.problem.now.runs.now) in
-    let front = c.args.self.now.front in
+    let front = c.args.front.now in
     let a = c.at.result.now in
     let t = c.requires.taken in
     let has = next_node c.args.problem.now.all passes hit t.0 c.args.rect.now t.1.0 front.nodes front.waiting c.args.self.now.best
