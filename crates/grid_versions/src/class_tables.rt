@@ -10,6 +10,7 @@ ghost use Rattle.grid_versions.specs.inner.Tables.{Tables, AreTables};
 ghost use Rattle.grid_versions.specs.inner.Tallying.{AreTablesOf};
 
 use crate::chunk_bits::BitView;
+use crate::relabelling::Changed;
 use crate::shared_list::SharedList;
 use crate::tables::ClassTables;
 use lane_rows::count_bit;
@@ -62,9 +63,11 @@ fn tables_at<V: BitView, L: Ledger>(
     if count_bit(changed, class.number()) == 0 {
         return before.shared(place);
     }
-    let tables = before
-        .at(place)
-        .updated(alloc, view, class, changed, ticks)?;
+    let changed = Changed {
+        bits: changed,
+        class,
+    };
+    let tables = before.at(place).updated(alloc, view, &changed, ticks)?;
     Ok(Arc::new(alloc, tables)?)
 }
 

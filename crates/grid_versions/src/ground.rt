@@ -6,15 +6,15 @@ ghost use Rattle.grid_versions.specs.inner.Reachers.{AreReachers};
 ghost use Rattle.grid_versions.specs.inner.Reaching.{CoverChanges, NameChanges};
 
 use crate::chunk_cells::ChunkCells;
-use crate::next_cells::next_patches;
+use crate::next_cells::{Before, Source, next_patches};
 use crate::painting::{base_patches, painted_patches};
 use crate::reachers::{all_reachers, next_reachers};
 use crate::shared_list::SharedList;
-use crate::standing_edits::numbers_added;
-use nav_types::{NoMemory, Rect};
+use crate::sites::Site;
+use crate::standing_edits::{Changes, numbers_added};
+use nav_types::NoMemory;
 use navcell_grid::Patch;
 use obstruction_store::{Ids, Store};
-use posts::MapSpec;
 use std::alloc::Global;
 
 /// What a version keeps of its cells chunk by chunk.
@@ -30,15 +30,15 @@ pub struct Ground {
 
 impl Ground {
     /// The ground of this map and these obstructions.
-    pub fn build(alloc: Global, map: &MapSpec, shapes: &Store) -> Result<Ground, NoMemory>
-        requires { AllFit map.now.size shapes.now }
-        ensures base { IfOk result (λ made. AreBaseChunks map.now made.base) }
-        ensures reachers { IfOk result (λ made. AreReachers map.now shapes.now made.reachers) }
-        ensures cells { IfOk result (λ made. ArePaintedChunks map.now shapes.now made.cells) }
+    pub fn build(alloc: Global, site: &Site<'_>) -> Result<Ground, NoMemory>
+        requires { AllFit site.now.map.now.size site.now.shapes.now }
+        ensures base { IfOk result (λ made. AreBaseChunks site.now.map.now made.base) }
+        ensures reachers { IfOk result (λ made. AreReachers site.now.map.now site.now.shapes.now made.reachers) }
+        ensures cells { IfOk result (λ made. ArePaintedChunks site.now.map.now site.now.shapes.now made.cells) }
     {
-        let base = base_patches(alloc, map)?;
-        let reachers = all_reachers(alloc, map, shapes)?;
-        let cells = painted_patches(alloc, map, shapes, &reachers, &base)?;
+        let base = base_patches(alloc, site.map)?;
+        let reachers = all_reachers(alloc, site)?;
+        let cells = painted_patches(alloc, site, &reachers, &base)?;
         Ok(Ground {
             base,
             reachers,
@@ -47,41 +47,40 @@ impl Ground {
     }
 
     /// The ground of the map under the obstructions of now, from this one, which is that under earlier ones, and for each
-    /// chunk the bits that differ. The rectangles cover what has changed, and the list has the numbers under which it
-    /// stands. Only the rectangles' cells are painted, and what lies elsewhere is shared.
+    /// chunk the bits that differ. Only the cells of the changes' rectangles are painted, and what lies elsewhere is
+    /// shared.
     pub fn updated(
         &self,
         alloc: Global,
-        map: &MapSpec,
         earlier: &Store,
-        shapes: &Store,
-        reaches: &[Rect],
-        ids: &[u32],
+        site: &Site<'_>,
+        changes: &Changes<'_>,
     ) -> Result<(Ground, Vec<u16>), NoMemory>
-        requires base { AreBaseChunks map.now self.now.base }
-        requires reachers { AreReachers map.now earlier.now self.now.reachers }
-        requires cells { ArePaintedChunks map.now earlier.now self.now.cells }
-        requires fit { AllFit map.now.size shapes.now }
-        requires covers { CoverChanges map.now earlier.now shapes.now reaches.now }
-        requires names { NameChanges map.now earlier.now shapes.now reaches.now ids.now }
-        ensures base { IfOk result (λ next. AreBaseChunks map.now next.0.base) }
-        ensures reachers { IfOk result (λ next. AreReachers map.now shapes.now next.0.reachers) }
-        ensures cells { IfOk result (λ next. ArePaintedChunks map.now shapes.now next.0.cells) }
+        requires base { AreBaseChunks site.now.map.now self.now.base }
+        requires reachers { AreReachers site.now.map.now earlier.now self.now.reachers }
+        requires cells { ArePaintedChunks site.now.map.now earlier.now self.now.cells }
+        requires fit { AllFit site.now.map.now.size site.now.shapes.now }
+        requires covers { CoverChanges site.now.map.now earlier.now site.now.shapes.now changes.now.reaches.now }
+        requires names { NameChanges site.now.map.now earlier.now site.now.shapes.now changes.now.reaches.now changes.now.ids.now }
+        ensures base { IfOk result (λ next. AreBaseChunks site.now.map.now next.0.base) }
+        ensures reachers { IfOk result (λ next. AreReachers site.now.map.now site.now.shapes.now next.0.reachers) }
+        ensures cells { IfOk result (λ next. ArePaintedChunks site.now.map.now site.now.shapes.now next.0.cells) }
         ensures bits { IfOk result (λ next. AreDiffering self.now.cells next.0.cells next.1.items) }
     {
         let base = self.base.share(alloc)?;
-        let added = numbers_added(earlier, ids);
-        let reachers = next_reachers(alloc, map, shapes, &self.reachers, reaches, ids)?;
-        let (cells, changed) = next_patches(
-            alloc,
-            map,
-            shapes,
-            &self.base,
-            &reachers,
-            &self.cells,
-            reaches,
+        let added = numbers_added(earlier, changes.ids);
+        let reachers = next_reachers(alloc, site, &self.reachers, changes)?;
+        let source = Source {
+            site,
+            base: &self.base,
+            reachers: &reachers,
+        };
+        let before = Before {
+            cells: &self.cells,
+            reaches: changes.reaches,
             added,
-        )?;
+        };
+        let (cells, changed) = next_patches(alloc, &source, &before)?;
         let ground = Ground {
             base,
             reachers,

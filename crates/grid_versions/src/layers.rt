@@ -17,11 +17,12 @@ use crate::painted_map::PaintedMap;
 use crate::planed_map::PlanedMap;
 use crate::relabelling::marks_below;
 use crate::shared_list::SharedList;
+use crate::sites::Site;
+use crate::standing_edits::Changes;
 use crate::tables::ClassTables;
 use class_planes::Planes;
 use nav_types::{NoMemory, Rect, Ticks};
 use obstruction_store::Store;
-use posts::MapSpec;
 use std::alloc::Global;
 use std::sync::ledger::Ledger;
 
@@ -40,21 +41,20 @@ impl Layers {
     /// The layers of this map and these obstructions. Each chunk is labelled once for each class.
     pub fn build<L: Ledger>(
         alloc: Global,
-        map: &MapSpec,
-        shapes: &Store,
+        site: &Site<'_>,
         ticks: &mut Ticks<L>,
     ) -> Result<Layers, NoMemory>
-        requires { AllFit map.now.size shapes.now }
-        ensures parts { IfOk result (λ made. AreParts map.now shapes.now made.ground.base made.ground.reachers
+        requires { AllFit site.now.map.now.size site.now.shapes.now }
+        ensures parts { IfOk result (λ made. AreParts site.now.map.now site.now.shapes.now made.ground.base made.ground.reachers
             made.ground.cells made.planes made.tables) }
         ensures ticks { OnOk result (ticks.new
-            ≡ ticks.old + length map.now.classes * chunk_count map.now.size) }
-        ensures most { ticks.new ≤ ticks.old + length map.now.classes * chunk_count map.now.size }
+            ≡ ticks.old + length site.now.map.now.classes * chunk_count site.now.map.now.size) }
+        ensures most { ticks.new ≤ ticks.old + length site.now.map.now.classes * chunk_count site.now.map.now.size }
     {
-        let ground = Ground::build(alloc, map, shapes)?;
-        let planes = planes_of(alloc, map, shapes, &ground.cells)?;
-        let classes = map.classes().count();
-        let planed = PlanedMap::new(map, shapes, &planes);
+        let ground = Ground::build(alloc, site)?;
+        let planes = planes_of(alloc, site, &ground.cells)?;
+        let classes = site.map.classes().count();
+        let planed = PlanedMap::new(site.map, site.shapes, &planes);
         let tables = class_tables(alloc, &planed, classes, ticks)?;
         Ok(Layers {
             ground,
@@ -64,48 +64,34 @@ impl Layers {
     }
 
     /// The layers of the map under the obstructions of now, from these, which are those under the obstructions of
-    /// before, and in how many pairs of chunk and class they differ. The rectangles cover what has changed, and the list
-    /// has the numbers under which it stands. Only the rectangles' cells are painted, each pair that differs is labelled
-    /// once, and what lies elsewhere is shared.
+    /// before, and in how many pairs of chunk and class they differ. Only the cells of the changes'
+    /// rectangles are painted, each pair that differs is labelled once, and what lies elsewhere is shared.
     pub fn updated<L: Ledger>(
         &self,
         alloc: Global,
-        map: &MapSpec,
         earlier: &Store,
-        shapes: &Store,
-        reaches: &[Rect],
-        ids: &[u32],
+        site: &Site<'_>,
+        changes: &Changes<'_>,
         ticks: &mut Ticks<L>,
     ) -> Result<(Layers, u32), NoMemory>
-        requires parts { AreParts map.now earlier.now self.now.ground.base self.now.ground.reachers
+        requires parts { AreParts site.now.map.now earlier.now self.now.ground.base self.now.ground.reachers
             self.now.ground.cells self.now.planes self.now.tables }
-        requires fit { AllFit map.now.size shapes.now }
-        requires covers { CoverChanges map.now earlier.now shapes.now reaches.now }
-        requires names { NameChanges map.now earlier.now shapes.now reaches.now ids.now }
-        ensures parts { IfOk result (λ next. AreParts map.now shapes.now next.0.ground.base next.0.ground.reachers
+        requires fit { AllFit site.now.map.now.size site.now.shapes.now }
+        requires covers { CoverChanges site.now.map.now earlier.now site.now.shapes.now changes.now.reaches.now }
+        requires names { NameChanges site.now.map.now earlier.now site.now.shapes.now changes.now.reaches.now changes.now.ids.now }
+        ensures parts { IfOk result (λ next. AreParts site.now.map.now site.now.shapes.now next.0.ground.base next.0.ground.reachers
             next.0.ground.cells next.0.planes next.0.tables) }
-        ensures relabelled { IfOk result (λ next. HasRelabelled (length map.now.classes)
-            (passable_at map.now earlier.now) (passable_at map.now shapes.now) next.1) }
-        ensures most { (count : ℕ) → HasRelabelled (length map.now.classes) (passable_at map.now earlier.now)
-            (passable_at map.now shapes.now) count → ticks.new ≤ ticks.old + count }
+        ensures relabelled { IfOk result (λ next. HasRelabelled (length site.now.map.now.classes)
+            (passable_at site.now.map.now earlier.now) (passable_at site.now.map.now site.now.shapes.now) next.1) }
+        ensures most { (count : ℕ) → HasRelabelled (length site.now.map.now.classes) (passable_at site.now.map.now earlier.now)
+            (passable_at site.now.map.now site.now.shapes.now) count → ticks.new ≤ ticks.old + count }
     {
-        let (ground, changed) = self
-            .ground
-            .updated(alloc, map, earlier, shapes, reaches, ids)?;
+        let (ground, changed) = self.ground.updated(alloc, earlier, site, changes)?;
         let bits = changed.as_slice();
-        let planes = next_planes(
-            alloc,
-            map,
-            shapes,
-            &self.planes,
-            &self.ground.cells,
-            &ground.cells,
-            reaches,
-            bits,
-        )?;
-        let planed = PlanedMap::new(map, shapes, &planes);
+        let planes = self.next_planes(alloc, site, &ground.cells, changes.reaches, bits)?;
+        let planed = PlanedMap::new(site.map, site.shapes, &planes);
         let tables = next_tables(alloc, &planed, &self.tables, bits, ticks)?;
-        let relabelled = marks_below(bits, map.classes().count());
+        let relabelled = marks_below(bits, site.map.classes().count());
         let layers = Layers {
             ground,
             planes,
@@ -113,40 +99,41 @@ impl Layers {
         };
         Ok((layers, relabelled))
     }
+
+    /// The planes of all classes of the map under the obstructions of now, whose cells have these numbers, from the planes
+    /// and the numbers of these layers. The rectangles cover what has changed, and the bits say in which chunks; what lies
+    /// elsewhere is shared.
+    fn next_planes(
+        &self,
+        alloc: Global,
+        site: &Site<'_>,
+        cells: &SharedList<ChunkCells>,
+        reaches: &[Rect],
+        changed: &[u16],
+    ) -> Result<Planes, NoMemory>
+        requires cells { ArePaintedChunks site.now.map.now site.now.shapes.now cells.now }
+        requires each { length changed.now ≡ chunk_count site.now.map.now.size }
+        requires before { ArePlanesBefore site.now.map.now site.now.shapes.now self.now.planes self.now.ground.cells
+            reaches.now changed.now }
+        ensures { IfOk result (ArePlanes site.now.map.now.size (passable_at site.now.map.now site.now.shapes.now) 65535
+            (length site.now.map.now.classes)) }
+    {
+        let painted = PaintedMap::new(site, cells);
+        let earlier = &self.ground.cells;
+        let parts = changed_parts(alloc, site.map.size(), reaches, changed, earlier, cells)?;
+        self.planes.updated(alloc, &painted, &parts)
+    }
 }
 
 /// The planes of all classes of a map whose cells have these numbers.
 fn planes_of(
     alloc: Global,
-    map: &MapSpec,
-    shapes: &Store,
+    site: &Site<'_>,
     cells: &SharedList<ChunkCells>,
 ) -> Result<Planes, NoMemory>
-    requires { ArePaintedChunks map.now shapes.now cells.now }
-    ensures { IfOk result (ArePlanes map.now.size (passable_at map.now shapes.now) 65535 (length map.now.classes)) }
+    requires { ArePaintedChunks site.now.map.now site.now.shapes.now cells.now }
+    ensures { IfOk result (ArePlanes site.now.map.now.size (passable_at site.now.map.now site.now.shapes.now) 65535 (length site.now.map.now.classes)) }
 {
-    let painted = PaintedMap::new(map, shapes, cells);
+    let painted = PaintedMap::new(site, cells);
     Planes::build(alloc, &painted, u16::MAX)
-}
-
-/// The planes of all classes of a map whose cells have these numbers, from those of before and the numbers of before. The
-/// rectangles cover what has changed, and the bits say in which chunks; what lies elsewhere is shared.
-fn next_planes(
-    alloc: Global,
-    map: &MapSpec,
-    shapes: &Store,
-    before: &Planes,
-    earlier: &SharedList<ChunkCells>,
-    cells: &SharedList<ChunkCells>,
-    reaches: &[Rect],
-    changed: &[u16],
-) -> Result<Planes, NoMemory>
-    requires cells { ArePaintedChunks map.now shapes.now cells.now }
-    requires each { length changed.now ≡ chunk_count map.now.size }
-    requires before { ArePlanesBefore map.now shapes.now before.now earlier.now reaches.now changed.now }
-    ensures { IfOk result (ArePlanes map.now.size (passable_at map.now shapes.now) 65535 (length map.now.classes)) }
-{
-    let painted = PaintedMap::new(map, shapes, cells);
-    let parts = changed_parts(alloc, map.size(), reaches, changed, earlier, cells)?;
-    before.updated(alloc, &painted, &parts)
 }

@@ -19,6 +19,7 @@ mod planed_map;
 mod reachers;
 mod relabelling;
 mod shared_list;
+mod sites;
 mod standing_edits;
 mod tables;
 mod version_parts;

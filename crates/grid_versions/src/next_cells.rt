@@ -18,124 +18,126 @@ ghost use Rattle.grid_versions.specs.inner.Reaching.{AreBefore, IsCoveredBefore}
 
 use crate::chunk_cells::ChunkCells;
 use crate::dirty_parts::dirty_part;
-use crate::painting::repainted;
+use crate::painting::{Paint, repainted};
 use crate::shared_list::SharedList;
+use crate::sites::Site;
 use nav_types::{NoMemory, Rect};
 use navcell_grid::Patch;
-use obstruction_store::{Ids, Store};
-use posts::MapSpec;
+use obstruction_store::Ids;
 use std::alloc::Global;
 use std::sync::Arc;
+
+/// What the numbers of all chunks are painted from: the map with what stands on it, the numbers under the base rectangles
+/// alone, and the obstructions that reach into each chunk.
+#[derive(Drop)]
+pub struct Source<'a> {
+    pub site: &'a Site<'a>,
+    pub base: &'a SharedList<Patch>,
+    pub reachers: &'a SharedList<Ids>,
+}
+
+/// The numbers of before, with the rectangles that cover what has changed since, and with the numbers of what was added,
+/// where nothing else has changed; else with none.
+#[derive(Drop)]
+pub struct Before<'a> {
+    pub cells: &'a SharedList<ChunkCells>,
+    pub reaches: &'a [Rect],
+    pub added: &'a [u32],
+}
 
 /// A copy of the old numbers of a chunk's cells in which the cells of a part have their numbers of now. Where the list
 /// of what was added has numbers, nothing else has changed, and these alone are painted over the old numbers, unless
 /// fewer obstructions reach into the chunk.
 fn next_numbers(
     alloc: Global,
-    map: &MapSpec,
-    shapes: &Store,
-    base: &Patch,
-    near: &[u32],
+    site: &Site<'_>,
+    whole: &Paint<'_>,
     old: &Patch,
     added: &[u32],
     part: Rect,
 ) -> Result<Patch, NoMemory>
-    requires fit { AllFit map.now.size shapes.now }
+    requires fit { AllFit site.now.map.now.size site.now.shapes.now }
     requires base { (k : ℕ) (cell : Cell) → IsInRect part cell
-        → has_class k (number_of base.now cell) ≡ has_base map.now k cell }
-    requires same { base.now.rect ≡ old.now.rect }
-    requires near { HoldReachers map.now shapes.now part near.now }
-    requires before { IsCoveredBefore map.now shapes.now part old.now added.now }
-    requires inside { IsRectInside map.now.size part }
+        → has_class k (number_of whole.now.base.now cell) ≡ has_base site.now.map.now k cell }
+    requires same { whole.now.base.now.rect ≡ old.now.rect }
+    requires near { HoldReachers site.now.map.now site.now.shapes.now part whole.now.near.now }
+    requires before { IsCoveredBefore site.now.map.now site.now.shapes.now part old.now added.now }
+    requires inside { IsRectInside site.now.map.now.size part }
     requires part { IsPartOf old.now.rect part }
     ensures rect { IfOk result (λ patch. patch.rect ≡ old.now.rect) }
     ensures whole { IfOk result (λ patch. length patch.numbers ≡ columns patch.rect * rows patch.rect) }
     ensures bits { IfOk result (λ patch. (k : ℕ) (cell : Cell) → IsInRect part cell
-        → has_class k (number_of patch cell) ≡ is_covered map.now shapes.now k cell) }
+        → has_class k (number_of patch cell) ≡ is_covered site.now.map.now site.now.shapes.now k cell) }
     ensures others { IfOk result (λ patch. (cell : Cell) → IsInRect old.now.rect cell → ¬ IsInRect part cell
         → number_of patch cell ≡ number_of old.now cell) }
 {
-    if !added.is_empty() && added.len() <= near.len() {
-        return repainted(alloc, map, shapes, added, old, old, part);
+    if !added.is_empty() && added.len() <= whole.near.len() {
+        let more = Paint {
+            base: old,
+            near: added,
+        };
+        return repainted(alloc, site, &more, old, part);
     }
-    repainted(alloc, map, shapes, near, base, old, part)
+    repainted(alloc, site, whole, old, part)
 }
 
-/// The numbers of one chunk's cells under the obstructions of now, and the bits that differ from those of before. The
-/// rectangles cover what has changed; only their cells are painted, and where no bit differs the old numbers are
-/// shared. The list has the numbers of what was added, where nothing else has changed; else it is empty.
+/// The numbers of one chunk's cells under the obstructions of now, and the bits that differ from those of before. Only
+/// the cells of the rectangles are painted, and where no bit differs the old numbers are shared.
 fn next_patch(
     alloc: Global,
-    map: &MapSpec,
-    shapes: &Store,
-    base: &SharedList<Patch>,
-    reachers: &SharedList<Ids>,
-    before: &SharedList<ChunkCells>,
-    reaches: &[Rect],
-    added: &[u32],
+    source: &Source<'_>,
+    before: &Before<'_>,
     place: usize,
 ) -> Result<(Arc<ChunkCells, Global>, u16), NoMemory>
-    requires fit { AllFit map.now.size shapes.now }
-    requires base { AreBaseChunks map.now base.now }
-    requires reachers { AreReachers map.now shapes.now reachers.now }
-    requires before { AreBefore map.now shapes.now before.now reaches.now added.now }
-    requires place { place < chunk_count map.now.size }
-    ensures painted { IfOk result (λ next. IsPaintedChunk map.now shapes.now (chunk_numbered map.now.size place)
+    requires fit { AllFit source.now.site.now.map.now.size source.now.site.now.shapes.now }
+    requires base { AreBaseChunks source.now.site.now.map.now source.now.base.now }
+    requires reachers { AreReachers source.now.site.now.map.now source.now.site.now.shapes.now source.now.reachers.now }
+    requires before { AreBefore source.now.site.now.map.now source.now.site.now.shapes.now before.now.cells.now before.now.reaches.now before.now.added.now }
+    requires place { place < chunk_count source.now.site.now.map.now.size }
+    ensures painted { IfOk result (λ next. IsPaintedChunk source.now.site.now.map.now source.now.site.now.shapes.now (chunk_numbered source.now.site.now.map.now.size place)
         (arc_value next.0)) }
-    ensures bits { IfOk result (λ next. (old : Numbering) → slice_get before.now place ≡ Some old
+    ensures bits { IfOk result (λ next. (old : Numbering) → slice_get before.now.cells.now place ≡ Some old
         → (k : ℕ) → (bit_at next.1 k ≡ 1) ↔ DiffersIn k (arc_value next.0).rect old (arc_value next.0)) }
 {
-    let cells = before.at(place);
+    let cells = before.cells.at(place);
     let old = cells.patch();
-    let Some(part) = dirty_part(reaches, old.rect()) else {
-        return Ok((before.shared(place)?, 0));
+    let Some(part) = dirty_part(before.reaches, old.rect()) else {
+        return Ok((before.cells.shared(place)?, 0));
     };
-    let near = reachers.at(place);
-    let patch = next_numbers(
-        alloc,
-        map,
-        shapes,
-        base.at(place),
-        near.as_slice(),
-        old,
-        added,
-        part,
-    )?;
+    let near = source.reachers.at(place);
+    let whole = Paint {
+        base: source.base.at(place),
+        near: near.as_slice(),
+    };
+    let site = source.site;
+    let patch = next_numbers(alloc, site, &whole, old, before.added, part)?;
     let bits = old.differs_in(&patch, part);
     if bits == 0 {
-        return Ok((before.shared(place)?, 0));
+        return Ok((before.cells.shared(place)?, 0));
     }
-    let made = ChunkCells::new(alloc, patch, map.classes().count())?;
+    let made = ChunkCells::new(alloc, patch, site.map.classes().count())?;
     Ok((Arc::new(alloc, made)?, bits))
 }
 
 /// The numbers of all chunks' cells under the obstructions of now, and for each chunk the bits that differ from those
-/// of before. The rectangles cover what has changed, and the list has the numbers of what was added, where nothing else
-/// has changed.
+/// of before.
 pub fn next_patches(
     alloc: Global,
-    map: &MapSpec,
-    shapes: &Store,
-    base: &SharedList<Patch>,
-    reachers: &SharedList<Ids>,
-    before: &SharedList<ChunkCells>,
-    reaches: &[Rect],
-    added: &[u32],
+    source: &Source<'_>,
+    before: &Before<'_>,
 ) -> Result<(SharedList<ChunkCells>, Vec<u16>), NoMemory>
-    requires fit { AllFit map.now.size shapes.now }
-    requires base { AreBaseChunks map.now base.now }
-    requires reachers { AreReachers map.now shapes.now reachers.now }
-    requires before { AreBefore map.now shapes.now before.now reaches.now added.now }
-    ensures painted { IfOk result (λ next. ArePaintedChunks map.now shapes.now next.0) }
-    ensures bits { IfOk result (λ next. AreDiffering before.now next.0 next.1.items) }
+    requires fit { AllFit source.now.site.now.map.now.size source.now.site.now.shapes.now }
+    requires base { AreBaseChunks source.now.site.now.map.now source.now.base.now }
+    requires reachers { AreReachers source.now.site.now.map.now source.now.site.now.shapes.now source.now.reachers.now }
+    requires before { AreBefore source.now.site.now.map.now source.now.site.now.shapes.now before.now.cells.now before.now.reaches.now before.now.added.now }
+    ensures painted { IfOk result (λ next. ArePaintedChunks source.now.site.now.map.now source.now.site.now.shapes.now next.0) }
+    ensures bits { IfOk result (λ next. AreDiffering before.now.cells.now next.0 next.1.items) }
 {
-    let count = before.len();
+    let count = before.cells.len();
     let mut all = SharedList::with_capacity(alloc, count)?;
     let mut changed = Vec::with_capacity(alloc, count)?;
     for place in 0..count {
-        let (patch, bits) = next_patch(
-            alloc, map, shapes, base, reachers, before, reaches, added, place,
-        )?;
+        let (patch, bits) = next_patch(alloc, source, before, place)?;
         all.push_shared(alloc, patch)?;
         changed.push(bits)?;
     }

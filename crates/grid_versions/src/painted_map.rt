@@ -6,6 +6,7 @@ ghost use Rattle.grid_versions.specs.inner.Painting.{ArePaintedChunks};
 use crate::chunk_cells::ChunkCells;
 use crate::chunks;
 use crate::shared_list::SharedList;
+use crate::sites::Site;
 use nav_types::limits::CHUNK_SIDE;
 use nav_types::{Cell, Chunk, Class, Rows, Size, View};
 use obstruction_store::Store;
@@ -39,15 +40,15 @@ impl<'a> Model for PaintedMap<'a> {
 
 impl<'a> PaintedMap<'a> {
     /// The map with these obstructions, where the cells have their numbers.
-    pub fn new(
-        map: &'a MapSpec,
-        shapes: &'a Store,
-        cells: &'a SharedList<ChunkCells>,
-    ) -> PaintedMap<'a>
-        requires { ArePaintedChunks map.now shapes.now cells.now }
-        ensures { result ≡ map_state map.now shapes.now }
+    pub fn new(site: &Site<'a>, cells: &'a SharedList<ChunkCells>) -> PaintedMap<'a>
+        requires { ArePaintedChunks site.now.map.now site.now.shapes.now cells.now }
+        ensures { result ≡ map_state site.now.map.now site.now.shapes.now }
     {
-        PaintedMap { map, shapes, cells }
+        PaintedMap {
+            map: site.map,
+            shapes: site.shapes,
+            cells,
+        }
     }
 }
 

@@ -17,13 +17,22 @@ use crate::base_bands::BaseBand;
 use crate::chunk_cells::ChunkCells;
 use crate::chunks;
 use crate::shared_list::SharedList;
+use crate::sites::Site;
 use clearance_raster::{raster_in, reach_of};
 use nav_types::{NoMemory, Rect};
 use navcell_grid::Patch;
 use obstruction_shapes::Obstruction;
-use obstruction_store::{Ids, Store};
+use obstruction_store::Ids;
 use posts::MapSpec;
 use std::alloc::Global;
+
+/// What a part of a chunk is painted from: numbers to begin with, and the numbers of the obstructions whose bits are to
+/// be set.
+#[derive(Drop)]
+pub struct Paint<'a> {
+    pub base: &'a Patch,
+    pub near: &'a [u32],
+}
 
 /// The numbers of each chunk's cells under the base rectangles alone: bit k is set exactly where a base rectangle
 /// covers the cell for class k.
@@ -50,25 +59,31 @@ pub fn base_patches(alloc: Global, map: &MapSpec) -> Result<SharedList<Patch>, N
 /// class k. The lists have the obstructions that reach into each chunk.
 pub fn painted_patches(
     alloc: Global,
-    map: &MapSpec,
-    shapes: &Store,
+    site: &Site<'_>,
     reachers: &SharedList<Ids>,
     base: &SharedList<Patch>,
 ) -> Result<SharedList<ChunkCells>, NoMemory>
-    requires fit { AllFit map.now.size shapes.now }
-    requires reachers { AreReachers map.now shapes.now reachers.now }
-    requires base { AreBaseChunks map.now base.now }
-    ensures { IfOk result (ArePaintedChunks map.now shapes.now) }
+    requires fit { AllFit site.now.map.now.size site.now.shapes.now }
+    requires reachers { AreReachers site.now.map.now site.now.shapes.now reachers.now }
+    requires base { AreBaseChunks site.now.map.now base.now }
+    ensures { IfOk result (ArePaintedChunks site.now.map.now site.now.shapes.now) }
 {
-    let size = map.size();
+    let size = site.map.size();
     let count = chunks::count(size);
     let mut all = SharedList::with_capacity(alloc, count as usize)?;
     for place in 0..count {
         let under = base.at(place as usize);
         let rect = Rect::of_chunk(size, chunks::numbered(size, place));
         let near = reachers.at(place as usize);
-        let patch = repainted(alloc, map, shapes, near.as_slice(), under, under, rect)?;
-        all.push(alloc, ChunkCells::new(alloc, patch, map.classes().count())?)?;
+        let paint = Paint {
+            base: under,
+            near: near.as_slice(),
+        };
+        let patch = repainted(alloc, site, &paint, under, rect)?;
+        all.push(
+            alloc,
+            ChunkCells::new(alloc, patch, site.map.classes().count())?,
+        )?;
     }
     Ok(all)
 }
@@ -126,65 +141,63 @@ fn paint_part(patch: &mut Patch, rect: Rect, part: Rect, mask: u16)
     }
 }
 
-/// A copy of a patch in which the cells of a part are painted anew: each has the number that it has under the base
-/// rectangles, with the bits of the obstructions. The part lies in the patch and in the map, and the list has the
-/// obstructions that reach into it, but for those that have set their bits in `base` already.
+/// A copy of a patch in which the cells of a part are painted anew: each has the number of the paint's base, with the
+/// bits of the obstructions. The part lies in the patch and in the map, and the paint has the obstructions that reach
+/// into it, but for those that have set their bits in its base already.
 pub fn repainted(
     alloc: Global,
-    map: &MapSpec,
-    shapes: &Store,
-    near: &[u32],
-    base: &Patch,
+    site: &Site<'_>,
+    paint: &Paint<'_>,
     old: &Patch,
     part: Rect,
 ) -> Result<Patch, NoMemory>
-    requires fit { AllFit map.now.size shapes.now }
-    requires near { HoldUnpainted map.now shapes.now part (number_of base.now) near.now }
-    requires base { base.now.rect ≡ old.now.rect }
-    requires inside { IsRectInside map.now.size part }
+    requires fit { AllFit site.now.map.now.size site.now.shapes.now }
+    requires near { HoldUnpainted site.now.map.now site.now.shapes.now part (number_of paint.now.base.now) paint.now.near.now }
+    requires base { paint.now.base.now.rect ≡ old.now.rect }
+    requires inside { IsRectInside site.now.map.now.size part }
     requires part { IsPartOf old.now.rect part }
     ensures rect { IfOk result (λ patch. patch.rect ≡ old.now.rect) }
     ensures whole { IfOk result (λ patch. length patch.numbers ≡ columns patch.rect * rows patch.rect) }
     ensures bits { IfOk result (λ patch. (k : ℕ) (cell : Cell) → IsInRect part cell
         → has_class k (number_of patch cell)
-        ≡ (has_class k (number_of base.now cell) || is_blocked map.now shapes.now k cell)) }
+        ≡ (has_class k (number_of paint.now.base.now cell) || is_blocked site.now.map.now site.now.shapes.now k cell)) }
     ensures others { IfOk result (λ patch. (cell : Cell) → IsInRect old.now.rect cell → ¬ IsInRect part cell
         → number_of patch cell ≡ number_of old.now cell) }
 {
     let mut patch = old.copy(alloc)?;
-    patch.copy_rect(base, part);
-    paint_shapes(&mut patch, part, map, shapes, near);
+    patch.copy_rect(paint.base, part);
+    paint_shapes(&mut patch, part, site, paint.near);
     let _ = patch.rect();
     Ok(patch)
 }
 
 /// Sets the bits of all obstructions in a part of a patch. The list has those that reach into it, but for those that
 /// have set their bits already.
-fn paint_shapes(patch: &mut Patch, part: Rect, map: &MapSpec, shapes: &Store, near: &[u32])
-    requires fit { AllFit map.now.size shapes.now }
-    requires near { HoldUnpainted map.now shapes.now part (number_of patch.old) near.now }
-    requires inside { IsRectInside map.now.size part }
+fn paint_shapes(patch: &mut Patch, part: Rect, site: &Site<'_>, near: &[u32])
+    requires fit { AllFit site.now.map.now.size site.now.shapes.now }
+    requires near { HoldUnpainted site.now.map.now site.now.shapes.now part (number_of patch.old) near.now }
+    requires inside { IsRectInside site.now.map.now.size part }
     requires part { IsPartOf patch.old.rect part }
     ensures rect { patch.new.rect ≡ patch.old.rect }
-    ensures set { IsRasterIn patch.old.rect part (is_blocked map.now shapes.now)
+    ensures set { IsRasterIn patch.old.rect part (is_blocked site.now.map.now site.now.shapes.now)
         (number_of patch.old) (number_of patch.new) }
 {
     for id in near {
-        paint_listed(patch, part, *id, map, shapes);
+        paint_listed(patch, part, *id, site);
     }
 }
 
 /// Sets the bits of the obstruction of the number, if one stands under it, in a part of a patch.
-fn paint_listed(patch: &mut Patch, part: Rect, id: u32, map: &MapSpec, shapes: &Store)
-    requires fit { AllFit map.now.size shapes.now }
-    requires inside { IsRectInside map.now.size part }
+fn paint_listed(patch: &mut Patch, part: Rect, id: u32, site: &Site<'_>)
+    requires fit { AllFit site.now.map.now.size site.now.shapes.now }
+    requires inside { IsRectInside site.now.map.now.size part }
     requires part { IsPartOf patch.old.rect part }
     ensures rect { patch.new.rect ≡ patch.old.rect }
-    ensures set { IsRasterIn patch.old.rect part (λ k cell. blocks_under map.now shapes.now k cell id)
+    ensures set { IsRasterIn patch.old.rect part (λ k cell. blocks_under site.now.map.now site.now.shapes.now k cell id)
         (number_of patch.old) (number_of patch.new) }
 {
-    if let Some(obstruction) = shapes.get(id) {
-        paint_shape(patch, part, obstruction, map);
+    if let Some(obstruction) = site.shapes.get(id) {
+        paint_shape(patch, part, obstruction, site.map);
     }
 }
 

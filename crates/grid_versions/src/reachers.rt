@@ -14,10 +14,10 @@ ghost use Rattle.grid_versions.specs.inner.Reachers.{HoldChunkReachers, AreReach
 use crate::chunks;
 use crate::dirty_parts::dirty_part;
 use crate::shared_list::SharedList;
-use crate::standing_edits::reach_under;
+use crate::sites::Site;
+use crate::standing_edits::{Changes, reach_under};
 use nav_types::{NoMemory, Rect, Size};
 use obstruction_store::{Ids, Store};
-use posts::MapSpec;
 use std::alloc::Global;
 use std::sync::Arc;
 
@@ -29,18 +29,13 @@ struct Reacher {
 }
 
 /// Appends the cells that the obstruction of the number can block, if there are such cells.
-fn push_reacher(
-    map: &MapSpec,
-    shapes: &Store,
-    id: u32,
-    reachers: &mut Vec<Reacher>,
-) -> Result<(), NoMemory>
-    requires { AllFit map.now.size shapes.now }
+fn push_reacher(site: &Site<'_>, id: u32, reachers: &mut Vec<Reacher>) -> Result<(), NoMemory>
+    requires { AllFit site.now.map.now.size site.now.shapes.now }
     ensures kept { OnOk result ((n : ℕ) (cell : Cell) → IsReachNoted reachers.old.items n cell
         → IsReachNoted reachers.new.items n cell) }
-    ensures reached { OnOk result (HoldReached map.now shapes.now reachers.new.items id) }
+    ensures reached { OnOk result (HoldReached site.now.map.now site.now.shapes.now reachers.new.items id) }
 {
-    let Some(rect) = reach_under(map, shapes, id) else {
+    let Some(rect) = reach_under(site.map, site.shapes, id) else {
         return Ok(());
     };
     reachers.push(Reacher { id, rect })?;
@@ -48,19 +43,14 @@ fn push_reacher(
 }
 
 /// The cells that the obstructions of the numbers can block.
-fn reachers_of(
-    alloc: Global,
-    map: &MapSpec,
-    shapes: &Store,
-    ids: &[u32],
-) -> Result<Vec<Reacher>, NoMemory>
-    requires { AllFit map.now.size shapes.now }
+fn reachers_of(alloc: Global, site: &Site<'_>, ids: &[u32]) -> Result<Vec<Reacher>, NoMemory>
+    requires { AllFit site.now.map.now.size site.now.shapes.now }
     ensures { IfOk result (λ reachers. (id : ℕ) → Contains ids.now id
-        → HoldReached map.now shapes.now reachers.items id) }
+        → HoldReached site.now.map.now site.now.shapes.now reachers.items id) }
 {
     let mut reachers = Vec::with_capacity(alloc, ids.len())?;
     for id in ids {
-        push_reacher(map, shapes, *id, &mut reachers)?;
+        push_reacher(site, *id, &mut reachers)?;
     }
     Ok(reachers)
 }
@@ -140,18 +130,14 @@ fn standing_ids(alloc: Global, shapes: &Store) -> Result<Ids, NoMemory>
 }
 
 /// For each chunk of the map the numbers of the obstructions that reach into it.
-pub fn all_reachers(
-    alloc: Global,
-    map: &MapSpec,
-    shapes: &Store,
-) -> Result<SharedList<Ids>, NoMemory>
-    requires { AllFit map.now.size shapes.now }
-    ensures { IfOk result (AreReachers map.now shapes.now) }
+pub fn all_reachers(alloc: Global, site: &Site<'_>) -> Result<SharedList<Ids>, NoMemory>
+    requires { AllFit site.now.map.now.size site.now.shapes.now }
+    ensures { IfOk result (AreReachers site.now.map.now site.now.shapes.now) }
 {
-    let size = map.size();
+    let size = site.map.size();
     let count = chunks::count(size);
-    let ids = standing_ids(alloc, shapes)?;
-    let reachers = reachers_of(alloc, map, shapes, ids.as_slice())?;
+    let ids = standing_ids(alloc, site.shapes)?;
+    let reachers = reachers_of(alloc, site, ids.as_slice())?;
     let mut all = SharedList::with_capacity(alloc, count as usize)?;
     for place in 0..count {
         let rect = Rect::of_chunk(size, chunks::numbered(size, place));
@@ -167,24 +153,23 @@ fn reachers_at(
     alloc: Global,
     size: Size,
     before: &SharedList<Ids>,
-    reaches: &[Rect],
-    ids: &[u32],
+    changes: &Changes<'_>,
     changed: &[Reacher],
     place: u32,
 ) -> Result<Arc<Ids, Global>, NoMemory>
     requires place { place < chunk_count size }
     requires each { length before.now ≡ chunk_count size }
     ensures { IfOk result (λ made. (map : Map) (now : Standing) → map.size ≡ size
-        → AreReachersSince map now before.now reaches.now ids.now changed.now
+        → AreReachersSince map now before.now changes.now.reaches.now changes.now.ids.now changed.now
         → HoldChunkReachers map now (chunk_numbered size place) (arc_value made)) }
 {
     let rect = Rect::of_chunk(size, chunks::numbered(size, place));
-    let Some(_) = dirty_part(reaches, rect) else {
+    let Some(_) = dirty_part(changes.reaches, rect) else {
         let shared = before.shared(place as usize)?;
         return Ok(shared);
     };
     let old = before.at(place as usize).as_slice();
-    let mut made = unchanged_ids(alloc, old, ids)?;
+    let mut made = unchanged_ids(alloc, old, changes.ids)?;
     list_reachers(rect, changed, &mut made)?;
     Ok(Arc::new(alloc, made)?)
 }
@@ -193,22 +178,20 @@ fn reachers_at(
 /// obstructions of the changed numbers can block.
 pub fn next_reachers(
     alloc: Global,
-    map: &MapSpec,
-    shapes: &Store,
+    site: &Site<'_>,
     before: &SharedList<Ids>,
-    reaches: &[Rect],
-    ids: &[u32],
+    changes: &Changes<'_>,
 ) -> Result<SharedList<Ids>, NoMemory>
-    requires fit { AllFit map.now.size shapes.now }
-    requires before { AreReachersBefore map.now shapes.now before.now reaches.now ids.now }
-    ensures { IfOk result (AreReachers map.now shapes.now) }
+    requires fit { AllFit site.now.map.now.size site.now.shapes.now }
+    requires before { AreReachersBefore site.now.map.now site.now.shapes.now before.now changes.now.reaches.now changes.now.ids.now }
+    ensures { IfOk result (AreReachers site.now.map.now site.now.shapes.now) }
 {
-    let size = map.size();
-    let changed = reachers_of(alloc, map, shapes, ids)?;
+    let size = site.map.size();
+    let changed = reachers_of(alloc, site, changes.ids)?;
     let count = chunks::count(size);
     let mut all = SharedList::with_capacity(alloc, count as usize)?;
     for place in 0..count {
-        let made = reachers_at(alloc, size, before, reaches, ids, &changed, place)?;
+        let made = reachers_at(alloc, size, before, changes, &changed, place)?;
         all.push_shared(alloc, made)?;
     }
     Ok(all)

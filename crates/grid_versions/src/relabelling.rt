@@ -19,12 +19,19 @@ pub fn marks_below(bits: &[u16], classes: u8) -> u32
     count
 }
 
-/// Whether the bit of the class is set at a place.
-pub fn is_marked(bits: &[u16], place: u32, class: Class) -> bool
-    requires { place < length bits.now }
-    ensures { slice_get (map (has_class class) bits.now) place ≡ Some result }
+/// Which chunks have changed for a class: those whose number has the bit of the class.
+#[derive(Drop)]
+pub struct Changed<'a> {
+    pub bits: &'a [u16],
+    pub class: Class,
+}
+
+/// Whether the chunk at a place has changed.
+pub fn is_marked(changed: &Changed<'_>, place: u32) -> bool
+    requires { place < length changed.now.bits.now }
+    ensures { slice_get (map (has_class changed.now.class) changed.now.bits.now) place ≡ Some result }
 {
-    has_bit(bits[place as usize], class)
+    has_bit(changed.bits[place as usize], changed.class)
 }
 
 /// Whether the bit of the class is set.

@@ -7,6 +7,7 @@ ghost use Rattle.grid_versions.specs.Editing.{edit_reply, after_edit};
 ghost use Rattle.grid_versions.specs.Editing.{after_edits, edit_replies};
 ghost use Rattle.grid_versions.specs.inner.Reaching.{CoverChanges, HoldsReach, NameChanges};
 
+use crate::sites::Site;
 use clearance_raster::reach_of;
 use nav_types::{NoMemory, Rect, Sequence, Size};
 use obstruction_shapes::{Shape, check};
@@ -28,6 +29,13 @@ pub struct Edited {
     pub reaches: Reaches,
     /// The numbers under which it stands.
     pub ids: Ids,
+}
+
+/// What has changed of the standing obstructions: rectangles that cover it, and the numbers under which it stands.
+#[derive(Drop)]
+pub struct Changes<'a> {
+    pub reaches: &'a [Rect],
+    pub ids: &'a [u32],
 }
 
 /// Whether the shape fits a map of this size.
@@ -157,23 +165,18 @@ fn apply_all(
 }
 
 /// Applies the edits to a copy of the standing obstructions.
-pub fn edited_copy(
-    alloc: Global,
-    map: &MapSpec,
-    before: &Store,
-    edits: &[Edit],
-) -> Result<Edited, NoMemory>
-    requires { AllFit map.now.size before.now }
-    ensures standing { IfOk result (λ next. next.shapes ≡ after_edits map.now before.now edits.now) }
-    ensures replies { IfOk result (λ next. next.replies ≡ edit_replies map.now before.now edits.now) }
-    ensures fit { IfOk result (λ next. AllFit map.now.size next.shapes) }
-    ensures covers { IfOk result (λ next. CoverChanges map.now before.now next.shapes next.reaches) }
-    ensures names { IfOk result (λ next. NameChanges map.now before.now next.shapes next.reaches next.ids) }
+pub fn edited_copy(alloc: Global, site: &Site<'_>, edits: &[Edit]) -> Result<Edited, NoMemory>
+    requires { AllFit site.now.map.now.size site.now.shapes.now }
+    ensures standing { IfOk result (λ next. next.shapes ≡ after_edits site.now.map.now site.now.shapes.now edits.now) }
+    ensures replies { IfOk result (λ next. next.replies ≡ edit_replies site.now.map.now site.now.shapes.now edits.now) }
+    ensures fit { IfOk result (λ next. AllFit site.now.map.now.size next.shapes) }
+    ensures covers { IfOk result (λ next. CoverChanges site.now.map.now site.now.shapes.now next.shapes next.reaches) }
+    ensures names { IfOk result (λ next. NameChanges site.now.map.now site.now.shapes.now next.shapes next.reaches next.ids) }
 {
-    let mut shapes = before.copy(alloc)?;
+    let mut shapes = site.shapes.copy(alloc)?;
     let mut reaches = Reaches::new(alloc);
     let mut ids = Ids::new(alloc);
-    let replies = apply_all(alloc, map, &mut shapes, edits, &mut reaches, &mut ids)?;
+    let replies = apply_all(alloc, site.map, &mut shapes, edits, &mut reaches, &mut ids)?;
     Ok(Edited {
         shapes,
         replies,

@@ -17,6 +17,7 @@ mod sums;
 
 use crate::chunk_bits::BitView;
 use crate::chunks;
+use crate::relabelling::Changed;
 use crate::shared_list::SharedList;
 use chunk_regions::Labels;
 use nav_types::{Cell, Class, NoMemory, Size, Ticks};
@@ -85,32 +86,23 @@ impl ClassTables {
         &self,
         alloc: Global,
         view: &V,
-        class: Class,
-        changed: &[u16],
+        changed: &Changed<'_>,
         ticks: &mut Ticks<L>,
     ) -> Result<ClassTables, NoMemory>
-        requires class { class < V.class_count view.now }
+        requires class { changed.now.class < V.class_count view.now }
         requires before { (old : Cell → Bool) × (AreTables old (V.extent view.now) self.now
-            × AreChanges old (V.passes view.now class) (V.extent view.now) class changed.now) }
-        ensures tables { IfOk result (AreTables (V.passes view.now class) (V.extent view.now)) }
-        ensures most { ticks.new ≤ ticks.old + count_by (has_class class) changed.now }
+            × AreChanges old (V.passes view.now changed.now.class) (V.extent view.now) changed.now.class changed.now.bits.now) }
+        ensures tables { IfOk result (AreTables (V.passes view.now changed.now.class) (V.extent view.now)) }
+        ensures most { ticks.new ≤ ticks.old + count_by (has_class changed.now.class) changed.now.bits.now }
     {
         let size = view.size();
-        let (labels, counts) = labelling::next_labels(
-            alloc,
-            view,
-            class,
-            &self.labels,
-            changed,
-            ticks,
-        )?;
+        let (labels, counts) = labelling::next_labels(alloc, view, &self.labels, changed, ticks)?;
         let (east, to_east) = borders::next_edges(
             alloc,
             size,
             &labels,
             &self.east,
             changed,
-            class,
             Side::East,
         )?;
         let (north, to_north) = borders::next_edges(
@@ -119,7 +111,6 @@ impl ClassTables {
             &labels,
             &self.north,
             changed,
-            class,
             Side::North,
         )?;
         if counts && to_east && to_north {

@@ -12,9 +12,11 @@ ghost use Rattle.grid_versions.specs.inner.Tables.{AreTables};
 
 use crate::layers::Layers;
 use crate::planed_map::PlanedMap;
+use crate::sites::Site;
+use crate::standing_edits::Changes;
 use crate::tables::ClassTables;
 use class_planes::{ClassPlane, Planes};
-use nav_types::{Cell, Class, NoMemory, Rect, Ticks};
+use nav_types::{Cell, Class, NoMemory, Ticks};
 use obstruction_store::Store;
 use posts::{MapSpec, Tallies};
 use reach_sets::RegionId;
@@ -60,20 +62,19 @@ impl VersionParts {
     /// The parts of the version of this map and these obstructions, as `Version::build` says.
     pub fn build<L: Ledger>(
         alloc: Global,
-        map: &MapSpec,
-        shapes: &Store,
+        site: &Site<'_>,
         ticks: &mut Ticks<L>,
     ) -> Result<VersionParts, NoMemory>
-        requires { AllFit map.now.size shapes.now }
-        ensures map { IfOk result (λ parts. parts.map ≡ map.now) }
-        ensures standing { IfOk result (λ parts. parts.standing ≡ shapes.now) }
+        requires { AllFit site.now.map.now.size site.now.shapes.now }
+        ensures map { IfOk result (λ parts. parts.map ≡ site.now.map.now) }
+        ensures standing { IfOk result (λ parts. parts.standing ≡ site.now.shapes.now) }
         ensures ticks { OnOk result (ticks.new
-            ≡ ticks.old + length map.now.classes * chunk_count map.now.size) }
-        ensures most { ticks.new ≤ ticks.old + length map.now.classes * chunk_count map.now.size }
+            ≡ ticks.old + length site.now.map.now.classes * chunk_count site.now.map.now.size) }
+        ensures most { ticks.new ≤ ticks.old + length site.now.map.now.classes * chunk_count site.now.map.now.size }
     {
-        let shared = shared_map(alloc, map)?;
-        let standing = shared_store(alloc, shapes)?;
-        let layers = Layers::build(alloc, map, shapes, ticks)?;
+        let shared = shared_map(alloc, site.map)?;
+        let standing = shared_store(alloc, site.shapes)?;
+        let layers = Layers::build(alloc, site, ticks)?;
         Ok(VersionParts {
             map: shared,
             shapes: standing,
@@ -82,20 +83,18 @@ impl VersionParts {
     }
 
     /// The parts of the version of this map and other obstructions, all of which fit the map, and in how many pairs of chunk and
-    /// class it differs from this one. The rectangles cover what has changed, and the list has the numbers under which it
-    /// stands. Only the rectangles' cells are painted, each pair that differs is labelled once, and what lies elsewhere is
-    /// shared.
+    /// class it differs from this one. Only the cells of the changes' rectangles are painted, each pair that differs is
+    /// labelled once, and what lies elsewhere is shared.
     pub fn updated<L: Ledger>(
         &self,
         alloc: Global,
         shapes: Store,
-        reaches: &[Rect],
-        ids: &[u32],
+        changes: &Changes<'_>,
         ticks: &mut Ticks<L>,
     ) -> Result<(Arc<VersionParts, Global>, u32), NoMemory>
         requires fit { AllFit self.now.map.size shapes }
-        requires covers { CoverChanges self.now.map self.now.standing shapes reaches.now }
-        requires names { NameChanges self.now.map self.now.standing shapes reaches.now ids.now }
+        requires covers { CoverChanges self.now.map self.now.standing shapes changes.now.reaches.now }
+        requires names { NameChanges self.now.map self.now.standing shapes changes.now.reaches.now changes.now.ids.now }
         ensures version { IfOk result (λ next. arc_value next.0 ≡ map_state self.now.map shapes) }
         ensures relabelled { IfOk result (λ next. HasRelabelled (length self.now.map.classes) (passes_of self.now)
             (passes_of (map_state self.now.map shapes)) next.1) }
@@ -107,9 +106,8 @@ impl VersionParts {
         let map: &MapSpec = &self.map;
         let before: &Store = &self.shapes;
         let now: &Store = &standing;
-        let (layers, relabelled) = self
-            .layers
-            .updated(alloc, map, before, now, reaches, ids, ticks)?;
+        let site = Site { map, shapes: now };
+        let (layers, relabelled) = self.layers.updated(alloc, before, &site, changes, ticks)?;
         let parts = VersionParts {
             map: shared,
             shapes: standing,

@@ -8,7 +8,8 @@ ghost use Rattle.class_planes.specs.Planes.{AreOf};
 ghost use Rattle.obstruction_store.specs.Standing.{AllFit};
 ghost use Rattle.grid_versions.specs.Chunks.{chunk_count, chunk_place};
 
-use crate::standing_edits::{Edited, edited_copy};
+use crate::sites::Site;
+use crate::standing_edits::{Changes, Edited, edited_copy};
 use crate::version_parts::VersionParts;
 use class_planes::Planes;
 use nav_types::{Areas, Axis, Cell, Class, FreeCells, NoMemory, Size, Ticks, View};
@@ -75,7 +76,7 @@ impl Version {
             ≡ ticks.old + length map.now.classes * chunk_count map.now.size) }
         ensures most { ticks.new ≤ ticks.old + length map.now.classes * chunk_count map.now.size }
     {
-        let parts = VersionParts::build(alloc, map, shapes, ticks)?;
+        let parts = VersionParts::build(alloc, &Site { map, shapes }, ticks)?;
         Ok(Version {
             parts: Arc::new(alloc, parts)?,
         })
@@ -108,19 +109,21 @@ impl Version {
             return self.unchanged(alloc);
         }
         let parts: &VersionParts = &self.parts;
+        let site = Site {
+            map: parts.map(),
+            shapes: parts.shapes(),
+        };
         let Edited {
             shapes,
             replies,
             reaches,
             ids,
-        } = edited_copy(alloc, parts.map(), parts.shapes(), edits.as_slice())?;
-        let (next, relabelled) = parts.updated(
-            alloc,
-            shapes,
-            reaches.as_slice(),
-            ids.as_slice(),
-            ticks,
-        )?;
+        } = edited_copy(alloc, &site, edits.as_slice())?;
+        let changes = Changes {
+            reaches: reaches.as_slice(),
+            ids: ids.as_slice(),
+        };
+        let (next, relabelled) = parts.updated(alloc, shapes, &changes, ticks)?;
         Ok(Next {
             version: Version { parts: next },
             replies,

@@ -10,37 +10,43 @@ ghost use Rattle.grid_versions.specs.inner.Tables.{AreAllLabels, AreAllEdges};
 ghost use Rattle.grid_versions.specs.inner.Building.{IsLaidOut, IsSideLink, link_between};
 
 use crate::chunks;
-use crate::relabelling::is_marked;
+use crate::relabelling::{Changed, is_marked};
 use crate::shared_list::SharedList;
 use chunk_regions::Labels;
-use nav_types::{Class, NoMemory, Size};
+use nav_types::{NoMemory, Size};
 use reach_sets::{Links, RegionId};
 use region_edges::{Edges, Side, between};
 use std::alloc::Global;
+
+/// The border between the chunk at a place and its neighbour on that side.
+#[derive(Clone, Copy)]
+struct Border {
+    place: u32,
+    side: Side,
+}
 
 /// The region edges of the chunk at a place to its neighbour on that side; none where the map has no such neighbour.
 fn edges_at(
     alloc: Global,
     size: Size,
     labels: &SharedList<Labels>,
-    place: u32,
-    side: Side,
+    border: Border,
 ) -> Result<Edges, NoMemory>
     requires labels { IsLaidOut size labels.now }
-    requires within { place < chunk_count size }
+    requires within { border.place < chunk_count size }
     ensures { IfOk result (λ edges. (passes : Cell → Bool) → PassesInside passes size
         → AreAllLabels passes size labels.now
-        → AreEdges passes (chunk_numbered size place) (neighbour_on side (chunk_numbered size place)) edges) }
+        → AreEdges passes (chunk_numbered size border.place) (neighbour_on border.side (chunk_numbered size border.place)) edges) }
 {
-    let here = chunks::numbered(size, place);
-    match chunks::neighbour(size, here, side) {
+    let here = chunks::numbered(size, border.place);
+    match chunks::neighbour(size, here, border.side) {
         Some(there) => {
             let to = chunks::place_of(size, there);
             between(
                 alloc,
-                labels.at(place as usize),
+                labels.at(border.place as usize),
                 labels.at(to as usize),
-                side,
+                border.side,
             )
         }
         None => Ok(Edges::new(alloc)),
@@ -62,28 +68,28 @@ pub fn all_edges(
     let count = chunks::count(size);
     let mut all = SharedList::with_capacity(alloc, count as usize)?;
     for place in 0..count {
-        let edges = edges_at(alloc, size, labels, place, side)?;
+        let edges = edges_at(alloc, size, labels, Border { place, side })?;
         all.push(alloc, edges)?;
     }
     Ok(all)
 }
 
 /// Whether the bits say that the chunk at a place or its neighbour on that side has changed for the class.
-fn is_touched(size: Size, changed: &[u16], class: Class, place: u32, side: Side) -> bool
-    requires within { place < chunk_count size }
-    requires each { length changed.now ≡ chunk_count size }
-    ensures { IsFalse result → (old now : Cell → Bool) → AreChanges old now size class changed.now
-        → AgreeInChunk old now (chunk_numbered size place) × AgreeInChunk old now (neighbour_on side (chunk_numbered size place)) }
+fn is_touched(size: Size, changed: &Changed<'_>, border: Border) -> bool
+    requires within { border.place < chunk_count size }
+    requires each { length changed.now.bits.now ≡ chunk_count size }
+    ensures { IsFalse result → (old now : Cell → Bool) → AreChanges old now size changed.now.class changed.now.bits.now
+        → AgreeInChunk old now (chunk_numbered size border.place) × AgreeInChunk old now (neighbour_on border.side (chunk_numbered size border.place)) }
 {
-    if is_marked(changed, place, class) {
+    if is_marked(changed, border.place) {
         return true;
     }
     // Where the map has such a neighbour, this is its place.
-    let next = place + chunks::step_to(size, side);
-    if next as usize >= changed.len() {
+    let next = border.place + chunks::step_to(size, border.side);
+    if next as usize >= changed.bits.len() {
         return false;
     }
-    is_marked(changed, next, class)
+    is_marked(changed, next)
 }
 
 /// Finds anew the region edges of the chunk at a place to its neighbour on that side, where one of the two has changed
@@ -93,31 +99,29 @@ fn reconnect_at(
     size: Size,
     labels: &SharedList<Labels>,
     all: &mut SharedList<Edges>,
-    changed: &[u16],
-    class: Class,
-    place: u32,
-    side: Side,
+    changed: &Changed<'_>,
+    border: Border,
 ) -> Result<bool, NoMemory>
     requires labels { IsLaidOut size labels.now }
     requires each { length all.old ≡ chunk_count size }
-    requires changed { length changed.now ≡ chunk_count size }
-    requires within { place < chunk_count size }
-    ensures edges { OnOk result (IsRemadeAt place (λ edges. (old now : Cell → Bool)
-        → AreChanges old now size class changed.now → AreAllLabels now size labels.now
-        → ((was : List (ℕ × ℕ)) → slice_get all.old place ≡ Some was
-        → AreEdges old (chunk_numbered size place) (neighbour_on side (chunk_numbered size place)) was)
-        → AreEdges now (chunk_numbered size place) (neighbour_on side (chunk_numbered size place)) edges)
+    requires changed { length changed.now.bits.now ≡ chunk_count size }
+    requires within { border.place < chunk_count size }
+    ensures edges { OnOk result (IsRemadeAt border.place (λ edges. (old now : Cell → Bool)
+        → AreChanges old now size changed.now.class changed.now.bits.now → AreAllLabels now size labels.now
+        → ((was : List (ℕ × ℕ)) → slice_get all.old border.place ≡ Some was
+        → AreEdges old (chunk_numbered size border.place) (neighbour_on border.side (chunk_numbered size border.place)) was)
+        → AreEdges now (chunk_numbered size border.place) (neighbour_on border.side (chunk_numbered size border.place)) edges)
         all.old all.new) }
     ensures stays { IfOk result (λ stays. IsTrue stays → all.new ≡ all.old) }
 {
-    if !is_touched(size, changed, class, place, side) {
+    if !is_touched(size, changed, border) {
         return Ok(true);
     }
-    let edges = edges_at(alloc, size, labels, place, side)?;
-    if all.at(place as usize).as_slice() == edges.as_slice() {
+    let edges = edges_at(alloc, size, labels, border)?;
+    if all.at(border.place as usize).as_slice() == edges.as_slice() {
         return Ok(true);
     }
-    all.set(alloc, place as usize, edges)?;
+    all.set(alloc, border.place as usize, edges)?;
     Ok(false)
 }
 
@@ -129,21 +133,20 @@ fn reconnect(
     size: Size,
     labels: &SharedList<Labels>,
     all: &mut SharedList<Edges>,
-    changed: &[u16],
-    class: Class,
+    changed: &Changed<'_>,
     side: Side,
 ) -> Result<bool, NoMemory>
     requires labels { IsLaidOut size labels.now }
     requires each { length all.old ≡ chunk_count size }
-    requires changed { length changed.now ≡ chunk_count size }
-    ensures edges { OnOk result ((old now : Cell → Bool) → AreChanges old now size class changed.now
+    requires changed { length changed.now.bits.now ≡ chunk_count size }
+    ensures edges { OnOk result ((old now : Cell → Bool) → AreChanges old now size changed.now.class changed.now.bits.now
         → AreAllLabels now size labels.now → AreAllEdges side old size all.old → AreAllEdges side now size all.new) }
     ensures stay { IfOk result (λ stay. IsTrue stay → all.new ≡ all.old) }
 {
     let count = chunks::count(size);
     let mut stay = true;
     for place in 0..count {
-        let stays = reconnect_at(alloc, size, labels, all, changed, class, place, side)?;
+        let stays = reconnect_at(alloc, size, labels, all, changed, Border { place, side })?;
         stay &= stays;
     }
     Ok(stay)
@@ -156,19 +159,18 @@ pub fn next_edges(
     size: Size,
     labels: &SharedList<Labels>,
     before: &SharedList<Edges>,
-    changed: &[u16],
-    class: Class,
+    changed: &Changed<'_>,
     side: Side,
 ) -> Result<(SharedList<Edges>, bool), NoMemory>
     requires labels { IsLaidOut size labels.now }
     requires each { length before.now ≡ chunk_count size }
-    requires changed { length changed.now ≡ chunk_count size }
-    ensures edges { IfOk result (λ made. (old now : Cell → Bool) → AreChanges old now size class changed.now
+    requires changed { length changed.now.bits.now ≡ chunk_count size }
+    ensures edges { IfOk result (λ made. (old now : Cell → Bool) → AreChanges old now size changed.now.class changed.now.bits.now
         → AreAllLabels now size labels.now → AreAllEdges side old size before.now → AreAllEdges side now size made.0) }
     ensures stay { IfOk result (λ made. IsTrue made.1 → made.0 ≡ before.now) }
 {
     let mut all = before.share(alloc)?;
-    let stay = reconnect(alloc, size, labels, &mut all, changed, class, side)?;
+    let stay = reconnect(alloc, size, labels, &mut all, changed, side)?;
     Ok((all, stay))
 }
 

@@ -9,7 +9,7 @@ ghost use Rattle.grid_versions.specs.inner.Tables.{AreAllLabels, label_counts};
 
 use crate::chunk_bits::BitView;
 use crate::chunks;
-use crate::relabelling::is_marked;
+use crate::relabelling::{Changed, is_marked};
 use crate::shared_list::SharedList;
 use chunk_regions::{Labels, label_bits};
 use nav_types::{Class, NoMemory, Ticks};
@@ -62,28 +62,27 @@ pub fn all_labels<V: BitView, L: Ledger>(
 fn relabel_at<V: BitView, L: Ledger>(
     alloc: Global,
     view: &V,
-    class: Class,
     labels: &mut SharedList<Labels>,
-    changed: &[u16],
+    changed: &Changed<'_>,
     place: u32,
     ticks: &mut Ticks<L>,
 ) -> Result<bool, NoMemory>
-    requires class { class < V.class_count view.now }
+    requires class { changed.now.class < V.class_count view.now }
     requires within { place < chunk_count (V.extent view.now) }
     requires each { length labels.old ≡ chunk_count (V.extent view.now) }
-    requires before { (old : Cell → Bool) × (AreChanges old (V.passes view.now class) (V.extent view.now) class changed.now
+    requires before { (old : Cell → Bool) × (AreChanges old (V.passes view.now changed.now.class) (V.extent view.now) changed.now.class changed.now.bits.now
         × ((item : Labelling) → slice_get labels.old place ≡ Some item
         → AreLabels old (V.extent view.now) (chunk_numbered (V.extent view.now) place) item)) }
-    ensures labels { OnOk result (IsRemadeAt place (AreLabels (V.passes view.now class) (V.extent view.now)
+    ensures labels { OnOk result (IsRemadeAt place (AreLabels (V.passes view.now changed.now.class) (V.extent view.now)
         (chunk_numbered (V.extent view.now) place)) labels.old labels.new) }
     ensures count { IfOk result (λ stays. IsTrue stays → label_counts labels.new ≡ label_counts labels.old) }
-    ensures most { (mark : Bool) → slice_get (map (has_class class) changed.now) place ≡ Some mark
+    ensures most { (mark : Bool) → slice_get (map (has_class changed.now.class) changed.now.bits.now) place ≡ Some mark
         → ticks.new ≤ ticks.old + cond mark 1 0 }
 {
-    if !is_marked(changed, place, class) {
+    if !is_marked(changed, place) {
         return Ok(true);
     }
-    let made = labels_at(alloc, view, class, place, ticks)?;
+    let made = labels_at(alloc, view, changed.class, place, ticks)?;
     let stays = made.count() == labels.at(place as usize).count();
     labels.set(alloc, place as usize, made)?;
     Ok(stays)
@@ -94,22 +93,21 @@ fn relabel_at<V: BitView, L: Ledger>(
 fn relabel<V: BitView, L: Ledger>(
     alloc: Global,
     view: &V,
-    class: Class,
     labels: &mut SharedList<Labels>,
-    changed: &[u16],
+    changed: &Changed<'_>,
     ticks: &mut Ticks<L>,
 ) -> Result<bool, NoMemory>
-    requires class { class < V.class_count view.now }
+    requires class { changed.now.class < V.class_count view.now }
     requires before { (old : Cell → Bool) × (AreAllLabels old (V.extent view.now) labels.old
-        × AreChanges old (V.passes view.now class) (V.extent view.now) class changed.now) }
-    ensures labels { OnOk result (AreAllLabels (V.passes view.now class) (V.extent view.now) labels.new) }
+        × AreChanges old (V.passes view.now changed.now.class) (V.extent view.now) changed.now.class changed.now.bits.now) }
+    ensures labels { OnOk result (AreAllLabels (V.passes view.now changed.now.class) (V.extent view.now) labels.new) }
     ensures counts { IfOk result (λ stay. IsTrue stay → label_counts labels.new ≡ label_counts labels.old) }
-    ensures most { ticks.new ≤ ticks.old + count_by (has_class class) changed.now }
+    ensures most { ticks.new ≤ ticks.old + count_by (has_class changed.now.class) changed.now.bits.now }
 {
     let count = chunks::count(view.size());
     let mut stay = true;
     for place in 0..count {
-        let stays = relabel_at(alloc, view, class, labels, changed, place, ticks)?;
+        let stays = relabel_at(alloc, view, labels, changed, place, ticks)?;
         stay &= stays;
     }
     Ok(stay)
@@ -120,19 +118,18 @@ fn relabel<V: BitView, L: Ledger>(
 pub fn next_labels<V: BitView, L: Ledger>(
     alloc: Global,
     view: &V,
-    class: Class,
     before: &SharedList<Labels>,
-    changed: &[u16],
+    changed: &Changed<'_>,
     ticks: &mut Ticks<L>,
 ) -> Result<(SharedList<Labels>, bool), NoMemory>
-    requires class { class < V.class_count view.now }
+    requires class { changed.now.class < V.class_count view.now }
     requires before { (old : Cell → Bool) × (AreAllLabels old (V.extent view.now) before.now
-        × AreChanges old (V.passes view.now class) (V.extent view.now) class changed.now) }
-    ensures labels { IfOk result (λ made. AreAllLabels (V.passes view.now class) (V.extent view.now) made.0) }
+        × AreChanges old (V.passes view.now changed.now.class) (V.extent view.now) changed.now.class changed.now.bits.now) }
+    ensures labels { IfOk result (λ made. AreAllLabels (V.passes view.now changed.now.class) (V.extent view.now) made.0) }
     ensures counts { IfOk result (λ made. IsTrue made.1 → label_counts made.0 ≡ label_counts before.now) }
-    ensures most { ticks.new ≤ ticks.old + count_by (has_class class) changed.now }
+    ensures most { ticks.new ≤ ticks.old + count_by (has_class changed.now.class) changed.now.bits.now }
 {
     let mut labels = before.share(alloc)?;
-    let stay = relabel(alloc, view, class, &mut labels, changed, ticks)?;
+    let stay = relabel(alloc, view, &mut labels, changed, ticks)?;
     Ok((labels, stay))
 }

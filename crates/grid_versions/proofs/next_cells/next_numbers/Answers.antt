@@ -22,13 +22,13 @@ not_none n apart = let none = eqb-false n 0 apart in omega arith
 pub repainted-requires-clause-near : goal.repainted-requires-clause-near
 repainted-requires-clause-near c =
     let before = c.requires.before in
-    added_unpainted c.args.map.now before.earlier c.args.shapes.now c.args.added.now
+    added_unpainted c.args.site.now.map.now before.earlier c.args.site.now.shapes.now c.args.added.now
     (before.adds (not_none (length c.args.added.now) (sym c.is_empty.ensures ∙ c.if-not-is_empty.true))) c.args.part
     (number_of c.args.old.now) before.bits
 
 pub returns-then-added-near-clause-bits : goal.returns-then-added-near-clause-bits
 returns-then-added-near-clause-bits c =
-    let map = c.args.map.now in let now = c.args.shapes.now in
+    let map = c.args.site.now.map.now in let now = c.args.site.now.shapes.now in
     let before = c.requires.before in
     let part = c.args.part in
     let old = number_of c.args.old.now in

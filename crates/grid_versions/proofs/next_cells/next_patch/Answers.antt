@@ -19,21 +19,21 @@ use Rattle.grid_versions.proofs.next_cells.next_patch.Goals as goal
 
 pub returns-in_default-clause-painted : goal.returns-in_default-clause-painted
 returns-in_default-clause-painted c =
-    let map = c.args.map.now in let now = c.args.shapes.now in
+    let map = c.args.source.now.site.now.map.now in let now = c.args.source.now.site.now.shapes.now in
     let chunk = chunk_numbered map.size c.args.place in
     let before = c.requires.before in
     let old = c.patch-old.result.now in
     let same : old ≡ arc_value c.in_ok-shared.field-0 =
     same_Some old (arc_value c.in_ok-shared.field-0) (sym (c.at-cells.ensures ∙ ap (λ (n : Numbering). Some n) (sym c.patch-old.ensures)) ∙ c.in_ok-shared.ensures) in
     subst (λ (n : Numbering). IsPaintedChunk map now chunk n) same
-    (chunk_stays map before.earlier now c.args.reaches.now before.covered chunk old
+    (chunk_stays map before.earlier now c.args.before.now.reaches.now before.covered chunk old
     (before.painted.are c.args.place old (c.at-cells.ensures ∙ ap (λ (n : Numbering). Some n) (sym c.patch-old.ensures)))
     (λ cell inside is. c.in_default.ensures.held cell
     (subst (λ (r : Rect). IsInRect r cell) (sym c.rect.ensures.rect) inside) is))
 
 pub next_numbers-requires-clause-near : goal.next_numbers-requires-clause-near
 next_numbers-requires-clause-near c =
-    let map = c.args.map.now in let now = c.args.shapes.now in
+    let map = c.args.source.now.site.now.map.now in let now = c.args.source.now.site.now.shapes.now in
     let chunk = chunk_numbered map.size c.args.place in
     let part = c.in-Some.part in
     let before = c.requires.before in
@@ -74,7 +74,7 @@ next_numbers-requires-clause-before c =
 
 pub next_numbers-requires-clause-inside : goal.next_numbers-requires-clause-inside
 next_numbers-requires-clause-inside c =
-    let map = c.args.map.now in
+    let map = c.args.source.now.site.now.map.now in
     let before = c.requires.before in
     let was = before.painted.are c.args.place c.patch-old.result.now (c.at-cells.ensures ∙ ap (λ (n : Numbering). Some n) (sym c.patch-old.ensures)) in
     let chunk = chunk_numbered map.size c.args.place in
@@ -84,7 +84,7 @@ next_numbers-requires-clause-inside c =
 
 pub returns-then-bits-eq0-clause-painted : goal.returns-then-bits-eq0-clause-painted
 returns-then-bits-eq0-clause-painted c =
-    let map = c.args.map.now in let now = c.args.shapes.now in
+    let map = c.args.source.now.site.now.map.now in let now = c.args.source.now.site.now.shapes.now in
     let chunk = chunk_numbered map.size c.args.place in
     let before = c.requires.before in
     let old = c.patch-old.result.now in
@@ -95,14 +95,14 @@ returns-then-bits-eq0-clause-painted c =
     let same : old ≡ arc_value c.in_ok-shared-2.field-0 =
     same_Some old (arc_value c.in_ok-shared-2.field-0) (sym (c.at-cells.ensures ∙ ap (λ (n : Numbering). Some n) (sym c.patch-old.ensures)) ∙ c.in_ok-shared-2.ensures) in
     subst (λ (n : Numbering). IsPaintedChunk map now chunk n) same
-    (chunk_kept map before.earlier now c.args.reaches.now before.covered chunk old was part patch within
+    (chunk_kept map before.earlier now c.args.before.now.reaches.now before.covered chunk old was part patch within
     (λ cell inside is. c.in-Some.ensures.held cell (subst (λ (r : Rect). IsInRect r cell) (sym c.rect.ensures.rect) inside) is)
     c.in_ok-patch.ensures.rect c.in_ok-patch.ensures.whole c.in_ok-patch.ensures.bits c.in_ok-patch.ensures.others
     (λ k. subst (λ (n : ℕ). (bit_at n k ≡ 1) ↔ DiffersIn k part old patch) c.if-bits-eq0.true (c.differs_in-bits.ensures k)))
 
 pub returns-clause-painted : goal.returns-clause-painted
 returns-clause-painted c =
-    let map = c.args.map.now in let now = c.args.shapes.now in
+    let map = c.args.source.now.site.now.map.now in let now = c.args.source.now.site.now.shapes.now in
     let chunk = chunk_numbered map.size c.args.place in
     let before = c.requires.before in
     let old = c.patch-old.result.now in
@@ -111,13 +111,13 @@ returns-clause-painted c =
     let was = before.painted.are c.args.place old (c.at-cells.ensures ∙ ap (λ (n : Numbering). Some n) (sym c.patch-old.ensures)) in
     let within = subst (λ (r : Rect). IsPartOf r part) c.rect.ensures.rect c.in-Some.ensures.part in
     subst (λ (n : Numbering). IsPaintedChunk map now chunk n) (sym (c.in_ok-new.ensures.ok ∙ c.in_ok-made.ensures))
-    (chunk_repainted map before.earlier now c.args.reaches.now before.covered chunk old was part patch within
+    (chunk_repainted map before.earlier now c.args.before.now.reaches.now before.covered chunk old was part patch within
     (λ cell inside is. c.in-Some.ensures.held cell (subst (λ (r : Rect). IsInRect r cell) (sym c.rect.ensures.rect) inside) is)
     c.in_ok-patch.ensures.rect c.in_ok-patch.ensures.whole c.in_ok-patch.ensures.bits c.in_ok-patch.ensures.others)
 
 pub returns-clause-bits : goal.returns-clause-bits
 returns-clause-bits c = λ found at k.
-    let map = c.args.map.now in let now = c.args.shapes.now in
+    let map = c.args.source.now.site.now.map.now in let now = c.args.source.now.site.now.shapes.now in
     let chunk = chunk_numbered map.size c.args.place in
     let before = c.requires.before in
     let old = c.patch-old.result.now in
@@ -129,7 +129,7 @@ returns-clause-bits c = λ found at k.
     let same : old ≡ found = same_Some old found (sym (c.at-cells.ensures ∙ ap (λ (n : Numbering). Some n) (sym c.patch-old.ensures)) ∙ at) in
     subst (λ (n : Numbering). (bit_at set k ≡ 1) ↔ DiffersIn k n.rect found n) (sym (c.in_ok-new.ensures.ok ∙ c.in_ok-made.ensures))
     (subst (λ (n : Numbering). (bit_at set k ≡ 1) ↔ DiffersIn k patch.rect n patch) same
-    (differs_in_part map before.earlier now c.args.reaches.now before.covered chunk old was part patch within
+    (differs_in_part map before.earlier now c.args.before.now.reaches.now before.covered chunk old was part patch within
     (λ cell inside is. c.in-Some.ensures.held cell (subst (λ (r : Rect). IsInRect r cell) (sym c.rect.ensures.rect) inside) is)
     c.in_ok-patch.ensures.rect c.in_ok-patch.ensures.whole c.in_ok-patch.ensures.bits c.in_ok-patch.ensures.others
     k set (c.differs_in-bits.ensures k)))

@@ -9,8 +9,8 @@ use Rattle.grid_versions.proofs.next_cells.next_patches.Goals as goal
 
 pub loop-place-preserved : goal.loop-place-preserved
 loop-place-preserved c =
-    let map = c.args.map.now in let now = c.args.shapes.now in
-    let before = c.args.before.now in
+    let map = c.args.source.now.site.now.map.now in let now = c.args.source.now.site.now.shapes.now in
+    let before = c.args.before.now.cells.now in
     let all = c.loop-place.all in
     let place = c.loop-place.place in
     let items = c.loop-place.changed.items in

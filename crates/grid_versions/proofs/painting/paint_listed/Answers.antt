@@ -12,8 +12,8 @@ paint_shape-requires-clause-fits c =
 
 pub returns-in-Some-clause-set : goal.returns-in-Some-clause-set
 returns-in-Some-clause-set c =
-    let map = c.args.map.now in
-    let standing = c.args.shapes.now in
+    let map = c.args.site.now.map.now in
+    let standing = c.args.site.now.shapes.now in
     let id = c.args.id in
     let obstruction = c.in-Some.obstruction.now in
     part_alike c.args.patch.now.rect c.args.part (blocks_class obstruction map.classes)
@@ -23,8 +23,8 @@ returns-in-Some-clause-set c =
 
 pub returns-in_default-clause-set : goal.returns-in_default-clause-set
 returns-in_default-clause-set c =
-    let map = c.args.map.now in
-    let standing = c.args.shapes.now in
+    let map = c.args.site.now.map.now in
+    let standing = c.args.site.now.shapes.now in
     let id = c.args.id in
     part_none c.args.patch.now.rect c.args.part (λ k cell. blocks_under map standing k cell id)
     (number_of c.args.patch.now) (λ k cell inside. under_none map standing k cell id (sym c.in_default.ensures))

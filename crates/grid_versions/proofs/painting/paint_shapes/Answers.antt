@@ -16,8 +16,8 @@ blocks map standing k cell id = blocks_under map standing k cell id
 
 pub loop-id-preserved : goal.loop-id-preserved
 loop-id-preserved c =
-    let map = c.args.map.now in
-    let standing = c.args.shapes.now in
+    let map = c.args.site.now.map.now in
+    let standing = c.args.site.now.shapes.now in
     let near = c.args.near.now in
     let rect = c.args.patch.now.rect in
     let part = c.args.part in
@@ -35,8 +35,8 @@ loop-id-preserved c =
 
 pub returns-clause-set : goal.returns-clause-set
 returns-clause-set c =
-    let map = c.args.map.now in
-    let standing = c.args.shapes.now in
+    let map = c.args.site.now.map.now in
+    let standing = c.args.site.now.shapes.now in
     let near = c.args.near.now in
     let rect = c.args.patch.now.rect in
     let part = c.args.part in

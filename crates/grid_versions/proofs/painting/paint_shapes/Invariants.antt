@@ -8,6 +8,6 @@ use Rattle.grid_versions.proofs.painting.paint_shapes.Given as goal
 abbrev pub invariant-loop-id : goal.invariant-loop-id
 invariant-loop-id l = record {
   extent : l.patch.rect ≡ l.fn.patch.rect;
-  ends : Ends l.fn.patch.rect l.part (λ k cell (id : ℕ). blocks_under l.map l.shapes k cell id) l.near
+  ends : Ends l.fn.patch.rect l.part (λ k cell (id : ℕ). blocks_under l.site.map.now l.site.shapes.now k cell id) l.near
       (drop l.id-index l.near) (number_of l.fn.patch) (number_of l.patch);
 }

@@ -17,7 +17,7 @@ use Rattle.grid_versions.proofs.painting.painted_patches.Goals as goal
 
 pub repainted-requires-clause-part : goal.repainted-requires-clause-part
 repainted-requires-clause-part c =
-    let map = c.args.map.now in
+    let map = c.args.site.now.map.now in
     let size = c.size-size.result in
     let place = c.loop-place.place in
     let rect = c.of_chunk-rect.result in
@@ -30,7 +30,7 @@ repainted-requires-clause-part c =
 
 pub repainted-requires-clause-near : goal.repainted-requires-clause-near
 repainted-requires-clause-near c =
-    let map = c.args.map.now in
+    let map = c.args.site.now.map.now in
     let size = c.size-size.result in
     let place = c.loop-place.place in
     let rect = c.of_chunk-rect.result in
@@ -38,14 +38,14 @@ repainted-requires-clause-near c =
     let rect_is : rect ≡ chunk_rect map.size (chunk_numbered map.size place) =
     c.of_chunk-rect.ensures.value ∙ ap (λ (chunk : Chunk). chunk_rect size chunk) c.numbered.ensures.value
     ∙ ap (λ (s : Size). chunk_rect s (chunk_numbered s place)) c.size-size.ensures in
-    all_unpainted map c.args.shapes.now rect (number_of c.at-under.result.now) c.as_slice.result.now
-    (subst (λ (near : List ℕ). HoldReachers map c.args.shapes.now rect near) (sym c.as_slice.ensures)
-    (subst (λ (r : Rect). HoldReachers map c.args.shapes.now r ids) (sym rect_is)
+    all_unpainted map c.args.site.now.shapes.now rect (number_of c.at-under.result.now) c.as_slice.result.now
+    (subst (λ (near : List ℕ). HoldReachers map c.args.site.now.shapes.now rect near) (sym c.as_slice.ensures)
+    (subst (λ (r : Rect). HoldReachers map c.args.site.now.shapes.now r ids) (sym rect_is)
     (c.requires.reachers.are place ids c.at-near.ensures)))
 
 pub loop-place-preserved : goal.loop-place-preserved
 loop-place-preserved c =
-    let map = c.args.map.now in let now = c.args.shapes.now in
+    let map = c.args.site.now.map.now in let now = c.args.site.now.shapes.now in
     let size = c.size-size.result in
     let place = c.loop-place.place in
     let rect = c.of_chunk-rect.result in
@@ -71,7 +71,7 @@ loop-place-preserved c =
 
 pub returns : goal.returns
 returns c =
-    let map = c.args.map.now in let now = c.args.shapes.now in
+    let map = c.args.site.now.map.now in let now = c.args.site.now.shapes.now in
     let size = c.size-size.result in
     let done : c.loop-place.place ≡ chunk_count size = omega arith in
     subst (λ (s : Size). AreOfChunks s (chunk_count s) (IsPaintedChunk map now) c.loop-place.all) c.size-size.ensures

@@ -4,5 +4,5 @@ use Rattle.grid_versions.proofs.painting.repainted.Goals as goal
 
 pub paint_shapes-requires-clause-near : goal.paint_shapes-requires-clause-near
 paint_shapes-requires-clause-near c =
-    unpainted_same c.args.map.now c.args.shapes.now c.args.part (number_of c.args.base.now)
-    (number_of c.copy_rect.new.self) c.args.near.now c.copy_rect.ensures.copied c.requires.near
+    unpainted_same c.args.site.now.map.now c.args.site.now.shapes.now c.args.part (number_of c.args.paint.now.base.now)
+    (number_of c.copy_rect.new.self) c.args.paint.now.near.now c.copy_rect.ensures.copied c.requires.near

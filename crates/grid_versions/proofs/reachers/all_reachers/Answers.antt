@@ -15,7 +15,7 @@ use Rattle.grid_versions.proofs.reachers.all_reachers.Goals as goal
 
 pub loop-place-preserved : goal.loop-place-preserved
 loop-place-preserved c =
-    let map = c.args.map.now in let now = c.args.shapes.now in
+    let map = c.args.site.now.map.now in let now = c.args.site.now.shapes.now in
     let size = c.size-size.result in
     let place = c.loop-place.place in
     let made = c.in_ok-made.made in
@@ -37,7 +37,7 @@ loop-place-preserved c =
 
 pub returns : goal.returns
 returns c =
-    let map = c.args.map.now in let now = c.args.shapes.now in
+    let map = c.args.site.now.map.now in let now = c.args.site.now.shapes.now in
     let size = c.size-size.result in
     let done : c.loop-place.place ≡ chunk_count size = omega arith in
     subst (λ (s : Size). AreOfChunks s (chunk_count s) (HoldChunkReachers map now) c.loop-place.all) c.size-size.ensures

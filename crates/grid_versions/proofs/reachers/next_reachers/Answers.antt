@@ -15,12 +15,12 @@ reachers_at-requires-clause-each c =
 
 pub loop-place-preserved : goal.loop-place-preserved
 loop-place-preserved c =
-    let map = c.args.map.now in let now = c.args.shapes.now in
+    let map = c.args.site.now.map.now in let now = c.args.site.now.shapes.now in
     let place = c.loop-place.place in
     let made = arc_value c.in_ok-made.made in
     let before = c.requires.before in
-    let since : AreReachersSince map now c.args.before.now c.args.reaches.now c.args.ids.now c.deref.result.now =
-    subst (λ (changed : List Reacher). AreReachersSince map now c.args.before.now c.args.reaches.now c.args.ids.now changed)
+    let since : AreReachersSince map now c.args.before.now c.args.changes.now.reaches.now c.args.changes.now.ids.now c.deref.result.now =
+    subst (λ (changed : List Reacher). AreReachersSince map now c.args.before.now c.args.changes.now.reaches.now c.args.changes.now.ids.now changed)
     (sym c.deref.ensures.value) (record {
       earlier = before.earlier;
       lists = before.lists;
@@ -38,7 +38,7 @@ loop-place-preserved c =
 
 pub returns : goal.returns
 returns c =
-    let map = c.args.map.now in let now = c.args.shapes.now in
+    let map = c.args.site.now.map.now in let now = c.args.site.now.shapes.now in
     let known : c.count-count.result ≡ chunk_count map.size =
     c.count-count.ensures.value ∙ ap (λ (s : Size). chunk_count s) c.size-size.ensures in
     let done : c.loop-place.place ≡ chunk_count map.size = omega arith in

@@ -24,7 +24,7 @@ returns-in_default c = λ map now same before.
     let held = subst (λ (r : Rect). HoldReachers map before.earlier r old) (sym rect_is) own in
     let inside = subst (λ (s : Size). IsRectInside s rect) (sym same) c.of_chunk-rect.ensures.inside in
     subst (λ (r : Rect). HoldReachers map now r old) rect_is
-    (reachers_stay map before.earlier now c.args.reaches.now c.args.changed.now before.each rect old held inside
+    (reachers_stay map before.earlier now c.args.changes.now.reaches.now c.args.changed.now before.each rect old held inside
     (λ cell here is. c.in_default.ensures.held cell here is))
 
 pub returns : goal.returns
@@ -42,8 +42,8 @@ returns c = λ map now same before.
     let inside = subst (λ (s : Size). IsRectInside s rect) (sym same) c.of_chunk-rect.ensures.inside in
     subst (λ (all : List ℕ). HoldReachers map now (chunk_rect map.size chunk) all) (sym c.in_ok-new.ensures.ok)
     (subst (λ (r : Rect). HoldReachers map now r made) rect_is
-    (reachers_made map before.earlier now c.args.reaches.now c.args.changed.now before.each rect old held inside
-    c.args.ids.now made before.named
+    (reachers_made map before.earlier now c.args.changes.now.reaches.now c.args.changed.now before.each rect old held inside
+    c.args.changes.now.ids.now made before.named
     (λ id has. elim (c.in_ok-made.ensures id (subst (λ (all : List ℕ). Contains all id) (sym c.as_slice-old.ensures) has)) [
       | inl changed ↦ inl changed
       | inr kept ↦ inr (c.in_ok-list_reachers.ensures.kept id kept)

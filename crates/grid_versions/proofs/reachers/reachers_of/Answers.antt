@@ -6,8 +6,8 @@ use Rattle.grid_versions.proofs.reachers.reachers_of.Goals as goal
 
 pub loop-id-preserved : goal.loop-id-preserved
 loop-id-preserved c =
-    let map = c.args.map.now in
-    let shapes = c.args.shapes.now in
+    let map = c.args.site.now.map.now in
+    let shapes = c.args.site.now.shapes.now in
     let ids = c.args.ids.now in
     let i : ℕ = c.loop-id.id-index in
     let here = c.loop-id.invariant in
@@ -27,5 +27,5 @@ returns c = λ id has.
     let ids = c.args.ids.now in
     let low = has.1 in
     let same : get_or ids has.0 0 ≡ id = get_or_default ids has.0 0 id low ∙ has.2 in
-    subst (λ (n : ℕ). HoldReached c.args.map.now c.args.shapes.now c.loop-id.reachers.items n) same
+    subst (λ (n : ℕ). HoldReached c.args.site.now.map.now c.args.site.now.shapes.now c.loop-id.reachers.items n) same
     (c.loop-id.invariant.reached has.0 (omega arith))

@@ -5,6 +5,6 @@ use Rattle.grid_versions.proofs.relabelling.is_marked.Goals as goal
 
 pub returns : goal.returns
 returns c =
-    let f = has_class c.args.class in
-    slice_get-map f c.args.bits.now c.args.place ∙ ap (λ o. option_map f o) (slice_get-get_or c.args.bits.now c.args.place 0 c.requires)
+    let f = has_class c.args.changed.now.class in
+    slice_get-map f c.args.changed.now.bits.now c.args.place ∙ ap (λ o. option_map f o) (slice_get-get_or c.args.changed.now.bits.now c.args.place 0 c.requires)
     ∙ ap (λ (b : Bool). Some b) (sym c.has_bit.ensures)

@@ -13,10 +13,10 @@ next_patches-requires-clause-before c = record {
   earlier = c.args.earlier.now;
   painted = c.requires.cells;
   covered = c.requires.covers;
-  adds = λ some. only_adds c.args.map.now c.args.earlier.now c.args.shapes.now c.args.reaches.now c.args.ids.now
+  adds = λ some. only_adds c.args.site.now.map.now c.args.earlier.now c.args.site.now.shapes.now c.args.changes.now.reaches.now c.args.changes.now.ids.now
       c.numbers_added-added.result.now c.requires.names (c.numbers_added-added.ensures.all some) c.numbers_added-added.ensures.added;
 }
 
 pub returns-clause-base : goal.returns-clause-base
 returns-clause-base c =
-    subst (λ (all : List Numbering). AreBaseChunks c.args.map.now all) (sym c.in_ok-base.ensures) c.requires.base
+    subst (λ (all : List Numbering). AreBaseChunks c.args.site.now.map.now all) (sym c.in_ok-base.ensures) c.requires.base

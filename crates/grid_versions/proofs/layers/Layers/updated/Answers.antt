@@ -68,7 +68,7 @@ next_planes-requires-clause-before g c = record {
   planes_are = c.requires.parts.planes_are;
   painted = c.requires.parts.cells_are;
   covered = c.requires.covers;
-  changes = changes_here c.args.map.now c.args.earlier.now c.args.shapes.now c.args.self.now.ground.cells c.in_ok-ground.ground.cells
+  changes = changes_here c.args.site.now.map.now c.args.earlier.now c.args.site.now.shapes.now c.args.self.now.ground.cells c.in_ok-ground.ground.cells
       c.in_ok-ground.changed.items c.as_slice-bits.result.now c.requires.parts.cells_are c.in_ok-ground.ensures.cells
       c.in_ok-ground.ensures.bits c.as_slice-bits.ensures.value;
 }
@@ -79,37 +79,37 @@ new-planed-requires-clause-few g c =
 
 pub next_tables-requires-clause-before : goal.next_tables-requires-clause-before
 next_tables-requires-clause-before g c =
-    tables_here c.args.map.now c.args.earlier.now c.args.shapes.now c.args.self.now.ground.cells c.in_ok-ground.ground.cells
+    tables_here c.args.site.now.map.now c.args.earlier.now c.args.site.now.shapes.now c.args.self.now.ground.cells c.in_ok-ground.ground.cells
     c.in_ok-ground.changed.items c.as_slice-bits.result.now c.requires.parts.cells_are c.in_ok-ground.ensures.cells
     c.in_ok-ground.ensures.bits c.as_slice-bits.ensures.value c.new-planed.result c.args.self.now.tables c.new-planed.ensures
     c.requires.parts.tables_are
 
 pub returns-in_err-tables-clause-most : goal.returns-in_err-tables-clause-most
 returns-in_err-tables-clause-most g c =
-    most_here c.args.map.now c.args.earlier.now c.args.shapes.now c.args.self.now.ground.cells c.in_ok-ground.ground.cells
+    most_here c.args.site.now.map.now c.args.earlier.now c.args.site.now.shapes.now c.args.self.now.ground.cells c.in_ok-ground.ground.cells
     c.in_ok-ground.changed.items c.as_slice-bits.result.now c.requires.parts.cells_are c.in_ok-ground.ensures.cells
     c.in_ok-ground.ensures.bits c.as_slice-bits.ensures.value (length c.args.self.now.tables) c.args.ticks.now c.next_tables.new.ticks
     c.requires.parts.tables_are.each c.next_tables.ensures.most
 
 pub returns-clause-most : goal.returns-clause-most
 returns-clause-most g c =
-    most_here c.args.map.now c.args.earlier.now c.args.shapes.now c.args.self.now.ground.cells c.in_ok-ground.ground.cells
+    most_here c.args.site.now.map.now c.args.earlier.now c.args.site.now.shapes.now c.args.self.now.ground.cells c.in_ok-ground.ground.cells
     c.in_ok-ground.changed.items c.as_slice-bits.result.now c.requires.parts.cells_are c.in_ok-ground.ensures.cells
     c.in_ok-ground.ensures.bits c.as_slice-bits.ensures.value (length c.args.self.now.tables) c.args.ticks.now c.next_tables.new.ticks
     c.requires.parts.tables_are.each c.next_tables.ensures.most
 
 pub returns-clause-relabelled : goal.returns-clause-relabelled
 returns-clause-relabelled g c =
-    subst (λ (n : ℕ). HasRelabelled (length c.args.map.now.classes) (passable_at c.args.map.now c.args.earlier.now)
-    (passable_at c.args.map.now c.args.shapes.now) n) (sym c.marks_below-relabelled.ensures)
-    (counted_here c.args.map.now c.args.earlier.now c.args.shapes.now c.args.self.now.ground.cells c.in_ok-ground.ground.cells
+    subst (λ (n : ℕ). HasRelabelled (length c.args.site.now.map.now.classes) (passable_at c.args.site.now.map.now c.args.earlier.now)
+    (passable_at c.args.site.now.map.now c.args.site.now.shapes.now) n) (sym c.marks_below-relabelled.ensures)
+    (counted_here c.args.site.now.map.now c.args.earlier.now c.args.site.now.shapes.now c.args.self.now.ground.cells c.in_ok-ground.ground.cells
     c.in_ok-ground.changed.items c.as_slice-bits.result.now c.requires.parts.cells_are c.in_ok-ground.ensures.cells
     c.in_ok-ground.ensures.bits c.as_slice-bits.ensures.value c.count.result (c.count.ensures.count ∙ ap length c.classes.ensures))
 
 pub returns-clause-parts : goal.returns-clause-parts
 returns-clause-parts g c =
     let ground = c.in_ok-ground.ground in
-    parts_of c.args.map.now c.args.shapes.now c.new-planed.result (length c.args.self.now.tables) ground.base ground.reachers
+    parts_of c.args.site.now.map.now c.args.site.now.shapes.now c.new-planed.result (length c.args.self.now.tables) ground.base ground.reachers
     ground.cells c.in_ok-planes.planes c.in_ok-tables.tables c.new-planed.ensures c.requires.fit c.in_ok-ground.ensures.base
     c.in_ok-ground.ensures.reachers c.in_ok-ground.ensures.cells c.in_ok-planes.ensures c.requires.parts.tables_are.each
     c.requires.parts.few c.in_ok-tables.ensures.tables

@@ -51,14 +51,14 @@ module _ (old now : Cell → Bool) (size extent : Size) (class : ℕ) (bits : Li
 
 pub next_edges-requires-clause-labels : goal.next_edges-requires-clause-labels
 next_edges-requires-clause-labels g c =
-    let passes = g.V.View.passes c.args.view.now c.args.class in
+    let passes = g.V.View.passes c.args.view.now c.args.changed.now.class in
     let extent = g.V.View.extent c.args.view.now in
     let own = c.self.inside in
     let before : Tables = record { labels = own.labels; east = own.east; north = own.north; areas = arc_value own.areas } in
     let old = c.requires.before.0 in
     let changed = c.requires.before.1.1 in
     let were = subst (λ (t : Tables). AreTables old extent t) (sym c.self.view_is) c.requires.before.1.0 in
-    laid_here old passes c.size-size.result extent c.args.class c.args.changed.now before c.size-size.ensures were changed c.in_ok-labels.labels c.in_ok-labels.ensures.labels
+    laid_here old passes c.size-size.result extent c.args.changed.now.class c.args.changed.now.bits.now before c.size-size.ensures were changed c.in_ok-labels.labels c.in_ok-labels.ensures.labels
 
 pub next_edges-requires-clause-each : goal.next_edges-requires-clause-each
 next_edges-requires-clause-each g c =
@@ -68,7 +68,7 @@ next_edges-requires-clause-each g c =
 
 pub next_edges-requires-clause-changed : goal.next_edges-requires-clause-changed
 next_edges-requires-clause-changed g c =
-    sym (length-map c.args.changed.now (has_class c.args.class))
+    sym (length-map c.args.changed.now.bits.now (has_class c.args.changed.now.class))
     ∙ c.requires.before.1.1.marks.each
     ∙ ap (λ (s : Size). chunk_count s) (sym c.size-size.ensures)
 
@@ -80,7 +80,7 @@ next_edges-requires-2-clause-each g c =
 
 pub next_edges-requires-2-clause-changed : goal.next_edges-requires-2-clause-changed
 next_edges-requires-2-clause-changed g c =
-    sym (length-map c.args.changed.now (has_class c.args.class))
+    sym (length-map c.args.changed.now.bits.now (has_class c.args.changed.now.class))
     ∙ c.requires.before.1.1.marks.each
     ∙ ap (λ (s : Size). chunk_count s) (sym c.size-size.ensures)
 
@@ -98,25 +98,25 @@ relabelled-requires-clause-north g c =
 
 pub next_edges-requires-2-clause-labels : goal.next_edges-requires-2-clause-labels
 next_edges-requires-2-clause-labels g c =
-    let passes = g.V.View.passes c.args.view.now c.args.class in
+    let passes = g.V.View.passes c.args.view.now c.args.changed.now.class in
     let extent = g.V.View.extent c.args.view.now in
     let own = c.self.inside in
     let before : Tables = record { labels = own.labels; east = own.east; north = own.north; areas = arc_value own.areas } in
     let old = c.requires.before.0 in
     let changed = c.requires.before.1.1 in
     let were = subst (λ (t : Tables). AreTables old extent t) (sym c.self.view_is) c.requires.before.1.0 in
-    laid_here old passes c.size-size.result extent c.args.class c.args.changed.now before c.size-size.ensures were changed c.in_ok-labels.labels c.in_ok-labels.ensures.labels
+    laid_here old passes c.size-size.result extent c.args.changed.now.class c.args.changed.now.bits.now before c.size-size.ensures were changed c.in_ok-labels.labels c.in_ok-labels.ensures.labels
 
 pub returns-then-to_north-clause-tables : goal.returns-then-to_north-clause-tables
 returns-then-to_north-clause-tables g c =
-    let passes = g.V.View.passes c.args.view.now c.args.class in
+    let passes = g.V.View.passes c.args.view.now c.args.changed.now.class in
     let extent = g.V.View.extent c.args.view.now in
     let own = c.self.inside in
     let before : Tables = record { labels = own.labels; east = own.east; north = own.north; areas = arc_value own.areas } in
     let old = c.requires.before.0 in
     let changed = c.requires.before.1.1 in
     let were = subst (λ (t : Tables). AreTables old extent t) (sym c.self.view_is) c.requires.before.1.0 in
-    let kept = kept_here old passes c.size-size.result extent c.args.class c.args.changed.now before c.size-size.ensures were changed c.in_ok-labels.labels c.in_ok-east.east c.in_ok-north.north c.in_ok-labels.ensures.labels c.in_ok-east.ensures.edges c.in_ok-north.ensures.edges
+    let kept = kept_here old passes c.size-size.result extent c.args.changed.now.class c.args.changed.now.bits.now before c.size-size.ensures were changed c.in_ok-labels.labels c.in_ok-east.east c.in_ok-north.north c.in_ok-labels.ensures.labels c.in_ok-east.ensures.edges c.in_ok-north.ensures.edges
     (c.in_ok-labels.ensures.counts c.if-counts.true) (c.in_ok-east.ensures.stay c.if-to_east.true) (c.in_ok-north.ensures.stay c.if-to_north.true) in
     let here : AreTables passes extent (record { labels = c.in_ok-labels.labels; east = c.in_ok-east.east; north = c.in_ok-north.north; areas = c.args.self.now.areas }) =
     subst (λ (t : Tables). AreTables passes extent (record { labels = c.in_ok-labels.labels; east = c.in_ok-east.east; north = c.in_ok-north.north; areas = t.areas }))
@@ -125,7 +125,7 @@ returns-then-to_north-clause-tables g c =
 
 pub joined-requires : goal.joined-requires
 joined-requires g c =
-    let passes = g.V.View.passes c.args.view.now c.args.class in
+    let passes = g.V.View.passes c.args.view.now c.args.changed.now.class in
     let extent = g.V.View.extent c.args.view.now in
     let own = c.self.inside in
     let before : Tables = record { labels = own.labels; east = own.east; north = own.north; areas = arc_value own.areas } in
@@ -133,12 +133,12 @@ joined-requires g c =
     let changed = c.requires.before.1.1 in
     let were = subst (λ (t : Tables). AreTables old extent t) (sym c.self.view_is) c.requires.before.1.0 in (
       passes,
-      sides_here old passes c.size-size.result extent c.args.class c.args.changed.now before c.size-size.ensures were changed c.in_ok-labels.labels c.in_ok-east.east c.in_ok-north.north c.in_ok-labels.ensures.labels c.in_ok-east.ensures.edges c.in_ok-north.ensures.edges,
+      sides_here old passes c.size-size.result extent c.args.changed.now.class c.args.changed.now.bits.now before c.size-size.ensures were changed c.in_ok-labels.labels c.in_ok-east.east c.in_ok-north.north c.in_ok-labels.ensures.labels c.in_ok-east.ensures.edges c.in_ok-north.ensures.edges,
     )
 
 pub returns-clause-tables : goal.returns-clause-tables
 returns-clause-tables g c =
-    let passes = g.V.View.passes c.args.view.now c.args.class in
+    let passes = g.V.View.passes c.args.view.now c.args.changed.now.class in
     let extent = g.V.View.extent c.args.view.now in
     let own = c.self.inside in
     let before : Tables = record { labels = own.labels; east = own.east; north = own.north; areas = arc_value own.areas } in
@@ -148,5 +148,5 @@ returns-clause-tables g c =
     IfOk-weaker c.joined.result _ _
     (λ tables made.
     subst (λ (s : Size). AreTables passes s tables) c.size-size.ensures
-    (made passes (sides_here old passes c.size-size.result extent c.args.class c.args.changed.now before c.size-size.ensures were changed c.in_ok-labels.labels c.in_ok-east.east c.in_ok-north.north c.in_ok-labels.ensures.labels c.in_ok-east.ensures.edges c.in_ok-north.ensures.edges)))
+    (made passes (sides_here old passes c.size-size.result extent c.args.changed.now.class c.args.changed.now.bits.now before c.size-size.ensures were changed c.in_ok-labels.labels c.in_ok-east.east c.in_ok-north.north c.in_ok-labels.ensures.labels c.in_ok-east.ensures.edges c.in_ok-north.ensures.edges)))
     c.joined.ensures

@@ -9,19 +9,19 @@ overflow_add-next c = omega (arith, chunks_few c.args.size, c.step_to.ensures.fe
 pub returns-then-next-changed : goal.returns-then-next-changed
 returns-then-next-changed c = λ untouched old now changes.
     let size = c.args.size in
-    let bits = c.args.changed.now in
-    let place = c.args.place in (
-      unmarked_agrees old now size c.args.class bits place c.is_marked.result changes c.is_marked.ensures c.if-is_marked.false,
-      outside_agrees old now size c.args.class bits _ changes
-          (beyond_outside size c.args.side place (place + c.step_to.result) (c.step_to.ensures.value place) (omega arith)),
+    let bits = c.args.changed.now.bits.now in
+    let place = c.args.border.place in (
+      unmarked_agrees old now size c.args.changed.now.class bits place c.is_marked.result changes c.is_marked.ensures c.if-is_marked.false,
+      outside_agrees old now size c.args.changed.now.class bits _ changes
+          (beyond_outside size c.args.border.side place (place + c.step_to.result) (c.step_to.ensures.value place) (omega arith)),
     )
 
 pub returns : goal.returns
 returns c = λ unmarked old now changes.
     let size = c.args.size in
-    let bits = c.args.changed.now in
-    let place = c.args.place in (
-      unmarked_agrees old now size c.args.class bits place c.is_marked.result changes c.is_marked.ensures c.if-is_marked.false,
-      neighbour_agrees old now size c.args.class bits c.args.side place (place + c.step_to.result) c.is_marked-2.result changes
+    let bits = c.args.changed.now.bits.now in
+    let place = c.args.border.place in (
+      unmarked_agrees old now size c.args.changed.now.class bits place c.is_marked.result changes c.is_marked.ensures c.if-is_marked.false,
+      neighbour_agrees old now size c.args.changed.now.class bits c.args.border.side place (place + c.step_to.result) c.is_marked-2.result changes
           (c.step_to.ensures.value place) c.is_marked-2.ensures unmarked,
     )

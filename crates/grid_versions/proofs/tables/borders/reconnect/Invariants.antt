@@ -11,7 +11,7 @@ use Rattle.grid_versions.proofs.tables.borders.reconnect.Given as goal
 abbrev pub invariant-loop-place : goal.invariant-loop-place
 invariant-loop-place l = record {
   each : length l.all ≡ chunk_count l.size;
-  remade : (old now : Cell → Bool) → AreChanges old now l.size l.class l.changed → AreAllLabels now l.size l.labels
+  remade : (old now : Cell → Bool) → AreChanges old now l.size l.changed.class l.changed.bits.now → AreAllLabels now l.size l.labels
       → AreAllEdges l.side old l.size l.initial.all
       → AreRemade
       (λ (k : ℕ) (edges : List (ℕ × ℕ)). AreEdges now (chunk_numbered l.size k) (neighbour_on l.side (chunk_numbered l.size k)) edges)

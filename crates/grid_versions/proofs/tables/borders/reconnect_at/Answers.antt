@@ -13,11 +13,11 @@ use Rattle.grid_versions.proofs.tables.borders.reconnect_at.Goals as goal
 pub returns-then-not-is_touched-clause-edges : goal.returns-then-not-is_touched-clause-edges
 returns-then-not-is_touched-clause-edges c =
     let size = c.args.size in
-    let place = c.args.place in
+    let place = c.args.border.place in
     let here = chunk_numbered size place in
-    let there = neighbour_on c.args.side here in
+    let there = neighbour_on c.args.border.side here in
     kept_at place
-    (λ (edges : List (ℕ × ℕ)). (old now : Cell → Bool) → AreChanges old now size c.args.class c.args.changed.now
+    (λ (edges : List (ℕ × ℕ)). (old now : Cell → Bool) → AreChanges old now size c.args.changed.now.class c.args.changed.now.bits.now
     → AreAllLabels now size c.args.labels.now
     → ((was : List (ℕ × ℕ)) → slice_get c.args.all.now place ≡ Some was → AreEdges old here there was) → AreEdges now here there edges)
     c.args.all.now (omega (arith, c.requires.each, c.requires.within))
@@ -28,14 +28,14 @@ returns-then-not-is_touched-clause-edges c =
 pub returns-then-eq-clause-edges : goal.returns-then-eq-clause-edges
 returns-then-eq-clause-edges c =
     let size = c.args.size in
-    let place = c.args.place in
+    let place = c.args.border.place in
     let here = chunk_numbered size place in
-    let there = neighbour_on c.args.side here in
+    let there = neighbour_on c.args.border.side here in
     let edges = c.in_ok-edges.edges in
     let equal = (slice_eq-Decides pair_eq-Decides _ _ _ c.eq.ensures).0 c.if-eq.true in
     let same : edges ≡ c.at.result.now = sym (sym c.as_slice.ensures ∙ equal ∙ c.as_slice-2.ensures) in
     kept_item place
-    (λ (edges : List (ℕ × ℕ)). (old now : Cell → Bool) → AreChanges old now size c.args.class c.args.changed.now
+    (λ (edges : List (ℕ × ℕ)). (old now : Cell → Bool) → AreChanges old now size c.args.changed.now.class c.args.changed.now.bits.now
     → AreAllLabels now size c.args.labels.now
     → ((was : List (ℕ × ℕ)) → slice_get c.args.all.now place ≡ Some was → AreEdges old here there was) → AreEdges now here there edges)
     c.args.all.now c.at.result.now c.at.ensures

@@ -43,18 +43,18 @@ relabel_at-requires-clause-before g c =
 
 pub returns-in_err-stays-clause-most : goal.returns-in_err-stays-clause-most
 returns-in_err-stays-clause-most g c =
-    let bits = c.args.changed.now in
+    let bits = c.args.changed.now.bits.now in
     let place = c.loop-place.place in
-    let low = bit_below c.args.class bits c.size.result (g.V.View.extent c.args.view.now) c.count-count.result place c.count-count.ensures.value c.size.ensures
+    let low = bit_below c.args.changed.now.class bits c.size.result (g.V.View.extent c.args.view.now) c.count-count.result place c.count-count.ensures.value c.size.ensures
     c.requires.before.1.1.marks.each (omega arith) in
-    let now = marks_more c.args.class bits place c.loop-place.ticks c.relabel_at.new.ticks c.args.ticks.now low c.relabel_at.ensures.most c.loop-place.invariant.ticked in
-    omega (arith, now, marks_most c.args.class bits (place + 1))
+    let now = marks_more c.args.changed.now.class bits place c.loop-place.ticks c.relabel_at.new.ticks c.args.ticks.now low c.relabel_at.ensures.most c.loop-place.invariant.ticked in
+    omega (arith, now, marks_most c.args.changed.now.class bits (place + 1))
 
 pub loop-place-preserved : goal.loop-place-preserved
 loop-place-preserved g c =
-    let passes = g.V.View.passes c.args.view.now c.args.class in
+    let passes = g.V.View.passes c.args.view.now c.args.changed.now.class in
     let size = g.V.View.extent c.args.view.now in
-    let bits = c.args.changed.now in
+    let bits = c.args.changed.now.bits.now in
     let place = c.loop-place.place in
     let here = c.loop-place.invariant in
     let labels = c.loop-place.labels in
@@ -63,7 +63,7 @@ loop-place-preserved g c =
     let each = here.each in
     let equal : c.count-count.result ≡ chunk_count size = c.count-count.ensures.value ∙ ap (λ (s : Size). chunk_count s) c.size.ensures in
     let within : place < length labels = omega arith in
-    let low = bit_below c.args.class bits c.size.result size c.count-count.result place c.count-count.ensures.value c.size.ensures
+    let low = bit_below c.args.changed.now.class bits c.size.result size c.count-count.result place c.count-count.ensures.value c.size.ensures
     c.requires.before.1.1.marks.each (omega arith) in
     record {
       each = ap (λ (all : List Labelling). length all) made.set ∙ length-set labels place made.item ∙ each;
@@ -73,12 +73,12 @@ loop-place-preserved g c =
       counts = λ both.
           let parts = and_parts c.loop-place.stay c.in_ok-stays.stays both in
           c.in_ok-stays.ensures.count parts.1 ∙ here.counts parts.0;
-      ticked = marks_more c.args.class bits place c.loop-place.ticks c.relabel_at.new.ticks c.args.ticks.now low c.relabel_at.ensures.most here.ticked;
+      ticked = marks_more c.args.changed.now.class bits place c.loop-place.ticks c.relabel_at.new.ticks c.args.ticks.now low c.relabel_at.ensures.most here.ticked;
     }
 
 pub returns-clause-labels : goal.returns-clause-labels
 returns-clause-labels g c =
-    let passes = g.V.View.passes c.args.view.now c.args.class in
+    let passes = g.V.View.passes c.args.view.now c.args.changed.now.class in
     let size = g.V.View.extent c.args.view.now in
     let old = c.requires.before.0 in
     let here = c.loop-place.invariant in
@@ -91,4 +91,4 @@ pub returns-clause-counts : goal.returns-clause-counts
 returns-clause-counts g c = c.loop-place.invariant.counts
 
 pub returns-clause-most : goal.returns-clause-most
-returns-clause-most g c = omega (arith, c.loop-place.invariant.ticked, marks_most c.args.class c.args.changed.now c.loop-place.place)
+returns-clause-most g c = omega (arith, c.loop-place.invariant.ticked, marks_most c.args.changed.now.class c.args.changed.now.bits.now c.loop-place.place)

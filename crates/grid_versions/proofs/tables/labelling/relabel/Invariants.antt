@@ -15,9 +15,9 @@ invariant-loop-place g l = record {
   remade : (old : Cell → Bool) → AreAllLabels old (g.V.View.extent l.view) l.initial.labels
       → AreRemade
       (λ (k : ℕ) (one : Labelling).
-      AreLabels (g.V.View.passes l.view l.class) (g.V.View.extent l.view) (chunk_numbered (g.V.View.extent l.view) k) one)
+      AreLabels (g.V.View.passes l.view l.changed.class) (g.V.View.extent l.view) (chunk_numbered (g.V.View.extent l.view) k) one)
       (λ (k : ℕ) (one : Labelling). AreLabels old (g.V.View.extent l.view) (chunk_numbered (g.V.View.extent l.view) k) one)
       l.place l.labels;
   counts : IsTrue l.stay → label_counts l.labels ≡ label_counts l.initial.labels;
-  ticked : l.ticks ≤ l.initial.ticks + count_by (has_class l.class) (take l.place l.changed);
+  ticked : l.ticks ≤ l.initial.ticks + count_by (has_class l.changed.class) (take l.place l.changed.bits.now);
 }

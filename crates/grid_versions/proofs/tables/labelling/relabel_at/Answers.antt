@@ -8,13 +8,13 @@ use Rattle.grid_versions.proofs.tables.labelling.relabel_at.Goals as goal
 
 pub returns-then-not-is_marked-clause-labels : goal.returns-then-not-is_marked-clause-labels
 returns-then-not-is_marked-clause-labels g c =
-    let passes = g.V.View.passes c.args.view.now c.args.class in
+    let passes = g.V.View.passes c.args.view.now c.args.changed.now.class in
     let size = g.V.View.extent c.args.view.now in
     let place = c.args.place in
     let chunk = chunk_numbered size place in
     let old = c.requires.before.0 in
     let changes = c.requires.before.1.0 in
-    let agree = unmarked_agrees old passes size c.args.class c.args.changed.now place c.is_marked.result changes c.is_marked.ensures c.if-not-is_marked.true in
+    let agree = unmarked_agrees old passes size c.args.changed.now.class c.args.changed.now.bits.now place c.is_marked.result changes c.is_marked.ensures c.if-not-is_marked.true in
     kept_at place (λ (one : Labelling). AreLabels passes size chunk one) c.args.labels.now (omega (arith, c.requires.each, c.requires.within))
     (λ item at. labels_stay old passes size chunk item agree (c.requires.before.1.1 item at))
 

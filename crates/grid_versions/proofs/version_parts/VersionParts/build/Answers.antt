@@ -11,5 +11,5 @@ invariant_of-result g c =
     let ground = made.ground in
     subst (λ (m : Map). AreParts m (arc_value c.in_ok-standing.standing) ground.base ground.reachers ground.cells made.planes made.tables)
     (sym c.in_ok-shared.ensures)
-    (subst (λ (s : Standing). AreParts c.args.map.now s ground.base ground.reachers ground.cells made.planes made.tables)
+    (subst (λ (s : Standing). AreParts c.args.site.now.map.now s ground.base ground.reachers ground.cells made.planes made.tables)
     (sym c.in_ok-standing.ensures) c.in_ok-layers.ensures.parts)

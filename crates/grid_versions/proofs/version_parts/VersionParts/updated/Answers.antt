@@ -44,16 +44,16 @@ updated-requires-clause-covers g c =
     let same = read_here c.args.self.now (arc_value c.self.inside.map) c.deref-map.result.now (arc_value c.self.inside.shapes)
     c.deref-before.result.now c.self.view_is c.deref-map.ensures c.deref-before.ensures in
     let now_is : c.deref-now.result.now ≡ c.args.shapes = c.deref-now.ensures ∙ c.in_ok-standing.ensures.ok in
-    subst (λ (s : Standing). CoverChanges c.deref-map.result.now c.deref-before.result.now s c.args.reaches.now) (sym now_is)
-    (subst (λ (s : MapState). CoverChanges s.map s.standing c.args.shapes c.args.reaches.now) (sym same) c.requires.covers)
+    subst (λ (s : Standing). CoverChanges c.deref-map.result.now c.deref-before.result.now s c.args.changes.now.reaches.now) (sym now_is)
+    (subst (λ (s : MapState). CoverChanges s.map s.standing c.args.shapes c.args.changes.now.reaches.now) (sym same) c.requires.covers)
 
 pub updated-requires-clause-names : goal.updated-requires-clause-names
 updated-requires-clause-names g c =
     let same = read_here c.args.self.now (arc_value c.self.inside.map) c.deref-map.result.now (arc_value c.self.inside.shapes)
     c.deref-before.result.now c.self.view_is c.deref-map.ensures c.deref-before.ensures in
     let now_is : c.deref-now.result.now ≡ c.args.shapes = c.deref-now.ensures ∙ c.in_ok-standing.ensures.ok in
-    subst (λ (s : Standing). NameChanges c.deref-map.result.now c.deref-before.result.now s c.args.reaches.now c.args.ids.now) (sym now_is)
-    (subst (λ (s : MapState). NameChanges s.map s.standing c.args.shapes c.args.reaches.now c.args.ids.now) (sym same) c.requires.names)
+    subst (λ (s : Standing). NameChanges c.deref-map.result.now c.deref-before.result.now s c.args.changes.now.reaches.now c.args.changes.now.ids.now) (sym now_is)
+    (subst (λ (s : MapState). NameChanges s.map s.standing c.args.shapes c.args.changes.now.reaches.now c.args.changes.now.ids.now) (sym same) c.requires.names)
 
 pub returns-in_err-layers-clause-most : goal.returns-in_err-layers-clause-most
 returns-in_err-layers-clause-most g c =

@@ -20,7 +20,7 @@ use Rattle.grid_versions.specs.inner.SameNumbers.{AreChunksOf, IsSameAt}
 use Rattle.grid_versions.specs.inner.Parts.{ArePlanesBefore}
 use Rattle.grid_versions.specs.inner.Reaching.{is_in_some}
 use Rattle.grid_versions.proofs.PlanePartLemmas.{kept_same, extents_of}
-use Rattle.grid_versions.proofs.layers.next_planes.Goals as goal
+use Rattle.grid_versions.proofs.layers.Layers.next_planes.Goals as goal
 
 -- the planes of before are those of a map that has changed in these parts alone
 planes_before : (map : Map) (new : Standing) (planes : List (Option PlaneCells)) (earlier later : List Numbering) (rects : List Rect)
@@ -48,26 +48,26 @@ changed_parts-requires-clause-each c = c.requires.each ∙ sym (ap (λ (s : Size
 
 pub changed_parts-requires-clause-before : goal.changed_parts-requires-clause-before
 changed_parts-requires-clause-before c =
-    subst (λ (s : Size). AreChunksOf s c.args.earlier.now) (sym c.size.ensures)
-    (extents_of c.args.map.now c.requires.before.earlier c.args.earlier.now c.requires.before.painted)
+    subst (λ (s : Size). AreChunksOf s c.args.self.now.ground.cells) (sym c.size.ensures)
+    (extents_of c.args.site.now.map.now c.requires.before.earlier c.args.self.now.ground.cells c.requires.before.painted)
 
 pub changed_parts-requires-clause-after : goal.changed_parts-requires-clause-after
 changed_parts-requires-clause-after c =
     subst (λ (s : Size). AreChunksOf s c.args.cells.now) (sym c.size.ensures)
-    (extents_of c.args.map.now c.args.shapes.now c.args.cells.now c.requires.cells)
+    (extents_of c.args.site.now.map.now c.args.site.now.shapes.now c.args.cells.now c.requires.cells)
 
 pub updated-requires-clause-before : goal.updated-requires-clause-before
 updated-requires-clause-before c =
     subst (λ (parts : List ChangedPart). AreOfBefore c.new-painted.result.map.size (length c.new-painted.result.map.classes)
-    (passes_of c.new-painted.result) parts c.args.before.now) (sym c.deref.ensures.value)
-    (planes_before c.args.map.now c.args.shapes.now c.args.before.now c.args.earlier.now c.args.cells.now c.args.reaches.now
+    (passes_of c.new-painted.result) parts c.args.self.now.planes) (sym c.deref.ensures.value)
+    (planes_before c.args.site.now.map.now c.args.site.now.shapes.now c.args.self.now.planes c.args.self.now.ground.cells c.args.cells.now c.args.reaches.now
     c.args.changed.now c.in_ok-parts.parts.items c.size.result c.new-painted.result c.requires.before c.requires.cells c.size.ensures c.new-painted.ensures c.in_ok-parts.ensures.held)
 
 pub returns : goal.returns
 returns c =
-    let map = c.args.map.now in
-    let new = c.args.shapes.now in
-    let planes = c.args.before.now in
+    let map = c.args.site.now.map.now in
+    let new = c.args.site.now.shapes.now in
+    let planes = c.args.self.now.planes in
     let before = c.requires.before in
     IfOk-weaker c.updated.result _ _
     (λ next same.
