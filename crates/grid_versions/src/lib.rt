@@ -8,6 +8,7 @@ mod chunk_bits;
 mod chunk_cells;
 mod chunks;
 mod class_tables;
+mod class_views;
 mod dirty_parts;
 mod ground;
 mod laws;
@@ -25,6 +26,7 @@ mod tables;
 mod version_parts;
 mod versions;
 
+pub use class_views::ClassView;
 pub use laws::{
     all_fit_after_edits, fits_where_it_fits, one_number_of_cells, one_relabelled, one_tally,
     passable_where_nothing_covers,

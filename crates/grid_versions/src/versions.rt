@@ -4,14 +4,15 @@ ghost use Rattle.nav_types.specs.declared.cells.Cell.{Cell};
 ghost use Rattle.nav_types.specs.Cells.{IsInside, chunk_of};
 ghost use Rattle.nav_types.specs.Counting.{Counts};
 ghost use Rattle.nav_types.specs.Regions.{HasRegion, HasTallies, HasRelabelled};
-ghost use Rattle.class_planes.specs.Planes.{AreOf};
+ghost use Rattle.class_planes.specs.Planes.{AreOf, is_passable};
 ghost use Rattle.obstruction_store.specs.Standing.{AllFit};
 ghost use Rattle.grid_versions.specs.Chunks.{chunk_count, chunk_place};
 
+use crate::class_views::ClassView;
 use crate::sites::Site;
 use crate::standing_edits::{Changes, Edited, edited_copy};
 use crate::version_parts::VersionParts;
-use class_planes::Planes;
+use class_planes::{ClassPlane, Planes};
 use nav_types::{Areas, Axis, Cell, Class, FreeCells, NoMemory, Size, Ticks, View};
 use obstruction_store::Store;
 use posts::{EditReplies, Edits, MapSpec, Tallies};
@@ -181,6 +182,23 @@ impl Version {
             → IsSome (slice_index_or result.now class None) }
     {
         self.parts.planes()
+    }
+
+    /// This version for the requests of one class of the map, whose plane is looked up once, here.
+    pub fn class_view(&self, class: Class) -> ClassView<'_>
+        requires { class < length self.now.map.classes }
+        ensures { result ≡ self.now }
+    {
+        ClassView::new(self, class)
+    }
+
+    /// The plane of a class of the map.
+    pub(crate) fn plane(&self, class: Class) -> &ClassPlane
+        requires { class < length self.now.map.classes }
+        ensures extent { result.now.size ≡ self.now.map.size }
+        ensures cells { is_passable result.now ≡ passes_of self.now class }
+    {
+        self.parts.plane(class)
     }
 
     /// The map.
