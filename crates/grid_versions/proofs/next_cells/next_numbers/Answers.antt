@@ -26,8 +26,8 @@ repainted-requires-clause-near c =
     (before.adds (not_none (length c.args.added.now) (sym c.is_empty.ensures ∙ c.if-not-is_empty.true))) c.args.part
     (number_of c.args.old.now) before.bits
 
-pub returns-then-added-near-clause-bits : goal.returns-then-added-near-clause-bits
-returns-then-added-near-clause-bits c =
+pub returns-then-added-whole-clause-bits : goal.returns-then-added-whole-clause-bits
+returns-then-added-whole-clause-bits c =
     let map = c.args.site.now.map.now in let now = c.args.site.now.shapes.now in
     let before = c.requires.before in
     let part = c.args.part in
