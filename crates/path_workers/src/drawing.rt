@@ -29,7 +29,7 @@ pub(crate) struct Worked {
 }
 
 /// Draws jobs and solves each, until none is left. The gate is passed once before each job.
-fn draw_all<G: Gate>(alloc: Global, turn: &Turn<'_, G>, claims: &Claims, mut seat: Seat) -> Worked
+fn draw_all<G: Gate>(alloc: Global, turn: &Turn<'_, G>, claims: &Claims, seat: Seat) -> Worked
     requires jobs { claims.now.jobs ≡ length turn.now.jobs.now }
     requires own { seat.board ≡ claims.now }
     requires list { seat.drawn ≡ [] }
@@ -37,8 +37,32 @@ fn draw_all<G: Gate>(alloc: Global, turn: &Turn<'_, G>, claims: &Claims, mut sea
     ensures { HasWorked turn.now.version.now.map turn.now.version.now.standing turn.now.report turn.now.jobs.now seat
         result }
 {
+    match Solver::new(alloc, turn.version, turn.report) {
+        Ok(solver) => draw_with(alloc, turn, claims, seat, solver),
+        Err(NoMemory) => Worked {
+            seat,
+            answered: Err(NoMemory),
+        },
+    }
+}
+
+/// Draws jobs until none is left, and has the solver answer each.
+fn draw_with<G: Gate>(
+    alloc: Global,
+    turn: &Turn<'_, G>,
+    claims: &Claims,
+    mut seat: Seat,
+    mut solver: Solver<'_>,
+) -> Worked
+    requires jobs { claims.now.jobs ≡ length turn.now.jobs.now }
+    requires own { seat.board ≡ claims.now }
+    requires list { seat.drawn ≡ [] }
+    requires live { seat.ended ≡ false }
+    requires solver { solver ≡ record { state = turn.now.version.now; report = turn.now.report } }
+    ensures { HasWorked turn.now.version.now.map turn.now.version.now.standing turn.now.report turn.now.jobs.now seat
+        result }
+{
     let mut answered = Sequence::new(alloc);
-    let mut solver = Solver::new(turn.version, turn.report);
     'drawing: loop {
         match claims.claim(seat) {
             Drawn::Job(job, next) => {

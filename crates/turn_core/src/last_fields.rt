@@ -3,6 +3,7 @@ ghost use Rattle.std.specs.Prelude.{ℕ, IfOk, IsTrue, ◌≡◌};
 ghost use Rattle.nav_types.specs.Cells.{IsInside};
 ghost use Rattle.goal_reach.specs.declared.targets.Target.{Target};
 ghost use Rattle.goal_reach.specs.Targets.{hit_by};
+ghost use Rattle.flow_field.specs.Flows.{IsFieldOf};
 ghost use Rattle.grid_versions.specs.Versions.{MapState, passes_of};
 ghost use Rattle.turn_core.specs.Notes.{IsFlowLine};
 ghost use Rattle.turn_core.specs.inner.Searching.{CanFind, IsFieldOn, IsKeptOn, Serves};
@@ -45,7 +46,7 @@ pub(crate) fn field_for(
             return Ok(last);
         }
     }
-    let field = field(alloc, version, class, start, target)?;
+    let field = field_on(alloc, version, class, start, target)?;
     let summary = field.summary();
     Ok(LastField {
         class,
@@ -54,6 +55,21 @@ pub(crate) fn field_for(
         field,
         summary,
     })
+}
+
+/// The flow field of the target's cells in the start's area, by the plane of the class.
+fn field_on(
+    alloc: Global,
+    version: &Version,
+    class: Class,
+    start: Cell,
+    target: &Target,
+) -> Result<Field, NoMemory>
+    requires { CanFind version.now class start target.now }
+    ensures { IfOk result (IsFieldOf (passes_of version.now class) (hit_by target.now) start) }
+{
+    let view = version.class_view(class);
+    field(alloc, &view, class, start, target)
 }
 
 impl LastField {

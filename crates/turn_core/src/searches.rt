@@ -5,7 +5,7 @@ ghost use Rattle.turn_core.specs.inner.Searching.{CanFind, IsCountedTo, IsFoundT
 use class_planes::PlaneRuns;
 use goal_reach::Target;
 use grid_versions::Version;
-use jump_search::{Traced, jump_find_with, jump_search_with};
+use jump_search::{Pool, Traced, jump_find_in, jump_search_with};
 use nav_types::{Aim, Cell, Class, NoMemory, Ticks, View};
 use std::alloc::Global;
 use std::marker::Brand;
@@ -22,16 +22,21 @@ pub(crate) struct Search<'a> {
 }
 
 impl<'a> Search<'a> {
-    /// The chosen walk.
-    pub(crate) fn find(&self, alloc: Global) -> Result<Found, NoMemory>
+    /// The chosen walk, by the room of the pool.
+    pub(crate) fn find(&self, alloc: Global, pool: &mut Pool) -> Result<Found, NoMemory>
         requires { CanFind self.now.version.now self.now.class self.now.start self.now.target.now }
         ensures { IfOk result (IsFoundTo self.now.version.now self.now.class self.now.start self.now.target.now) }
     {
-        self.find_counted::<Brand>(alloc, Blank::new(1))
+        self.find_counted::<Brand>(alloc, pool, Blank::new(1))
     }
 
-    /// The same walk, with the opened jump states counted in a ledger of their own.
-    fn find_counted<L: Ledger>(&self, alloc: Global, blank: Blank) -> Result<Found, NoMemory>
+    /// The same walk, with the states of the search counted in a ledger of their own.
+    fn find_counted<L: Ledger>(
+        &self,
+        alloc: Global,
+        pool: &mut Pool,
+        blank: Blank,
+    ) -> Result<Found, NoMemory>
         requires name { blank.name ≡ L.name }
         requires parts { blank.parts ≡ L.parts }
         requires some { 0 < L.parts }
@@ -40,7 +45,8 @@ impl<'a> Search<'a> {
     {
         let runs = PlaneRuns::new(self.version, self.version.planes());
         let mut ticks = Ticks::<L>::new(blank);
-        jump_find_with(
+        jump_find_in(
+            pool,
             alloc,
             &runs,
             self.class,

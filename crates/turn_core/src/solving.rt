@@ -4,6 +4,7 @@ ghost use Rattle.fixed_point.specs.Plane.{IsOnAxis};
 ghost use Rattle.nav_types.specs.Cells.{IsInside};
 ghost use Rattle.goal_shapes.specs.Goals.{HoldsPoint};
 ghost use Rattle.goal_shapes.specs.Limits.{IsSoundGoal};
+ghost use Rattle.line_smooth.specs.Smoothed.{AreCorners, IsSmoothing};
 ghost use Rattle.posts.specs.declared.notes.Note.{Note};
 ghost use Rattle.posts.specs.declared.notes.Report.TheVariants.{Flows};
 ghost use Rattle.grid_versions.specs.Passing.{passable_at};
@@ -25,13 +26,13 @@ use fixed_point::Fixed;
 use goal_reach::{Target, made_reachable, nearest_passable};
 use goal_shapes::{Goal, GoalSpec, cell_of_point};
 use grid_versions::{Refusal, Version};
-use jump_search::Traced;
+use jump_search::{Pool, Traced};
 use line_smooth::smooth;
 use nav_types::{Areas, Cell, Class, NoMemory, View};
 use posts::{Answer, FlowLine, Note, Noted, PathAnswer, RegionAnswer, Report, Request};
 use std::alloc::Global;
 use std::marker::Model;
-use walks::Found;
+use walks::{Found, Waypoints};
 
 /// The answer to a request on a version (`IsAnswerTo`). It refuses for want of memory alone.
 ///
@@ -56,7 +57,8 @@ pub fn solve_noted(
 ) -> Result<Noted, NoMemory>
     ensures { IfOk result (IsNotedTo version.now.map version.now.standing report request.now) }
 {
-    Solver::new(version, report).solve(alloc, request)
+    let mut solver = Solver::new(alloc, version, report)?;
+    solver.solve(alloc, request)
 }
 
 /// What the flow field of a path tells of it (`IsFlowLine`), and None exactly where the answer is not a path. It refuses
@@ -86,12 +88,14 @@ fn flow_in(note: &Note) -> Option<FlowLine>
 /// Answers the requests of a turn, one after another, with what a report tells of each. Contracts see the version's map
 /// with what stands on it, and the report (`SolverState`).
 ///
-/// It keeps the last flow field, so that requests of one class for one goal in one area share it.
+/// It keeps the last flow field, so that requests of one class for one goal in one area share it, and the room of its
+/// searches, so that a search takes no memory that an earlier one had.
 #[derive(Drop)]
 pub struct Solver<'a> {
     version: &'a Version,
     report: Report,
     kept: Option<LastField>,
+    pool: Pool,
 }
 
 impl<'a> Model for Solver<'a> {
@@ -110,15 +114,17 @@ impl<'a> Model for Solver<'a> {
 }
 
 impl<'a> Solver<'a> {
-    /// One who answers requests on a version, with what the report tells beside the answers.
-    pub fn new(version: &'a Version, report: Report) -> Solver<'a>
-        ensures { result ≡ record { state = version.now; report = report } }
+    /// One who answers requests on a version, with what the report tells beside the answers. It refuses for want of memory
+    /// alone.
+    pub fn new(alloc: Global, version: &'a Version, report: Report) -> Result<Solver<'a>, NoMemory>
+        ensures { IfOk result (λ solver. solver ≡ record { state = version.now; report = report }) }
     {
-        Solver {
+        Ok(Solver {
             version,
             report,
             kept: None,
-        }
+            pool: Pool::new(alloc)?,
+        })
     }
 
     /// The answer to a request with what the report tells of it (`IsNotedTo`). It refuses for want of memory alone, and can
@@ -222,7 +228,7 @@ impl<'a> Solver<'a> {
         };
         match self.report {
             Report::Answers => {
-                let path = path_of(&search, search.find(alloc)?);
+                let path = path_of(&search, search.find(alloc, &mut self.pool)?);
                 Ok(NotedPath {
                     path,
                     note: Note::Nothing,
@@ -237,7 +243,7 @@ impl<'a> Solver<'a> {
                 })
             }
             Report::Flows => {
-                let path = path_of(&search, search.find(alloc)?);
+                let path = path_of(&search, search.find(alloc, &mut self.pool)?);
                 let line = self.flow_line(alloc, class, start, target)?;
                 Ok(NotedPath {
                     path,
@@ -245,8 +251,8 @@ impl<'a> Solver<'a> {
                 })
             }
             Report::Smoothed => {
-                let path = path_of(&search, search.find(alloc)?);
-                let points = smooth(alloc, self.version, class, start, &path.waypoints)?;
+                let path = path_of(&search, search.find(alloc, &mut self.pool)?);
+                let points = smoothed(alloc, self.version, class, start, &path.waypoints)?;
                 Ok(NotedPath {
                     path,
                     note: Note::Smoothed(points),
@@ -273,6 +279,22 @@ impl<'a> Solver<'a> {
         self.kept = Some(last);
         Ok(line)
     }
+}
+
+/// The smoothed waypoints of corners on a version, by the plane of the class.
+fn smoothed(
+    alloc: Global,
+    version: &Version,
+    class: Class,
+    start: Cell,
+    corners: &Waypoints,
+) -> Result<Waypoints, NoMemory>
+    requires class { class < length version.now.map.classes }
+    requires corners { AreCorners (passes_of version.now class) start corners.now }
+    ensures { IfOk result (IsSmoothing (passes_of version.now class) start corners.now) }
+{
+    let view = version.class_view(class);
+    smooth(alloc, &view, class, start, corners)
 }
 
 /// A path, and what a report tells of it.

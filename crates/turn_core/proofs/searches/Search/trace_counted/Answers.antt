@@ -6,7 +6,13 @@ use Rattle.jump_search.specs.declared.search.Traced.{Traced}
 use Rattle.jump_search.specs.JumpStates.{CountsOpened}
 use Rattle.grid_versions.specs.Versions.{MapState, passes_of}
 use Rattle.turn_core.proofs.NotedPaths.{counted_by}
+use Rattle.turn_core.proofs.Searchable.{can_search}
 use Rattle.turn_core.proofs.searches.Search.trace_counted.Goals as goal
+
+pub jump_search_with-requires-clause-search : goal.jump_search_with-requires-clause-search
+jump_search_with-requires-clause-search g c =
+    let search = c.args.self.now in
+    can_search search.version.now c.new-runs.result search.class search.start search.target.now c.new-runs.ensures c.requires.search
 
 pub returns-clause-opened : goal.returns-clause-opened
 returns-clause-opened g c =

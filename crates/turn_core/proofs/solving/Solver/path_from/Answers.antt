@@ -11,8 +11,8 @@ use Rattle.turn_core.specs.inner.Searching.{IsNotedPath, path_by}
 use Rattle.turn_core.proofs.NotedPaths.{found_corners, noted_path}
 use Rattle.turn_core.proofs.solving.Solver.path_from.Goals as goal
 
-pub smooth-requires-clause-corners : goal.smooth-requires-clause-corners
-smooth-requires-clause-corners c =
+pub smoothed-requires-clause-corners : goal.smoothed-requires-clause-corners
+smoothed-requires-clause-corners c =
     let state = c.self.inside.version.now in
     let found = c.in_ok-find-in-Smoothed.field-0 in
     subst (λ (path : PathAnswer). AreCorners (passes_of state c.args.class) c.args.start path.waypoints) (sym c.path_of-path-in-Smoothed.ensures)

@@ -4,7 +4,7 @@ use Rattle.path_workers.specs.inner.Working.{HasOneMore}
 use Rattle.claim_board.specs.Boards.{SeatState}
 use Rattle.claim_board.proofs.Left.{left_of-falls}
 use Rattle.path_workers.proofs.Working.{one_more}
-use Rattle.path_workers.proofs.drawing.draw_all.Goals as goal
+use Rattle.path_workers.proofs.drawing.draw_with.Goals as goal
 
 pub drawing-smaller : goal.drawing-smaller
 drawing-smaller g c =

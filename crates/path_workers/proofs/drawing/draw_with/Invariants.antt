@@ -1,7 +1,7 @@
 use Rattle.std.proofs.Common.{◌≡◌, false}
 use Rattle.claim_board.proofs.Left.{left_of}
 use Rattle.path_workers.specs.inner.Working.{job_numbers, AnswerTheirJobs}
-use Rattle.path_workers.proofs.drawing.draw_all.Given as goal
+use Rattle.path_workers.proofs.drawing.draw_with.Given as goal
 
 abbrev pub invariant-drawing : goal.invariant-drawing
 invariant-drawing g l = record {
