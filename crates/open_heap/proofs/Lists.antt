@@ -1,5 +1,5 @@
 -- An open list over a table of estimates and buckets that have an entry for each key.
-use Rattle.std.proofs.Common.{ℕ, ◌≡◌, ◌≢◌, ◌<◌, ◌≤◌, ◌⊎◌, ◌+◌, ◌-◌, List, [], length, set, Option, None, Some, Result, Ok, Err, OnErr, IfSome, IfNone, IsSomeAnd, refl, ap, inl, inr, sym, subst, ◌∙◌, arith}
+use Rattle.std.proofs.Common.{ℕ, ◌≡◌, ◌<◌, ◌≤◌, ◌⊎◌, ◌+◌, ◌-◌, List, [], length, set, Option, None, Some, Result, Ok, Err, OnErr, IfSome, IfNone, IsSomeAnd, refl, ap, inl, inr, sym, subst, ◌∙◌, arith}
 use Rattle.std.proofs.lemmas.Bool.{cases_eq, cases_lt}
 use Rattle.std.proofs.lemmas.Option.{same_Some, slice_get_past}
 use Rattle.std.specs.Cmp.{nat_cmp_total}

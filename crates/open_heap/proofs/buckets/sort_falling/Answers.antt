@@ -1,4 +1,4 @@
-use Rattle.std.proofs.Common.{ℕ, ◌≡◌, ◌≤◌, Bool, true, false, cond, nat_lt, ◌==◌, length, get_or, Less, Equal, Greater, rules, ap, sym, ◌∙◌, inl, inr, arith}
+use Rattle.std.proofs.Common.{ℕ, ◌≡◌, ◌≤◌, Bool, true, false, cond, ◌==◌, get_or, Less, Equal, Greater, rules, ap, inl, inr}
 use Rattle.std.proofs.lemmas.Bool.{cases_lt, lt-ltb}
 use Rattle.std.proofs.lemmas.List.Sorted.{IsStrictWeakOrder-flip, ranks_by, sorted_far, answers_always, Contains-permutation, IsPermutation-sym}
 use Rattle.std.specs.Cmp.{IsStrictWeakOrder, nat_cmp_total}

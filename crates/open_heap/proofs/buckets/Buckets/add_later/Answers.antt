@@ -3,7 +3,7 @@ use Rattle.std.specs.Vec.{vec_capacity}
 use Rattle.std.proofs.lemmas.List.{get_or_read}
 use Rattle.open_heap.specs.declared.buckets.Waiting.{Waiting}
 use Rattle.open_heap.specs.declared.entries.Entry.{Entry}
-use Rattle.open_heap.specs.inner.Buckets.{bucket_of, AreBuckets, IsHeld}
+use Rattle.open_heap.specs.inner.Buckets.{AreBuckets, IsHeld}
 use Rattle.open_heap.proofs.Chains.{buckets_later, held_later, held_now}
 use Rattle.open_heap.proofs.buckets.Buckets.add_later.Goals as goal
 

@@ -1,4 +1,3 @@
-use Rattle.std.proofs.Common.{ℕ}
 use Rattle.open_heap.proofs.Chains.{held_still, least_held, none_held}
 use Rattle.open_heap.proofs.buckets.Buckets.least.Goals as goal
 

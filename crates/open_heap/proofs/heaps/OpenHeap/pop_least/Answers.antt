@@ -1,6 +1,5 @@
-use Rattle.std.proofs.Common.{ℕ, ◌≡◌, List, Option, sym, ap, subst, ◌∙◌, arith}
+use Rattle.std.proofs.Common.{ℕ, List, Option, sym, ap, subst, ◌∙◌, arith}
 use Rattle.std.specs.FinMap as map
-use Rattle.open_heap.specs.declared.entries.Entry.{Entry}
 use Rattle.open_heap.specs.Queue.{Queue, IsLeast}
 use Rattle.open_heap.specs.inner.Buckets.{queue_of, IsLive}
 use Rattle.open_heap.proofs.Lists.{each_taken, least_of, none_of, live_inside}
