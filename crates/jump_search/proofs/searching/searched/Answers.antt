@@ -1,10 +1,9 @@
-use Rattle.std.proofs.Common.{ℕ, ◌≡◌, ◌+◌, ◌⊎◌, List, Option, length, inr, sym, ap, subst, ◌∙◌, arith}
+use Rattle.std.proofs.Common.{ℕ, ◌≡◌, ◌+◌, ◌⊎◌, List, length, inr, sym, ap, subst, ◌∙◌, arith}
 use Rattle.std.specs.FinMap as map
 use Rattle.nav_types.specs.declared.cells.Rect.{Rect}
 use Rattle.nav_types.specs.Frames.{IsFrame}
 use Rattle.open_heap.specs.Queue.{Queue}
 use Rattle.jump_search.specs.declared.nodes.Node.{Node}
-use Rattle.jump_search.specs.declared.searching.Best.{Best}
 use Rattle.jump_search.specs.inner.Underway.{opened_count, IsTaken, IsHalted, HasEnded}
 use Rattle.jump_search.proofs.Framing.{one_frame}
 use Rattle.jump_search.proofs.Queueing.{len_taken}
