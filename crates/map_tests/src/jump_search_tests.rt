@@ -6,12 +6,14 @@ use crate::fixtures::counted::Counted;
 use crate::fixtures::maps::drawn;
 use crate::fixtures::searches::{Search, is_fit, is_found, search_of};
 use crate::fixtures::texts::fields_of;
-use jump_search::{jump_find, jump_find_with, jump_search, jump_search_with};
+use jump_scan::CellRuns;
+use jump_search::{Pool, jump_find, jump_find_in, jump_find_with, jump_search, jump_search_with};
 use nav_types::{Class, NoMemory, Size, Ticks, View};
 use navcell_grid::Grid;
 use std::alloc::Global;
 use std::marker::Brand;
 use std::sync::ledger::{Blank, Ledger};
+use std::test::Fail;
 
 /// In each line the rows of a map from the first up, `#` impassable, the start and the targets, and then the end, the
 /// cost and the waypoints of the answer, and how many jump states are opened.
@@ -90,6 +92,30 @@ const TABLE: &str = "\
 #....../.####../###..../###.#../.#....#/....###/....###;5,0;2,4;2,4;458752;5,4 2,4;7
 ";
 
+/// Whether the search in a pool that has served other maps answers as it should, where its jump states are counted in a
+/// ledger.
+fn answers_in_pool<L: Ledger>(
+    pool: &mut Pool,
+    alloc: Global,
+    map: &Grid,
+    search: &Search<'_>,
+    blank: Blank,
+) -> Result<bool, NoMemory>
+    requires name { blank.name ≡ L.name }
+    requires parts { blank.parts ≡ L.parts }
+    requires some { 0 < L.parts }
+{
+    let class = Class::new(0);
+    let (start, aim) = (search.start, &search.targets);
+    let runs = CellRuns::new(map);
+    if !aim.rect.is_inside(runs.size()) || !is_fit(&runs, class, start, search.points, aim) {
+        return Ok(false);
+    }
+    let mut ticks = Ticks::<L>::new(blank);
+    let found = jump_find_in(pool, alloc, &runs, class, start, aim, &mut ticks)?;
+    Ok(is_found(search, &found))
+}
+
 /// Whether both searches answer as they should, and so many jump states are opened, where they are counted in a ledger.
 fn answers_counted<L: Ledger>(
     alloc: Global,
@@ -117,22 +143,26 @@ fn answers_counted<L: Ledger>(
 }
 
 /// Whether a line of `TABLE` says what the answer is. None where it is not in the form of the table.
-fn answers_as_the_line_says(alloc: Global, line: &str) -> Option<bool> {
+fn answers_as_the_line_says(alloc: Global, pool: &mut Pool, line: &str) -> Option<bool> {
     let [map, start, targets, end, cost, points, opened] = fields_of(line);
     let opened = opened.parse().ok()?;
     let search = search_of(alloc, [start, targets, end, cost, points])?;
     let map = drawn(alloc, map)?;
-    answers_counted::<Brand>(alloc, &map, &search, opened, Blank::new(1)).ok()
+    let again = answers_in_pool::<Brand>(pool, alloc, &map, &search, Blank::new(1)).ok()?;
+    let anew = answers_counted::<Brand>(alloc, &map, &search, opened, Blank::new(1)).ok()?;
+    Some(again && anew)
 }
 
 #[test]
-fn answers_as_the_table_says(rt: HostRuntime) {
+fn answers_as_the_table_says(rt: HostRuntime) -> Result<(), Fail> {
+    let mut pool = Pool::new(rt.alloc())?;
     for line in TABLE.lines() {
         assert!(rt;
-            answers_as_the_line_says(rt.alloc(), line) == Some(true),
+            answers_as_the_line_says(rt.alloc(), &mut pool, line) == Some(true),
             "{line}"
         );
     }
+    Ok(())
 }
 
 /// The same over runs that count what the searches alone ask.
