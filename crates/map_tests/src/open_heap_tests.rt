@@ -58,7 +58,9 @@ fn keys_go_in_between(rt: HostRuntime) -> Result<(), Fail> {
         assert!(rt; put(&mut heap, key, estimate));
     }
     assert!(rt; matches!(heap.pop_least(), Some(entry) if entry.estimate == 500_000));
-    assert!(rt; put(&mut heap, 3, 700_000) && put(&mut heap, 4, 100_000) && put(&mut heap, 1, 510_000));
+    assert!(rt;
+        put(&mut heap, 3, 700_000) && put(&mut heap, 4, 100_000) && put(&mut heap, 1, 510_000)
+    );
     assert!(rt; matches!(heap.pop_least(), Some(entry) if entry.key == 4));
     heap.clear();
     assert!(rt; heap.is_empty() && heap.get(3).is_none());
