@@ -7,6 +7,8 @@ pub mod ReadStill
 pub mod ReadNeed
 pub mod ReadAnswers
 pub mod ReadWhole
+pub mod PushedReads
+pub mod PushedEnds
 pub mod FormValues
 pub mod Members
 pub mod GrammarValues

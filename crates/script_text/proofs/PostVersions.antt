@@ -167,3 +167,7 @@ pub have_all : (part : Part) (turn posts : List (List Post)) → turn ≡ posts 
 have_all part turn posts same have =
     let Has : List (List Post) → Type 0 = λ own. HaveLinesAt part own in
     subst Has (sym same) have
+
+-- and so do places whose lines keep to the same
+pub have_by : (old now : Part) (posts : List (List Post)) → rules_at now ≡ rules_at old → HaveLinesAt old posts → HaveLinesAt now posts
+have_by old now posts same have = λ rules at. have rules (sym same ∙ at)

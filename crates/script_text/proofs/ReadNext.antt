@@ -67,7 +67,7 @@ pub not_ended : (before now : Bool) → (before ≡ true → now ≡ true) → n
 not_ended true now h e = absurd (false≢true (sym e ∙ h refl))
 not_ended false now h e = refl
 
-uses_more : (old : Held) (p : Place) (h now : HeldLine) (taken more : List ℕ) (items : List Item) → bytes_of h ++ more ≡ bytes_of now → UsesLines old (held_at p h) taken items
+pub uses_more : (old : Held) (p : Place) (h now : HeldLine) (taken more : List ℕ) (items : List Item) → bytes_of h ++ more ≡ bytes_of now → UsesLines old (held_at p h) taken items
     → UsesLines old (held_at p now) (taken ++ more) items
 uses_more old p h now taken more items bytes u = record {
   lines = u.lines;
@@ -98,7 +98,7 @@ goes_next old p h now x y z items stays g t = record {
   used = λ going. uses_more old p h now g.taken t.more.taken items t.more.bytes (g.used (not_ended h.rest.ended now.rest.ended stays going));
 }
 
-uses_line : (old : Held) (p q : Place) (h : HeldLine) (line_end : Option LineEnd) (size : ℕ) (taken : List ℕ) (xs ys : List Item) → h.line_end ≡ line_end → HasEnd line_end h.rest
+pub uses_line : (old : Held) (p q : Place) (h : HeldLine) (line_end : Option LineEnd) (size : ℕ) (taken : List ℕ) (xs ys : List Item) → h.line_end ≡ line_end → HasEnd line_end h.rest
     → size ≡ length (h.line ++ newline_of line_end) → IsPlain h.line → accept size h.line p ≡ arrived ys q → IsFalse h.rest.ended → UsesLines old (held_at p h) taken xs
     → UsesLines old (held_at q (after_line h)) taken (xs ++ ys)
 uses_line old p q h None size taken xs ys is ends counted plain e going u = absurd ends
@@ -156,7 +156,7 @@ past_limit : (p : Place) (h : HeldLine) (room : ℕ) → room + p.bytes ≡ 4294
 past_limit p h room e (inl long) = inl long
 past_limit p h room e (inr long) = inr (omega arith)
 
-refuses_long : (old : Held) (p : Place) (h now : HeldLine) (room : ℕ) (x y z : List ℕ) (items : List Item) → room + p.bytes ≡ 4294967296 → IsPlain now.line → GoesOn old (held_at p h) x y items
+pub refuses_long : (old : Held) (p : Place) (h now : HeldLine) (room : ℕ) (x y z : List ℕ) (items : List Item) → room + p.bytes ≡ 4294967296 → IsPlain now.line → GoesOn old (held_at p h) x y items
     → TakesMore h now y z → IsPastLimit now room → reading (old.bytes ++ x) old.place ≡ stuck_after items too_long
 refuses_long old p h now room x y z items e plain g t long =
     let behind = (newline_of now.line_end ++ now.rest.bytes) ++ z in

@@ -5,6 +5,7 @@ pub mod Faults
 pub mod Forms
 pub mod Grammar
 pub mod Reader
+pub mod Pushed
 pub mod ReadsBack
 pub mod Script
 pub mod Values

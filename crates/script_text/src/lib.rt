@@ -5,9 +5,11 @@ mod canon;
 mod causes;
 mod faults;
 mod forms;
+mod items;
 mod laws;
 mod parts;
 mod progress;
+mod pushed;
 mod reader;
 mod versions;
 
@@ -16,9 +18,11 @@ pub use causes::{Cause, Key, Wanted};
 pub use faults::ScriptFault;
 pub use forms::CallerPost;
 pub use input_lines::READ_SIZE;
+pub use items::ScriptItem;
 pub use laws::{
     base_lines, canonical_reads_back, end_causes, end_lines, line_causes, map_lines, one_line,
     post_lines, wrong_values,
 };
+pub use pushed::PushedScript;
 pub use reader::ScriptReader;
 pub use versions::have_lines;

@@ -1,5 +1,5 @@
 //! How far a script was read, and what its next line gives.
-ghost use Rattle.std.specs.Prelude.{◌≡◌, ◌+◌, ◌≤◌, ◌<◌, ◌∷◌, [], length, ℕ, All, IfErr, IfOk, IfSome, IsFalse, IsSome, OnOk};
+ghost use Rattle.std.specs.Prelude.{◌≡◌, ◌+◌, ◌≤◌, ◌<◌, ◌∷◌, [], length, ℕ, All, IfErr, IfOk, IfSome, IsFalse, IsSome, IsErrOf, OnOk};
 ghost use Rattle.std.specs.Prelude.{OnErr, option_and_then, option_map, Some};
 ghost use Rattle.std.specs.List.{list_all};
 ghost use Rattle.serde_json.specs.View.{view};
@@ -10,6 +10,7 @@ ghost use Rattle.script_text.specs.Script.{is_empty, reading_of};
 use crate::causes::{self, Cause};
 use crate::faults::ScriptFault;
 use crate::forms::{self, CallerPost};
+use crate::items::ScriptItem;
 use crate::parts::{Part, Rules};
 use nav_types::limits::{MAX_INPUT_BYTES, MAX_LINE_BYTES};
 use nav_types::{NoMemory, Size};
@@ -45,10 +46,11 @@ impl Model for Progress {
 impl Progress {
     ghost use Rattle.posts.specs.Posts.{post_count};
     ghost use Rattle.script_text.specs.Script.{beginning, rules_of, accept, counted, end_line, finish, is_long};
-    ghost use Rattle.script_text.specs.Script.{arrived, begins, map_line, placed_in_turn, with_post};
-    ghost use Rattle.script_text.specs.Reader.{callers_of, rules_at};
+    ghost use Rattle.script_text.specs.Script.{arrived, begins, map_line, no_posts, placed_in_turn, with_post};
+    ghost use Rattle.script_text.specs.Reader.{HaveLinesAt, callers_of, rules_at};
+    ghost use Rattle.script_text.specs.Pushed.{KeepsRules};
     ghost use Rattle.script_text.specs.Causes.{cause, end_cause};
-    ghost use Rattle.script_text.specs.inner.Judging.{AddsBase, BeginsMap, CountsPosts, GivesTurn, IsBadAt, IsBase};
+    ghost use Rattle.script_text.specs.inner.Judging.{AddsBase, BeginsMap, CountsPosts, GivesItem, GivesTurn, IsBadAt, IsBase};
     ghost use Rattle.script_text.specs.inner.Judging.{IsInTurns, IsInsideAt, IsNoBaseAt, IsObject, Stops};
 
     /// Nothing is read yet.
@@ -87,35 +89,36 @@ impl Progress {
         ensures number { IfErr result (λ fault. (n : ℕ) → fault ≡ ScriptFault.BadLine n → n ≡ self.old.lines + 1) }
         ensures limit { self.new.bytes ≤ MAX_INPUT_BYTES }
         ensures bad { IfErr result (IsBadAt self.new (counted self.old size)) }
+        ensures used { OnOk result (self.new.bytes ≡ self.old.bytes + size) }
+        ensures memory { IsErrOf result ScriptFault.NoMemory → self.new ≡ self.old }
     {
         if self.is_long(line, size) {
             return Err(ScriptFault::TooLong);
         }
-        // Counted first, so that a bad line's number is that of the place.
-        self.count(size);
         let Some(map) = read_map(alloc, line)? else {
-            return Err(ScriptFault::BadLine(self.lines));
+            return Err(self.bad_line(size));
         };
-        self.begin(alloc, &map)?;
+        let posts = empty_lists(alloc, usize::from(map.callers()))?;
+        self.count(size);
+        self.begin(&map, posts);
         Ok(map)
     }
 
     /// Goes on behind the map line, with an empty list of posts for each caller.
-    fn begin(&mut self, alloc: Global, map: &MapSpec) -> Result<(), NoMemory>
+    fn begin(&mut self, map: &MapSpec, posts: Vec<Posts>)
         requires first { self.old.part ≡ Part.BeforeMap }
-        ensures begins { OnOk result (map_line self.old (Some map.now) ≡ arrived (begins map.now ∷ []) self.new) }
-        ensures part { OnOk result (self.new.part ≡ Part.InBase (rules_of map.now)) }
+        requires lists { posts.items ≡ no_posts map.now.callers }
+        ensures begins { map_line self.old (Some map.now) ≡ arrived (begins map.now ∷ []) self.new }
+        ensures part { self.new.part ≡ Part.InBase (rules_of map.now) }
         ensures bytes { self.new.bytes ≡ self.old.bytes }
-        ensures posts { OnOk result (post_count self.new.posts ≡ 0) }
+        ensures posts { post_count self.new.posts ≡ 0 }
     {
-        let rules = Rules {
+        self.posts = posts;
+        self.part = Part::InBase(Rules {
             size: map.size(),
             version: map.version(),
             callers: map.callers(),
-        };
-        self.posts = empty_lists(alloc, usize::from(rules.callers))?;
-        self.part = Part::InBase(rules);
-        Ok(())
+        });
     }
 
     /// Takes the next line where it is a base line, and answers its rectangles. Where it is none, nothing changes.
@@ -133,6 +136,7 @@ impl Progress {
         ensures part { self.new.part ≡ self.old.part }
         ensures posts { self.new.posts ≡ self.old.posts }
         ensures limit { self.new.bytes ≤ MAX_INPUT_BYTES }
+        ensures memory { IsErrOf result ScriptFault.NoMemory → self.new ≡ self.old }
     {
         let Part::InBase(rules) = self.part else {
             unreachable!();
@@ -169,24 +173,83 @@ impl Progress {
         ensures counts { IfOk result (CountsPosts self.old.posts self.new.posts) }
         ensures lists { IfOk result (λ next. IfSome next (λ turn. length turn ≡ callers_of self.old.part)) }
         ensures bad { IfErr result (IsBadAt self.new (counted self.old size)) }
+        ensures memory { IsErrOf result ScriptFault.NoMemory → self.new ≡ self.old }
     {
         if self.is_long(line, size) {
             return Err(ScriptFault::TooLong);
         }
-        self.count(size);
         match read_line(alloc, line)? {
-            Some(value) => self.take_reading(alloc, &value),
-            None => Err(ScriptFault::BadLine(self.lines)),
+            Some(value) => self.take_reading(alloc, size, &value),
+            None => Err(self.bad_line(size)),
+        }
+    }
+
+    /// Takes the next line, of so many bytes with its newline where it has one, and answers what it gives. Where there is
+    /// no memory, nothing changes, and the line may come again.
+    pub fn take_line(
+        &mut self,
+        alloc: Global,
+        line: &[u8],
+        size: u64,
+    ) -> Result<Option<ScriptItem>, ScriptFault>
+        requires some_byte { 1 ≤ size }
+        requires have { HaveLinesAt self.old.part self.old.posts }
+        ensures gives { GivesItem (accept size line.now self.old) self.new result }
+        ensures used { OnOk result (self.new.bytes ≡ self.old.bytes + size) }
+        ensures rules { KeepsRules (rules_at self.old.part) (rules_at self.new.part) result }
+        ensures have { OnOk result (HaveLinesAt self.new.part self.new.posts) }
+        ensures limit { self.new.bytes ≤ MAX_INPUT_BYTES }
+        ensures bad { IfErr result (IsBadAt self.new (counted self.old size)) }
+        ensures memory { IsErrOf result ScriptFault.NoMemory → self.new ≡ self.old }
+    {
+        match self.part {
+            Part::BeforeMap => match self.map_line(alloc, line, size) {
+                Ok(map) => Ok(Some(ScriptItem::Map(map))),
+                Err(fault) => Err(fault),
+            },
+            Part::InBase(_) => match self.base_line(alloc, line, size) {
+                Ok(Some(rects)) => Ok(Some(ScriptItem::Base(rects))),
+                Ok(None) => self.turn_line(alloc, line, size),
+                Err(fault) => Err(fault),
+            },
+            Part::InTurns(_) => self.turn_line(alloc, line, size),
+        }
+    }
+
+    /// Takes the next line of a turn.
+    fn turn_line(
+        &mut self,
+        alloc: Global,
+        line: &[u8],
+        size: u64,
+    ) -> Result<Option<ScriptItem>, ScriptFault>
+        requires begun { IsSome (rules_at self.old.part) }
+        requires no_base { IsNoBaseAt self.old.part line.now }
+        requires some_byte { 1 ≤ size }
+        requires have { HaveLinesAt self.old.part self.old.posts }
+        ensures gives { GivesItem (accept size line.now self.old) self.new result }
+        ensures used { OnOk result (self.new.bytes ≡ self.old.bytes + size) }
+        ensures rules { KeepsRules (rules_at self.old.part) (rules_at self.new.part) result }
+        ensures have { OnOk result (HaveLinesAt self.new.part self.new.posts) }
+        ensures limit { self.new.bytes ≤ MAX_INPUT_BYTES }
+        ensures bad { IfErr result (IsBadAt self.new (counted self.old size)) }
+        ensures memory { IsErrOf result ScriptFault.NoMemory → self.new ≡ self.old }
+    {
+        match self.accept(alloc, line, size) {
+            Ok(Some(turn)) => Ok(Some(ScriptItem::Turn(turn))),
+            Ok(None) => Ok(None),
+            Err(fault) => Err(fault),
         }
     }
 
     /// Whether an input that ends here is whole.
     pub fn finish(&self) -> Result<(), ScriptFault>
-        requires begun { IsSome (rules_at self.now.part) }
         ensures stops { Stops (finish self.now) result }
+        ensures memory { IsErrOf result ScriptFault.NoMemory → ⊥ }
+        ensures limit { self.now.bytes ≤ MAX_INPUT_BYTES }
     {
         match self.part {
-            Part::BeforeMap => unreachable!(),
+            Part::BeforeMap => Err(ScriptFault::BadLine(self.lines + 1)),
             Part::InBase(_) => Ok(()),
             Part::InTurns(_) => self.end_between_turns(),
         }
@@ -196,6 +259,7 @@ impl Progress {
     fn end_between_turns(&self) -> Result<(), ScriptFault>
         requires begun { IsInTurns self.now.part }
         ensures stops { Stops (finish self.now) result }
+        ensures memory { IsErrOf result ScriptFault.NoMemory → ⊥ }
     {
         if are_empty(self.posts.as_slice()) {
             Ok(())
@@ -245,31 +309,48 @@ impl Progress {
         self.lines += 1;
     }
 
-    /// Goes on after a line of a turn that was counted, by its reading.
+    /// Counts a line that is bad, and names it.
+    fn bad_line(&mut self, size: u64) -> ScriptFault
+        requires some_byte { 1 ≤ size }
+        requires fits { self.old.bytes + size ≤ MAX_INPUT_BYTES }
+        ensures counted { self.new ≡ counted self.old size }
+        ensures named { result ≡ ScriptFault.BadLine (counted self.old size).lines }
+    {
+        self.count(size);
+        ScriptFault::BadLine(self.lines)
+    }
+
+    /// Takes a line of a turn, of so many bytes, by its reading. It is counted last: where there is no memory, the line
+    /// may come again.
     fn take_reading(
         &mut self,
         alloc: Global,
+        size: u64,
         value: &Value,
     ) -> Result<Option<TurnPosts>, ScriptFault>
         requires begun { IsSome (rules_at self.old.part) }
-        requires counted { self.old.turns < self.old.lines }
+        requires some_byte { 1 ≤ size }
+        requires fits { self.old.bytes + size ≤ MAX_INPUT_BYTES }
         ensures gives { IfSome (rules_at self.old.part)
-            (λ rules. GivesTurn (placed_in_turn self.old rules (Some (view value.now))) self.new result) }
-        ensures bytes { self.new.bytes ≡ self.old.bytes }
+            (λ rules. GivesTurn (placed_in_turn (counted self.old size) rules (Some (view value.now))) self.new result) }
+        ensures used { OnOk result (self.new.bytes ≡ self.old.bytes + size) }
+        ensures limit { self.new.bytes ≤ MAX_INPUT_BYTES }
+        ensures memory { IsErrOf result ScriptFault.NoMemory → self.new ≡ self.old }
         ensures rules { rules_at self.new.part ≡ rules_at self.old.part }
         ensures part { OnOk result (IsInTurns self.new.part) }
         ensures object { OnOk result (IsObject (view value.now)) }
         ensures counts { IfOk result (CountsPosts self.old.posts self.new.posts) }
         ensures lists { IfOk result (λ next. IfSome next (λ turn. length turn ≡ callers_of self.old.part)) }
-        ensures bad { IfErr result (IsBadAt self.new self.old) }
+        ensures bad { IfErr result (IsBadAt self.new (counted self.old size)) }
     {
         let rules = self.rules();
         match forms::post_of(rules.version, rules.callers, value) {
             Some(said) => {
                 self.keep_post(rules, said)?;
+                self.count(size);
                 Ok(None)
             }
-            None => self.end_turn(alloc, rules, forms::end_of(value)),
+            None => self.end_turn(alloc, size, rules, forms::end_of(value)),
         }
     }
 
@@ -299,31 +380,36 @@ impl Progress {
         Ok(())
     }
 
-    /// Hands out the posts of the turn, where the number of its end line is that of the turn.
+    /// Hands out the posts of the turn, where the number of its end line, of so many bytes, is that of the turn.
     fn end_turn(
         &mut self,
         alloc: Global,
+        size: u64,
         rules: Rules,
         number: Option<u64>,
     ) -> Result<Option<TurnPosts>, ScriptFault>
         requires rules { rules_at self.old.part ≡ Some rules }
-        requires counted { self.old.turns < self.old.lines }
-        ensures gives { GivesTurn (end_line self.old rules number) self.new result }
-        ensures bytes { self.new.bytes ≡ self.old.bytes }
+        requires some_byte { 1 ≤ size }
+        requires fits { self.old.bytes + size ≤ MAX_INPUT_BYTES }
+        ensures gives { GivesTurn (end_line (counted self.old size) rules number) self.new result }
+        ensures used { OnOk result (self.new.bytes ≡ self.old.bytes + size) }
+        ensures limit { self.new.bytes ≤ MAX_INPUT_BYTES }
+        ensures memory { IsErrOf result ScriptFault.NoMemory → self.new ≡ self.old }
         ensures rules { rules_at self.new.part ≡ rules_at self.old.part }
         ensures part { OnOk result (IsInTurns self.new.part) }
         ensures number { OnOk result (IsSome number) }
         ensures counts { IfOk result (CountsPosts self.old.posts self.new.posts) }
         ensures lists { IfOk result (λ next. IfSome next (λ turn. length turn ≡ rules.callers)) }
-        ensures bad { IfErr result (IsBadAt self.new self.old) }
+        ensures bad { IfErr result (IsBadAt self.new (counted self.old size)) }
     {
         let Some(number) = number else {
-            return Err(ScriptFault::BadLine(self.lines));
+            return Err(self.bad_line(size));
         };
         if number != self.turns + 1 {
-            return Err(ScriptFault::BadLine(self.lines));
+            return Err(self.bad_line(size));
         }
         let empty = empty_lists(alloc, usize::from(rules.callers))?;
+        self.count(size);
         self.turns += 1;
         self.part = Part::InTurns(rules);
         let posts = mem::replace(&mut self.posts, empty);

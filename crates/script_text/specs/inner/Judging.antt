@@ -14,7 +14,9 @@ use Rattle.script_text.specs.Forms.{base_of}
 use Rattle.script_text.specs.declared.parts.Part.{Part}
 use Rattle.script_text.specs.declared.parts.Part.TheVariants.{BeforeMap, InBase, InTurns}
 use Rattle.script_text.specs.Script.{Place, Item, Walk, begins, adds_base, ends_turn, whole_input, too_long, bad_line, arrived, stuck, map_after, turns_of, reading_of, is_long, accept}
-use Rattle.script_text.specs.Reader.{Held, GoesOn, RefusesMap, callers_of}
+use Rattle.script_text.specs.declared.items.ScriptItem.{ScriptItem}
+use Rattle.script_text.specs.Pushed.{item_of}
+use Rattle.script_text.specs.Reader.{Held, GoesOn, HaveLinesAt, RefusesMap, callers_of}
 use Rattle.input_lines.specs.Held.{WhereTold, HeldLine, HasEnd, bytes_of, after_line}
 use Rattle.input_lines.specs.Lines.{IsPlain}
 
@@ -174,3 +176,20 @@ pub record IsBetweenTurns (p : Place) (h : HeldLine) : Type 0 where
 -- what a reader holds at a place, with the line that it holds
 abbrev pub held_at : Place → HeldLine → Held
 held_at place h = record { place = place; bytes = bytes_of h; ended = h.rest.ended; over = false; failed = false }
+
+-- the walk gives the item of the answer, or none, and arrives; or it is stuck as the refusal says
+abbrev pub GivesItem : Walk → Place → Result (Option ScriptItem) ScriptFault → Type 0
+GivesItem w place (Ok (Some item)) = w ≡ arrived (item_of item ∷ []) place
+GivesItem w place (Ok None) = w ≡ arrived [] place
+GivesItem w place (Err fault) = IsStuckBy w fault
+
+-- nothing is held behind the line, and while the script was not refused, each post so far has a line in its version
+pub record IsPushedTo (p : Place) (h : HeldLine) (failed : Bool) : Type 0 where
+  pub behind : h.rest ≡ record { bytes = []; ended = false }
+  pub have : IsFalse failed → HaveLinesAt p.part p.posts
+
+-- an input that ends here is whole, and gives nothing more; or the walk is stuck as the refusal says
+abbrev pub EndsHere : Walk → Result (Option ScriptItem) ScriptFault → Type 0
+EndsHere w (Ok None) = w ≡ stuck whole_input
+EndsHere w (Ok (Some item)) = ⊥
+EndsHere w (Err fault) = IsStuckBy w fault

@@ -385,9 +385,6 @@ returns-in-Some-2-clause-ready g c =
 pub next_line-requires : goal.next_line-requires
 next_line-requires g c = record { between = c.lines.invariant.between }
 
-pub finish-requires : goal.finish-requires
-finish-requires g c = let Begun : Option Rules → Type 0 = IsSome in record { begun = subst Begun (sym c.lines.invariant.rules) c.requires.map }
-
 pub take_turn_line-requires-clause-map : goal.take_turn_line-requires-clause-map
 take_turn_line-requires-clause-map g c = let Begun : Option Rules → Type 0 = IsSome in subst Begun (sym c.lines.invariant.rules) c.requires.map
 

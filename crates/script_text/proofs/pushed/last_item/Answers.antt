@@ -1,0 +1,37 @@
+use Rattle.std.proofs.Common.{Option, Ok, Err, ap, subst, arith}
+use Rattle.std.proofs.lemmas.Result.{err_from_is_err_and}
+use Rattle.script_text.specs.declared.items.ScriptItem.{ScriptItem}
+use Rattle.script_text.specs.Script.{accept}
+use Rattle.script_text.specs.inner.Judging.{GivesItem}
+use Rattle.script_text.proofs.PushedEnds.{end_behind, last_gives, last_holds, last_refused}
+use Rattle.script_text.proofs.pushed.last_item.Goals as goal
+
+-- the last line is refused
+pub returns-in_err-item-clause-told : goal.returns-in_err-item-clause-told
+returns-in_err-item-clause-told c =
+    let p = err_from_is_err_and c.from_residual.result c.from_residual.ensures.1 in
+    rw (p.1, p.2)
+    (last_refused c.args.progress.now c.take_held.new.progress c.args.line.now c.take_held.new.line c.held-size.result c.in_err-item.field-0.0 c.requires.behind c.held-size.ensures.bytes
+    (omega (arith, c.if-size-eq0.false)) c.take_held.ensures.plain c.in_err-item.ensures.kept c.in_err-item.ensures.gives c.in_err-item.ensures.bad (λ e. c.in_err-item.ensures.memory (ap (λ f. Err f) e)))
+
+pub returns-in_err-item-clause-bad : goal.returns-in_err-item-clause-bad
+returns-in_err-item-clause-bad c =
+    let p = err_from_is_err_and c.from_residual.result c.from_residual.ensures.1 in
+    rw (p.1, p.2)
+    (last_holds c.args.progress.now c.take_held.new.progress c.args.line.now c.take_held.new.line c.held-size.result c.in_err-item.field-0.0 c.requires.behind c.held-size.ensures.bytes
+    (omega (arith, c.if-size-eq0.false)) c.take_held.ensures.plain c.in_err-item.ensures.kept c.in_err-item.ensures.gives c.in_err-item.ensures.bad)
+
+-- it gives something
+pub returns-in-Some-clause-told : goal.returns-in-Some-clause-told
+returns-in-Some-clause-told c =
+    let Given : Option ScriptItem → Type 0 = λ next. GivesItem (accept c.held-size.result c.args.line.now.line c.args.progress.now) c.take_held.new.progress (Ok next) in
+    last_gives c.args.progress.now c.take_held.new.progress c.args.line.now c.take_held.new.line c.held-size.result c.in-Some.item c.requires.behind c.held-size.ensures.bytes
+    (omega (arith, c.if-size-eq0.false)) c.take_held.ensures.plain c.in_ok-item.ensures.line (subst Given c.in-Some.is c.in_ok-item.ensures.gives)
+
+-- it gives nothing
+pub returns-in-None-clause-told : goal.returns-in-None-clause-told
+returns-in-None-clause-told c =
+    let Given : Option ScriptItem → Type 0 = λ next. GivesItem (accept c.held-size.result c.args.line.now.line c.args.progress.now) c.take_held.new.progress (Ok next) in
+    end_behind c.args.progress.now c.take_held.new.progress c.args.line.now c.take_held.new.line c.held-size.result c.end_item-in-None.result c.requires.behind c.held-size.ensures.bytes
+    (omega (arith, c.if-size-eq0.false)) c.take_held.ensures.plain c.in_ok-item.ensures.line (subst Given c.in-None.is c.in_ok-item.ensures.gives) c.end_item-in-None.ensures.ends
+    c.end_item-in-None.ensures.memory
