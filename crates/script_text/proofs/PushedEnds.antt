@@ -1,5 +1,5 @@
 -- The end of an input that is pushed.
-use Rattle.std.proofs.Common.{◌≡◌, ℕ, ◌+◌, ◌≤◌, List, [], ◌∷◌, ◌++◌, length, Bool, true, false, Option, Some, None, Result, Ok, Err, refl, ap, sym, subst, ◌∙◌}
+use Rattle.std.proofs.Common.{◌≡◌, ℕ, ◌+◌, ◌≤◌, List, [], ◌∷◌, ◌++◌, length, Bool, true, false, Option, Some, None, Result, Ok, Err, refl, ap, sym, subst, ◌∙◌, arith}
 use Rattle.std.proofs.lemmas.List.{append-nil}
 use Rattle.input_lines.specs.declared.intake.LineEnd.{LineEnd}
 use Rattle.input_lines.specs.declared.intake.LineEnd.TheVariants.{Newline, Input}
@@ -112,14 +112,14 @@ last_refused p q h after size NoMemory behind total some plain same e at kept = 
 
 -- ---- the end
 
-ends_by : (first last : Held) (w : Walk) (result : Result (Option ScriptItem) ScriptFault) → reading first.bytes first.place ≡ w → stop_cause first.bytes first.place ≡ held_cause last → EndsHere w result
+ends_by : (first last : Held) (w : Walk) (result : Result (Option ScriptItem) ScriptFault) → reading first.bytes first.place ≡ w → stop_cause first.bytes first.place ≡ held_cause last → last.bytes ≡ [] → EndsHere w result
     → (result ≡ Err NoMemory → ⊥) → EndTold first last result
-ends_by first last w (Ok None) same cause e some = same ∙ e
-ends_by first last w (Ok (Some item)) same cause e some = absurd e
-ends_by first last w (Err (BadLine n)) same cause e some = record { stuck = same ∙ e; cause = cause }
-ends_by first last w (Err TooLong) same cause e some = same ∙ e
-ends_by first last w (Err ReadFault) same cause e some = absurd e
-ends_by first last w (Err NoMemory) same cause e some = absurd (some refl)
+ends_by first last w (Ok None) same cause nothing e some = (same ∙ e, nothing)
+ends_by first last w (Ok (Some item)) same cause nothing e some = absurd e
+ends_by first last w (Err (BadLine n)) same cause nothing e some = record { stuck = same ∙ e; cause = cause }
+ends_by first last w (Err TooLong) same cause nothing e some = same ∙ e
+ends_by first last w (Err ReadFault) same cause nothing e some = absurd e
+ends_by first last w (Err NoMemory) same cause nothing e some = absurd (some refl)
 
 -- behind a last line that gives nothing
 pub end_behind : (p q : Place) (h after : HeldLine) (size : ℕ) (result : Result (Option ScriptItem) ScriptFault) → h.rest ≡ nothing_behind → size ≡ length (bytes_of h) → 1 ≤ size → IsPlain h.line
@@ -127,7 +127,19 @@ pub end_behind : (p q : Place) (h after : HeldLine) (size : ℕ) (result : Resul
 end_behind p q h after size result behind counted some plain used e ends not_memory =
     let nothing = after_bytes h after used behind in
     ends_by (held_at p h) (held_at q after) (finish q) result (reading-last h size p behind counted some plain ∙ ap (λ w. chain w finish) e)
-    (cause-used h size p q [] behind counted some plain e ∙ cause-nothing q (bytes_of after) after.rest.ended nothing) ends not_memory
+    (cause-used h size p q [] behind counted some plain e ∙ cause-nothing q (bytes_of after) after.rest.ended nothing) nothing ends not_memory
+
+no_bytes : (bytes : List ℕ) → length bytes ≡ 0 → bytes ≡ []
+no_bytes [] e = refl
+no_bytes (byte ∷ bytes) e = absurd (omega (arith, e))
+
+-- where nothing is held
+pub end_alone : (p : Place) (h : HeldLine) (result : Result (Option ScriptItem) ScriptFault) → length (bytes_of h) ≡ 0 → EndsHere (finish p) result → (result ≡ Err NoMemory → ⊥)
+    → EndTold (held_at p h) (held_at p h) result
+end_alone p h result empty ends not_memory =
+    let nothing = no_bytes (bytes_of h) empty in
+    ends_by (held_at p h) (held_at p h) (finish p) result (ap (λ bytes. reading bytes p) nothing)
+    (ap (λ bytes. stop_cause bytes p) nothing ∙ cause-nothing p (bytes_of h) h.rest.ended nothing) nothing ends not_memory
 
 -- ---- what a refusal leaves held
 

@@ -84,10 +84,10 @@ pub record EndsBad (old new : Held) (n : ℕ) : Type 0 where
   pub stuck : reading old.bytes old.place ≡ stuck (bad_line n)
   pub cause : stop_cause old.bytes old.place ≡ held_cause new
 
--- what an answer says of an input that ends with what is held
+-- what an answer says of an input that ends with what is held; one that is whole leaves nothing held
 abbrev pub EndTold : Held → Held → Result (Option ScriptItem) ScriptFault → Type 0
 EndTold old new (Ok (Some item)) = EndsWith old new (item_of item)
-EndTold old new (Ok None) = reading old.bytes old.place ≡ stuck whole_input
+EndTold old new (Ok None) = (reading old.bytes old.place ≡ stuck whole_input) × (new.bytes ≡ [])
 EndTold old new (Err (BadLine n)) = EndsBad old new n
 EndTold old new (Err TooLong) = reading old.bytes old.place ≡ stuck too_long
 EndTold old new (Err ReadFault) = ⊥

@@ -1,9 +1,9 @@
-use Rattle.std.proofs.Common.{Option, Ok, Err, ap, subst, arith}
+use Rattle.std.proofs.Common.{◌∙◌, sym, Option, Ok, Err, ap, subst, arith}
 use Rattle.std.proofs.lemmas.Result.{err_from_is_err_and}
 use Rattle.script_text.specs.declared.items.ScriptItem.{ScriptItem}
 use Rattle.script_text.specs.Script.{accept}
 use Rattle.script_text.specs.inner.Judging.{GivesItem}
-use Rattle.script_text.proofs.PushedEnds.{end_behind, last_gives, last_holds, last_refused}
+use Rattle.script_text.proofs.PushedEnds.{end_alone, end_behind, last_gives, last_holds, last_refused}
 use Rattle.script_text.proofs.pushed.last_item.Goals as goal
 
 -- the last line is refused
@@ -35,3 +35,8 @@ returns-in-None-clause-told c =
     end_behind c.args.progress.now c.take_held.new.progress c.args.line.now c.take_held.new.line c.held-size.result c.end_item-in-None.result c.requires.behind c.held-size.ensures.bytes
     (omega (arith, c.if-size-eq0.false)) c.take_held.ensures.plain c.in_ok-item.ensures.line (subst Given c.in-None.is c.in_ok-item.ensures.gives) c.end_item-in-None.ensures.ends
     c.end_item-in-None.ensures.memory
+
+-- nothing is held
+pub returns-then-size-eq0-clause-told : goal.returns-then-size-eq0-clause-told
+returns-then-size-eq0-clause-told c =
+    end_alone c.args.progress.now c.args.line.now c.end_item.result (sym c.held-size.ensures.bytes ∙ c.if-size-eq0.true) c.end_item.ensures.ends c.end_item.ensures.memory
