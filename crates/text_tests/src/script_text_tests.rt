@@ -10,6 +10,7 @@ use std::alloc::Global;
 
 mod causes;
 mod lines;
+mod pushing;
 mod reading;
 
 /// A map line of version 1 with 2 callers and a map of 5 by 4 navcells.
