@@ -6,4 +6,4 @@ mod placing;
 mod turns;
 
 pub use placing::NotedAnswers;
-pub use turns::{Workers, run_turn, run_turn_noted};
+pub use turns::{Workers, run_turn};

@@ -35,41 +35,7 @@ pub fn run_turn<R: Threads + Sync, G: Gate + Sync>(
     requires few { length jobs.now < 2 ^ 32 }
     ensures { IfOk result (AreAnswersTo version.now.map version.now.standing jobs.now) }
 {
-    let noted = run_turn_noted(rt, alloc, version, jobs, workers, gate, Report::Answers)?;
-    Ok(noted.answers)
-}
-
-/// The answers that [`run_turn`] gives, with what the report tells of each (`AreNotes`), on the same conditions. It
-/// refuses for want of memory alone.
-pub fn run_turn_noted<R: Threads + Sync, G: Gate + Sync>(
-    rt: &R,
-    alloc: Global,
-    version: &Version,
-    jobs: &Jobs,
-    workers: u8,
-    gate: &G,
-    report: Report,
-) -> Result<NotedAnswers, NoMemory>
-    requires some { 1 ≤ workers }
-    requires most { workers ≤ MAX_WORKERS }
-    requires few { length jobs.now < 2 ^ 32 }
-    ensures answers { IfOk result (λ noted. AreAnswersTo version.now.map version.now.standing jobs.now noted.answers) }
-    ensures notes { IfOk result (λ noted. AreNotes version.now.map version.now.standing report jobs.now noted.notes) }
-{
-    let turn = Turn {
-        version,
-        jobs: jobs.as_slice(),
-        gate,
-        report,
-    };
-    let count = turn.jobs.len();
-    let (claims, seat) = Claims::start(alloc, count as u64)?;
-    let workers = u64::from(workers).min(count as u64).max(1);
-    let Worked { seat, answered } = draw_by(rt, alloc, &turn, &claims, seat, workers);
-    let answered = answered?;
-    // Of the jobs that were drawn, each was answered: so all of them have their answer, and none has two.
-    let _drawings = claims.close(seat);
-    in_order(alloc, count, answered)
+    Workers::new(workers, gate).run(rt, alloc, version, jobs)
 }
 
 /// So many workers, 1 to 64, who pass a gate. Contracts see their number.
@@ -111,7 +77,38 @@ impl<'a, G: Gate + Sync> Workers<'a, G> {
         requires { length jobs.now < 2 ^ 32 }
         ensures { IfOk result (AreAnswersTo version.now.map version.now.standing jobs.now) }
     {
-        run_turn(rt, alloc, version, jobs, self.count, self.gate)
+        let noted = self.run_noted(rt, alloc, version, jobs, Report::Answers)?;
+        Ok(noted.answers)
+    }
+
+    /// The answers that [`Workers::run`] gives, with what the report tells of each (`AreNotes`). It refuses for want of
+    /// memory alone.
+    pub fn run_noted<R: Threads + Sync>(
+        &self,
+        rt: &R,
+        alloc: Global,
+        version: &Version,
+        jobs: &Jobs,
+        report: Report,
+    ) -> Result<NotedAnswers, NoMemory>
+        requires { length jobs.now < 2 ^ 32 }
+        ensures answers { IfOk result (λ noted. AreAnswersTo version.now.map version.now.standing jobs.now noted.answers) }
+        ensures notes { IfOk result (λ noted. AreNotes version.now.map version.now.standing report jobs.now noted.notes) }
+    {
+        let turn = Turn {
+            version,
+            jobs: jobs.as_slice(),
+            gate: self.gate,
+            report,
+        };
+        let count = turn.jobs.len();
+        let (claims, seat) = Claims::start(alloc, count as u64)?;
+        let workers = u64::from(self.count).min(count as u64).max(1);
+        let Worked { seat, answered } = draw_by(rt, alloc, &turn, &claims, seat, workers);
+        let answered = answered?;
+        // Of the jobs that were drawn, each was answered: so all of them have their answer, and none has two.
+        let _drawings = claims.close(seat);
+        in_order(alloc, count, answered)
     }
 
     /// Tells the gate that a turn with so many posts is staged.

@@ -1,7 +1,7 @@
 -- The works of callers, begun and ended one by one.
 use Rattle.std.proofs.Common.{◌≡◌, List, [], ◌∷◌, ◌++◌, map, sym, ap, ◌∙◌, subst, append_assoc, append-nil}
 use Rattle.posts.specs.declared.posts.Post.{Post}
-use Rattle.path_service.specs.Callers.{CallerId, CallerState, EndedState, caller_id}
+use Rattle.path_service.specs.Callers.{CallerId, CallerState, caller_id}
 use Rattle.pathserve.specs.declared.works.Begun.{Begun}
 use Rattle.pathserve.specs.inner.Works.{HasPosted, HaveAllPosted}
 use Rattle.pathserve.specs.inner.Begun.{Begins, BeginAll}
@@ -45,27 +45,27 @@ begun_all callers later lists left works callers_are lists_are so_far =
 
 -- Of these works the first have ended, and those in `later` are left: whoever begin these for what is left, all of them
 -- have posted once the rest has ended.
-pub HaveEnded : List Begun → List Begun → List EndedState → Type 0
+pub HaveEnded : List Begun → List Begun → List CallerState → Type 0
 HaveEnded works later ended =
     (ids : List CallerId) (lists : List (List Post)) → BeginAll ids lists works
     → (ids' : List CallerId) × ((lists' : List (List Post)) × (BeginAll ids' lists' later
-    × ((rest : List EndedState) → HaveAllPosted ids' lists' rest → HaveAllPosted ids lists (ended ++ rest))))
+    × ((rest : List CallerState) → HaveAllPosted ids' lists' rest → HaveAllPosted ids lists (ended ++ rest))))
 
-pub ended_none : (works later : List Begun) (ended : List EndedState) → later ≡ works → ended ≡ [] → HaveEnded works later ended
+pub ended_none : (works later : List Begun) (ended : List CallerState) → later ≡ works → ended ≡ [] → HaveEnded works later ended
 unfolding HaveEnded
 ended_none works later ended same none ids lists begin = (
   ids,
-  (lists, (subst (BeginAll ids lists) (sym same) begin, λ rest have. subst (λ (e : List EndedState). HaveAllPosted ids lists (e ++ rest)) (sym none) have)),
+  (lists, (subst (BeginAll ids lists) (sym same) begin, λ rest have. subst (λ (e : List CallerState). HaveAllPosted ids lists (e ++ rest)) (sym none) have)),
 )
 
 -- the work that was next has ended
-StepTo : List CallerId → List (List Post) → List CallerId → List (List Post) → Begun → EndedState → List Begun → List EndedState → Type 0
+StepTo : List CallerId → List (List Post) → List CallerId → List (List Post) → Begun → CallerState → List Begun → List CallerState → Type 0
 StepTo ids lists ids' lists' begun one next ended = (ids'' : List CallerId) × ((lists'' : List (List Post)) × (BeginAll ids'' lists'' next
-    × ((rest : List EndedState) → HaveAllPosted ids'' lists'' rest → HaveAllPosted ids lists ((ended ++ one ∷ []) ++ rest))))
+    × ((rest : List CallerState) → HaveAllPosted ids'' lists'' rest → HaveAllPosted ids lists ((ended ++ one ∷ []) ++ rest))))
 
-one_more : (ids ids' : List CallerId) (lists lists' : List (List Post)) (begun : Begun) (next : List Begun) (one : EndedState) (ended : List EndedState)
+one_more : (ids ids' : List CallerId) (lists lists' : List (List Post)) (begun : Begun) (next : List Begun) (one : CallerState) (ended : List CallerState)
     → ((id : CallerId) (posts : List Post) → Begins id posts begun → HasPosted id posts one)
-    → BeginAll ids' lists' (begun ∷ next) → ((rest : List EndedState) → HaveAllPosted ids' lists' rest → HaveAllPosted ids lists (ended ++ rest))
+    → BeginAll ids' lists' (begun ∷ next) → ((rest : List CallerState) → HaveAllPosted ids' lists' rest → HaveAllPosted ids lists (ended ++ rest))
     → StepTo ids lists ids' lists' begun one next ended
 unfolding StepTo
 one_more ids [] lists [] begun next one ended ends begin so_far = absurd begin
@@ -76,15 +76,15 @@ one_more ids (id ∷ ids') lists (posts ∷ lists') begun next one ended ends be
   (lists', (begin.1, λ rest have. subst (HaveAllPosted ids lists) (sym (append_assoc ended (one ∷ []) rest)) (so_far (one ∷ rest) (ends id posts begin.0, have)))),
 )
 
-pub ended_more : (works later next : List Begun) (ended more : List EndedState) (begun : Begun) (one : EndedState)
+pub ended_more : (works later next : List Begun) (ended more : List CallerState) (begun : Begun) (one : CallerState)
     → later ≡ begun ∷ next → more ≡ ended ++ one ∷ [] → ((id : CallerId) (posts : List Post) → Begins id posts begun → HasPosted id posts one)
     → HaveEnded works later ended → HaveEnded works next more
 unfolding HaveEnded StepTo
 ended_more works later next ended more begun one works_are ended_are ends so_far ids lists begin =
     let at = so_far ids lists begin in
     let left : BeginAll at.0 at.1.0 (begun ∷ next) = subst (BeginAll at.0 at.1.0) works_are at.1.1.0 in
-    subst (λ (e : List EndedState). (ids'' : List CallerId) × ((lists'' : List (List Post)) × (BeginAll ids'' lists'' next
-    × ((rest : List EndedState) → HaveAllPosted ids'' lists'' rest → HaveAllPosted ids lists (e ++ rest))))) (sym ended_are)
+    subst (λ (e : List CallerState). (ids'' : List CallerId) × ((lists'' : List (List Post)) × (BeginAll ids'' lists'' next
+    × ((rest : List CallerState) → HaveAllPosted ids'' lists'' rest → HaveAllPosted ids lists (e ++ rest))))) (sym ended_are)
     (one_more ids at.0 lists at.1.0 begun next one ended ends left at.1.1.1)
 
 none_left : (ids : List CallerId) (lists : List (List Post)) → BeginAll ids lists [] → HaveAllPosted ids lists []
@@ -93,7 +93,7 @@ none_left [] (posts ∷ lists) begin = absurd begin
 none_left (id ∷ ids) [] begin = absurd begin
 none_left (id ∷ ids) (posts ∷ lists) begin = absurd begin
 
-pub ended_all : (works later : List Begun) (ended : List EndedState) → later ≡ [] → HaveEnded works later ended
+pub ended_all : (works later : List Begun) (ended : List CallerState) → later ≡ [] → HaveEnded works later ended
     → (ids : List CallerId) (lists : List (List Post)) → BeginAll ids lists works → HaveAllPosted ids lists ended
 unfolding HaveEnded
 ended_all works later ended none so_far ids lists begin =

@@ -12,6 +12,7 @@ pub mod SummaryTexts
 pub mod Seeds
 pub mod AnsweredTurns
 pub mod BegunWorks
+pub mod EndedCallers
 pub mod JoinedPosts
 pub mod JournalSums
 pub mod SessionEnds

@@ -1,6 +1,7 @@
 -- What a replay keeps from call to call, and what it answers, over a source that may tell its bytes and a sink that may keep them.
 use Rattle.std.proofs.Common.{◌≡◌, ◌≢◌, ℕ, ◌+◌, inl, inr, List, [], ◌∷◌, ◌++◌, take, Option, Some, None, Result, Ok, Err, refl, sym, ap, ◌∙◌, subst, append_assoc, append-nil, IsTrue}
 use Rattle.std.specs.Prelude.{IfSome, ⊤}
+use Rattle.std.proofs.lemmas.Option.{IfSome_then}
 use Rattle.std.specs.Io.KnownBytes.{Appends}
 use Rattle.std.proofs.KnownBytes.{Appends-nil, Appends-trans}
 use Rattle.io_edges.specs.Faults.{Rose}
@@ -319,7 +320,7 @@ why_by bytes left after held new items met bad w refused why =
     let r = subst (λ (f : ScriptFault). RefusesMap held new left after f) why.line refused in
     record {
       stops = ap (λ (v : Walk). v.ends) (stuck_then unread held bytes left items r.items (bad_line bad.number) w r.refused.stuck);
-      cause = w.cause ∙ r.refused.cause ∙ why.cause;
+      cause = IfSome_then bad.cause why.cause (λ found held_so. w.cause ∙ r.refused.cause ∙ held_so);
     }
 
 -- what is held is bad for the cause for which the input stops

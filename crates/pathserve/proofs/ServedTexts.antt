@@ -3,6 +3,7 @@ use Rattle.std.proofs.Common.{◌≡◌, ◌≢◌, ℕ, List, [], ◌∷◌, �
 use Rattle.std.specs.Prelude.{All, IfSome}
 use Rattle.std.specs.List.{list_all}
 use Rattle.std.specs.Io.KnownBytes.{Appends}
+use Rattle.std.proofs.lemmas.Option.{IfSome_then}
 use Rattle.std.proofs.lemmas.Bool.{and_parts, and_from}
 use Rattle.std.proofs.lemmas.List.Folds.{list_all-append}
 use Rattle.std.proofs.lemmas.List.Sums.{AllPass-from_list_all}
@@ -32,6 +33,7 @@ use Rattle.pathserve.specs.Serving.{IsJournalOf, IsServed, IsServedTo, IsServedB
 use Rattle.pathserve.specs.inner.Stopping.{IsHeldBad}
 use Rattle.pathserve.specs.inner.WholeScripts.{AllTold, IsTextOfSession, IsWholeScript, RefusedTold, RefusesAll, WholeTold}
 use Rattle.pathserve.specs.inner.Writing.{WritesPiece, WritesSome, StopsWith, EndsWith, refused_status, status_after}
+use Rattle.pathserve.proofs.Passes.{refused_no_bad}
 use Rattle.pathserve.proofs.Progress.{going, walked_taken}
 use Rattle.pathserve.proofs.Replaying.{map_refusal, refused_by_fault, refused_no_read, refused_no_usage, stop_bad_line}
 use Rattle.pathserve.proofs.WholeReadings.{refuses_then}
@@ -242,6 +244,13 @@ ends_no_usage Is kept final status ends = ends_so (λ s. s ≢ Usage) Is kept fi
 pub ends_no_read : (Is : List ℕ → Type 0) (kept final : Option (List ℕ)) (status : Status) → EndsWith Is kept final status → status ≢ ReadFault
 ends_no_read Is kept final status ends = ends_so (λ s. s ≢ ReadFault) Is kept final status ends no_read_fault
 
+no_bad_line : (written : Result (Unit {0}) WriteRefusal) → status_after written Done ≢ BadLine
+no_bad_line (Ok done) is = let other : Done ≡ BadLine = is in cc
+no_bad_line (Err refused) is = refused_no_bad refused is
+
+pub ends_no_bad : (Is : List ℕ → Type 0) (kept final : Option (List ℕ)) (status : Status) → EndsWith Is kept final status → status ≢ BadLine
+ends_no_bad Is kept final status ends = ends_so (λ s. s ≢ BadLine) Is kept final status ends no_bad_line
+
 pub stop_of_refusal : (new : Held) (met : ScriptFault) (start now kept final : Option (List ℕ)) (status : Status) (reads reading_now writes writing_now : ℕ)
     → RefusedTold new met start now → StopsWith met kept final status → (met ≡ fault.ReadFault → Rose reads reading_now)
     → (status ≡ WriteFault → Rose writes writing_now) → (bytes : List ℕ) → start ≡ Some bytes
@@ -270,7 +279,7 @@ why_refused new met start now (Some bad) s h bytes is =
     let bad_one = subst (λ (f : ScriptFault). RefusesAll unread new left rest f) h.line r in
     record {
       stops = ends_of left bad_one.items (bad_line bad.number) bad_one.refused.stuck;
-      cause = bad_one.refused.cause ∙ h.cause;
+      cause = IfSome_then bad.cause h.cause (λ found held_so. bad_one.refused.cause ∙ held_so);
     })
 
 -- ---- the lines of the journal

@@ -1,5 +1,6 @@
 -- Sessions that have ended: all that callers were to post was posted, taken and delivered.
 use Rattle.std.proofs.Common.{◌≡◌, ◌⊎◌, ℕ, zero, suc, ◌+◌, ◌≤◌, false, List, [], ◌∷◌, ◌++◌, All, length, map, take, drop, sum_by, slice_index, refl, sym, ap, ◌∙◌, subst, inl, inr, arith, append-nil, length-append}
+use Rattle.std.specs.List.{AllByRecursion}
 use Rattle.std.proofs.lemmas.List.{nil_from_length, take-append-drop}
 use Rattle.posts.specs.declared.posts.Post.{Post}
 use Rattle.posts.specs.declared.replies.Reply.{Reply}
@@ -18,13 +19,13 @@ use Rattle.request_lanes.specs.Ends.{Closing}
 use Rattle.path_service.specs.declared.closing.ClosedCaller.{ClosedCaller}
 use Rattle.path_service.specs.Callers.{CallerId, EndedState, ended_id, AreNumbered}
 use Rattle.path_service.specs.Services.{DriverState, started_on, in_hand}
-use Rattle.path_service.specs.Closings.{ClosedState, closed_by, PostedIsFound, IsClosedBy, posted_by, count_by, IsReachedByMachine}
+use Rattle.path_service.specs.Closings.{ClosedState, HasLeft, closed_by, PostedIsFound, IsClosedBy, posted_by, count_by, IsReachedByMachine}
 use Rattle.std.proofs.lemmas.List.Elements.{All-head, All-tail}
 use Rattle.path_service.proofs.RunStarts.{sent_all}
 use Rattle.path_service.proofs.ReachedServices.{reached}
-use Rattle.pathserve.specs.Serving.{HasPost, IsJournalOf, all_taken, post_lane, sent_to}
+use Rattle.pathserve.specs.Serving.{HasPost, IsJournalOf, all_taken, collected_by, post_lane, sent_to}
 use Rattle.pathserve.specs.inner.Sessions.{IsDriven}
-use Rattle.pathserve.specs.inner.Works.{HaveAllPosted}
+use Rattle.pathserve.proofs.EndedCallers.{AllPostedFirst, collected, posted_first as ended_first}
 use Rattle.pathserve.proofs.JournalSums.{joined_turns, joined_at, count_journal, each_as_long}
 
 -- a beginning that is as long is the whole
@@ -35,7 +36,7 @@ whole front rest all e most =
 
 -- ---- what callers posted
 
-pub ids_of_ended : (ids : List CallerId) (lists : List (List Post)) (ended : List EndedState) → HaveAllPosted ids lists ended → map ended_id ended ≡ ids
+pub ids_of_ended : (ids : List CallerId) (lists : List (List Post)) (ended : List EndedState) → AllPostedFirst ids lists ended → map ended_id ended ≡ ids
 ids_of_ended [] [] [] all = refl
 ids_of_ended [] [] (x ∷ ended) all = absurd all
 ids_of_ended [] (ps ∷ lists) ended all = absurd all
@@ -45,7 +46,7 @@ ids_of_ended (id ∷ ids) (ps ∷ lists) (x ∷ ended) all =
     ap (λ (i : CallerId). i ∷ map ended_id ended) all.0.caller ∙ ap (λ (l : List CallerId). id ∷ l) (ids_of_ended ids lists ended all.1)
 
 -- each caller's posts are the first of its list
-posted_first : (ids : List CallerId) (lists : List (List Post)) (ended : List EndedState) (c : ℕ) → HaveAllPosted ids lists ended
+posted_first : (ids : List CallerId) (lists : List (List Post)) (ended : List EndedState) (c : ℕ) → AllPostedFirst ids lists ended
     → (rest : List Post) × (list_of (map posted_by ended) c ++ rest ≡ list_of lists c)
 posted_first [] [] [] c all = ([], refl)
 posted_first [] [] (x ∷ ended) c all = absurd all
@@ -78,6 +79,12 @@ pub record HasEnded (m : Map) (start d : DriverState) (posts : List (List Post))
   pub driven : IsDriven start d posts ended
   pub closes : IsClosedBy d ended closed
 
+-- its callers posted the first of their lists
+posted_so : (m : Map) (start d : DriverState) (posts : List (List Post)) (ended : List EndedState) (closed : ClosedState) → HasEnded m start d posts ended closed
+    → AllPostedFirst start.callers posts ended
+posted_so m start d posts ended closed k =
+    ended_first d.sent start.callers posts k.driven.callers ended k.driven.posted k.driven.collected
+
 pub on_its_map : (m : Map) (start d : DriverState) (posts : List (List Post)) (ended : List EndedState) (closed : ClosedState) → HasEnded m start d posts ended closed → closed.map ≡ m
 on_its_map m start d posts ended closed k = k.closes.on_map ∙ k.driven.served.now.on_map ∙ ap (λ (s : DriverState). s.machine.map) k.starts
 
@@ -89,7 +96,7 @@ journal_whole m start d posts ended closed k c =
     let is_reached : IsReachedByMachine ended closed = reached d ended closed served.now.sound k.closes in
     let mine : (n : ℕ) → length (list_of (joined_turns closed.journal) n) ≤ length (list_of posts n) = λ n.
     let first = journal_first ended closed n is_reached in
-    let own = posted_first start.callers posts ended n k.driven.callers in
+    let own = posted_first start.callers posts ended n (posted_so m start d posts ended closed k) in
     omega (
       arith,
       ap length (joined_at closed.journal n),
@@ -101,7 +108,7 @@ journal_whole m start d posts ended closed k c =
     let enough : post_count posts ≤ post_count (joined_turns closed.journal) =
     omega (arith, served.enough, served.now.count, count_journal closed.journal, ap (sum_by post_count) k.closes.journal) in
     let first = journal_first ended closed c is_reached in
-    let own = posted_first start.callers posts ended c k.driven.callers in
+    let own = posted_first start.callers posts ended c (posted_so m start d posts ended closed k) in
     let as_long : length (list_of posts c) ≤ length (of_caller c closed.journal) =
     omega (arith, each_as_long (joined_turns closed.journal) posts mine enough c, ap length (joined_at closed.journal c)) in
     let posted : of_caller c closed.journal ≡ list_of (map posted_by ended) c =
@@ -152,7 +159,7 @@ lane_whole d x ps rest first found all =
     lane_is (post_lane (closed_by d x)) ps posted
     (whole taken found.0 x.posted (sym found.1.0) (omega (arith, ap length found.1.0, length-append taken found.0, lengths, most)) ∙ posted)
 
-lanes_whole : (d : DriverState) (ids : List CallerId) (lists : List (List Post)) (n : ℕ) (ended : List EndedState) → HaveAllPosted ids lists ended → AreNumbered n (map ended_id ended)
+lanes_whole : (d : DriverState) (ids : List CallerId) (lists : List (List Post)) (n : ℕ) (ended : List EndedState) → AllPostedFirst ids lists ended → AreNumbered n (map ended_id ended)
     → All (PostedIsFound d) ended → ((c : ℕ) → of_caller (n + c) d.machine.done ≡ list_of lists c) → map post_lane (map (closed_by d) ended) ≡ map all_taken lists
 lanes_whole d [] [] n [] all numbers found own = refl
 lanes_whole d [] [] n (x ∷ ended) all numbers found own = absurd all
@@ -176,7 +183,7 @@ all_posted m start d posts ended closed k =
     let own : (c : ℕ) → of_caller (0 + c) d.machine.done ≡ list_of posts c = λ c.
     let here : 0 + c ≡ c = omega arith in
     ap (λ (n : ℕ). of_caller n d.machine.done) here ∙ ap (of_caller c) (sym k.closes.journal) ∙ journal_whole m start d posts ended closed k c in
-    ap (map post_lane) k.closes.callers ∙ lanes_whole d start.callers posts 0 ended k.driven.callers k.closes.numbers k.closes.posts own
+    ap (map post_lane) k.closes.callers ∙ lanes_whole d start.callers posts 0 ended (posted_so m start d posts ended closed k) k.closes.numbers k.closes.posts own
 
 -- ---- the lanes of replies
 
@@ -216,3 +223,27 @@ all_sent m start d posts ended closed k c =
           )) in
           callers ∙ e.0 ∙ sym none
     ]
+
+-- a caller that collected as many replies as were sent to it collected those
+lane_collected : (d : DriverState) (x : EndedState) → HasLeft (closed_by d x) → length (list_of d.sent x.id.number) ≤ length x.collected
+    → collected_by (closed_by d x) ≡ sent_to (closed_by d x)
+lane_collected d x left most =
+    whole x.collected left.replies.0 (list_of d.sent x.id.number) (sym left.replies.1) most
+
+lanes_collected : (d : DriverState) (ended : List EndedState) → All HasLeft (map (closed_by d) ended)
+    → AllByRecursion (λ (x : EndedState). length (list_of d.sent x.id.number) ≤ length x.collected) ended
+    → map collected_by (map (closed_by d) ended) ≡ map sent_to (map (closed_by d) ended)
+lanes_collected d [] left most = refl
+lanes_collected d (x ∷ ended) left most =
+    let one = lane_collected d x (All-head HasLeft (closed_by d x) (map (closed_by d) ended) left) most.0 in
+    let more = lanes_collected d ended (All-tail HasLeft (closed_by d x) (map (closed_by d) ended) left) most.1 in
+    λ i. one i ∷ more i
+
+pub all_collected : (m : Map) (start d : DriverState) (posts : List (List Post)) (ended : List EndedState) (closed : ClosedState) → HasEnded m start d posts ended closed → (c : ℕ)
+    → list_of (map collected_by closed.callers) c ≡ of_caller c (replies_in closed.replies)
+all_collected m start d posts ended closed k c =
+    let callers = k.closes.callers in
+    let left : All HasLeft (map (closed_by d) ended) = subst (All HasLeft) callers k.closes.left in
+    let same = lanes_collected d ended left (collected d.sent k.driven.callers ended k.driven.collected) in
+    ap (λ (l : List (List Reply)). list_of l c) (ap (map collected_by) callers ∙ same ∙ ap (map sent_to) (sym callers))
+    ∙ all_sent m start d posts ended closed k c

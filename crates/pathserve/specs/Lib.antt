@@ -3,4 +3,5 @@ pub mod Words
 pub mod Output
 pub mod Serving
 pub mod Reasons
+pub mod Runs
 pub mod inner

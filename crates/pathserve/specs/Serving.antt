@@ -38,9 +38,12 @@ all_taken posts = record { posted = posts; taken = posts }
 abbrev pub post_lane : ClosedCaller → Closing Post
 post_lane caller = caller.posts_left
 
--- all that was sent to a caller
+-- all that was sent to a caller, and all that it collected
 abbrev pub sent_to : ClosedCaller → List Reply
 sent_to caller = caller.replies_left.posted
+
+abbrev pub collected_by : ClosedCaller → List Reply
+collected_by caller = caller.replies_left.taken
 
 -- ---- what is written
 

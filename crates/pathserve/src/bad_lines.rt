@@ -1,5 +1,5 @@
 //! Why the line is bad at which a script stops.
-ghost use Rattle.std.specs.Prelude.{IfSome};
+ghost use Rattle.std.specs.Prelude.{◌≡◌, ℕ, IfSome, IsSome};
 ghost use Rattle.script_text.specs.Reader.{HoldsRefused};
 ghost use Rattle.pathserve.specs.inner.Stopping.{IsHeldBad};
 
@@ -8,13 +8,14 @@ use script_text::{Cause, ScriptFault, ScriptReader};
 use std::alloc::Global;
 use std::fmt;
 
-/// The line at which a script stops, and why it is bad there (`IsWhyBad`).
+/// The line at which a script stops, and why it is bad there, where there was memory to find that (`IsWhyBad`).
 #[derive(Clone, Copy, Debug, PartialEq, Eq)]
 pub struct BadLine {
     /// The number of the line, from 1. A line that is missing at the end has the number behind the last.
     pub number: u64,
-    /// Why the line is not in the grammar in its place, or why the script may not end there.
-    pub cause: Cause,
+    /// Why the line is not in the grammar in its place, or why the script may not end there. None where there was no
+    /// memory to find it.
+    pub cause: Option<Cause>,
 }
 
 impl fmt::Display for BadLine {
@@ -24,20 +25,27 @@ impl fmt::Display for BadLine {
     ghost output = { λ bad. Some (bad_line_reason bad) };
 
     fn fmt<W: fmt::Write>(&self, f: &mut fmt::Formatter<W>) -> fmt::Result {
-        write!(f, "line {} is bad: {}", self.number, self.cause)
+        match self.cause {
+            Some(cause) => write!(f, "line {} is bad: {cause}", self.number),
+            None => write!(f, "line {} is bad", self.number),
+        }
     }
 }
 
-/// Why the line is bad that a call of the reader refused. None where it refused no line, or there is no memory.
+/// The line that a call of the reader refused, and why it is bad. None where it refused no line.
 pub(crate) fn why_bad(alloc: Global, reader: &ScriptReader, fault: ScriptFault) -> Option<BadLine>
     requires held { HoldsRefused reader.now fault }
-    ensures { IfSome result (IsHeldBad reader.now fault) }
+    ensures why { IfSome result (IsHeldBad reader.now fault) }
+    ensures named { (number : ℕ) → fault ≡ ScriptFault.BadLine number → IsSome result }
 {
     match fault {
-        ScriptFault::BadLine(number) => match reader.cause(alloc) {
-            Ok(cause) => Some(BadLine { number, cause }),
-            Err(NoMemory) => None,
-        },
+        ScriptFault::BadLine(number) => {
+            let cause = match reader.cause(alloc) {
+                Ok(cause) => Some(cause),
+                Err(NoMemory) => None,
+            };
+            Some(BadLine { number, cause })
+        }
         _ => None,
     }
 }

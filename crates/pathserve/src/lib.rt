@@ -5,11 +5,12 @@ mod bad_lines;
 mod commands;
 mod laws;
 mod replay;
+mod runs;
 mod serving;
 mod sessions;
 mod status;
 mod summing;
-mod told_turns;
+mod turn_answers;
 mod works;
 mod writing;
 
@@ -20,8 +21,10 @@ pub use laws::{
     text_is_one_thread,
 };
 pub use made_match::{Made, make_script};
-pub use replay::{run, run_replay};
+pub use replay::run_replay;
+pub use runs::run;
 pub use serving::run_serve;
 pub use sessions::serve_session;
 pub use status::Status;
 pub use summing::run_make;
+pub use turn_answers::Reporter;

@@ -12,7 +12,7 @@ ghost use Rattle.script_text.specs.ReadsBack.{canon_script};
 ghost use Rattle.script_text.specs.Reader.{HaveLinesAt, HoldsRefused, callers_of, rules_at, unread};
 ghost use Rattle.script_text.specs.Script.{reading, beginning};
 ghost use Rattle.pathserve.specs.Output.{ComesByStop, turn_texts};
-ghost use Rattle.pathserve.specs.Reasons.{IsWhyBad};
+ghost use Rattle.pathserve.specs.Runs.{ReadsFrom, WritesTo, NamesBadLine};
 ghost use Rattle.pathserve.specs.Serving.{ServesTold, journal_text};
 ghost use Rattle.pathserve.specs.inner.WholeScripts.{AllTold, IsTextOfSession, RefusedTold, WholeTold};
 ghost use Rattle.pathserve.specs.inner.Writing.{WritesPiece, WritesSome};
@@ -63,14 +63,9 @@ pub fn run_serve<R: Threads + Wait + Sync, S: Source, K: Sink, G: Gate + Sync>(
         → ComesByStop (S.faults source.old) (S.faults source.new) (K.faults sink.old) (K.faults sink.new)
         (reading bytes beginning).ends result }
     ensures usage { result ≢ Status.Usage }
-    ensures given { HasGiven (S.left source.old) (S.left source.new) }
-    ensures taken { HasTaken (K.kept sink.old) (K.kept sink.new) }
-    ensures source_later { S.faults source.old ≤ S.faults source.new }
-    ensures sink_later { K.faults sink.old ≤ K.faults sink.new }
-    ensures read { result ≡ Status.ReadFault → Rose (S.faults source.old) (S.faults source.new) }
-    ensures write { result ≡ Status.WriteFault → Rose (K.faults sink.old) (K.faults sink.new) }
-    ensures why { (bytes : List ℕ) → S.left source.old ≡ Some bytes → IfSome why.new (IsWhyBad bytes) }
-    ensures only { IsSome why.new → result ≡ Status.BadLine }
+    ensures source { ReadsFrom (S.left source.old) (S.left source.new) (S.faults source.old) (S.faults source.new) result }
+    ensures sink { WritesTo (K.kept sink.old) (K.kept sink.new) (K.faults sink.old) (K.faults sink.new) result }
+    ensures why { NamesBadLine (S.left source.old) why.new result }
 {
     *why = None;
     let mut reader = match ScriptReader::new(alloc) {

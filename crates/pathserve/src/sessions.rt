@@ -5,13 +5,13 @@ ghost use Rattle.posts.specs.Callers.{list_of, of_caller};
 ghost use Rattle.posts.specs.Posts.{post_count};
 ghost use Rattle.turn_core.specs.Solving.{AreAnswersTo};
 ghost use Rattle.turn_core.specs.Turns.{replies_in, IsOneThread};
-ghost use Rattle.path_service.specs.Callers.{caller_id, ended_id};
+ghost use Rattle.path_service.specs.Callers.{AreNumbered, caller_id, ended_id};
 ghost use Rattle.path_service.specs.Closings.{IsClosedBy};
-ghost use Rattle.pathserve.specs.Serving.{IsJournalOf, all_taken, post_lane, sent_to};
+ghost use Rattle.pathserve.specs.Serving.{IsJournalOf, all_taken, collected_by, post_lane, sent_to};
 ghost use Rattle.pathserve.specs.inner.Sessions.{HasServed, IsAtStart, IsDriven};
 ghost use Rattle.pathserve.specs.inner.Works.{HasPostedNone};
 
-use crate::works::{begin_all, end_all};
+use crate::works::{Session, begin_all, end_all, join_all};
 use grid_versions::{MapSpec, Version};
 use io_edges::Gate;
 use nav_types::NoMemory;
@@ -36,8 +36,9 @@ struct Driven {
 /// made of the posts is told by the journal of the service, which is then closed.
 ///
 /// The work of a caller passes the gate once, before its first post, and collects once after each post. It waits for no
-/// reply. So many workers, 1 to 64, answer the jobs of a turn, while the next turn is staged. The session may wait. It
-/// refuses for want of memory alone.
+/// reply. Once each post has its reply, each caller collects what is left of its replies: in all, those of one thread to
+/// its posts (`collected`). So many workers, 1 to 64, answer the jobs of a turn, while the next turn is staged. The
+/// session may wait. It refuses for want of memory alone.
 ///
 /// Into which turns the posts fall differs from one session to the next.
 pub fn serve_session<R: Threads + Wait + Sync, G: Gate + Sync>(
@@ -58,9 +59,19 @@ pub fn serve_session<R: Threads + Wait + Sync, G: Gate + Sync>(
     ensures posted { IfOk result (λ closed. map post_lane closed.callers ≡ map all_taken posts.now) }
     ensures sent { IfOk result (λ closed. (caller : ℕ)
         → list_of (map sent_to closed.callers) caller ≡ of_caller caller (replies_in closed.replies)) }
+    ensures collected { IfOk result (λ closed. (caller : ℕ)
+        → list_of (map collected_by closed.callers) caller ≡ of_caller caller (replies_in closed.replies)) }
 {
+    let short = AtomicBool::new(false);
+    let session = Session {
+        rt,
+        alloc,
+        workers,
+        gate,
+        short: &short,
+    };
     let (driver, callers) = start_service(rt, alloc, spec.copy(alloc)?)?;
-    let Driven { driver, ended } = run_works(rt, alloc, driver, callers, posts, workers, gate)?;
+    let Driven { driver, ended } = run_works(&session, driver, callers, posts)?;
     close(rt, driver, ended)
 }
 
@@ -78,48 +89,48 @@ fn close(rt: &impl Wait, driver: Driver, ended: EndedCallers) -> Result<Closed, 
     }
 }
 
-/// Runs the works of the callers, and the driver beside them, until each post has its reply.
+/// Runs the works of the callers, and the driver beside them, until each post has its reply and each reply is collected.
 fn run_works<R: Threads + Wait + Sync, G: Gate + Sync>(
-    rt: &R,
-    alloc: Global,
+    session: &Session<'_, R, G>,
     driver: Driver,
     callers: Callers,
     posts: &TurnPosts,
-    workers: u8,
-    gate: &G,
 ) -> Result<Driven, NoMemory>
     requires driver { IsAtStart driver }
     requires callers { map caller_id callers ≡ driver.callers }
+    requires numbers { AreNumbered 0 driver.callers }
     requires first { All HasPostedNone callers }
     requires wide { length posts.now ≡ length callers }
     requires count { post_count posts.now < 2 ^ 32 }
-    requires some { 1 ≤ workers }
-    requires few { workers ≤ MAX_WORKERS }
+    requires some { 1 ≤ session.now.workers }
+    requires few { session.now.workers ≤ MAX_WORKERS }
     ensures { IfOk result (λ driven. IsDriven driver driven.driver posts.now driven.ended) }
 {
-    let flag = AtomicBool::new(false);
-    let short = &flag;
+    let Session {
+        rt,
+        alloc,
+        workers,
+        gate,
+        short,
+    } = *session;
     thread::scope(
         thread::scope_env(),
         rt,
         move |scope| -> Result<Driven, NoMemory>
-            requires { IsAtStart driver × (map caller_id callers ≡ driver.callers)
+            requires { IsAtStart driver × (map caller_id callers ≡ driver.callers) × AreNumbered 0 driver.callers
                 × All HasPostedNone callers × (length posts.now ≡ length callers) × (post_count posts.now < 2 ^ 32)
                 × (1 ≤ workers) × (workers ≤ MAX_WORKERS) }
             ensures { IfOk result (λ driven. IsDriven driver driven.driver posts.entry.now driven.ended) }
         {
-            let mut driver = driver;
-            match run_beside(
-                scope,
+            let session = Session {
                 rt,
                 alloc,
-                &mut driver,
-                callers,
-                posts,
                 workers,
                 gate,
                 short,
-            ) {
+            };
+            let mut driver = driver;
+            match run_beside(scope, &session, &mut driver, callers, posts) {
                 Ok(ended) => Ok(Driven { driver, ended }),
                 Err(NoMemory) => {
                     drop(driver);
@@ -130,56 +141,46 @@ fn run_works<R: Threads + Wait + Sync, G: Gate + Sync>(
     )
 }
 
-/// Begins the works on threads of a scope, has the driver serve them, and gives the callers when they have ended.
+/// Begins the works on threads of a scope, has the driver serve them, and ends the callers once their works have ended.
 fn run_beside<'s, E, R: Threads + Wait + Sync, G: Gate + Sync>(
     scope: &'s Scope<'s, E>,
-    rt: &'s R,
-    alloc: Global,
+    session: &Session<'s, R, G>,
     driver: &mut Driver,
     callers: Callers,
     posts: &'s TurnPosts,
-    workers: u8,
-    gate: &'s G,
-    short: &'s AtomicBool,
 ) -> Result<EndedCallers, NoMemory>
     requires driver { IsAtStart driver.old }
     requires callers { map caller_id callers ≡ driver.old.callers }
+    requires numbers { AreNumbered 0 driver.old.callers }
     requires first { All HasPostedNone callers }
     requires wide { length posts.now ≡ length callers }
     requires count { post_count posts.now < 2 ^ 32 }
-    requires some { 1 ≤ workers }
-    requires few { workers ≤ MAX_WORKERS }
+    requires some { 1 ≤ session.now.workers }
+    requires few { session.now.workers ≤ MAX_WORKERS }
     ensures { IfOk result (IsDriven driver.old driver.new posts.now) }
 {
-    let works = begin_all(scope, rt, alloc, gate, short, callers, posts)?;
-    drive(
-        rt,
-        alloc,
-        driver,
-        count_posts(posts.as_slice()),
-        workers,
-        gate,
-        short,
-    )?;
-    end_all(rt, alloc, works)
+    let works = begin_all(scope, session, callers, posts)?;
+    drive(session, driver, count_posts(posts.as_slice()))?;
+    let callers = join_all(session.rt, session.alloc, works)?;
+    end_all(session.rt, session.alloc, driver, callers)
 }
 
-/// Has turns answered by so many workers, who pass the gate, until so many posts have their replies.
+/// Has turns answered until so many posts have their replies.
 fn drive<R: Threads + Wait + Sync, G: Gate + Sync>(
-    rt: &R,
-    alloc: Global,
+    session: &Session<'_, R, G>,
     driver: &mut Driver,
     posts: u64,
-    workers: u8,
-    gate: &G,
-    short: &AtomicBool,
 ) -> Result<(), NoMemory>
     requires begins { IsAtStart driver.old }
     requires count { posts < 2 ^ 32 }
-    requires some { 1 ≤ workers }
-    requires few { workers ≤ MAX_WORKERS }
+    requires some { 1 ≤ session.now.workers }
+    requires few { session.now.workers ≤ MAX_WORKERS }
     ensures { OnOk result (HasServed driver.old driver.new posts) }
 {
+    let rt = session.rt;
+    let alloc = session.alloc;
+    let workers = session.workers;
+    let gate = session.gate;
     let run = |version: &Version, jobs: &Jobs| -> Result<Answers, NoMemory>
         requires { (1 ≤ workers) × (workers ≤ MAX_WORKERS) × (length jobs.now < 2 ^ 32) }
         ensures { IfOk result (AreAnswersTo version.now.map version.now.standing jobs.now) }
@@ -189,7 +190,7 @@ fn drive<R: Threads + Wait + Sync, G: Gate + Sync>(
         run: &run,
         staged: &staged,
     };
-    make_turns(rt, driver, posts, &runner, short)
+    make_turns(rt, driver, posts, &runner, session.short)
 }
 
 /// Stages, starts and delivers turns by a runner, until so many posts have their replies.

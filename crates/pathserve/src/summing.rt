@@ -2,20 +2,20 @@
 ghost use Rattle.std.specs.Prelude.{◌≡◌, ◌≢◌, ◌<◌, ◌≤◌, ◌^◌, IfOk, length};
 ghost use Rattle.std.specs.List.{AllByRecursion};
 ghost use Rattle.nav_types.specs.declared.limits.TheConstants.{MAX_WORKERS};
-ghost use Rattle.io_edges.specs.Faults.{Rose};
-ghost use Rattle.io_edges.specs.Passing.{HasTaken};
 ghost use Rattle.posts.specs.Posts.{jobs};
 ghost use Rattle.turn_core.specs.Turns.{IsOneThread};
 ghost use Rattle.pathserve.specs.Output.{IsSummary, MakesTold, ComesByMaking};
+ghost use Rattle.pathserve.specs.Runs.{WritesTo};
 
 use crate::status::Status;
-use crate::told_turns::replied;
+use crate::turn_answers::replies_to_turn;
 use crate::writing::{status_of, write_text};
 use answer_text::summary_text;
 use grid_versions::MapSpec;
 use io_edges::{Gate, Sink};
 use made_match::{Made, make_script};
 use nav_types::{Bytes, NoMemory};
+use path_workers::Workers;
 use std::alloc::Global;
 use std::thread::Threads;
 use turn_core::{AllReplies, AnsweredTurn, Journal, bare_version};
@@ -38,12 +38,11 @@ pub fn run_make<R: Threads + Sync, K: Sink, G: Gate + Sync>(
     ensures told { MakesTold seed (K.kept sink.old) (K.kept sink.new) result }
     ensures status { ComesByMaking (K.faults sink.old) (K.faults sink.new) result }
     ensures usage { result ≢ Status.Usage }
-    ensures taken { HasTaken (K.kept sink.old) (K.kept sink.new) }
-    ensures later { K.faults sink.old ≤ K.faults sink.new }
+    ensures sink { WritesTo (K.kept sink.old) (K.kept sink.new) (K.faults sink.old) (K.faults sink.new) result }
     ensures read { result ≢ Status.ReadFault }
-    ensures write { result ≡ Status.WriteFault → Rose (K.faults sink.old) (K.faults sink.new) }
 {
-    match write_text(sink, summary(rt, alloc, seed, workers, gate)) {
+    let workers = Workers::new(workers, gate);
+    match write_text(sink, summary(rt, alloc, seed, &workers)) {
         Ok(()) => Status::Done,
         Err(refusal) => status_of(refusal),
     }
@@ -54,15 +53,12 @@ fn summary<R: Threads + Sync, G: Gate + Sync>(
     rt: &R,
     alloc: Global,
     seed: u64,
-    workers: u8,
-    gate: &G,
+    workers: &Workers<'_, G>,
 ) -> Result<Bytes, NoMemory>
-    requires some { 1 ≤ workers }
-    requires few { workers ≤ MAX_WORKERS }
     ensures { IfOk result (IsSummary seed) }
 {
     let Made { map, journal } = make_script(alloc, seed)?;
-    let replies = all_replies(rt, alloc, &map, journal, workers, gate)?;
+    let replies = all_replies(rt, alloc, &map, journal, workers)?;
     summary_text(alloc, &replies)
 }
 
@@ -72,18 +68,15 @@ fn all_replies<R: Threads + Sync, G: Gate + Sync>(
     alloc: Global,
     map: &MapSpec,
     journal: Journal,
-    workers: u8,
-    gate: &G,
+    workers: &Workers<'_, G>,
 ) -> Result<AllReplies, NoMemory>
-    requires some { 1 ≤ workers }
-    requires most { workers ≤ MAX_WORKERS }
-    requires few { AllByRecursion (λ turn. length (jobs turn) < 2 ^ 32) journal }
+    requires { AllByRecursion (λ turn. length (jobs turn) < 2 ^ 32) journal }
     ensures { IfOk result (IsOneThread map.now journal) }
 {
     let mut all = Vec::with_capacity(alloc, journal.len())?;
     let mut version = bare_version(alloc, map)?;
     for posts in journal.into_items() {
-        let AnsweredTurn { replies, after } = replied(rt, alloc, &version, posts, workers, gate)?;
+        let AnsweredTurn { replies, after } = replies_to_turn(rt, alloc, &version, posts, workers)?;
         all.push_reserved(replies);
         version = after;
     }

@@ -1,13 +1,13 @@
 //! The works of callers: each posts its posts by itself, on a thread of its own.
-ghost use Rattle.std.specs.Prelude.{◌≡◌, ◌++◌, ◌≤◌, ◌^◌, All, IfOk, List, length, map};
+ghost use Rattle.std.specs.Prelude.{◌≡◌, ◌++◌, ◌≤◌, ◌^◌, All, IfOk, List, OnOk, Some, length, map, slice_get};
 ghost use Rattle.posts.specs.declared.posts.Post.{Post as APost};
-ghost use Rattle.path_service.specs.Callers.{CallerId, caller_id};
-ghost use Rattle.pathserve.specs.inner.Works.{HasPosted, HasPostedNone, HaveAllPosted, IsShort};
+ghost use Rattle.path_service.specs.Callers.{AreNumbered, CallerId, caller_id};
+ghost use Rattle.pathserve.specs.inner.Works.{AllEndWith, EndsWith, HasPosted, HasPostedNone, HaveAllPosted, IsShort};
 ghost use Rattle.pathserve.specs.inner.Begun.{Begins, BeginAll};
 
 use io_edges::Gate;
 use nav_types::NoMemory;
-use path_service::{Caller, Callers, EndedCaller, EndedCallers};
+use path_service::{Caller, Callers, Driver, EndedCaller, EndedCallers};
 use std::alloc::Global;
 use std::snapshot::Snapshot;
 use std::sync::Wait;
@@ -15,35 +15,43 @@ use std::sync::atomic::{AtomicBool, Ordering};
 use std::thread::{Promise, PromisedHandle, Scope, Threads};
 use turn_core::{Post, Posts, TurnPosts};
 
-/// What the work of a caller promises: it is that caller who has ended, and what it posted are the first of these posts.
+/// What all of a session works with: the number of workers who answer its turns, 1 to 64, the gate that they and the
+/// callers' works pass, and a flag that is raised where there was no memory for a post.
+#[derive(Drop)]
+pub(crate) struct Session<'a, R, G> {
+    pub rt: &'a R,
+    pub alloc: Global,
+    pub workers: u8,
+    pub gate: &'a G,
+    pub short: &'a AtomicBool,
+}
+
+/// What the work of a caller promises: it gives back that caller, and what it posted are the first of these posts.
 #[derive(Drop)]
 pub(crate) struct PostsOf {
     caller: Snapshot<Caller>,
     posts: Snapshot<Posts>,
 }
 
-impl Promise<EndedCaller> for PostsOf {
+impl Promise<Caller> for PostsOf {
     ghost use Rattle.pathserve.specs.inner.Works.{HasPosted};
 
-    ghost kept_by = { λ promise ended. HasPosted promise.caller.value.id promise.posts.value ended };
+    ghost kept_by = { λ promise caller. HasPosted promise.caller.value.id promise.posts.value caller };
 }
 
 /// The work of a caller that was begun.
 #[derive(Drop)]
 pub(crate) enum Begun {
     /// It goes on, on a thread of its own.
-    There(PromisedHandle<EndedCaller, PostsOf>),
+    There(PromisedHandle<Caller, PostsOf>),
     /// No thread could be started for it, and it was done at once.
-    Here(EndedCaller),
+    Here(Caller),
 }
 
 /// Begins the works of callers, each of the posts in its place.
 pub(crate) fn begin_all<'s, E, R: Wait + Sync, G: Gate + Sync>(
     scope: &'s Scope<'s, E>,
-    rt: &'s R,
-    alloc: Global,
-    gate: &'s G,
-    short: &'s AtomicBool,
+    session: &Session<'s, R, G>,
     callers: Callers,
     posts: &'s TurnPosts,
 ) -> Result<Vec<Begun>, NoMemory>
@@ -53,13 +61,13 @@ pub(crate) fn begin_all<'s, E, R: Wait + Sync, G: Gate + Sync>(
     ensures { IfOk result (λ works. BeginAll (map caller_id callers) posts.now works.items) }
 {
     let lists = posts.as_slice();
-    let mut works = Vec::with_capacity(alloc, lists.len())?;
+    let mut works = Vec::with_capacity(session.alloc, lists.len())?;
     let mut callers = callers.into_items().into_iter();
     for list in lists {
         let Some(caller) = callers.next() else {
             unreachable!();
         };
-        works.push_reserved(begin(scope, rt, gate, short, caller, list));
+        works.push_reserved(begin(scope, session, caller, list));
     }
     Ok(works)
 }
@@ -67,9 +75,7 @@ pub(crate) fn begin_all<'s, E, R: Wait + Sync, G: Gate + Sync>(
 /// Begins the work of a caller. Where no thread can be started for it, it is done at once.
 fn begin<'s, E, R: Wait + Sync, G: Gate + Sync>(
     scope: &'s Scope<'s, E>,
-    rt: &'s R,
-    gate: &'s G,
-    short: &'s AtomicBool,
+    session: &Session<'s, R, G>,
     caller: Caller,
     posts: &'s Posts,
 ) -> Begun
@@ -81,9 +87,12 @@ fn begin<'s, E, R: Wait + Sync, G: Gate + Sync>(
         caller: Snapshot::of(&caller),
         posts: Snapshot::of(posts),
     };
+    let rt = session.rt;
+    let gate = session.gate;
+    let short = session.short;
     let begun = scope.spawn_with(
         promise,
-        move || -> EndedCaller
+        move || -> Caller
             requires { HasPostedNone caller × IsShort posts.now }
             ensures { HasPosted caller.id posts.entry.now result }
         { work(rt, gate, short, caller, posts) },
@@ -94,15 +103,15 @@ fn begin<'s, E, R: Wait + Sync, G: Gate + Sync>(
     }
 }
 
-/// The work of a caller: it passes the gate, posts its posts and ends. Where there is no memory for a post it raises the
-/// flag and posts no more. It waits for no reply.
+/// The work of a caller: it passes the gate and posts its posts. Where there is no memory for a post it raises the flag
+/// and posts no more. It waits for no reply.
 fn work<R: Wait, G: Gate>(
     rt: &R,
     gate: &G,
     short: &AtomicBool,
     caller: Caller,
     posts: &Posts,
-) -> EndedCaller
+) -> Caller
     requires first { HasPostedNone caller }
     requires room { IsShort posts.now }
     ensures { HasPosted caller.id posts.now result }
@@ -112,7 +121,7 @@ fn work<R: Wait, G: Gate>(
     if post_all(rt, &mut caller, posts.as_slice()).is_err() {
         short.store(true, Ordering::SeqCst);
     }
-    caller.end()
+    caller
 }
 
 /// Posts the posts in their order, and collects once after each.
@@ -128,28 +137,61 @@ fn post_all(rt: &impl Wait, caller: &mut Caller, posts: &[Post]) -> Result<(), N
     Ok(())
 }
 
-/// Ends the works, each when its caller has ended.
-pub(crate) fn end_all(
+/// The callers of the works, each when its work has ended.
+pub(crate) fn join_all(
     rt: &impl Threads,
     alloc: Global,
     works: Vec<Begun>,
-) -> Result<EndedCallers, NoMemory>
-    ensures { IfOk result (λ ended. (ids : List CallerId) (lists : List (List APost))
-        → BeginAll ids lists works.items → HaveAllPosted ids lists ended) }
+) -> Result<Callers, NoMemory>
+    ensures { IfOk result (λ callers. (ids : List CallerId) (lists : List (List APost))
+        → BeginAll ids lists works.items → HaveAllPosted ids lists callers) }
 {
-    let mut ended = Vec::with_capacity(alloc, works.len())?;
+    let mut callers = Vec::with_capacity(alloc, works.len())?;
     for begun in works {
-        ended.push_reserved(end(rt, begun));
+        callers.push_reserved(join_work(rt, begun));
     }
-    Ok(EndedCallers::from(ended))
+    Ok(Callers::from(callers))
 }
 
 /// The caller of a work that was begun, when it has ended.
-fn end(rt: &impl Threads, begun: Begun) -> EndedCaller
+fn join_work(rt: &impl Threads, begun: Begun) -> Caller
     ensures { (id : CallerId) (posts : List APost) → Begins id posts begun → HasPosted id posts result }
 {
     match begun {
         Begun::There(handle) => handle.join(rt),
-        Begun::Here(ended) => ended,
+        Begun::Here(caller) => caller,
     }
+}
+
+/// Ends the callers, each once it has collected every reply that was sent to it.
+pub(crate) fn end_all(
+    rt: &impl Wait,
+    alloc: Global,
+    driver: &mut Driver,
+    callers: Callers,
+) -> Result<EndedCallers, NoMemory>
+    requires callers { map caller_id callers ≡ driver.old.callers }
+    requires numbers { AreNumbered 0 driver.old.callers }
+    ensures driver { OnOk result (driver.new ≡ driver.old) }
+    ensures ended { IfOk result (AllEndWith driver.old.sent callers) }
+{
+    let mut ended = Vec::with_capacity(alloc, callers.len())?;
+    for caller in callers.into_items() {
+        ended.push_reserved(end(rt, driver, caller));
+    }
+    Ok(EndedCallers::from(ended))
+}
+
+/// Ends a caller, once it has collected every reply that was sent to it. Its driver tells it how many those are, so it
+/// waits for none.
+fn end(rt: &impl Wait, driver: &mut Driver, caller: Caller) -> EndedCaller
+    requires { slice_get driver.old.callers caller.id.number ≡ Some caller.id }
+    ensures driver { driver.new ≡ driver.old }
+    ensures ended { EndsWith driver.old.sent caller result }
+{
+    let mut caller = caller;
+    let notice = driver.notice(rt, caller.number());
+    caller.hear(rt, notice);
+    'collecting: while caller.collect(rt).is_some() {}
+    caller.end()
 }

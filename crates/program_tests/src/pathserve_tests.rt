@@ -123,14 +123,14 @@ fn is_bad_for<R: Threads + Wait + Sync>(rt: &R, alloc: Global, lines: &str, bad:
 fn a_bad_line_has_its_cause(rt: HostRuntime) {
     let second_end = BadLine {
         number: 2,
-        cause: Cause::WrongValue {
+        cause: Some(Cause::WrongValue {
             key: Key::End,
             wanted: Wanted::Turn { number: 1 },
-        },
+        }),
     };
     let no_end = BadLine {
         number: 3,
-        cause: Cause::EndsInsideTurn,
+        cause: Some(Cause::EndsInsideTurn),
     };
     assert!(rt; is_bad_for(&rt, rt.alloc(), "\n{\"end\":2}\n", second_end));
     assert!(rt; is_bad_for(&rt, rt.alloc(), "\n{\"caller\":0,\"remove\":1}", no_end));

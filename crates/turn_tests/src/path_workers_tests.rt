@@ -3,7 +3,7 @@ use crate::fixtures::{path_asked, point, row_version};
 use grid_versions::{Refusal, Version};
 use io_edges::{Gate, OpenGate};
 use nav_types::NoMemory;
-use path_workers::{Workers, run_turn, run_turn_noted};
+use path_workers::{Workers, run_turn};
 use posts::push_some;
 use std::alloc::Global;
 use std::sync::atomic::{AtomicBool, AtomicU64, Ordering};
@@ -108,7 +108,7 @@ fn each_job_has_its_note(rt: HostRuntime) {
     let jobs = jobs_of(alloc, &SEVEN).expect(&rt, "the jobs");
     assert!(rt; jobs.len() <= 7);
     let report = Report::OpenedNumbers;
-    let Ok(noted) = run_turn_noted(&rt, alloc, &version, &jobs, 2, &OpenGate, report) else {
+    let Ok(noted) = Workers::new(2, &OpenGate).run_noted(&rt, alloc, &version, &jobs, report) else {
         panic!(rt; "the answers")
     };
     assert!(rt; are_told(&noted.answers, &SEVEN));

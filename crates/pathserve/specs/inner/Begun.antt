@@ -9,7 +9,7 @@ use Rattle.pathserve.specs.inner.Works.{HasPosted}
 -- the work of this caller: it promises to post these posts, or has done it
 abbrev pub Begins : CallerId → List Post → Begun → Type 0
 Begins id posts (There handle) = (handle.promise.caller.value.id ≡ id) × (handle.promise.posts.value ≡ posts)
-Begins id posts (Here ended) = HasPosted id posts ended
+Begins id posts (Here caller) = HasPosted id posts caller
 
 -- the works of these callers, each of the posts in its place
 abbrev pub BeginAll : List CallerId → List (List Post) → List Begun → Type 0

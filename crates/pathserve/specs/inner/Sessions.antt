@@ -3,10 +3,10 @@ use Rattle.std.specs.Prelude.{ℕ, ◌≡◌, ◌≤◌, ◌<◌, false, List, A
 use Rattle.nav_types.specs.declared.limits.TheConstants.{MAX_STAGED_POSTS}
 use Rattle.posts.specs.declared.posts.Post.{Post}
 use Rattle.posts.specs.Posts.{post_count}
-use Rattle.path_service.specs.Callers.{EndedState}
+use Rattle.path_service.specs.Callers.{CallerState, EndedState}
 use Rattle.path_service.specs.Services.{DriverState, started_on}
 use Rattle.pathserve.specs.Serving.{HasPost}
-use Rattle.pathserve.specs.inner.Works.{HaveAllPosted}
+use Rattle.pathserve.specs.inner.Works.{AllEndWith, HaveAllPosted}
 
 -- a driver as its service starts
 abbrev pub IsAtStart : DriverState → Type 0
@@ -35,7 +35,10 @@ pub record HasServed (start d : DriverState) (posts : ℕ) : Type 0 where
   pub enough : posts ≤ delivered
   pub now : HasComeTo start d delivered next
 
--- all callers have ended, after posts out of their lists, and as many as there are in all are delivered
+-- All callers have ended, after posts out of their lists, and as many as there are in all are delivered. Each has
+-- collected as many replies as were sent to it.
 pub record IsDriven (start d : DriverState) (posts : List (List Post)) (ended : List EndedState) : Type 0 where
   pub served : HasServed start d (post_count posts)
-  pub callers : HaveAllPosted start.callers posts ended
+  pub callers : List CallerState
+  pub posted : HaveAllPosted start.callers posts callers
+  pub collected : AllEndWith d.sent callers ended

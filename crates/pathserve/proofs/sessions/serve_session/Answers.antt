@@ -10,10 +10,11 @@ use Rattle.path_service.specs.Callers.{EndedState, caller_id, fresh}
 use Rattle.path_service.specs.Services.{DriverState, started_on}
 use Rattle.path_service.specs.Closings.{ClosedState, IsClosedBy}
 use Rattle.path_service.proofs.FreshCallers.{ids_of_fresh}
-use Rattle.pathserve.specs.Serving.{IsJournalOf, all_taken, post_lane, sent_to}
+use Rattle.pathserve.specs.Serving.{IsJournalOf, all_taken, collected_by, post_lane, sent_to}
 use Rattle.pathserve.specs.inner.Sessions.{IsDriven}
 use Rattle.pathserve.specs.inner.Works.{HasPostedNone}
-use Rattle.pathserve.proofs.SessionEnds.{HasEnded, ids_of_ended, on_its_map, journal_is, replies_are, all_posted, all_sent}
+use Rattle.pathserve.proofs.EndedCallers.{posted_first}
+use Rattle.pathserve.proofs.SessionEnds.{HasEnded, ids_of_ended, on_its_map, journal_is, replies_are, all_posted, all_sent, all_collected}
 use Rattle.pathserve.proofs.sessions.serve_session.Goals as goal
 
 pub run_works-requires-clause-callers : goal.run_works-requires-clause-callers
@@ -26,7 +27,9 @@ run_works-requires-clause-first g c κs within =
 pub close-requires : goal.close-requires
 close-requires g c =
     let driven = c.in_ok-driver-2.ensures in
-    record { callers = ids_of_ended c.in_ok-driver.driver.callers c.args.posts.now c.in_ok-driver-2.field-0.ended driven.callers ∙ sym driven.served.now.callers }
+    let first = posted_first c.in_ok-driver-2.field-0.driver.sent c.in_ok-driver.driver.callers c.args.posts.now driven.callers c.in_ok-driver-2.field-0.ended
+    driven.posted driven.collected in
+    record { callers = ids_of_ended c.in_ok-driver.driver.callers c.args.posts.now c.in_ok-driver-2.field-0.ended first ∙ sym driven.served.now.callers }
 
 -- a session on a copy of the map, where there was memory to close it
 ended_so : {E : Type 0} → (m copy : Map) (start d : DriverState) (posts : List (List Post)) (ended : List EndedState) (closed : Result ClosedState E) → copy ≡ m
@@ -55,4 +58,6 @@ returns g c =
       posted = IfOk-weaker closed Is (λ service. map post_lane service.callers ≡ map all_taken posts) (all_posted m start d posts ended) has;
       sent = IfOk-weaker closed Is (λ service. (caller : ℕ) → list_of (map sent_to service.callers) caller ≡ of_caller caller (replies_in service.replies))
           (all_sent m start d posts ended) has;
+      collected = IfOk-weaker closed Is (λ service. (caller : ℕ) → list_of (map collected_by service.callers) caller ≡ of_caller caller (replies_in service.replies))
+          (all_collected m start d posts ended) has;
     }

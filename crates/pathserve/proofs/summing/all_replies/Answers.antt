@@ -21,16 +21,16 @@ loop-posts-init g c =
       room = omega (arith, all.capacity, c.len.ensures);
     }
 
-pub replied-requires-clause-few : goal.replied-requires-clause-few
-replied-requires-clause-few g c =
+pub replies_to_turn-requires : goal.replies_to_turn-requires
+replies_to_turn-requires g c =
     let whole = c.into_items-posts-items.ensures in
     let items : into_iter_items c.into_iter-posts-iterator.result ≡ c.into_items-posts-items.result.items = search rules in
     let count : into_iter_len c.into_iter-posts-iterator.result ≡ length c.into_items-posts-items.result.items = search rules in
     let road = YieldsList-from_vec {s = c.into_iter-posts-iterator.result} c.args.journal (items ∙ whole) (count ∙ ap length whole) in
     let next = YieldsList-turn road c.loop-posts.yielded c.loop-posts.posts-iterator c.loop-posts.yielded_by c.next.result c.next.new.self c.in-Some.posts c.in-Some.is c.next.ensures.steps in
     let few : length (jobs c.in-Some.posts) < 2 ^ 32 =
-    one_of_all (λ turn. length (jobs turn) < 2 ^ 32) c.args.journal (length c.loop-posts.yielded) c.in-Some.posts next.0 next.1 c.requires.few in
-    omega (arith, few)
+    one_of_all (λ turn. length (jobs turn) < 2 ^ 32) c.args.journal (length c.loop-posts.yielded) c.in-Some.posts next.0 next.1 c.requires in
+    (c.type_bounds.sync-R, (c.type_bounds.sync-G, omega (arith, few)))
 
 pub push_reserved-requires : goal.push_reserved-requires
 push_reserved-requires g c =

@@ -8,7 +8,7 @@ use Rattle.path_workers.specs.declared.placing.Answered.{Answered}
 use Rattle.path_workers.specs.declared.placing.NotedAnswers.{NotedAnswers}
 use Rattle.path_workers.specs.inner.Working.{job_numbers, AnswerTheirJobs}
 use Rattle.path_workers.proofs.Working.{all_numbered}
-use Rattle.path_workers.proofs.turns.run_turn_noted.Goals as goal
+use Rattle.path_workers.proofs.turns.Workers.run_noted.Goals as goal
 
 pub in_order-requires : goal.in_order-requires
 in_order-requires g c =
