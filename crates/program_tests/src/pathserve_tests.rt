@@ -9,6 +9,9 @@ use std::sync::Wait;
 use std::test::*;
 use std::thread::Threads;
 
+mod cuts;
+mod faults;
+mod limits;
 mod made_matches;
 mod scripts;
 mod serving;
