@@ -1,0 +1,164 @@
+"""What the commands of this folder share: a client that predicts answers from docs/FORMAT.md, and runs of the program."""
+import functools
+import itertools
+import json
+import os
+import pathlib
+import re
+import signal
+import sys
+from unittest import mock
+
+HOME = pathlib.Path(__file__).resolve().parent.parent
+sys.dont_write_bytecode = True
+sys.path.insert(0, str(HOME / "examples"))
+import check  # noqa: E402
+
+SECONDS = 30  # a run that takes longer hangs
+MOST_CELLS = 20_000  # of larger maps only the status and the bad line are predicted
+STRING = re.compile(rb'"(?:[^"\\]|\\.)*"')
+VALUE_OF, ALL_CELLS = check.value_of, check.Cells
+LONE = rb"\\u[dD][89abAB]..(?!\\u[dD][c-fC-F])|(?<!\\u[dD][89abAB]..)\\u[dD][c-fC-F]"
+
+
+def base_scripts():
+    files = sorted((HOME / "bench" / "scripts").glob("*.script")) + sorted((HOME / "examples").glob("*.script"))
+    return {file.stem: file.read_bytes() for file in files}
+
+
+def number_in_range(text):
+    check.needs(abs(float(text)) != float("inf"))
+    return None if text.startswith("-") else 0
+
+
+def value_of(line):
+    """The value of a line, as the reader of JSON takes it: which numbers and escapes have a value and how deep arrays and
+    objects may lie shows in what does not count of a key that stands twice, and in the cause of a bad line."""
+    value = VALUE_OF(line)
+    if line.count(b"[") + line.count(b"{") > 127:
+        depths = itertools.accumulate({b"[": 1, b"{": 1}.get(it, -1) for it in re.findall(rb"[\[\]{}]", STRING.sub(b"", line)))
+        check.needs(max(depths) <= 127)
+    if b"\\u" in line:
+        check.needs(not re.search(LONE, line.replace(b"\\\\", b"")))
+    if re.search(rb"[eE]|[0-9]{300}", line):
+        json.loads(line, parse_int=number_in_range, parse_float=number_in_range)
+    return value
+
+
+class Read(check.Service):
+    """Reads turns, and answers none."""
+
+    last = None
+
+    def __init__(self, map_, word):
+        super().__init__(map_, word)
+        self.turns = []
+        Read.last = self
+
+    def answers(self):
+        self.turns.append(self.posts)
+        self.posts, self.turn = [], self.turn + 1
+        return []
+
+    def map_told(self):
+        it = self.map
+        return it.version, it.w, it.h, it.callers, list(it.classes.items()), it.base
+
+    def posts_of_callers(self):
+        return [[post for turn in self.turns for post in turn if post[0] == caller] for caller in range(self.map.callers)]
+
+
+def read(script):
+    """What is written of a script but for its answers, the status, and what was read of it."""
+    Read.last = None
+    with mock.patch.multiple(check, Service=Read, all_cells=lambda *_: [], value_of=value_of):
+        text, status = check.predicted(script)
+    return text, status, Read.last
+
+
+@functools.lru_cache(maxsize=1)
+def known_cells():
+    return {}
+
+
+def remembered(map_, standing, number, clearance):
+    """The cells of a class, which are made once for the maps that are alike."""
+    known = known_cells()
+    key = map_.w, map_.h, str(map_.base), str(standing), number, clearance
+    if len(known) > 5000:
+        known.clear()
+    if key not in known:
+        known[key] = ALL_CELLS(map_, standing, number, clearance)
+    return known[key]
+
+
+def predicted(script, word="replay"):
+    with mock.patch.multiple(check, Cells=remembered, value_of=value_of):
+        return check.predicted(script, word)
+
+
+def cause_is_right(script, text, said):
+    """Whether this is the one line that is said of a script whose text ends with a bad line."""
+    number = int(text.split()[-1])
+    found = re.fullmatch(rb"pathserve: line %d is bad: (the [ -~]+|an add [ -~]+)\n" % number, said)
+    if not found:
+        return False
+    lines = script.split(b"\n")
+    if number > len(lines) or number == len(lines) and lines[-1] == b"":
+        wanted = b"the script must not end inside a turn: its end line is missing"
+        return found[1] == (wanted if number > 1 else b"the script must begin with a map line, and has no line")
+    try:
+        value_of(lines[number - 1])
+    except check.BadLine:
+        return found[1] == b"the line must be one JSON value in UTF-8"
+    return found[1] != b"the line must be one JSON value in UTF-8"
+
+
+def served_wrong(read_script, out):
+    """What is wrong with what was served of a whole script, if anything is."""
+    lines = out.splitlines(keepends=True)
+    journal = b"".join(line for line in lines if line.startswith(b"{"))
+    if not out.startswith(journal):
+        return "the journal does not come first"
+    _, status, again = read(journal)
+    if status or again.map_told() != read_script.map_told():
+        return "the journal is no script of the map"
+    if again.posts_of_callers() != read_script.posts_of_callers():
+        return "the journal has other posts"
+    if not all(again.turns):
+        return "a turn of the journal has no posts"
+    if any(json.dumps(json.loads(line), separators=(",", ":")).encode() + b"\n" != line for line in journal.splitlines(True)):
+        return "the journal has white space"
+    large = again.map.w * again.map.h * len(again.map.classes) > MOST_CELLS
+    if not large and predicted(journal)[0] != out[len(journal) :]:
+        return "the answers are not those of the journal"
+    return None
+
+
+# ---- running
+
+
+def late(*_):
+    raise TimeoutError
+
+
+def run(program, words, script, env=None, seconds=SECONDS):
+    """What the program writes to standard output and standard error, and its status, or none where it hangs."""
+    files = [os.memfd_create(name) for name in ("in", "out", "err")]
+    os.write(files[0], script)
+    os.lseek(files[0], 0, os.SEEK_SET)
+    actions = [(os.POSIX_SPAWN_DUP2, file, number) for number, file in enumerate(files)]
+    child = os.posix_spawn(program, [program, *words], env or os.environ, file_actions=actions)
+    signal.signal(signal.SIGALRM, late)
+    signal.alarm(seconds)
+    try:
+        status = os.waitstatus_to_exitcode(os.waitpid(child, 0)[1])
+    except TimeoutError:
+        os.kill(child, signal.SIGKILL)
+        os.waitpid(child, 0)
+        status = None
+    signal.alarm(0)
+    out, said = (os.pread(file, os.fstat(file).st_size, 0) for file in files[1:])
+    for file in files:
+        os.close(file)
+    return out, said, status
