@@ -17,6 +17,7 @@ import check  # noqa: E402
 SECONDS = 30  # a run that takes longer hangs
 MOST_CELLS = 20_000  # of larger maps only the status and the bad line are predicted
 STRING = re.compile(rb'"(?:[^"\\]|\\.)*"')
+CALLER = re.compile(rb'\{"caller":([0-9]+),')
 VALUE_OF, ALL_CELLS = check.value_of, check.Cells
 LONE = rb"\\u[dD][89abAB]..(?!\\u[dD][c-fC-F])|(?<!\\u[dD][89abAB]..)\\u[dD][c-fC-F]"
 
@@ -133,6 +134,45 @@ def served_wrong(read_script, out):
     if not large and predicted(journal)[0] != out[len(journal) :]:
         return "the answers are not those of the journal"
     return None
+
+
+def end_line(turn):
+    return b'{"end":%d}\n' % turn
+
+
+class Journal:
+    """A script as it is served: its first lines, and the lines of each caller's posts, all of them canonical."""
+
+    def __init__(self, script, callers):
+        lines = script.splitlines(keepends=True)
+        self.head = [line for line in lines if line.startswith((b'{"version"', b'{"base"'))]
+        self.posts = [[] for _ in range(callers)]
+        for line in lines:
+            if caller := CALLER.match(line):
+                self.posts[int(caller[1])].append(line)
+
+    def lines_of(self, text):
+        """How many bytes of a text are lines of a journal, each where it may stand, and which lines may come then."""
+        at, turn, last = 0, 1, -1
+        head, left = self.head[::-1], [mine[::-1] for mine in self.posts]
+        for line in text.splitlines(keepends=True):
+            caller = int(found[1]) if (found := CALLER.match(line)) else -1
+            waiting = head or (left[caller] if max(last, 0) <= caller < len(left) else [])
+            if waiting[-1:] == [line]:
+                waiting.pop()
+                last = max(last, caller)
+            elif last >= 0 and line == end_line(turn):
+                turn, last = turn + 1, -1
+            else:
+                break
+            at += len(line)
+        ends = [end_line(turn)] if last >= 0 else []
+        return at, head[-1:] or [mine[-1] for mine in left[max(last, 0) :] if mine] + ends
+
+    def is_begun_by(self, text, answers=lambda journal: predicted(journal)[0]):
+        """Whether a text is a beginning of a journal with its answers, cut behind any of its bytes."""
+        at, then = self.lines_of(text)
+        return any(line.startswith(text[at:]) for line in then) if then else answers(text[:at]).startswith(text[at:])
 
 
 # ---- running
