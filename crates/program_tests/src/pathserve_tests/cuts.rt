@@ -20,17 +20,20 @@ const ANSWERS: &str = "turn 1 regions 2 edges 0 areas 2 relabelled 1\n\
 /// is whole; the input may end behind the map line and behind the end line.
 fn ending(cut: usize) -> (Status, &'static str) {
     let [map, path, add, end] = LINES;
-    let second = map.len() + path.len();
-    let third = second + add.len();
-    if cut + 1 < map.len() {
+    let second = map.len().saturating_add(path.len());
+    let third = second.saturating_add(add.len());
+    let whole = third.saturating_add(end.len());
+    // with the newline that may lack
+    let lines = cut.saturating_add(1);
+    if lines < map.len() {
         (Status::BadLine, "bad line 1\n")
     } else if cut <= map.len() {
         (Status::Done, "")
-    } else if cut + 1 < second {
+    } else if lines < second {
         (Status::BadLine, "bad line 2\n")
-    } else if cut + 1 < third {
+    } else if lines < third {
         (Status::BadLine, "bad line 3\n")
-    } else if cut + 1 < third + end.len() {
+    } else if lines < whole {
         (Status::BadLine, "bad line 4\n")
     } else {
         (Status::Done, ANSWERS)

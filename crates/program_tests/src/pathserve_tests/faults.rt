@@ -72,7 +72,7 @@ fn ends_at_each_read<R: Threads + Wait + Sync>(
     let mut taken: usize = 0;
     let mut read: u64 = 1;
     let mut is_read = false;
-    for _ in 0..given.len() + 2 {
+    for _ in 0..given.len().saturating_add(2) {
         let mut source = MemorySource::new(alloc, given.as_slice(), piece.max(1), &[read])?;
         let mut sink = MemorySink::new(alloc, 4096, &[])?;
         let status = run_between(rt, alloc, word, &mut source, &mut sink)?;
@@ -116,7 +116,7 @@ fn ends_at_each_write<R: Threads + Wait + Sync>(
     piece: usize,
 ) -> Result<bool, NoMemory> {
     let mut before: usize = 0;
-    for write in 1..=text.len() as u64 + 1 {
+    for write in 1..=(text.len() as u64).saturating_add(1) {
         let mut source = MemorySource::new(alloc, given, 4096, &[])?;
         let mut sink = MemorySink::new(alloc, piece, &[write])?;
         let status = run_between(rt, alloc, word, &mut source, &mut sink)?;
