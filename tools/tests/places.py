@@ -9,7 +9,9 @@ import unittest
 TOP = os.path.dirname(os.path.dirname(os.path.dirname(os.path.abspath(__file__))))
 sys.path.insert(0, os.path.join(TOP, "tools"))
 
-PROGRAM = os.environ.get("PATHSERVE") or os.path.join(TOP, "crates", "pathserve_bin", "out", "pathserve_bin")
+# What was built last: by a proof, by `./pathserve`, or by the gate.
+BUILT = [os.path.join(TOP, *it) for it in (("out", "pathserve"), ("out", "pathserve-unproved"), ("crates", "pathserve_bin", "out", "pathserve_bin"))]
+PROGRAM = os.environ.get("PATHSERVE") or max(BUILT, key=lambda it: os.path.getmtime(it) if os.path.isfile(it) else 0)
 BROWSER = os.environ.get("CHROMIUM") or shutil.which("chromium") or shutil.which("chromium-browser")
 
 needs_program = unittest.skipUnless(os.access(PROGRAM, os.X_OK), "the program is not built")
