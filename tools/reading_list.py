@@ -1,0 +1,172 @@
+#!/usr/bin/env python3
+"""Writes the reading order into docs/PROVED.md: the contract of `run`, and the definitions on which it rests.
+
+`reading_list.py` puts it between the two marks of the page; `reading_list.py --check` writes nothing and ends with 1 where
+the page is not current.
+"""
+import glob
+import os
+import re
+import sys
+
+sys.path.insert(0, os.path.dirname(os.path.abspath(__file__)))
+import specs
+
+PAGE = "docs/PROVED.md"
+FIRST, LAST = "<!-- made by tools/reading_list.py: begin -->\n", "<!-- made by tools/reading_list.py: end -->\n"
+CORE = ("turn_core.specs.Turns", "IsOneThread")
+# The parts of the contract, in the order of reading: a heading, and the clauses that belong to it.
+PARTS = [
+    ("`replay`, `profile`, `flow` and `smooth`", ["replay", "stop"]),
+    ("`serve`", ["serve", "serve_stop"]),
+    ("`make`", ["make", "make_status", "make_unread"]),
+    ("Words, faults and the cause of a bad line", None),
+]
+# The laws by which a reader may leave definitions out: the crate, the laws, the module and the definitions that may be left
+# out, and what to know in their place.
+SKIPS = [
+    ("fixed_point", ["text_reads_back", "text_is_in_grammar", "text_is_exact", "text_is_shortest"], "fixed_point.specs.Text", ["fixed_text"],
+     "the text of a coordinate is the shortest decimal that has exactly its value (that 0 has no minus, `fixed_text` alone says)"),
+    ("grid_versions", ["passable_where_nothing_covers"], "grid_versions.specs.Passing", ["passable_at"],
+     "read the relation `IsPassable` in place of the test that computes"),
+    ("grid_versions", ["fits_where_it_fits"], "grid_versions.specs.Fitting", ["fits"],
+     "read `FitsMap` in place of the test that computes"),
+    ("turn_core", ["tests_hold_where_they_should"], "turn_core.specs.NamedGoals", ["is_on_map", "is_well_formed"],
+     "read `IsOnAxis` and `IsWellFormed` in place of the tests that compute"),
+    ("script_text", ["map_lines", "base_lines", "post_lines", "end_lines"], "script_text.specs.Forms", ["map_of", "base_of", "post_of", "end_of"],
+     "read the grammar of lines, `Grammar`, in place of the functions that read them"),
+    ("script_text", ["canonical_reads_back"], "script_text.specs.ReadsBack", ["canon_script"],
+     "the journal of `serve` reads back as the map and the turns that it was written from"),
+    ("script_text", ["line_causes", "wrong_values", "end_causes"], "script_text.specs.Causes", ["cause", "end_cause"],
+     "a bad line has a cause and no other line has one, and what a cause calls wrong is wrong"),
+    ("answer_text", ["waypoint_is_canonical"], "answer_text.specs.Answers", ["waypoint_text"],
+     "a waypoint is the text of its cell's centre along both axes"),
+    ("pathserve", ["beginning_is_prefix"], "pathserve.specs.Output", ["IsBeginning"],
+     "what a run writes that ends early is a prefix of the one output text"),
+    ("pathserve", ["notes_are_one_thread"], "pathserve.specs.Output", ["IsText"],
+     "the text of the turns is that of the replies to the whole journal (`IsOneThread`), with the notes of each turn"),
+]
+
+
+def link(file):
+    return f"[{os.path.basename(file)}](../{file})"
+
+
+def contract_of(crate, function):
+    """The contract of a public function, wherever in its crate it stands."""
+    for path in sorted(glob.glob(os.path.join(specs.TOP, "crates", crate, "src", "**", "*.rt"), recursive=True)):
+        file = os.path.relpath(path, specs.TOP)
+        if re.search(rf"(?m)^pub fn {function}\b", specs.read(file)):
+            return specs.Contract(file, function)
+    raise ValueError(f"{crate} has no public function {function}")
+
+
+def in_order(modules, found):
+    """The modules of definitions so that each comes after those it imports, and lower crates first."""
+    ranks, crates = {}, specs.crate_names()
+
+    def rank(module):
+        if module.path not in ranks:
+            ranks[module.path] = 0
+            used = {path for path, _ in module.imports.values()} | {*module.aliases.values()}
+            same = [modules[it] for it in used if it in modules and modules[it].crate == module.crate]
+            ranks[module.path] = 1 + max(map(rank, same), default=0)
+        return ranks[module.path]
+
+    paths = {it.module.path for it in found}
+    return sorted((modules[it] for it in paths), key=lambda it: (crates.index(it.crate), rank(it), it.name))
+
+
+def item(modules, path, name):
+    """A definition by its module and its name."""
+    if path not in modules or name not in modules[path].items:
+        raise ValueError(f"there is no {name} in {path}: this script names it")
+    return modules[path].items[name]
+
+
+def counted(found):
+    lines = sum(len(it.lines) for it in found)
+    return f"{len(found)} definitions in {len({it.module.path for it in found})} files, {lines} lines"
+
+
+def table(modules, found):
+    rows = ["| crate | file | definitions | lines |", "|---|---|---|---|"]
+    for module in in_order(modules, found):
+        here = [it for it in module.items.values() if it in found]
+        names = " ".join(f"`{it.name}`" for it in here)
+        rows.append(f"| `{module.crate}` | {link(module.file)} | {names} | {sum(len(it.lines) for it in here)} |")
+    return rows
+
+
+def skips(modules, whole, begun):
+    """What each law lets a reader leave out, and how much is left with all of them."""
+    rows, cut, added = ["| law | left out | in its place |", "|---|---|---|"], set(), set()
+    for crate, laws, path, names, text in SKIPS:
+        left_out = {item(modules, path, name) for name in names}
+        contracts = [contract_of(crate, law) for law in laws]
+        named = set().union(*(it.definitions(modules) for it in contracts))
+        if not left_out <= named or not left_out & whole:
+            raise ValueError(f"the laws {laws} do not speak of {names}")
+        added |= named - left_out
+        cut |= left_out
+        files = {it.file for it in contracts}
+        where = ", ".join(link(it) for it in sorted(files))
+        rows.append(f"| {', '.join(f'`{it}`' for it in laws)} in {where} of `{crate}` | {', '.join(f'`{it}`' for it in names)} | {text} |")
+    return rows, left_with(modules, begun, cut, added)
+
+
+def left_with(modules, begun, cut, added):
+    """The definitions that are left to be read where some are left out and others come in their place."""
+    found, waiting = set(), [it for it in [*begun, *added] if it not in cut]
+    while waiting:
+        it = waiting.pop()
+        if it not in found:
+            found.add(it)
+            words = filter(None, (specs.definition(modules, it.module, word) for word in it.words()))
+            waiting += [other for other in words if other not in cut]
+    return found
+
+
+def section():
+    modules = specs.all_modules()
+    run = contract_of("pathserve", "run")
+    core = specs.closure(modules, [item(modules, *CORE)])
+    begun, read = run.definitions(modules), set(core)
+    whole = specs.closure(modules, begun)
+    lines = [f"`run` of `pathserve`, in {link(run.file)}, has {len(run.clauses)} clauses:", "", "```", *run.text.splitlines(), "```", ""]
+    lines += [f"They rest on {counted(whole)}. `S.left`, `K.kept` and the counts of faults are members of the traits `Source` and `Sink` in `io_edges`.", ""]
+    lines += ["Read in this order. A file comes after those that it imports, and a definition is listed where it is needed first.", ""]
+    lines += [f"**1. The core: `IsOneThread`,** the replies to a journal, without texts, turns in flight or threads. {counted(core)}.", "", *table(modules, core), ""]
+    for number, (heading, clauses) in enumerate(PARTS, 2):
+        more = specs.closure(modules, run.definitions(modules, clauses)) - read
+        read |= more
+        lines += [f"**{number}. {heading}:** {counted(more)} more.", "", *table(modules, more), ""]
+    rows, left = skips(modules, whole, begun)
+    lines += [f"**What a law lets you skip.** With all of these {counted(left)} are left.", "", *rows, ""]
+    return "\n".join(lines)
+
+
+def page(now):
+    """The page with the section as the sources have it."""
+    before, found, rest = now.partition(FIRST)
+    _, ended, after = rest.partition(LAST)
+    if not found or not ended:
+        raise ValueError(f"{PAGE} lacks the marks of the reading order")
+    return f"{before}{FIRST}\n{section()}\n{LAST}{after}"
+
+
+def main(words):
+    now = specs.read(PAGE)
+    made = page(now)
+    if words == ["--check"]:
+        print(f"{PAGE} is {'current' if now == made else 'not current: run tools/reading_list.py'}")
+        return 0 if now == made else 1
+    if words:
+        sys.exit(__doc__)
+    with open(os.path.join(specs.TOP, PAGE), "w", encoding="utf-8") as it:
+        it.write(made)
+    return 0
+
+
+if __name__ == "__main__":
+    sys.exit(main(sys.argv[1:]))

@@ -1,0 +1,85 @@
+"""The pages: those that scripts make are current, links lead somewhere, and commands are as they are shown."""
+import glob
+import os
+import re
+import subprocess
+import unittest
+
+from places import PROGRAM, TOP, needs_program, read, tool
+import reading_list
+import specs
+
+PAGES = [os.path.relpath(it, TOP) for it in sorted([*glob.glob(f"{TOP}/*.md"), *glob.glob(f"{TOP}/docs/*.md")])]
+
+
+def text_of(page):
+    return read(page).decode()
+
+
+def anchors(page):
+    """The anchors of a page's headings, as they are made for a page on the web."""
+    text = re.sub(r"(?ms)^```.*?^```", "", text_of(page))
+    heads = re.findall(r"(?m)^#+ (.*)$", text)
+    return {re.sub(r"[^\w -]", "", it.lower()).replace(" ", "-") for it in heads}
+
+
+class Pages(unittest.TestCase):
+    def test_those_made_by_scripts_are_current(self):
+        for name in ("definitions", "reading_list", "layers"):
+            out, status, said = tool(f"tools/{name}.py", "--check")
+            self.assertEqual(status, 0, out.decode() + said)
+
+    def test_links_lead_somewhere(self):
+        for page in PAGES:
+            for target in re.findall(r"\]\(([^)\s]+)\)", re.sub(r"(?ms)^```.*?^```", "", text_of(page))):
+                file, _, anchor = target.partition("#")
+                if "://" in target:
+                    continue
+                file = os.path.normpath(os.path.join(os.path.dirname(page), file)) if file else page
+                self.assertTrue(os.path.exists(os.path.join(TOP, file)), f"{page}: {target}")
+                if anchor:
+                    self.assertIn(anchor, anchors(file), f"{page}: {target}")
+
+    def test_files_that_are_named_are_there(self):
+        for page in PAGES:
+            for name in re.findall(r"`([\w./]+/[\w./]+\.(?:rt|antt|py|script|answers|map|md|sh))`", text_of(page)):
+                places = [name, f"crates/{name}", f"crates/*/{name}", f"crates/*/src/{name}", f"docs/{name}"]
+                self.assertTrue(any(glob.glob(os.path.join(TOP, it)) for it in places), f"{page}: {name}")
+
+    def test_each_crate_is_named(self):
+        for page in ("docs/PROVED.md", "docs/ARCHITECTURE.md"):
+            missing = [it for it in specs.crate_names() if f"`{it}`" not in text_of(page)]
+            self.assertEqual(missing, [], page)
+
+    def test_the_claim_has_the_clauses_of_the_program(self):
+        table = text_of("docs/PROVED.md").partition("| clause | what it says |")[2].partition("\n\n")[0]
+        told = {it for row in re.findall(r"(?m)^\| (`.*?) \|", table) for it in re.findall(r"`(\w+)`", row)}
+        self.assertEqual(told, {name for name, _ in reading_list.contract_of("pathserve", "run").clauses})
+
+    def test_the_version_is_one(self):
+        version = text_of("VERSION").strip()
+        self.assertIn(f"Version {version}.", text_of("README.md"))
+        self.assertIn(f"## {version}", text_of("CHANGELOG.md"))
+
+    def test_help_has_the_statuses_of_the_format(self):
+        helped = subprocess.run([f"{TOP}/pathserve", "--help"], capture_output=True, text=True).stdout
+        told = dict(re.findall(r"(?<!\d) (\d+)  +([a-zA-Z][^\n]*?)(?=  |\n)", helped.partition("Exit statuses:")[2]))
+        for number, meaning in re.findall(r"(?m)^\| (\d+) \| ([^|]*?) \|", text_of("docs/FORMAT.md").partition("## Words and statuses")[2]):
+            self.assertIn(told[number].split(";")[0][:12], meaning, number)
+
+    @needs_program
+    def test_the_readme_shows_what_runs(self):
+        for command in re.findall(r"(?m)^    \./pathserve (\w+) < (\S+)$", text_of("README.md")):
+            with open(os.path.join(TOP, command[1]), "rb") as script:
+                ran = subprocess.run([PROGRAM, command[0]], stdin=script, capture_output=True)
+            self.assertEqual((ran.stdout, ran.returncode), (read(command[1].replace(".script", ".answers")), 0))
+
+    @needs_program
+    def test_the_summary_of_a_match_is_as_shown(self):
+        seed, shown = re.search(r"\$ pathserve make (\d+)\n(.*?)```", text_of("docs/MAKE.md"), re.S).groups()
+        ran = subprocess.run([PROGRAM, "make", seed], capture_output=True, text=True)
+        self.assertEqual(ran.stdout, shown)
+
+
+if __name__ == "__main__":
+    unittest.main()
