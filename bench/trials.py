@@ -1,6 +1,5 @@
 """What the commands of this folder share: a client that predicts answers from docs/FORMAT.md, and runs of the program."""
 import functools
-import itertools
 import json
 import os
 import pathlib
@@ -16,34 +15,13 @@ import check  # noqa: E402
 
 SECONDS = 30  # a run that takes longer hangs
 MOST_CELLS = 20_000  # of larger maps only the status and the bad line are predicted
-STRING = re.compile(rb'"(?:[^"\\]|\\.)*"')
 CALLER = re.compile(rb'\{"caller":([0-9]+),')
-VALUE_OF, ALL_CELLS = check.value_of, check.Cells
-LONE = rb"\\u[dD][89abAB]..(?!\\u[dD][c-fC-F])|(?<!\\u[dD][89abAB]..)\\u[dD][c-fC-F]"
+ALL_CELLS = check.Cells
 
 
 def base_scripts():
     files = sorted((HOME / "bench" / "scripts").glob("*.script")) + sorted((HOME / "examples").glob("*.script"))
     return {file.stem: file.read_bytes() for file in files}
-
-
-def number_in_range(text):
-    check.needs(abs(float(text)) != float("inf"))
-    return None if text.startswith("-") else 0
-
-
-def value_of(line):
-    """The value of a line, as the reader of JSON takes it: which numbers and escapes have a value and how deep arrays and
-    objects may lie shows in what does not count of a key that stands twice, and in the cause of a bad line."""
-    value = VALUE_OF(line)
-    if line.count(b"[") + line.count(b"{") > 127:
-        depths = itertools.accumulate({b"[": 1, b"{": 1}.get(it, -1) for it in re.findall(rb"[\[\]{}]", STRING.sub(b"", line)))
-        check.needs(max(depths) <= 127)
-    if b"\\u" in line:
-        check.needs(not re.search(LONE, line.replace(b"\\\\", b"")))
-    if re.search(rb"[eE]|[0-9]{300}", line):
-        json.loads(line, parse_int=number_in_range, parse_float=number_in_range)
-    return value
 
 
 class Read(check.Service):
@@ -72,7 +50,7 @@ class Read(check.Service):
 def read(script):
     """What is written of a script but for its answers, the status, and what was read of it."""
     Read.last = None
-    with mock.patch.multiple(check, Service=Read, all_cells=lambda *_: [], value_of=value_of):
+    with mock.patch.multiple(check, Service=Read, all_cells=lambda *_: []):
         text, status = check.predicted(script)
     return text, status, Read.last
 
@@ -94,7 +72,7 @@ def remembered(map_, standing, number, clearance):
 
 
 def predicted(script, word="replay"):
-    with mock.patch.multiple(check, Cells=remembered, value_of=value_of):
+    with mock.patch.multiple(check, Cells=remembered):
         return check.predicted(script, word)
 
 
@@ -109,7 +87,7 @@ def cause_is_right(script, text, said):
         wanted = b"the script must not end inside a turn: its end line is missing"
         return found[1] == (wanted if number > 1 else b"the script must begin with a map line, and has no line")
     try:
-        value_of(lines[number - 1])
+        check.value_of(lines[number - 1])
     except check.BadLine:
         return found[1] == b"the line must be one JSON value in UTF-8"
     return found[1] != b"the line must be one JSON value in UTF-8"
