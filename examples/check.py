@@ -71,6 +71,15 @@ def has_keys(value, *keys):
     return isinstance(value, dict) and set(value) == set(keys)
 
 
+STRING = re.compile(rb'"(?:[^"\\]|\\.)*"')
+LONE_SURROGATE = re.compile(rb"\\u[dD][89abAB]..(?!\\u[dD][c-fC-F])|(?<!\\u[dD][89abAB]..)\\u[dD][c-fC-F]")
+
+
+def in_range(text):
+    needs(abs(float(text)) != float("inf"))
+    return text
+
+
 def value_of(line):
     def refused(_):
         raise ValueError
@@ -78,9 +87,17 @@ def value_of(line):
     def integer(text):
         return None if text.startswith("-") else int(text)  # one with a sign is no whole number
 
+    if line.count(b"[") + line.count(b"{") > 127:
+        marks = re.findall(rb"[\[\]{}]", STRING.sub(b"", line))
+        needs(max(itertools.accumulate({b"[": 1, b"{": 1}.get(it, -1) for it in marks), default=0) <= 127)
+    if b"\\u" in line:
+        needs(not LONE_SURROGATE.search(line.replace(b"\\\\", b"")))
     try:
-        return json.loads(line.decode("utf-8"), parse_int=integer, parse_constant=refused)
-    except ValueError:
+        text = line.decode("utf-8")
+        if re.search(rb"[eE]|[0-9]{300}", line):
+            json.loads(text, parse_int=in_range, parse_float=in_range, parse_constant=refused)
+        return json.loads(text, parse_int=integer, parse_constant=refused)
+    except (ValueError, RecursionError):
         raise BadLine from None
 
 
