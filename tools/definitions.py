@@ -68,18 +68,5 @@ def page():
     return "\n".join(lines)
 
 
-def main(words):
-    made = page()
-    if words == ["--check"]:
-        is_current = specs.read(PAGE) == made
-        print(f"{PAGE} is {'current' if is_current else 'not current: run tools/definitions.py'}")
-        return 0 if is_current else 1
-    if words:
-        sys.exit(__doc__)
-    with open(os.path.join(specs.TOP, PAGE), "w", encoding="utf-8") as it:
-        it.write(made)
-    return 0
-
-
 if __name__ == "__main__":
-    sys.exit(main(sys.argv[1:]))
+    sys.exit(specs.put(PAGE, page(), "definitions.py", sys.argv[1:], __doc__))

@@ -146,27 +146,10 @@ def section():
     return "\n".join(lines)
 
 
-def page(now):
-    """The page with the section as the sources have it."""
-    before, found, rest = now.partition(FIRST)
-    _, ended, after = rest.partition(LAST)
-    if not found or not ended:
-        raise ValueError(f"{PAGE} lacks the marks of the reading order")
-    return f"{before}{FIRST}\n{section()}\n{LAST}{after}"
-
-
-def main(words):
-    now = specs.read(PAGE)
-    made = page(now)
-    if words == ["--check"]:
-        print(f"{PAGE} is {'current' if now == made else 'not current: run tools/reading_list.py'}")
-        return 0 if now == made else 1
-    if words:
-        sys.exit(__doc__)
-    with open(os.path.join(specs.TOP, PAGE), "w", encoding="utf-8") as it:
-        it.write(made)
-    return 0
+def page():
+    """The page with what the sources have now."""
+    return specs.between(PAGE, FIRST, LAST, section())
 
 
 if __name__ == "__main__":
-    sys.exit(main(sys.argv[1:]))
+    sys.exit(specs.put(PAGE, page(), "reading_list.py", sys.argv[1:], __doc__))

@@ -5,6 +5,7 @@ name, so a variable of the same name counts too: what is found errs on the large
 """
 import os
 import re
+import sys
 
 TOP = os.path.dirname(os.path.dirname(os.path.abspath(__file__)))
 MARKS = r"(?:(?:pub|abbrev|unfoldable|record|data|ruleset)\s+)+"
@@ -73,6 +74,28 @@ class Module(Names):
 def read(file):
     with open(os.path.join(TOP, file), encoding="utf-8") as it:
         return it.read()
+
+
+def put(file, made, tool, words, usage):
+    """Writes a page that a script makes; with `--check` only says whether it is current. Returns the exit status."""
+    if words == ["--check"]:
+        is_current = read(file) == made
+        print(f"{file} is {'current' if is_current else f'not current: run tools/{tool}'}")
+        return 0 if is_current else 1
+    if words:
+        sys.exit(usage)
+    with open(os.path.join(TOP, file), "w", encoding="utf-8") as it:
+        it.write(made)
+    return 0
+
+
+def between(file, first, last, made):
+    """The text of a page with what is made between two of its marks."""
+    before, found, rest = read(file).partition(first)
+    _, ended, after = rest.partition(last)
+    if not found or not ended:
+        raise ValueError(f"{file} lacks the marks {first.strip()} and {last.strip()}")
+    return f"{before}{first}\n{made}\n{last}{after}"
 
 
 def words_in(text):
