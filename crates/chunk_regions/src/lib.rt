@@ -1,4 +1,14 @@
-//! The regions of one chunk of a map: the groups of its passable cells that straight steps join inside the chunk.
+//! The regions of one chunk: its passable cells, grouped by straight steps inside the chunk.
+//!
+//! ```text
+//!    1 1 . 2 2        regions are numbered from 1 in the order of their first cells, by row, then by column;
+//!    1 . 3 . .        2 and 3 meet at a corner alone, which joins nothing
+//!    1 1 . . 4
+//! ```
+//!
+//! [`label`] finds them row by row: the runs of passable cells of a row are joined with those that they touch in the row
+//! before (union-find). [`Labels`] keeps the runs of each row, and finds the region of a cell among them. Which regions
+//! touch across chunks is `region_edges`, and what they join is `reach_sets`.
 #![tactic(auto)]
 
 mod bits;

@@ -1,5 +1,11 @@
-//! The jobs of a turn, handed out to many workers by one shared word: each job goes to one worker, and none is left
-//! out.
+//! The jobs of a turn, handed out to many workers by one shared word: each job goes to one worker, and none is left out.
+//!
+//! ```text
+//!    next: 5 of 12        fetch-add gives a worker 5, the next one 6, ..; from 12 on there is nothing more
+//! ```
+//!
+//! [`Claims`] is the word, and a [`Seat`] the right to draw from it. What a seat has drawn its [`Drawings`] say, and when
+//! all seats are back, all jobs were drawn. What a job is, is unknown here; nothing waits.
 #![tactic(auto)]
 
 mod claims;

@@ -1,5 +1,13 @@
-//! Planes: the passable cells of a class as bits, by rows and by columns, so that a search can look at 64 cells at
-//! once.
+//! The passable cells of a class as bits, by rows and by columns (bitboards), with precomputed jump flags as in JPS+.
+//!
+//! ```text
+//!    row     0110 1111 ..   64 cells a word; the columns are kept the same way, transposed
+//!    stops   for each cell and straight direction: does a run that starts here meet a forced neighbour
+//! ```
+//!
+//! A scan passes 64 cells at once, and a straight run whose flag is not set is never scanned. Both tables are in bands of
+//! 32 lines; after an edit [`ClassPlane`] makes those anew that changed and shares the others. [`PlaneRuns`] is the view
+//! and the runs that a search asks, and [`Planes`] has one plane for each class.
 #![tactic(auto)]
 
 mod changed_parts;

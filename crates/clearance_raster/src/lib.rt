@@ -1,8 +1,12 @@
 //! The raster: the cells that an obstruction blocks, as bits of a grid or of a patch of one.
 //!
-//! A class's bit is set in each cell that the obstruction blocks with the class's clearance, row by row
-//! and each row's cells at once. Classes of one clearance get their bits together. No bit is cleared, and
-//! nothing here takes memory.
+//! ```text
+//!    obstruction --> for each row of its reach: one run of cells --> bits of the classes in its mask
+//! ```
+//!
+//! The end of a run is found from the end in the row before, since both walk along straight edges. Classes of one
+//! clearance get their bits together. No bit is cleared, and nothing here takes memory; what is painted anew after an
+//! edit is for `grid_versions` to say.
 #![tactic(auto)]
 
 mod canvases;

@@ -1,7 +1,14 @@
-//! Fixed-point numbers with sixteen binary places, and their decimal texts.
+//! Fixed-point numbers with sixteen binary places, their decimal texts, and exact geometry of rectangles.
 //!
-//! A [`Fixed`] is a whole number over 65536. Contracts see it as that whole number, its raw number, which
-//! lies from -2147483648 to 2147483647. Nothing here takes memory.
+//! A [`Fixed`] is a whole number over 65536, its raw number, which lies from -2147483648 to 2147483647; contracts see
+//! the raw number:
+//!
+//! ```text
+//!    "6.5"  <->  425984  =  6.5 * 65536
+//! ```
+//!
+//! A sum that leaves the range is `None`. A text is cut towards zero when it is read, and written as the shortest that
+//! reads back. There are no floats and no roots: lengths are compared by their squares. Nothing here takes memory.
 #![tactic(auto)]
 
 ghost use Rattle.std.specs.Prelude.{◌≡◌, ◌<◌, ◌^◌, ℤ, ◌+ℤ◌, ◌-ℤ◌, ◌*ℤ◌, ◌≤ℤ◌, ◌<ℤ◌, pos, FitsSigned, SomeIff};

@@ -1,7 +1,13 @@
-//! Where a path starts and what it can reach: the start cell of a point, and the targets of a goal that
-//! can be walked to from a start cell.
+//! Where a path starts, and what of its goal can be reached.
 //!
-//! Nothing here takes memory.
+//! A path starts on the nearest passable cell ([`nearest_passable`]). Its [`Target`] ([`made_reachable`]) is the goal,
+//! where some goal cell lies in the start's area, and else the closest cell of that area:
+//!
+//! ```text
+//!    rings about a point are looked at from within; of equally near cells the first in the order of rows is taken
+//! ```
+//!
+//! Areas are asked of the map ([`nav_types::Areas`]), so no search is made here. Nothing here takes memory.
 #![tactic(auto)]
 
 mod choices;

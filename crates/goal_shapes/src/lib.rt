@@ -1,8 +1,14 @@
-//! Goals: points, circles and turned squares, plain or turned inside out. Which cells are goal cells, how
-//! remote a cell is, and the box of the cells that can be one.
+//! Goals: points, circles and rotated squares, plain or inverted; which cells are goal cells, how remote a cell is, and
+//! the bounding box of goal cells.
 //!
-//! All numbers are fixed-point: the raw number of a navcell's side is 65536. Everything is exact, and
-//! nothing here takes memory.
+//! ```text
+//!    . . g g .     g  goal cell: the shape meets it       an inverted goal has the other cells
+//!    . g g g g     .  remoteness: how far its middle is from the shape, as a number to compare
+//!    . . g g .
+//! ```
+//!
+//! A [`Goal`] is a shape, and a [`GoalSpec`] what a request names: a shape, or an obstruction with a distance about it.
+//! All numbers are raw fixed-point, and exact. Nothing here looks at a map, and nothing takes memory.
 #![tactic(auto)]
 
 mod aiming;

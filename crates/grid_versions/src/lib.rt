@@ -1,5 +1,16 @@
-//! Versions of a map: which navcells are passable for each class under the standing obstructions, with regions,
-//! region edges and areas, and the edits that lead from one version to the next.
+//! Versions of a map: which navcells are passable for each class under the standing obstructions, with regions, edges and
+//! areas, and the next version after edits.
+//!
+//! ```text
+//!    Version --edits--> Version     both stay; what no edit reaches is shared
+//!
+//!    cells of a chunk --> bits of a class (class_planes) --> searches
+//!                     \-> regions --> edges --> areas        --> what can be reached
+//! ```
+//!
+//! A [`Version`] is one pointer, and threads share it. [`Version::next`] paints anew one rectangle in each chunk that an
+//! edit reaches, compares, and makes those parts anew whose cells changed. Everything that a version tells is that of a
+//! version built from scratch out of what stands. Paths are searched above, in `turn_core`.
 #![tactic(auto)]
 
 mod base_bands;

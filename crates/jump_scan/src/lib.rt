@@ -1,7 +1,13 @@
-//! What a jump search scans: the successors of a cell, and the stops of straight and diagonal runs.
+//! What a jump search scans: the successors of a cell, and where straight and diagonal runs stop (jump points).
 //!
-//! The rules are those of Harabor and Grastien, "Online Graph Pruning for Pathfinding on Grid Maps", AAAI 2011,
-//! for legal steps, which cut no corner.
+//! ```text
+//!    . . # f .        a run to the east passes the wall; beside the wall's end f is forced,
+//!    > > > s .        so the run stops at s
+//! ```
+//!
+//! The rules are those of Harabor and Grastien, "Online Graph Pruning for Pathfinding on Grid Maps", AAAI 2011, for
+//! legal steps, which cut no corner: a neighbour is forced one cell behind the blocked one. [`Runs`] answers where a run
+//! stops; [`CellRuns`] does it cell by cell over any view, `class_planes` by bitboards.
 #![tactic(auto)]
 
 mod cell_runs;

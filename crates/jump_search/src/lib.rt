@@ -1,7 +1,13 @@
-//! Jump point search.
+//! Jump point search: the chosen cheapest walk from a cell to a target.
 //!
-//! The rules are those of Harabor and Grastien, "Online Graph Pruning for Pathfinding on Grid Maps", AAAI 2011,
-//! for legal steps, which cut no corner.
+//! ```text
+//!    open list --> jump state (cell, direction) --> its successors' runs --> jump points --> open list
+//! ```
+//!
+//! [`jump_find_in`] gives the very walk of `walks::plain_search`, and keeps its memory in a [`Pool`]. The walk is traced
+//! back from the end by costs, so it does not depend on the order of equal estimates. With each path the number of jump
+//! states within its cost can be counted. The rules are those of Harabor and Grastien, "Online Graph Pruning for
+//! Pathfinding on Grid Maps", AAAI 2011, for legal steps, which cut no corner.
 #![tactic(auto)]
 
 mod framed;

@@ -1,7 +1,14 @@
 //! Kernels over rows of cells, by vectors of 16-bit lanes.
 //!
-//! A row is a list of numbers of 16 bits, one bit a passability class. Each kernel equals its
-//! definition over the list for every length, and takes no memory.
+//! A row is a list of numbers of 16 bits, one bit a passability class:
+//!
+//! ```text
+//!    row    0003 0000 0001 0001 0000 ..      or_span(1, 4, mask 0004)
+//!    after  0003 0004 0005 0005 0000 ..
+//! ```
+//!
+//! Each kernel equals its definition over the list for every length (`specs/Rows.antt`): whole blocks go by vectors, what
+//! is left cell by cell. Nothing here knows of maps, and nothing takes memory.
 #![tactic(auto)]
 
 ghost use Rattle.std.specs.Prelude.{◌≡◌, ◌↔◌, ◌<◌, ◌≤◌, ◌+◌, ◌⊎◌, ◌++◌, ℕ, length, map, drop, bit_or, slice_index, count_by};

@@ -1,4 +1,16 @@
-//! Cells, directions and views of a map: the words that every other crate speaks.
+//! Cells, directions, limits, and views of a map: the words that every other crate speaks.
+//!
+//! A [`Cell`] is a navcell by column `i` and row `j`; row 0 is the southern edge, and north is up:
+//!
+//! ```text
+//!    NW  N  NE        j
+//!     W  .  E         ^
+//!    SW  S  SE        +--> i
+//! ```
+//!
+//! [`View`] is all that a search asks of a map: its size, and whether a cell is passable. [`FreeCells`] also finds the
+//! next passable or blocked cell along a line, and [`Rows`] gives a row's cells as bits. [`Sequence`] is a list whose
+//! growth may be refused for memory. The costs of a step and every limit stand in [`limits`]. Nothing here keeps a map.
 #![tactic(auto)]
 
 mod cells;

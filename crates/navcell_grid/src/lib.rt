@@ -1,7 +1,8 @@
-//! The grid of navcells: one number of 16 bits for each cell of a map, one bit a passability class.
+//! The grid of navcells: one number of 16 bits for each cell, one bit a passability class.
 //!
-//! A set bit means that the navcell is impassable for the class. The grid takes memory once, when it
-//! is made.
+//! A set bit means that the cell is impassable for the class. A [`Grid`] covers a map, and a [`Patch`] a rectangle of
+//! one, such as the 96 by 96 cells of a chunk; both are row after row, from the south. Memory is taken once, when one is
+//! made. What sets the bits is `clearance_raster`; which cells are joined is no question here.
 #![tactic(auto)]
 
 mod grids;

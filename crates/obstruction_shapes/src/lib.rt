@@ -1,7 +1,16 @@
-//! Obstructions: squares and turned rectangles on a map, the cells that they block, and how far they
-//! reach.
+//! Obstructions: squares and rotated rectangles on a map, which cells they block, and how far they reach.
 //!
-//! All numbers are fixed-point: the raw number of a navcell's side is 65536. Nothing here takes memory.
+//! A cell is blocked for a class where its middle is at most the class's clearance away from the shape:
+//!
+//! ```text
+//!     . . x x . .      #  the middle of the cell is in the rectangle
+//!     . x # # x .      x  it is within the clearance
+//!     . x # # x .
+//!     . . x x . .
+//! ```
+//!
+//! So the cells of one row are one run ([`blocked_cells_are_one_run`]). [`check`] refuses a shape whose middle, half
+//! sides or axes are off the limits. All numbers are raw fixed-point, and exact. Nothing here takes memory.
 #![tactic(auto)]
 
 mod blocking;

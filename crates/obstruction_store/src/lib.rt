@@ -1,7 +1,8 @@
-//! The standing obstructions of a map: each stands under its number, and they are found, added, moved and
-//! removed by it.
+//! The standing obstructions of a map, by number: [`Store`].
 //!
-//! Contracts see a finite map from number to obstruction.
+//! They are found, added, moved and removed by their number without a look at the others, and listed in the order of
+//! numbers ([`Store::entries`]). Contracts see a finite map from number to obstruction. Behind it lie a slab and an index
+//! by number. What an obstruction blocks is for other crates to say.
 #![tactic(auto)]
 
 mod entries;

@@ -1,7 +1,13 @@
 //! The running service: callers that post and collect by themselves, and a driver that stages, runs and delivers turns.
 //!
-//! Each caller has two lanes, one for its posts and one for the replies to it. The driver is seen as the state of the
-//! turn machine of [`turn_core`], and each of its calls is a run of that machine.
+//! ```text
+//!    Caller 0 --posts--> \                     / --replies--> Caller 0
+//!    Caller 1 --posts--> - Driver: turn by turn - --replies--> Caller 1
+//! ```
+//!
+//! Each [`Caller`] has two lanes. The [`Driver`] takes as a turn what has come, and takes in the next one while workers
+//! answer it. It is seen as the state of the turn machine of [`turn_core`], and each of its calls is a run of that
+//! machine. Texts and scripts are unknown here.
 #![tactic(auto)]
 
 mod callers;

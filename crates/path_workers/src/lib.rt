@@ -1,4 +1,12 @@
-//! The jobs of a turn, solved by up to 64 workers beside each other.
+//! The jobs of a turn, solved by up to 64 workers beside each other: [`Workers`].
+//!
+//! ```text
+//!    jobs --claims--> worker 1: Solver, answers \
+//!                     worker 2: Solver, answers --> each answer in its job's place
+//! ```
+//!
+//! The answers are those of one thread, whatever the number and the speed of workers. Where a thread can't be started,
+//! the caller does that share of the work. Threads are started for each turn.
 #![tactic(auto)]
 
 mod drawing;

@@ -1,4 +1,14 @@
-//! The program as one call: scripts in, answers out.
+//! The program as one call, [`run`]: words, a script in, answers out, a status.
+//!
+//! ```text
+//!    words --> Command --> replay, profile, flow, smooth    run_replay
+//!                          serve                            run_serve
+//!                          make                             run_make
+//! ```
+//!
+//! [`run`]'s contract is the program's promise. Under `replay` the answers to a turn are written before more is read;
+//! under `serve` the script's callers post beside each other, and the journal of what came is written with its answers.
+//! `pathserve_bin` gives it the real words and streams.
 #![tactic(auto)]
 
 mod bad_lines;

@@ -1,6 +1,13 @@
-//! The words between callers and the service: maps, posts (edits and requests) and the replies to them.
+//! The words between callers and the service: maps, posts (edits and requests), and the replies to them.
 //!
-//! Nothing here searches or keeps a map's cells: a crate that reads or writes these words needs no more than this one.
+//! ```text
+//!    Post = Edit (add, move, remove) | Request (path, region)     --> Reply
+//!    TurnPosts: the posts of a turn, by caller                    --> TurnReplies: replies and tallies
+//! ```
+//!
+//! A [`Report`] says what is asked beside the answers, and a [`Note`] is what comes. All is plain data, and much of it
+//! `Copy`. Nothing here searches, and nothing keeps a map's cells: a crate that reads or writes these words needs no more
+//! than this one.
 #![tactic(auto)]
 
 mod copying;

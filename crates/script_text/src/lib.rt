@@ -1,4 +1,12 @@
-//! Scripts: the grammar of their lines, a reader that takes them turn by turn, and their canonical text.
+//! Scripts: the grammar of their lines, two readers, why a line is bad, and the canonical text.
+//!
+//! ```text
+//!    map line, base lines, then for each turn: post lines of its callers, an end line
+//! ```
+//!
+//! [`ScriptReader`] pulls a script from a source turn by turn, and [`PushedScript`] is given its bytes in pieces. Both read
+//! what `specs/Script.antt` says of whole inputs. `write_map` and `write_journal` write the canonical script, which reads
+//! back as what it was written from. A bad line has a [`Cause`] in plain words. Nothing here answers a post.
 #![tactic(auto)]
 
 mod canon;

@@ -1,8 +1,14 @@
-//! Requests and turns: what callers post, what they get in reply, and how a turn is answered.
+//! Requests and turns: how one is answered, and what turns are.
 //!
-//! What turns are and in which order they are staged, run and delivered is said in `specs/`, as a machine with
-//! states, events and effects. Nothing here runs that machine: a service above is proved to follow it, and
-//! `turn_model` is it as a program, event by event.
+//! ```text
+//!    TurnPosts + Version --ReadyTurn--> the next Version, replies to edits, jobs
+//!    job --Solver--> answer and note                --AnsweredTurn--> TurnReplies
+//! ```
+//!
+//! A [`Solver`] answers one request after another and keeps its search's memory and its last flow field; what it answers
+//! does not depend on what it answered before. [`answer_turn`] does a whole turn by one thread: the sequential
+//! specification, as a program. How turns are staged, run and delivered is said in `specs/` as a machine with states,
+//! events and effects; nothing here runs it. `path_service` is proved to follow it, and `turn_model` is it, event by event.
 #![tactic(auto)]
 
 mod edited_turns;

@@ -1,7 +1,7 @@
-//! The reference model of a match by turns: the turn machine of [`turn_core`] as a program, one event a step.
+//! The turn machine of [`turn_core`] as a program, one event a step: a reference model.
 //!
-//! It is what the definitions of the machine are tried and shown by. The service of `path_service` is proved against
-//! the same definitions and does not run it.
+//! [`Core`] is what the machine's definitions are tried and shown by. The service of `path_service` is proved against the
+//! same definitions and does not run it.
 #![tactic(auto)]
 
 mod cores;
