@@ -25,7 +25,7 @@ def anchors(page):
 
 class Pages(unittest.TestCase):
     def test_those_made_by_scripts_are_current(self):
-        for name in ("definitions", "reading_list", "layers"):
+        for name in ("crates", "definitions", "layers", "reading_list"):
             out, status, said = tool(f"tools/{name}.py", "--check")
             self.assertEqual(status, 0, out.decode() + said)
 
