@@ -105,11 +105,13 @@ pub fn make_places(heads: &mut Vec<u32>, bucket: usize) -> Result<(), NoMemory>
     Ok(())
 }
 
-/// Puts entries in the order of falling estimates.
+/// Puts entries in the order of falling estimates. Most buckets of a search in narrow ways have one entry.
 pub fn sort_falling(entries: &mut Vec<Entry>)
     ensures falling { AreFalling entries.new.items }
     ensures same { (entry : Entry) → Contains entries.new.items entry ↔ Contains entries.old.items entry }
     ensures capacity { vec_capacity entries.new ≡ vec_capacity entries.old }
 {
-    entries.sort_unstable_by(|one, other| other.estimate.cmp(&one.estimate));
+    if entries.len() > 1 {
+        entries.sort_unstable_by(|one, other| other.estimate.cmp(&one.estimate));
+    }
 }

@@ -15,8 +15,8 @@ not_less a b is_false = elim (cases_lt a b) [
   | inr more ↦ more
 ]
 
-pub returns-clause-falling : goal.returns-clause-falling
-returns-clause-falling c = λ i j d up within.
+pub returns-then-len-gt1-clause-falling : goal.returns-then-len-gt1-clause-falling
+returns-then-len-gt1-clause-falling c = λ i j d up within.
     let entries = c.sort_unstable_by.new.self.items in
     let lt = λ (x y : Entry). is_lt (nat_cmp y.estimate x.estimate) in
     let order : IsStrictWeakOrder lt = IsStrictWeakOrder-flip (λ (x y : Entry). is_lt (nat_cmp x.estimate y.estimate))
@@ -25,8 +25,8 @@ returns-clause-falling c = λ i j d up within.
     (answers_always _ (λ a r. is_lt r ≡ lt a.0.now a.1.0.now) _ (λ f a r f' k. search rules)) in
     not_less (get_or entries i d).estimate (get_or entries j d).estimate (sorted_far lt order entries sorted i j d up within)
 
-pub returns-clause-same : goal.returns-clause-same
-returns-clause-same c = λ entry.
+pub returns-then-len-gt1-clause-same : goal.returns-then-len-gt1-clause-same
+returns-then-len-gt1-clause-same c = λ entry.
     let old = c.args.entries.now.items in
     let new = c.sort_unstable_by.new.self.items in
     let moved = c.sort_unstable_by.ensures.permutation in
