@@ -1,5 +1,5 @@
 -- What waits in later buckets, linked by bucket.
-use Rattle.std.proofs.Common.{ℕ, ◌≡◌, ◌≢◌, ◌<◌, ◌≤◌, ◌⊎◌, ◌↔◌, ◌+◌, ◌-◌, List, [], ◌∷◌, ◌++◌, length, length-append, set, slice_index, Some, Contains, refl, ap, inl, inr, sym, subst, ◌∙◌, arith}
+use Rattle.std.proofs.Common.{ℕ, ◌≡◌, ◌≢◌, ◌<◌, ◌≤◌, ◌⊎◌, ◌↔◌, ◌+◌, ◌-◌, List, [], ◌∷◌, ◌++◌, length, length-append, get_or, set, slice_index, Some, Contains, refl, ap, inl, inr, sym, subst, ◌∙◌, arith}
 use Rattle.std.specs.List.{slice_get}
 use Rattle.std.proofs.lemmas.Bool.{cases_eq, cases_lt}
 use Rattle.std.proofs.lemmas.Option.{slice_get_within, same_Some}
@@ -9,7 +9,7 @@ use Rattle.nav_types.proofs.Items.{Contains-from_slice_get, Contains-none, slice
 use Rattle.open_heap.specs.declared.buckets.Waiting.{Waiting}
 use Rattle.open_heap.specs.declared.entries.Entry.{Entry}
 use Rattle.open_heap.specs.inner.Buckets.{bucket_of, entry_of, AreFalling, IsLastOf, AreLinked, AreBuckets, IsWaiting, IsHeld, IsChain, AreGathered}
-use Rattle.open_heap.proofs.Falling.{last_is_least}
+use Rattle.open_heap.proofs.Falling.{falling_push, last_is_least}
 
 abbrev pub blank : Waiting
 blank = record { estimate = 0; key = 0; next = 0 }
@@ -253,6 +253,27 @@ held_now start reached later here more ahead = inr (record {
   same = refl;
   ahead = ahead;
 })
+
+-- ---- an entry behind those of the current bucket
+pub buckets_pushed : (start reached : ℕ) (heads : List ℕ) (later : List Waiting) (here : List Entry) (most more : ℕ) (entry : Entry)
+    → AreBuckets start reached heads later here most → bucket_of start entry.estimate < reached
+    → ((place : ℕ) (d : Entry) → place + 1 ≡ length here → entry.estimate ≤ (get_or here place d).estimate) → more ≡ most
+    → AreBuckets start reached heads later (here ++ entry ∷ []) more
+buckets_pushed start reached heads later here most more entry sound low last room = record {
+  room = let was = sound.room in omega (arith, was, room);
+  falling = falling_push here entry sound.falling last;
+  low = λ other has. elim (Contains-push_cases here entry other has) [
+    | inl was ↦ sound.low other was
+    | inr is ↦ subst (λ (e : Entry). bucket_of start e.estimate < reached) is low
+  ];
+  lasts = sound.lasts;
+  links = sound.links;
+}
+
+pub held_pushed : (start reached : ℕ) (later : List Waiting) (here : List Entry) (entry other : Entry)
+    → IsHeld start reached later here other → IsHeld start reached later (here ++ entry ∷ []) other
+held_pushed start reached later here entry other (inl has) = inl (Contains-append_left here (entry ∷ []) other has)
+held_pushed start reached later here entry other (inr waits) = inr waits
 
 -- ---- what is held
 pub held_still : (start reached : ℕ) (later : List Waiting) (here : List Entry) (from now : ℕ) (waits : List Waiting) (there : List Entry)

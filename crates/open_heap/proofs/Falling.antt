@@ -6,7 +6,7 @@ use Rattle.std.proofs.Math.ListN.{get_or-append}
 use Rattle.std.proofs.lemmas.Bool.{cases_eq, cases_lt}
 use Rattle.std.proofs.lemmas.List.{append-nil}
 use Rattle.std.proofs.lemmas.Option.{get_or_from_slice_get, same_Some}
-use Rattle.std.proofs.lemmas.List.Edits.{length-insert, get_or-insert_below, get_or-insert_at, get_or-insert_above}
+use Rattle.std.proofs.lemmas.List.Edits.{insert_end, length-insert, get_or-insert_below, get_or-insert_at, get_or-insert_above}
 use Rattle.std.proofs.lemmas.List.Elements.{Contains-push_cases}
 use Rattle.nav_types.proofs.Items.{slice_get-push_last}
 use Rattle.open_heap.specs.declared.entries.Entry.{Entry}
@@ -85,6 +85,18 @@ falling_more entries entry place falling inside before behind i j d up within =
             ]
       ]
     ]
+
+-- with one more behind the last, which is not less
+pub falling_push : (entries : List Entry) (entry : Entry) → AreFalling entries
+    → ((place : ℕ) (d : Entry) → place + 1 ≡ length entries → entry.estimate ≤ (get_or entries place d).estimate)
+    → AreFalling (entries ++ entry ∷ [])
+falling_push entries entry falling last = subst AreFalling (insert_end entries entry)
+    (falling_more entries entry (length entries) falling (omega arith)
+    (λ at d low.
+    let one = last (length entries - 1) d (omega (arith, low)) in
+    let two = falling at (length entries - 1) d (omega (arith, low)) (omega (arith, low)) in
+    omega (arith, one, two))
+    (λ at d from to. absurd (omega (arith, from, to))))
 
 -- the last is the least
 pub last_is_least : (entries : List Entry) (last : Entry) → AreFalling entries → slice_get entries (length entries - 1) ≡ Some last

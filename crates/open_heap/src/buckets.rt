@@ -11,6 +11,9 @@ use nav_types::NoMemory;
 /// How wide the estimates of a bucket lie: half of what a straight step costs.
 pub const WIDTH: u64 = 32768;
 
+/// For how many further buckets there are places where a bucket lacks one.
+const MORE: usize = 256;
+
 /// An entry of a later bucket, with one more than the number of the last one of its bucket before it; 0 for none.
 #[derive(Clone, Copy, Debug)]
 pub struct Waiting {
@@ -93,14 +96,27 @@ pub fn gather(later: &[Waiting], end: u32, here: &mut Vec<Entry>)
     }
 }
 
-/// Makes places for the buckets up to the number.
+/// Makes room for so many items in all. The room grows fourfold, since items are moved each time.
+pub fn reserve_far<T>(list: &mut Vec<T>, all: usize) -> Result<(), NoMemory>
+    ensures items { list.new.items ≡ list.old.items }
+    ensures room { OnOk result (all ≤ vec_capacity list.new) }
+    ensures capacity { vec_capacity list.old ≤ vec_capacity list.new }
+{
+    if list.capacity() < all {
+        list.reserve(all.max(list.len().saturating_mul(4)) - list.len())?;
+    }
+    Ok(())
+}
+
+/// Makes places for the buckets up to the number, and for some more.
 pub fn make_places(heads: &mut Vec<u32>, bucket: usize) -> Result<(), NoMemory>
     requires { bucket < 2 ^ 63 }
     ensures same { (other : ℕ) → slice_index heads.new.items other ≡ slice_index heads.old.items other }
     ensures known { OnOk result (bucket < length heads.new.items) }
 {
     if heads.len() <= bucket {
-        heads.resize(bucket + 1, 0)?;
+        reserve_far(heads, bucket + MORE)?;
+        heads.resize(bucket + MORE, 0)?;
     }
     Ok(())
 }

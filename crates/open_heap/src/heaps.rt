@@ -5,7 +5,7 @@ ghost use Rattle.std.specs.FinMap as map;
 ghost use Rattle.open_heap.specs.Queue.{IsLeast};
 ghost use Rattle.open_heap.specs.inner.Buckets.{estimate_at};
 
-use crate::buckets::{Buckets, known_estimate};
+use crate::buckets::{Buckets, known_estimate, reserve_far};
 use crate::entries::Entry;
 use nav_types::NoMemory;
 use std::alloc::Global;
@@ -43,14 +43,18 @@ impl Model for OpenHeap {
         h.buckets.here.items h.estimates.items };
 }
 
-/// Makes room for the estimate of the key.
+/// For how many further keys there are places where a key lacks one.
+const MORE: usize = 64;
+
+/// Makes room for the estimate of the key, and of some more.
 fn make_room(estimates: &mut Vec<Option<u64>>, key: u32) -> Result<(), NoMemory>
     ensures same { (other : ℕ) → estimate_at estimates.new.items other ≡ estimate_at estimates.old.items other }
     ensures key { OnOk result (key < length estimates.new.items) }
     ensures few { length estimates.new.items < 2 ^ 64 }
 {
-    'grow: while estimates.len() <= key as usize {
-        estimates.push(None)?;
+    if estimates.len() <= key as usize {
+        reserve_far(estimates, key as usize + MORE)?;
+        estimates.resize(key as usize + MORE, None)?;
     }
     Ok(())
 }

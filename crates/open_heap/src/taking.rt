@@ -1,12 +1,12 @@
 //! Adding entries to buckets, and taking the least out.
-ghost use Rattle.std.specs.Prelude.{◌≡◌, ◌<◌, ◌≤◌, ◌+◌, ◌-◌, ◌⊎◌, [], ℕ, length, Contains, slice_get, slice_index};
-ghost use Rattle.std.specs.Prelude.{IfSome, IfNone, OnOk, Some};
+ghost use Rattle.std.specs.Prelude.{◌≡◌, ◌<◌, ◌≤◌, ◌+◌, ◌-◌, ◌⊎◌, [], ℕ, length, Contains, slice_get, slice_index, slice_index_or};
+ghost use Rattle.std.specs.Prelude.{IfSome, IfNone, IsTrue, OnOk, Some, vec_len, vec_capacity, ◌^◌};
 ghost use Rattle.open_heap.specs.declared.entries.Entry.{Entry};
 ghost use Rattle.open_heap.specs.inner.Buckets.{bucket_of, IsLive};
-ghost use Rattle.open_heap.specs.inner.Held.{Holds};
+ghost use Rattle.open_heap.specs.inner.Held.{Holds, HasRoom};
 
 use crate::buckets::{
-    Buckets, WIDTH, Waiting, gather, is_live, make_places, place_of, sort_falling,
+    Buckets, WIDTH, Waiting, gather, is_live, make_places, place_of, reserve_far, sort_falling,
 };
 use crate::entries::Entry;
 use nav_types::NoMemory;
@@ -40,14 +40,104 @@ impl Buckets {
         (estimate.saturating_sub(self.start) / WIDTH) as usize
     }
 
-    /// Adds an entry of the current bucket, or of an earlier one.
-    fn add_here(&mut self, entry: Entry) -> Result<(), NoMemory>
+    /// Adds an entry of the current bucket, or of an earlier one, at its place.
+    #[inline(never)]
+    fn insert_here(&mut self, entry: Entry) -> Result<(), NoMemory>
         requires { bucket_of self.old.start entry.estimate < self.old.reached }
         ensures added { OnOk result (Holds self.new entry) }
         ensures kept { (other : Entry) → Holds self.old other → Holds self.new other }
     {
         let place = place_of(&self.here, entry.estimate);
         self.here.insert(place, entry)?;
+        Ok(())
+    }
+
+    /// Whether the entry can be appended to the current bucket: there is room, and no entry is less.
+    fn ends_here(&self, entry: Entry) -> bool
+        ensures room { IsTrue result → vec_len self.now.here < vec_capacity self.now.here }
+        ensures last { IsTrue result → (place : ℕ) (d : Entry) → place + 1 ≡ length self.now.here.items
+            → entry.estimate ≤ (slice_index_or self.now.here.items place d).estimate }
+    {
+        if self.here.len() == self.here.capacity() {
+            return false;
+        }
+        match self.here.last() {
+            Some(last) => entry.estimate <= last.estimate,
+            None => true,
+        }
+    }
+
+    /// Adds an entry of the current bucket, or of an earlier one.
+    fn add_here(&mut self, entry: Entry) -> Result<(), NoMemory>
+        requires { bucket_of self.old.start entry.estimate < self.old.reached }
+        ensures added { OnOk result (Holds self.new entry) }
+        ensures kept { (other : Entry) → Holds self.old other → Holds self.new other }
+    {
+        if self.ends_here(entry) {
+            self.here.push_reserved(entry);
+            return Ok(());
+        }
+        self.insert_here(entry)
+    }
+
+    /// Adds an entry of a later bucket, for which there is room.
+    fn link(&mut self, bucket: usize, entry: Entry)
+        requires bucket { bucket ≡ bucket_of self.old.start entry.estimate }
+        requires later { self.old.reached ≤ bucket }
+        requires room { HasRoom self.old bucket }
+        ensures added { Holds self.new entry }
+        ensures kept { (other : Entry) → Holds self.old other → Holds self.new other }
+    {
+        let after = self.later.len() as u32 + 1;
+        let next = self.heads[bucket];
+        self.heads[bucket] = after;
+        self.later.push_reserved(Waiting {
+            estimate: entry.estimate,
+            key: entry.key,
+            next,
+        });
+    }
+
+    /// Whether there is room for one more entry in the later bucket.
+    fn has_room(&self, bucket: usize) -> bool
+        ensures { IsTrue result → HasRoom self.now bucket }
+    {
+        let number = self.later.len();
+        bucket < self.heads.len()
+            && number < u32::MAX as usize
+            && number < self.later.capacity()
+            && number < self.here.capacity()
+    }
+
+    /// Makes room for one more entry in the later bucket.
+    fn make_room(&mut self, bucket: usize) -> Result<(), NoMemory>
+        requires { bucket < 2 ^ 63 }
+        ensures start { self.new.start ≡ self.old.start }
+        ensures reached { self.new.reached ≡ self.old.reached }
+        ensures heads { (other : ℕ) → slice_index self.new.heads.items other ≡ slice_index self.old.heads.items other }
+        ensures later { self.new.later.items ≡ self.old.later.items }
+        ensures here { self.new.here.items ≡ self.old.here.items }
+        ensures room { OnOk result (HasRoom self.new bucket) }
+    {
+        let number = self.later.len();
+        if number >= u32::MAX as usize {
+            return Err(NoMemory);
+        }
+        reserve_far(&mut self.later, number + 1)?;
+        reserve_far(&mut self.here, self.later.capacity())?;
+        make_places(&mut self.heads, bucket)
+    }
+
+    /// Adds an entry of a later bucket, for which room is made.
+    #[inline(never)]
+    fn add_with_room(&mut self, bucket: usize, entry: Entry) -> Result<(), NoMemory>
+        requires bucket { bucket ≡ bucket_of self.old.start entry.estimate }
+        requires later { self.old.reached ≤ bucket }
+        ensures added { OnOk result (Holds self.new entry) }
+        ensures kept { (other : Entry) → Holds self.old other → Holds self.new other }
+    {
+        self.make_room(bucket)?;
+        self.link(bucket, entry);
         Ok(())
     }
 
@@ -58,23 +148,11 @@ impl Buckets {
         ensures added { OnOk result (Holds self.new entry) }
         ensures kept { (other : Entry) → Holds self.old other → Holds self.new other }
     {
-        let Ok(number) = u32::try_from(self.later.len()) else {
-            return Err(NoMemory);
-        };
-        let Some(after) = number.checked_add(1) else {
-            return Err(NoMemory);
-        };
-        self.later.reserve(1)?;
-        self.here.reserve(after as usize)?;
-        make_places(&mut self.heads, bucket)?;
-        let next = self.heads[bucket];
-        self.heads[bucket] = after;
-        self.later.push_reserved(Waiting {
-            estimate: entry.estimate,
-            key: entry.key,
-            next,
-        });
-        Ok(())
+        if self.has_room(bucket) {
+            self.link(bucket, entry);
+            return Ok(());
+        }
+        self.add_with_room(bucket, entry)
     }
 
     /// Where no entry is left, buckets are counted from the current one, or from an estimate before it. The first entry
