@@ -155,14 +155,13 @@ impl Buckets {
         self.add_with_room(bucket, entry)
     }
 
-    /// Where no entry is left, buckets are counted from the current one, or from an estimate before it. The first entry
-    /// of all is the first of its bucket.
+    /// Where no entry is left and none has come to a later bucket, buckets are counted from the estimate, or from one
+    /// before it. The first entry of all is the first of its bucket.
     fn rebase(&mut self, estimate: u64)
         ensures kept { (other : Entry) → Holds self.old other → Holds self.new other }
     {
-        if self.here.is_empty() && self.heads.len() <= self.reached {
-            let passed = WIDTH.saturating_mul(self.reached.saturating_sub(1) as u64);
-            self.restart(estimate.min(self.start.saturating_add(passed)));
+        if self.heads.is_empty() && self.here.is_empty() {
+            self.restart(estimate.min(self.start));
         }
     }
 
