@@ -24,6 +24,7 @@ mod tracing;
 
 pub use laws::{one_opened_number, one_pruned_cost};
 pub use search::{
-    Pool, Traced, jump_find, jump_find_in, jump_find_with, jump_search, jump_search_with,
+    Pool, Traced, jump_find, jump_find_in, jump_find_with, jump_search, jump_search_in,
+    jump_search_with,
 };
 pub use states::JumpState;

@@ -95,7 +95,9 @@ fn answered<R: Runs, A: Aim, L: Ledger>(
 /// within the cost of the answer. The start must be passable, and some hit cell must be joined to it.
 ///
 /// Each opened jump state is one tick, so that the ticks are the opened number, and no more than it where memory runs out.
-pub fn jump_search_with<R: Runs, A: Aim, L: Ledger>(
+/// It takes no memory but that of its answer where an earlier search in the pool has taken as much.
+pub fn jump_search_in<R: Runs, A: Aim, L: Ledger>(
+    pool: &mut Pool,
     alloc: Global,
     runs: &R,
     class: Class,
@@ -123,8 +125,33 @@ pub fn jump_search_with<R: Runs, A: Aim, L: Ledger>(
         aim,
         all: true,
     };
-    let mut front = Front::new(alloc)?;
-    answered(&mut front, alloc, &problem, ticks)
+    answered(&mut pool.front, alloc, &problem, ticks)
+}
+
+/// As [`jump_search_in`], in a pool of its own.
+pub fn jump_search_with<R: Runs, A: Aim, L: Ledger>(
+    alloc: Global,
+    runs: &R,
+    class: Class,
+    start: Cell,
+    aim: &A,
+    ticks: &mut Ticks<L>,
+) -> Result<Traced, NoMemory>
+    requires class { class < R.class_count runs.now }
+    requires search { CanSearch (R.passes runs.now class) (A.hit aim.now (R.extent runs.now))
+        (A.sound aim.now (R.extent runs.now)) start }
+    ensures answer { IfOk result (λ traced. IsAnswer (R.passes runs.now class) start (A.hit aim.now
+        (R.extent runs.now))
+        traced.found.end traced.found.cost.0 traced.found.waypoints) }
+    ensures opened { IfOk result (λ traced. CountsOpened (R.passes runs.now class)
+        (A.hit aim.now (R.extent runs.now)) (A.framed aim.now (R.extent runs.now)) (R.extent runs.now) start
+        traced.found.cost.0 traced.opened) }
+    ensures ticks { IfOk result (λ traced. ticks.new ≡ ticks.old + traced.opened) }
+    ensures most { IsWithinOpened (R.passes runs.now class) (A.hit aim.now (R.extent runs.now))
+        (A.framed aim.now (R.extent runs.now)) (R.extent runs.now) start ticks.old ticks.new }
+{
+    let mut pool = Pool::new(alloc)?;
+    jump_search_in(&mut pool, alloc, runs, class, start, aim, ticks)
 }
 
 /// As [`jump_search_with`], over any view, cell by cell.
@@ -156,7 +183,7 @@ pub fn jump_search<V: View, A: Aim, L: Ledger>(
 /// passable, and some hit cell must be joined to it.
 ///
 /// It opens no jump state that is dearer than another of its cell. Each that it opens is one tick, so there are no more
-/// than the opened number of [`jump_search_with`], also where memory runs out. It takes no memory but that of its answer
+/// than the opened number of [`jump_search_in`], also where memory runs out. It takes no memory but that of its answer
 /// where an earlier search in the pool has taken as much.
 pub fn jump_find_in<R: Runs, A: Aim, L: Ledger>(
     pool: &mut Pool,
