@@ -2,36 +2,33 @@
 use Rattle.std.proofs.Common.{ℕ, ◌≡◌, ◌+◌, ◌-◌, ◌*◌, ◌<◌, ◌≤◌, ◌⊎◌, inl, inr, Bool, List, [], IsTrue, IsFalse, length, get_or, set, refl, sym, ap, ◌∙◌, subst, arith}
 use Rattle.std.specs.Prelude.{replicate, Contains}
 use Rattle.std.proofs.lemmas.Bool.{cases_eq, cases_lt, both_ways}
+use Rattle.std.proofs.lemmas.Nat.{mul-le}
 use Rattle.std.proofs.lemmas.List.{length-replicate, get_or-replicate, get_or_past, get_or-set_same}
 use Rattle.nav_types.specs.declared.cells.Cell.{Cell}
 use Rattle.nav_types.specs.declared.cells.Rect.{Rect}
 use Rattle.nav_types.specs.declared.cells.Size.{Size}
-use Rattle.nav_types.specs.Cells.{IsInside, IsInRect, IsBefore, cell_at}
+use Rattle.nav_types.specs.Cells.{IsInside, IsInRect, cell_at}
 use Rattle.nav_types.specs.Walks.{Joined}
 use Rattle.nav_types.proofs.CellOrder.{same_cell, before_next}
 use Rattle.nav_types.proofs.Items.{Contains-none}
 use Rattle.flow_field.specs.declared.spreading.Spread.{Spread}
-use Rattle.flow_field.specs.inner.Marks.{free, spot_of, mark_of, IsFilled, IsSound, IsSpreading, Waits, Every, NoStep}
+use Rattle.flow_field.specs.inner.Marks.{free, spot_of, mark_of, IsRunCleared, IsFreeSpot, IsCleared, IsFilled, IsSound, IsSpreading, Waits, NoStep}
 use Rattle.flow_field.specs.inner.Spreads.{WaitsIn, IsLowered, FoundBefore, FoundTo}
-use Rattle.flow_field.proofs.Spots.{spot_of-lt, spot_of-inj}
+use Rattle.flow_field.proofs.Spots.{spot_of-lt, spot_of-low, spot_of-inj, row_more as place_more}
 use Rattle.flow_field.proofs.Lowering.{IsFall, IsQueued, spreading_fallen}
 
--- a run of places that was filled
-pub record IsRunFilled (from end : ℕ) (old new : List ℕ) : Type 0 where
-  pub long : length new ≡ length old
-  pub filled : (k : ℕ) → from ≤ k → k < end → get_or new k 0 ≡ free
-  pub kept : (k : ℕ) → (k < from) ⊎ (end ≤ k) → get_or new k 0 ≡ get_or old k 0
+-- ---- clearing
 
-pub run_none : (from : ℕ) (old : List ℕ) → IsRunFilled from from old old
-run_none from old = record { long = refl; filled = λ k low high. absurd (omega (arith, low, high)); kept = λ k out. refl }
+pub run_none : (from : ℕ) (old : List ℕ) → IsRunCleared from from old old
+run_none from old = record { long = refl; cleared = λ k low high. absurd (omega (arith, low, high)); kept = λ k out. refl }
 
-pub run_more : (from at : ℕ) (old mid new : List ℕ) → from ≤ at → length new ≡ length mid → get_or new at 0 ≡ free → ((k : ℕ) → (k ≡ at → ⊥) → get_or new k 0 ≡ get_or mid k 0)
-    → IsRunFilled from at old mid → IsRunFilled from (at + 1) old new
+pub run_more : (from at : ℕ) (old mid new : List ℕ) → from ≤ at → length new ≡ length mid → get_or new at 0 ≡ 0 → ((k : ℕ) → (k ≡ at → ⊥) → get_or new k 0 ≡ get_or mid k 0)
+    → IsRunCleared from at old mid → IsRunCleared from (at + 1) old new
 run_more from at old mid new low long here others so_far = record {
   long = long ∙ so_far.long;
-  filled = λ k above below. elim (cases_eq k at) [
+  cleared = λ k above below. elim (cases_eq k at) [
     | inl same ↦ ap (λ (i : ℕ). get_or new i 0) same ∙ here
-    | inr other ↦ others k other ∙ so_far.filled k above (omega (arith, other))
+    | inr other ↦ others k other ∙ so_far.cleared k above (omega (arith, other))
   ];
   kept = λ k out. elim out [
     | inl before ↦ others k (λ e. omega (arith, e, before, low)) ∙ so_far.kept k (inl before)
@@ -39,78 +36,106 @@ run_more from at old mid new low long here others so_far = record {
   ];
 }
 
-pub row_more : (passes : Cell → Bool) (size : Size) (i j from end lo hi : ℕ) (old new : List ℕ) → lo ≡ (j + 1) * (size.w + 2) + 1 + from → hi ≡ (j + 1) * (size.w + 2) + 1 + end
-    → ((k : ℕ) → i ≤ k → k < from → IsFalse (passes (cell_at k j))) → ((k : ℕ) → from ≤ k → k < end → IsTrue (passes (cell_at k j)))
-    → IsRunFilled lo hi old new → IsFilled passes size (λ (cell : Cell). IsBefore cell (cell_at i j)) old → IsFilled passes size (λ (cell : Cell). IsBefore cell (cell_at end j)) new
-row_more passes size i j from end lo hi old new is_lo is_hi blocked free_there run filled =
-    let row = (j + 1) * (size.w + 2) + 1 in
+-- up to the run all places are those of passable cells, in the run none is
+pub cleared_more : (passes : Cell → Bool) (size : Size) (at from end : ℕ) (old new : List ℕ) → ((k : ℕ) → at ≤ k → k < from → IsFreeSpot passes size k) → ((k : ℕ) → from ≤ k → k < end → IsFreeSpot passes size k → ⊥)
+    → IsRunCleared from end old new → IsCleared passes size at old → IsCleared passes size end new
+cleared_more passes size at from end old new free_there none_there run cleared =
+    let same : (k : ℕ) → (k < from) ⊎ (end ≤ k) → k < length new → (get_or new k 0 ≡ free) ⊎ ((get_or new k 0 ≡ 0) × (IsFreeSpot passes size k → ⊥)) = λ k out within. elim (cleared.each k (omega (arith, within, run.long))) [
+      | inl is ↦ inl (run.kept k out ∙ is)
+      | inr none ↦ inr (run.kept k out ∙ none.0, none.1)
+    ] in
+    let was : (k : ℕ) → k < from → (get_or new k 0 ≡ 0) ⊎ IsFreeSpot passes size k = λ k before. elim (cases_lt k at) [
+      | inl done ↦ elim (cleared.cleared k done) [ inl zero_there ↦ inl (run.kept k (inl before) ∙ zero_there) | inr is ↦ inr is ]
+      | inr low ↦ inr (free_there k low before)
+    ] in
     record {
-      long = run.long ∙ filled.long;
-      each = λ k. elim (cases_lt k lo) [
-        | inl before ↦ elim (filled.each k) [
-          | inl none ↦ inl (run.kept k (inl before) ∙ none)
-          | inr is ↦ inr (run.kept k (inl before) ∙ is.0, is.1)
-        ]
-        | inr low ↦ elim (cases_lt k hi) [
-          | inl high ↦ inr (run.filled k low high, (cell_at (k - row) j, (free_there (k - row) (omega arith) (omega arith), omega arith)))
-          | inr after ↦ elim (filled.each k) [
-            | inl none ↦ inl (run.kept k (inr after) ∙ none)
-            | inr is ↦ inr (run.kept k (inr after) ∙ is.0, is.1)
-          ]
+      long = run.long ∙ cleared.long;
+      each = λ k within. elim (cases_lt k from) [
+        | inl before ↦ same k (inl before) within
+        | inr low ↦ elim (cases_lt k end) [
+          | inl high ↦ inr (run.cleared k low high, none_there k low high)
+          | inr after ↦ same k (inr after) within
         ]
       ];
-      done = λ cell before passable.
-          let k = spot_of size cell in
-          let old_done : (k < lo) ⊎ (hi ≤ k) → get_or new k 0 ≡ free = λ out. run.kept k out ∙ filled.done cell
-          (elim before [
-            | inl rows ↦ inl rows
-            | inr same ↦
-                let at : cell ≡ cell_at cell.i j = same_cell cell (cell_at cell.i j) refl same.0 in
-                let here : IsTrue (passes (cell_at cell.i j)) = subst (λ (c : Cell). IsTrue (passes c)) at passable in
-                let products = ap (λ (n : ℕ). (n + 1) * (size.w + 2)) same.0 in
-                elim (cases_lt cell.i i) [
-                  | inl earlier ↦ inr (same.0, earlier)
-                  | inr later ↦ elim (cases_lt cell.i from) [
-                    | inl gap ↦ absurd (both_ways (passes (cell_at cell.i j)) (blocked cell.i later gap) here)
-                    | inr within ↦ elim out [
-                      | inl low ↦ absurd (omega (arith, low, within, products, is_lo))
-                      | inr high ↦ absurd (omega (arith, high, same.1, products, is_hi))
-                    ]
-                  ]
-                ]
-          ]) passable in
-          elim (cases_lt k lo) [
-            | inl low ↦ old_done (inl low)
-            | inr low ↦ elim (cases_lt k hi) [
-              | inl high ↦ run.filled k low high
-              | inr high ↦ old_done (inr high)
-            ]
-          ];
+      cleared = λ k below. elim (cases_lt k from) [
+        | inl before ↦ was k before
+        | inr low ↦ inl (run.cleared k low below)
+      ];
     }
 
-pub filled_as : (passes : Cell → Bool) (size : Size) (Done More : Cell → Type 0) (marks : List ℕ) → ((cell : Cell) → IsTrue (passes cell) → More cell → Done cell) → IsFilled passes size Done marks → IsFilled passes size More marks
-filled_as passes size Done More marks turn filled = record {
-  long = filled.long;
-  each = filled.each;
-  done = λ cell more passable. filled.done cell (turn cell passable more) passable;
-}
-
--- a list of zeros
-abbrev zeros : ℕ → List ℕ
-zeros n = replicate n 0
-
-pub filled_none : (passes : Cell → Bool) (size : Size) (Done : Cell → Type 0) → ((cell : Cell) → Done cell → ⊥) → IsFilled passes size Done (replicate ((size.w + 2) * (size.h + 2)) 0)
-filled_none passes size Done none =
+pub cleared_none : (passes : Cell → Bool) (size : Size) (marks : List ℕ) → marks ≡ replicate ((size.w + 2) * (size.h + 2)) free → IsCleared passes size 0 marks
+cleared_none passes size marks is =
     let n = (size.w + 2) * (size.h + 2) in
-    let long : length (zeros n) ≡ n = length-replicate {A = ℕ} n 0 in
+    let long : length marks ≡ n = ap (λ (m : List ℕ). length m) is ∙ length-replicate {A = ℕ} n free in
     record {
       long = long;
-      each = λ k. inl (elim (cases_lt k n) [
-        | inl within ↦ get_or-replicate n k 0 0 within
-        | inr past ↦ get_or_past (zeros n) k 0 (omega (arith, long, past))
-      ]);
-      done = λ cell done passable. absurd (none cell done);
+      each = λ k within. inl (ap (λ (m : List ℕ). get_or m k 0) is ∙ get_or-replicate n k free 0 (omega (arith, within, long)));
+      cleared = λ k below. absurd (omega (arith, below));
     }
+
+-- no cell has a place before the first row
+pub none_first : (passes : Cell → Bool) (size : Size) (k : ℕ) → k < size.w + 3 → IsFreeSpot passes size k → ⊥
+none_first passes size k below found = omega (arith, below, found.1.1, spot_of-low size found.0)
+
+-- nor between a row and the next
+pub none_between : (passes : Cell → Bool) (size : Size) (j k : ℕ) → ((cell : Cell) → IsTrue (passes cell) → IsInside size cell) → spot_of size (cell_at size.w j) ≤ k → k < spot_of size (cell_at 0 (j + 1))
+    → IsFreeSpot passes size k → ⊥
+none_between passes size j k within low high found =
+    let cell = found.0 in
+    let inside = within cell found.1.0 in
+    let next = place_more (j + 1) (size.w + 2) in
+    elim (cases_lt j cell.j) [
+      | inl later ↦ omega (arith, found.1.1, high, next, mul-le (j + 2) (size.w + 2) (cell.j + 1) (size.w + 2) (omega (arith, later)) (omega arith))
+      | inr earlier ↦ omega (arith, found.1.1, low, next, inside.column, mul-le (cell.j + 1) (size.w + 2) (j + 1) (size.w + 2) (omega (arith, earlier)) (omega arith))
+    ]
+
+-- nor behind the last row
+pub none_last : (passes : Cell → Bool) (size : Size) (k : ℕ) → ((cell : Cell) → IsTrue (passes cell) → IsInside size cell) → spot_of size (cell_at 0 size.h) ≤ k → IsFreeSpot passes size k → ⊥
+none_last passes size k within low found =
+    let cell = found.0 in
+    let inside = within cell found.1.0 in
+    omega (arith, found.1.1, low, inside.column, mul-le (cell.j + 1) (size.w + 2) size.h (size.w + 2) (omega (arith, inside.row)) (omega arith), place_more size.h (size.w + 2))
+
+-- the place of a row's first cell
+pub place_of_first : (of size : Size) (cell : Cell) (j place : ℕ) → of ≡ size → cell ≡ cell_at 0 j → place ≡ spot_of of cell → place ≡ spot_of size (cell_at 0 j)
+place_of_first of size cell j place same_size same_cell is = subst (λ (s : Size). place ≡ spot_of s (cell_at 0 j)) same_size (subst (λ (c : Cell). place ≡ spot_of of c) same_cell is)
+
+-- a run of cells of a row
+pub row_more : (passes : Cell → Bool) (size : Size) (i j from end row : ℕ) (old new : List ℕ) → ((cell : Cell) → IsTrue (passes cell) → IsInside size cell) → row ≡ spot_of size (cell_at 0 j)
+    → j < size.h → end ≤ size.w
+    → ((k : ℕ) → i ≤ k → k < from → IsTrue (passes (cell_at k j))) → ((k : ℕ) → from ≤ k → k < end → IsFalse (passes (cell_at k j)))
+    → IsRunCleared (row + from) (row + end) old new → IsCleared passes size (row + i) old → IsCleared passes size (row + end) new
+row_more passes size i j from end row old new within is low within_row free_there blocked run cleared =
+    cleared_more passes size (row + i) (row + from) (row + end) old new
+    (λ k above below. (cell_at (k - row) j, (free_there (k - row) (omega (arith, above)) (omega (arith, above, below)), omega (arith, is, above))))
+    (λ k above below found.
+    let cell = found.0 in
+    let here = cell_at (k - row) j in
+    let inside : IsInside size here = record { column = omega (arith, above, below, within_row); row = low } in
+    let same : cell ≡ here = spot_of-inj size cell here (within cell found.1.0) inside (omega (arith, sym found.1.1, is, above)) in
+    both_ways (passes here) (blocked (k - row) (omega (arith, above)) (omega (arith, above, below))) (subst (λ (c : Cell). IsTrue (passes c)) same found.1.0))
+    run cleared
+
+pub filled_of_cleared : (passes : Cell → Bool) (size : Size) (end : ℕ) (marks : List ℕ) → ((cell : Cell) → IsTrue (passes cell) → IsInside size cell) → end ≡ length marks → IsCleared passes size end marks → IsFilled passes size marks
+filled_of_cleared passes size end marks within all cleared = record {
+  long = cleared.long;
+  each = λ k. elim (cases_lt k (length marks)) [
+    | inl below ↦ elim (cleared.cleared k (omega (arith, below, all))) [
+      | inl none ↦ inl none
+      | inr is ↦ elim (cleared.each k below) [
+        | inl is_free ↦ inr (is_free, is)
+        | inr none ↦ absurd (none.1 is)
+      ]
+    ]
+    | inr past ↦ inl (get_or_past marks k 0 past)
+  ];
+  passable = λ cell passable.
+      let k = spot_of size cell in
+      elim (cleared.each k (omega (arith, spot_of-lt size cell (within cell passable), cleared.long))) [
+        | inl is_free ↦ is_free
+        | inr none ↦ absurd (none.1 (cell, (passable, refl)))
+      ];
+}
 
 -- ---- targets
 
@@ -129,11 +154,11 @@ spreading_as passes hit start size Found More marks Waiting turn spreads = recor
 
 -- nothing is reached yet
 pub spreading_none : (passes hit : Cell → Bool) (start : Cell) (size : Size) (Found : Cell → Type 0) (spread : Spread) → ((cell : Cell) → IsTrue (passes cell) → IsInside size cell)
-    → ((target : Cell) → Found target → ⊥) → spread.straight ≡ [] → spread.diagonal ≡ [] → IsFilled passes size Every spread.marks.items
+    → ((target : Cell) → Found target → ⊥) → spread.straight ≡ [] → spread.diagonal ≡ [] → IsFilled passes size spread.marks.items
     → IsSpreading passes hit start size Found NoStep spread.marks.items (WaitsIn spread)
 spreading_none passes hit start size Found spread inside none straight diagonal filled =
     let marks = spread.marks.items in
-    let known : (cell : Cell) → IsTrue (passes cell) → mark_of size marks cell ≡ free = λ cell passable. filled.done cell tt passable in
+    let known : (cell : Cell) → IsTrue (passes cell) → mark_of size marks cell ≡ free = filled.passable in
     record {
       sound = record {
         inside = inside;

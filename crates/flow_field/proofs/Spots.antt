@@ -1,6 +1,6 @@
 -- Cells and their places in a table with a border of one cell.
 use Rattle.std.proofs.Common.{ℕ, ◌≡◌, ◌+◌, ◌*◌, ◌<◌, ◌≤◌, sym, ap, ◌∙◌, subst, arith}
-use Rattle.std.proofs.Math.Nat.{add-mul}
+use Rattle.std.proofs.Math.Nat.{add-mul, mul_comm}
 use Rattle.std.proofs.lemmas.Nat.{mul-le, mul-add-lt, div-mul-add, mod-mul-add, same_from_place}
 use Rattle.nav_types.specs.declared.cells.Cell.{Cell}
 use Rattle.nav_types.specs.declared.cells.Size.{Size}
@@ -14,6 +14,10 @@ use Rattle.flow_field.specs.inner.Marks.{spot_of, cell_at_spot, IsBesideSpot, Is
 -- a place more along a row
 pub row_more : (a w : ℕ) → (a + 1) * w ≡ a * w + w
 row_more a w = omega (arith, add-mul a 1 w)
+
+-- the table's places, by its last row
+pub rows_in_all : (size : Size) → (size.w + 2) * (size.h + 2) ≡ (size.h + 1) * (size.w + 2) + (size.w + 2)
+rows_in_all size = omega (arith, mul_comm (size.w + 2) (size.h + 2), row_more (size.h + 1) (size.w + 2))
 
 pub few_spots : (size : Size) → (size.w + 2) * (size.h + 2) ≤ 4202500
 few_spots size =

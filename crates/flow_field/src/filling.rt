@@ -1,9 +1,9 @@
 //! The table of marks before they spread: what is passable, and the targets.
-ghost use Rattle.std.specs.Prelude.{ℕ, ◌≡◌, ◌+◌, ◌*◌, ◌<◌, ◌≤◌, ◌^◌, ◌⊎◌, [], length, slice_index, IfOk, OnOk, IsTrue, IsFalse};
+ghost use Rattle.std.specs.Prelude.{ℕ, ◌≡◌, ◌+◌, ◌*◌, ◌<◌, ◌≤◌, ◌^◌, [], length, IfOk, OnOk, IsTrue, IsFalse};
 ghost use Rattle.nav_types.specs.declared.cells.Cell.{Cell};
 ghost use Rattle.nav_types.specs.declared.cells.Rect.{Rect};
 ghost use Rattle.nav_types.specs.Cells.{IsInside, cell_at, IsBefore};
-ghost use Rattle.flow_field.specs.inner.Marks.{free, spot_of, IsFilled, IsSpreading, NoStep, Every};
+ghost use Rattle.flow_field.specs.inner.Marks.{spot_of, IsRunCleared, IsCleared, IsFilled, IsSpreading, NoStep, Every};
 ghost use Rattle.flow_field.specs.inner.Spreads.{WaitsIn, FoundBefore, FoundTo};
 
 use crate::spreading::{FREE, Spread};
@@ -27,72 +27,75 @@ struct Run {
     end: u16,
 }
 
-/// The first run of passable cells of a row, from the cell on; an empty one at the row's end where there is none.
+/// The first run of impassable cells of a row, from the cell on; an empty one at the row's end where there is none.
 fn next_run<M: FreeCells>(map: &M, class: Class, cell: Cell) -> Run
     requires class { class < M.class_count map.now }
     requires inside { IsInside (M.extent map.now) cell }
     ensures on { cell.i < result.end }
     ensures order { result.from ≤ result.end }
     ensures within { result.end ≤ (M.extent map.now).w }
-    ensures blocked { (k : ℕ) → cell.i ≤ k → k < result.from → IsFalse (M.passes map.now class (cell_at k cell.j)) }
-    ensures passable { (k : ℕ) → result.from ≤ k → k < result.end → IsTrue (M.passes map.now class (cell_at k cell.j)) }
+    ensures passable { (k : ℕ) → cell.i ≤ k → k < result.from → IsTrue (M.passes map.now class (cell_at k cell.j)) }
+    ensures blocked { (k : ℕ) → result.from ≤ k → k < result.end → IsFalse (M.passes map.now class (cell_at k cell.j)) }
 {
     let width = map.size().w;
-    let from = map.next_free(class, Axis::Row, cell);
+    let from = map.next_blocked(class, Axis::Row, cell);
     if from >= width {
         return Run {
             from: width,
             end: width,
         };
     }
-    let end = map.next_blocked(class, Axis::Row, Cell::new(from, cell.j));
+    let end = map.next_free(class, Axis::Row, Cell::new(from, cell.j));
     Run { from, end }
 }
 
-/// Marks a run of places as passable and not reached.
-fn fill_run(marks: &mut Vec<u64>, from: usize, end: usize)
+/// Marks a run of places as those where no cell is passable.
+fn clear_run(marks: &mut Vec<u64>, from: usize, end: usize)
     requires within { end ≤ length marks.old.items }
     requires order { from ≤ end }
-    ensures long { length marks.new.items ≡ length marks.old.items }
-    ensures filled { (spot : ℕ) → from ≤ spot → spot < end → slice_index marks.new.items spot ≡ free }
-    ensures kept { (spot : ℕ) → (spot < from) ⊎ (end ≤ spot)
-        → slice_index marks.new.items spot ≡ slice_index marks.old.items spot }
+    ensures { IsRunCleared from end marks.old.items marks.new.items }
 {
     for at in from..end {
-        marks[at] = FREE;
+        marks[at] = 0;
     }
 }
 
-/// Marks the passable cells of a row.
-fn fill_row<M: FreeCells>(marks: &mut Vec<u64>, map: &M, class: Class, j: u16)
+/// Clears the impassable cells of a row, and the border behind it up to the next row.
+fn clear_row<M: FreeCells>(marks: &mut Vec<u64>, map: &M, class: Class, j: u16)
     requires class { class < M.class_count map.now }
     requires row { j < (M.extent map.now).h }
-    requires filled { IsFilled (M.passes map.now class) (M.extent map.now)
-        (λ (cell : Cell). IsBefore cell (cell_at 0 j)) marks.old.items }
-    ensures { IsFilled (M.passes map.now class) (M.extent map.now)
-        (λ (cell : Cell). IsBefore cell (cell_at 0 (j + 1))) marks.new.items }
+    requires cleared { IsCleared (M.passes map.now class) (M.extent map.now)
+        (spot_of (M.extent map.now) (cell_at 0 j)) marks.old.items }
+    ensures { IsCleared (M.passes map.now class) (M.extent map.now)
+        (spot_of (M.extent map.now) (cell_at 0 (j + 1))) marks.new.items }
 {
     let size = map.size();
     let row = spot(size, Cell::new(0, j));
     let mut i = 0;
     'runs: while i < size.w {
         let run = next_run(map, class, Cell::new(i, j));
-        fill_run(marks, row + run.from as usize, row + run.end as usize);
+        clear_run(marks, row + run.from as usize, row + run.end as usize);
         i = run.end;
     }
+    let end = row + size.w as usize;
+    clear_run(marks, end, end + 2);
 }
 
-/// The table where nothing is reached.
+/// The table where nothing is reached. Most cells are passable on most maps, so that all places begin as passable ones and
+/// the others are cleared.
 pub fn free_marks<M: FreeCells>(alloc: Global, map: &M, class: Class) -> Result<Vec<u64>, NoMemory>
     requires class { class < M.class_count map.now }
-    ensures { IfOk result (λ marks. IsFilled (M.passes map.now class) (M.extent map.now) Every marks.items) }
+    ensures { IfOk result (λ marks. IsFilled (M.passes map.now class) (M.extent map.now) marks.items) }
 {
     let size = map.size();
-    let count = (size.w as usize + 2) * (size.h as usize + 2);
-    let mut marks = vec![in alloc; 0; count]?;
+    let width = size.w as usize + 2;
+    let count = width * (size.h as usize + 2);
+    let mut marks = vec![in alloc; FREE; count]?;
+    clear_run(&mut marks, 0, width + 1);
     for j in 0..size.h {
-        fill_row(&mut marks, map, class, j);
+        clear_row(&mut marks, map, class, j);
     }
+    clear_run(&mut marks, count - width + 1, count);
     Ok(marks)
 }
 
@@ -136,7 +139,7 @@ impl Spread {
         requires class { class < M.class_count map.now }
         requires start { IsTrue (M.passes map.now class start) }
         requires aim { A.sound aim.now (M.extent map.now) }
-        requires filled { IsFilled (M.passes map.now class) (M.extent map.now) Every self.old.marks.items }
+        requires filled { IsFilled (M.passes map.now class) (M.extent map.now) self.old.marks.items }
         requires straight { self.old.straight ≡ [] }
         requires diagonal { self.old.diagonal ≡ [] }
         ensures { OnOk result (IsSpreading (M.passes map.now class) (A.hit aim.now (M.extent map.now)) start

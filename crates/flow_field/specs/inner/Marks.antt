@@ -59,12 +59,28 @@ cells_of size marks = record {
   fars = map (λ (place : ℕ). far_of (mark_of size marks (cell_of size place))) (range_with_len 0 (size.w * size.h));
 }
 
--- the table where nothing is reached, as far as it is filled: these cells are
-pub record IsFilled (passes : Cell → Bool) (size : Size) (Done : Cell → Type 0) (marks : List ℕ) : Type 0 where
+-- a run of places was cleared, and no other place changed
+pub record IsRunCleared (from end : ℕ) (old new : List ℕ) : Type 0 where
+  pub long : length new ≡ length old
+  pub cleared : (spot : ℕ) → from ≤ spot → spot < end → slice_index new spot ≡ 0
+  pub kept : (spot : ℕ) → (spot < from) ⊎ (end ≤ spot) → slice_index new spot ≡ slice_index old spot
+
+-- the place is that of a passable cell
+abbrev pub IsFreeSpot : (Cell → Bool) → Size → ℕ → Type 0
+IsFreeSpot passes size spot = (cell : Cell) × (IsTrue (passes cell) × (spot ≡ spot_of size cell))
+
+-- places are cleared up to this one, those of passable cells left out, and every other is free
+pub record IsCleared (passes : Cell → Bool) (size : Size) (end : ℕ) (marks : List ℕ) : Type 0 where
   pub long : length marks ≡ (size.w + 2) * (size.h + 2)
-  pub each : (spot : ℕ) → (slice_index marks spot ≡ 0)
-      ⊎ ((slice_index marks spot ≡ free) × ((cell : Cell) × (IsTrue (passes cell) × (spot ≡ spot_of size cell))))
-  pub done : (cell : Cell) → Done cell → IsTrue (passes cell) → mark_of size marks cell ≡ free
+  pub each : (spot : ℕ) → spot < length marks
+      → (slice_index marks spot ≡ free) ⊎ ((slice_index marks spot ≡ 0) × (IsFreeSpot passes size spot → ⊥))
+  pub cleared : (spot : ℕ) → spot < end → (slice_index marks spot ≡ 0) ⊎ IsFreeSpot passes size spot
+
+-- the table where nothing is reached
+pub record IsFilled (passes : Cell → Bool) (size : Size) (marks : List ℕ) : Type 0 where
+  pub long : length marks ≡ (size.w + 2) * (size.h + 2)
+  pub each : (spot : ℕ) → (slice_index marks spot ≡ 0) ⊎ ((slice_index marks spot ≡ free) × IsFreeSpot passes size spot)
+  pub passable : (cell : Cell) → IsTrue (passes cell) → mark_of size marks cell ≡ free
 
 -- each mark is what it stands for
 pub record IsSound (passes hit : Cell → Bool) (start : Cell) (size : Size) (marks : List ℕ) : Type 0 where

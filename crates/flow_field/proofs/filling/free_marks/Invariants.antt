@@ -1,8 +1,8 @@
-use Rattle.nav_types.specs.declared.cells.Cell.{Cell}
-use Rattle.nav_types.specs.Cells.{IsBefore, cell_at}
-use Rattle.flow_field.specs.inner.Marks.{IsFilled}
+use Rattle.nav_types.specs.Cells.{cell_at}
+use Rattle.flow_field.specs.inner.Marks.{spot_of, IsCleared}
 use Rattle.flow_field.proofs.filling.free_marks.Given as goal
 
 abbrev pub invariant-loop-j : goal.invariant-loop-j
 invariant-loop-j g l =
-    IsFilled (g.M.View.passes l.map l.class) (g.M.View.extent l.map) (λ (cell : Cell). IsBefore cell (cell_at 0 l.j)) l.marks.items
+    let size = g.M.View.extent l.map in
+    IsCleared (g.M.View.passes l.map l.class) size (spot_of size (cell_at 0 l.j)) l.marks.items
