@@ -1,26 +1,21 @@
 -- Paths with what a report tells of them.
-use Rattle.std.proofs.Common.{◌≡◌, ℕ, ℤ, Result, Ok, Err, IfOk, sym, refl, subst}
+use Rattle.std.proofs.Common.{◌≡◌, ℕ, ℤ, sym, refl, subst}
 use Rattle.nav_types.specs.declared.cells.Cell.{Cell}
-use Rattle.nav_types.specs.declared.cells.Rect.{Rect}
-use Rattle.nav_types.specs.declared.sequences.NoMemory.{NoMemory}
-use Rattle.nav_types.specs.Frames.{IsFrame}
 use Rattle.walks.specs.declared.found_walk.Found.{Found}
 use Rattle.line_smooth.specs.Smoothed.{AreCorners}
 use Rattle.line_smooth.proofs.Legs.{corners_of_answer}
 use Rattle.goal_shapes.specs.declared.goals.Goal.{Goal}
 use Rattle.goal_reach.specs.declared.targets.Target.{Target}
 use Rattle.goal_reach.specs.Starts.{IsStartCell}
-use Rattle.goal_reach.specs.Targets.{hit_by, framed_by, AreTargets}
-use Rattle.jump_search.specs.declared.search.Traced.{Traced}
-use Rattle.jump_search.specs.JumpStates.{CountsOpened}
+use Rattle.goal_reach.specs.Targets.{hit_by, AreTargets}
 use Rattle.posts.specs.declared.notes.Note.{Note}
 use Rattle.posts.specs.declared.notes.Report.{Report}
 use Rattle.posts.specs.declared.replies.PathAnswer.{PathAnswer}
 use Rattle.grid_versions.specs.Versions.{MapState, passes_of}
-use Rattle.turn_core.specs.Solving.{is_near, IsPathAnswer}
+use Rattle.turn_core.specs.Solving.{IsPathAnswer}
 use Rattle.turn_core.specs.Notes.{IsTold, IsNoteTo}
 use Rattle.turn_core.specs.declared.solving.NotedPath.{NotedPath}
-use Rattle.turn_core.specs.inner.Searching.{IsCountedTo, IsFoundTo, IsNotedPath, path_by}
+use Rattle.turn_core.specs.inner.Searching.{IsFoundTo, IsNotedPath, path_by}
 
 -- the waypoints of a walk that was found are the corners of a legal one
 pub found_corners : (state : MapState) (class : ℕ) (start : Cell) (target : Target) (found : Found) → IsFoundTo state class start target found
@@ -58,11 +53,3 @@ path_noted state report class start goal target noted targets is = record {
   targets = subst (λ (c : Cell). AreTargets (passes_of state class) c goal target) (sym is.begins) targets;
   told = is.told;
 }
-
--- what was counted by each box is counted by the one that is known
-pub counted_by : (state : MapState) (class : ℕ) (start : Cell) (target : Target) (box : Rect) (result : Result Traced NoMemory)
-    → IsFrame (framed_by target) state.map.size box
-    → IfOk result (λ (traced : Traced). CountsOpened (passes_of state class) (hit_by target) (framed_by target) state.map.size start traced.found.cost.0 traced.opened)
-    → IfOk result (λ (traced : Traced). IsCountedTo state class start target traced.found.cost.0 traced.opened)
-counted_by state class start target box (Ok traced) frame counted = (box, (frame, counted box frame))
-counted_by state class start target box (Err refused) frame counted = tt

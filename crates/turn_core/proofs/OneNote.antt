@@ -6,7 +6,6 @@ use Rattle.nav_types.specs.declared.cells.Cell.{Cell}
 use Rattle.nav_types.specs.declared.cells.Rect.{Rect}
 use Rattle.nav_types.specs.declared.cells.Size.{Size}
 use Rattle.nav_types.specs.Counting.{Counts}
-use Rattle.nav_types.specs.Frames.{IsFrame}
 use Rattle.nav_types.proofs.Counting.{Counts-unique}
 use Rattle.goal_shapes.specs.declared.goals.Goal.{Goal}
 use Rattle.goal_shapes.specs.declared.goals.GoalSpec.{GoalSpec}
@@ -34,8 +33,7 @@ use Rattle.posts.specs.declared.replies.Answer.TheVariants.{Refused, Nowhere, Pa
 use Rattle.turn_core.specs.Words.{Standing}
 use Rattle.turn_core.specs.Solving.{IsPathAnswer, IsPathFound, IsAnswerAt, IsAnswerTo, AreAnswersTo}
 use Rattle.turn_core.specs.NamedGoals.{class_named, is_on_map, goal_found}
-use Rattle.turn_core.specs.Opening.{IsOpenedNumber}
-use Rattle.turn_core.specs.Notes.{IsFlowLine, IsTold, IsNoteTo, IsPathNote, IsNoteOf, IsNote, AreNotes}
+use Rattle.turn_core.specs.Notes.{IsOpenedNumber, IsFlowLine, IsTold, IsNoteTo, IsPathNote, IsNoteOf, IsNote, AreNotes}
 use Rattle.turn_core.proofs.Itemwise.{IsItemwise, itemwise_by_place, itemwise_unique}
 use Rattle.turn_core.proofs.OneAnswer.{one_answer_to}
 

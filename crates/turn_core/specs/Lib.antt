@@ -1,7 +1,6 @@
 pub mod Words
 pub mod NamedGoals
 pub mod Solving
-pub mod Opening
 pub mod Notes
 pub mod Solvers
 pub mod Turns

@@ -1,11 +1,15 @@
 -- What is told beside the answers to requests.
 use Rattle.std.specs.Prelude.{ℕ, ◌≡◌, Bool, List, [], ◌∷◌, Option, Some, None, Ok}
 use Rattle.nav_types.specs.declared.cells.Cell.{Cell}
+use Rattle.nav_types.specs.declared.cells.Rect.{Rect}
 use Rattle.nav_types.specs.declared.cells.Size.{Size}
+use Rattle.nav_types.specs.Counting.{Counts}
+use Rattle.nav_types.specs.Frames.{IsFrame}
 use Rattle.goal_shapes.specs.declared.goals.Goal.{Goal}
 use Rattle.goal_shapes.specs.declared.goals.GoalSpec.{GoalSpec}
 use Rattle.goal_reach.specs.declared.targets.Target.{Target}
-use Rattle.goal_reach.specs.Targets.{hit_by, AreTargets}
+use Rattle.goal_reach.specs.Targets.{hit_by, framed_by, AreTargets}
+use Rattle.jump_search.specs.JumpStates.{IsOpened}
 use Rattle.flow_field.specs.Flows.{IsNext, HasSummary}
 use Rattle.line_smooth.specs.Smoothed.{IsSmoothing}
 use Rattle.posts.specs.Maps.{Map}
@@ -24,7 +28,13 @@ use Rattle.grid_versions.specs.Passing.{passable_at}
 use Rattle.turn_core.specs.Words.{Standing}
 use Rattle.turn_core.specs.NamedGoals.{class_named, goal_found}
 use Rattle.turn_core.specs.Solving.{IsAnswerTo}
-use Rattle.turn_core.specs.Opening.{IsOpenedNumber}
+
+-- The opened number of a path to its targets: how many jump states from its start to them have a least cost of jumps that,
+-- with the octile distance to the targets' box, is within the cost of the path.
+pub record IsOpenedNumber (passes : Cell → Bool) (size : Size) (target : Target) (path : PathAnswer) (opened : ℕ) : Type 0 where
+  pub box : Rect
+  pub frame : IsFrame (framed_by target) size box
+  pub counted : Counts (IsOpened passes (hit_by target) path.start box path.cost.0) opened
 
 -- what the flow field of the hit cells in the start's area tells of the start: the step to take there, and what the field
 -- has in all

@@ -1,12 +1,12 @@
 //! Searches on a version, each with a ledger of its own for the jump states that it opens.
 ghost use Rattle.std.specs.Prelude.{◌≡◌, ◌<◌, IfOk};
-ghost use Rattle.turn_core.specs.inner.Searching.{CanFind, IsCountedTo, IsFoundTo};
+ghost use Rattle.turn_core.specs.inner.Searching.{CanFind, IsFoundTo};
 
 use class_planes::PlaneRuns;
 use goal_reach::Target;
 use grid_versions::Version;
-use jump_search::{Pool, Traced, jump_find_in, jump_search_with};
-use nav_types::{Aim, Cell, Class, NoMemory, Ticks, View};
+use jump_search::{Pool, jump_find_in};
+use nav_types::{Cell, Class, NoMemory, Ticks};
 use std::alloc::Global;
 use std::marker::Brand;
 use std::sync::ledger::{Blank, Ledger};
@@ -47,42 +47,6 @@ impl<'a> Search<'a> {
         let mut ticks = Ticks::<L>::new(blank);
         jump_find_in(
             pool,
-            alloc,
-            &runs,
-            self.class,
-            self.start,
-            self.target,
-            &mut ticks,
-        )
-    }
-
-    /// The chosen walk, and how many jump states are within its cost.
-    pub(crate) fn trace(&self, alloc: Global) -> Result<Traced, NoMemory>
-        requires { CanFind self.now.version.now self.now.class self.now.start self.now.target.now }
-        ensures found { IfOk result (λ traced.
-            IsFoundTo self.now.version.now self.now.class self.now.start self.now.target.now traced.found) }
-        ensures opened { IfOk result (λ traced. IsCountedTo self.now.version.now self.now.class self.now.start
-            self.now.target.now traced.found.cost.0 traced.opened) }
-    {
-        self.trace_counted::<Brand>(alloc, Blank::new(1))
-    }
-
-    /// The same, with the opened jump states counted in a ledger of their own.
-    fn trace_counted<L: Ledger>(&self, alloc: Global, blank: Blank) -> Result<Traced, NoMemory>
-        requires name { blank.name ≡ L.name }
-        requires parts { blank.parts ≡ L.parts }
-        requires some { 0 < L.parts }
-        requires search { CanFind self.now.version.now self.now.class self.now.start self.now.target.now }
-        ensures found { IfOk result (λ traced.
-            IsFoundTo self.now.version.now self.now.class self.now.start self.now.target.now traced.found) }
-        ensures opened { IfOk result (λ traced. IsCountedTo self.now.version.now self.now.class self.now.start
-            self.now.target.now traced.found.cost.0 traced.opened) }
-    {
-        // The rectangle that the jump states are counted by.
-        let _box = self.target.bounds(self.version.size());
-        let runs = PlaneRuns::new(self.version, self.version.planes());
-        let mut ticks = Ticks::<L>::new(blank);
-        jump_search_with(
             alloc,
             &runs,
             self.class,

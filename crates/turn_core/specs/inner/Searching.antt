@@ -1,14 +1,10 @@
 -- What a search on a version asks for and gives.
 use Rattle.std.specs.Prelude.{ℕ, ◌≡◌, ◌<◌, Option, Some, None, length, IsTrue, ⊤}
 use Rattle.nav_types.specs.declared.cells.Cell.{Cell}
-use Rattle.nav_types.specs.declared.cells.Rect.{Rect}
-use Rattle.nav_types.specs.Counting.{Counts}
-use Rattle.nav_types.specs.Frames.{IsFrame}
 use Rattle.nav_types.specs.Regions.{HasArea}
 use Rattle.nav_types.specs.Walks.{CanReach}
 use Rattle.goal_reach.specs.declared.targets.Target.{Target}
-use Rattle.goal_reach.specs.Targets.{hit_by, framed_by, IsSoundTarget}
-use Rattle.jump_search.specs.JumpStates.{IsOpened}
+use Rattle.goal_reach.specs.Targets.{hit_by, IsSoundTarget}
 use Rattle.walks.specs.Chosen.{IsAnswer}
 use Rattle.walks.specs.declared.found_walk.Found.{Found}
 use Rattle.flow_field.specs.Flows.{IsFieldOf, HasSummary}
@@ -36,11 +32,6 @@ IsFoundTo state class start target found =
 abbrev pub path_by : Cell → Target → Found → PathAnswer
 path_by start target found =
     record { start = start; end = found.end; near = is_near target; cost = found.cost; waypoints = found.waypoints }
-
--- so many jump states are within the cost by the target's box
-abbrev pub IsCountedTo : MapState → ℕ → Cell → Target → ℕ → ℕ → Type 0
-IsCountedTo state class start target cost opened = (box : Rect) × (IsFrame (framed_by target) state.map.size box
-    × Counts (IsOpened (passes_of state class) (hit_by target) start box cost) opened)
 
 -- the path leads from the start to the target by the chosen walk, and the note is what the report tells of it
 pub record IsNotedPath (state : MapState) (report : Report) (class : ℕ) (start : Cell) (target : Target) (noted : NotedPath) : Type 0 where

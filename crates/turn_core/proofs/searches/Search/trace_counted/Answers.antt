@@ -1,11 +1,16 @@
-use Rattle.std.proofs.Common.{IfOk, subst}
+use Rattle.std.proofs.Common.{ℕ, Result, Ok, Err, IfOk, subst}
+use Rattle.nav_types.specs.declared.cells.Cell.{Cell}
+use Rattle.nav_types.specs.declared.cells.Rect.{Rect}
 use Rattle.nav_types.specs.declared.cells.Size.{Size}
+use Rattle.nav_types.specs.declared.sequences.NoMemory.{NoMemory}
 use Rattle.nav_types.specs.Frames.{IsFrame}
+use Rattle.goal_reach.specs.declared.targets.Target.{Target}
 use Rattle.goal_reach.specs.Targets.{hit_by, framed_by}
 use Rattle.jump_search.specs.declared.search.Traced.{Traced}
 use Rattle.jump_search.specs.JumpStates.{CountsOpened}
 use Rattle.grid_versions.specs.Versions.{MapState, passes_of}
-use Rattle.turn_core.proofs.NotedPaths.{counted_by}
+use Rattle.turn_core.specs.Notes.{IsOpenedNumber}
+use Rattle.turn_core.specs.inner.Searching.{path_by}
 use Rattle.turn_core.proofs.Searchable.{can_search}
 use Rattle.turn_core.proofs.searches.Search.trace_counted.Goals as goal
 
@@ -14,11 +19,19 @@ jump_search_with-requires-clause-search g c =
     let search = c.args.self.now in
     can_search search.version.now c.new-runs.result search.class search.start search.target.now c.new-runs.ensures c.requires.search
 
+-- what is counted by each box is the opened number by the one that is known
+opened_by : (state : MapState) (class : ℕ) (start : Cell) (target : Target) (box : Rect) (result : Result Traced NoMemory)
+    → IsFrame (framed_by target) state.map.size box
+    → IfOk result (λ (traced : Traced). CountsOpened (passes_of state class) (hit_by target) (framed_by target) state.map.size start traced.found.cost.0 traced.opened)
+    → IfOk result (λ (traced : Traced). IsOpenedNumber (passes_of state class) state.map.size target (path_by start target traced.found) traced.opened)
+opened_by state class start target box (Ok traced) frame counted = record { box = box; frame = frame; counted = counted box frame }
+opened_by state class start target box (Err refused) frame counted = tt
+
 pub returns-clause-opened : goal.returns-clause-opened
 returns-clause-opened g c =
     let search = c.args.self.now in
     let state = search.version.now in
-    counted_by state search.class search.start search.target.now c.bounds-box.result c.jump_search_with.result
+    opened_by state search.class search.start search.target.now c.bounds-box.result c.jump_search_with.result
     (subst (λ (s : Size). IsFrame (framed_by search.target.now) s c.bounds-box.result) c.size.ensures c.bounds-box.ensures)
     (subst (λ (s : MapState). IfOk c.jump_search_with.result (λ (traced : Traced). CountsOpened (passes_of s search.class) (hit_by search.target.now)
     (framed_by search.target.now) s.map.size search.start traced.found.cost.0 traced.opened)) c.new-runs.ensures c.jump_search_with.ensures.opened)

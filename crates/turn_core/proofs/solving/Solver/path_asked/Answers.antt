@@ -1,5 +1,4 @@
-use Rattle.std.proofs.Common.{ℕ, Result, IfOk, subst, sym}
-use Rattle.nav_types.specs.declared.sequences.NoMemory.{NoMemory}
+use Rattle.std.proofs.Common.{ℕ, IfOk, subst, sym}
 use Rattle.posts.specs.declared.notes.Noted.{Noted}
 use Rattle.posts.specs.declared.replies.Answer.{Answer}
 use Rattle.posts.specs.declared.replies.Answer.TheVariants.{Refused}
