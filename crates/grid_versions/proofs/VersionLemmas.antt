@@ -22,13 +22,11 @@ use Rattle.nav_types.specs.Rects.{chunk_rect}
 use Rattle.nav_types.proofs.CellOrder.{same_chunk}
 use Rattle.chunk_regions.proofs.LabelLemmas.{in_rect, in_chunk}
 use Rattle.region_edges.specs.Edges.{PassesInside}
-use Rattle.class_planes.specs.Planes.{PlaneCells, ArePlanes}
-use Rattle.obstruction_store.specs.Standing.{Standing, AllFit}
+use Rattle.class_planes.specs.Planes.{PlaneCells, IsPlaneOf, is_passable}
+use Rattle.obstruction_store.specs.Standing.{Standing}
 use Rattle.posts.specs.Maps.{Map}
 use Rattle.grid_versions.specs.Passing.{passable_at, is_inside}
-use Rattle.grid_versions.specs.Versions.{MapState, map_state, passes_of}
-use Rattle.grid_versions.specs.inner.Painting.{is_covered, IsPaintedChunk, AreBaseChunks, ArePaintedChunks, AreDiffering}
-use Rattle.grid_versions.specs.inner.Reachers.{AreReachers}
+use Rattle.grid_versions.specs.inner.Painting.{is_covered, IsPaintedChunk, ArePaintedChunks, AreDiffering}
 use Rattle.grid_versions.specs.Chunks.{chunk_count, chunk_place}
 use Rattle.grid_versions.specs.inner.ChunkLists.{chunk_numbered, IsChunkInside}
 use Rattle.grid_versions.specs.inner.Tables.{Tables, AreTables}
@@ -326,22 +324,16 @@ pub free_is_passable : (map : Map) (standing : Standing) (cell : Cell) (found : 
 free_is_passable map standing cell found k inside class painted =
     chunk-passes map standing (chunk_of cell) found k cell painted class (own_rect map standing cell inside)
 
--- ---- a version from its parts
+-- ---- a class by its plane
 
-pub parts_of : (map : Map) (standing : Standing) (planed : MapState) (count : ℕ) (base : List Numbering)
-    (reachers : List (List ℕ)) (cells : List Numbering) (planes : List (Option PlaneCells)) (tables : List Tables)
-    → planed ≡ map_state map standing → AllFit map.size standing → AreBaseChunks map base → AreReachers map standing reachers
-    → ArePaintedChunks map standing cells → ArePlanes map.size (passable_at map standing) 65535 (length map.classes) planes
-    → count ≡ length map.classes → count ≤ 16 → AreTablesOf count (passes_of planed) planed.map.size tables
-    → AreParts map standing base reachers cells planes tables
-parts_of map standing planed count base reachers cells planes tables planed_is fit under near are planes_are many few of =
-    let all = subst (λ (s : MapState). AreTablesOf count (passes_of s) s.map.size tables) planed_is of in
-    record {
-      fit = fit;
-      base_are = under;
-      reachers_are = near;
-      cells_are = are;
-      planes_are = planes_are;
-      tables_are = subst (λ (n : ℕ). AreTablesOf n (passable_at map standing) map.size tables) many all;
-      few = subst (λ (n : ℕ). n ≤ 16) (sym of.each) few;
-    }
+-- what holds of the cells and the size of a class's plane holds of the class
+pub of_plane : (Is : (Cell → Bool) → Size → Type 0) (size : Size) (passes : Cell → Bool) (plane : PlaneCells)
+    → IsPlaneOf size passes plane → Is (is_passable plane) plane.size → Is passes size
+of_plane Is size passes plane of is =
+    subst (λ (s : Size). Is passes s) of.extent (subst (λ (p : Cell → Bool). Is p plane.size) of.cells is)
+
+-- what holds of a class holds of the cells and the size of its plane
+pub to_plane : (Is : (Cell → Bool) → Size → Type 0) (size : Size) (passes : Cell → Bool) (plane : PlaneCells)
+    → IsPlaneOf size passes plane → Is passes size → Is (is_passable plane) plane.size
+to_plane Is size passes plane of is =
+    subst (λ (p : Cell → Bool). Is p plane.size) (sym of.cells) (subst (λ (s : Size). Is passes s) (sym of.extent) is)

@@ -9,23 +9,10 @@ ghost use Rattle.grid_versions.specs.inner.ChunkLists.{IsChunkInside};
 use chunk_regions::ChunkBits;
 use class_planes::ClassPlane;
 use nav_types::limits::CHUNK_SIDE;
-use nav_types::{Chunk, Class, Rect, View};
+use nav_types::{Chunk, Rect};
 
 /// The bits of all columns of a chunk.
 const ALL_COLUMNS: u128 = (1 << CHUNK_SIDE) - 1;
-
-/// A map that hands out the passable cells of a whole chunk at once.
-pub trait BitView: View {
-    ghost use Rattle.std.specs.Prelude.{◌<◌};
-    ghost use Rattle.chunk_regions.specs.Labelling.{AreBitsOf};
-    ghost use Rattle.grid_versions.specs.inner.ChunkLists.{IsChunkInside};
-
-    /// The passable cells of a chunk of the map, as bits.
-    fn bits(&self, class: Class, chunk: Chunk) -> ChunkBits
-        requires class { class < Self.class_count self.now }
-        requires inside { IsChunkInside (Self.extent self.now) chunk }
-        ensures { AreBitsOf (Self.passes self.now class) chunk result };
-}
 
 /// The passable cells of a chunk by the plane of a class, as bits.
 pub fn passable_cells(plane: &ClassPlane, chunk: Chunk) -> ChunkBits

@@ -14,7 +14,6 @@ use crate::chunk_cells::ChunkCells;
 use crate::class_tables::{class_tables, next_tables};
 use crate::ground::Ground;
 use crate::painted_map::PaintedMap;
-use crate::planed_map::PlanedMap;
 use crate::relabelling::marks_below;
 use crate::shared_list::SharedList;
 use crate::sites::Site;
@@ -53,9 +52,7 @@ impl Layers {
     {
         let ground = Ground::build(alloc, site)?;
         let planes = planes_of(alloc, site, &ground.cells)?;
-        let classes = site.map.classes().count();
-        let planed = PlanedMap::new(site.map, site.shapes, &planes);
-        let tables = class_tables(alloc, &planed, classes, ticks)?;
+        let tables = class_tables(alloc, site, &planes, ticks)?;
         Ok(Layers {
             ground,
             planes,
@@ -89,8 +86,7 @@ impl Layers {
         let (ground, changed) = self.ground.updated(alloc, earlier, site, changes)?;
         let bits = changed.as_slice();
         let planes = self.next_planes(alloc, site, &ground.cells, changes.reaches, bits)?;
-        let planed = PlanedMap::new(site.map, site.shapes, &planes);
-        let tables = next_tables(alloc, &planed, &self.tables, bits, ticks)?;
+        let tables = next_tables(alloc, site, &planes, &self.tables, bits, ticks)?;
         let relabelled = marks_below(bits, site.map.classes().count());
         let layers = Layers {
             ground,

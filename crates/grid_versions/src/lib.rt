@@ -27,7 +27,7 @@ mod layers;
 mod next_cells;
 mod painted_map;
 mod painting;
-mod planed_map;
+mod planes;
 mod reachers;
 mod relabelling;
 mod shared_list;

@@ -1,4 +1,4 @@
-//! A map whose cells are painted, before its planes are made.
+//! A map whose cells are painted: the view from which planes are made.
 ghost use Rattle.std.specs.Prelude.{ℕ, ◌≡◌, ◌+◌, ◌≤◌, ◌<◌, length, slice_index};
 ghost use Rattle.grid_versions.specs.Versions.{map_state};
 ghost use Rattle.grid_versions.specs.inner.Painting.{ArePaintedChunks};
@@ -9,15 +9,12 @@ use crate::shared_list::SharedList;
 use crate::sites::Site;
 use nav_types::limits::CHUNK_SIDE;
 use nav_types::{Cell, Chunk, Class, Rows, Size, View};
-use obstruction_store::Store;
-use posts::MapSpec;
 use std::marker::Model;
 
 /// A map, its obstructions and the numbers of its chunks' cells. Contracts see the map and the obstructions.
 #[derive(Drop)]
 pub struct PaintedMap<'a> {
-    map: &'a MapSpec,
-    shapes: &'a Store,
+    site: &'a Site<'a>,
     cells: &'a SharedList<ChunkCells>,
 }
 
@@ -33,22 +30,18 @@ impl<'a> Model for PaintedMap<'a> {
 
     ghost coded = { state_code map_row.coded (fin_map.code coded_ℕ obstruction_row.coded) };
 
-    ghost view = { λ p. map_state p.map.now p.shapes.now };
+    ghost view = { λ p. map_state p.site.now.map.now p.site.now.shapes.now };
 
-    ghost invariant = { λ p. ArePaintedChunks p.map.now p.shapes.now p.cells.now };
+    ghost invariant = { λ p. ArePaintedChunks p.site.now.map.now p.site.now.shapes.now p.cells.now };
 }
 
 impl<'a> PaintedMap<'a> {
     /// The map with these obstructions, where the cells have their numbers.
-    pub fn new(site: &Site<'a>, cells: &'a SharedList<ChunkCells>) -> PaintedMap<'a>
+    pub fn new(site: &'a Site<'a>, cells: &'a SharedList<ChunkCells>) -> PaintedMap<'a>
         requires { ArePaintedChunks site.now.map.now site.now.shapes.now cells.now }
         ensures { result ≡ map_state site.now.map.now site.now.shapes.now }
     {
-        PaintedMap {
-            map: site.map,
-            shapes: site.shapes,
-            cells,
-        }
+        PaintedMap { site, cells }
     }
 }
 
@@ -66,22 +59,22 @@ impl<'a> View for PaintedMap<'a> {
     ghost within = { passes_within };
 
     fn size(&self) -> Size {
-        self.map.size()
+        self.site.map.size()
     }
 
     fn classes(&self) -> u8 {
-        self.map.classes().count()
+        self.site.map.classes().count()
     }
 
     fn passable(&self, class: Class, cell: Cell) -> bool {
-        let place = chunks::place_of(self.map.size(), cell.chunk());
+        let place = chunks::place_of(self.site.map.size(), cell.chunk());
         self.cells.at(place as usize).is_free(class, cell)
     }
 }
 
 impl<'a> Rows for PaintedMap<'a> {
     fn row_bits(&self, j: u16, out: &mut [u16]) {
-        let size = self.map.size();
+        let size = self.site.map.size();
         for ci in 0..chunks::columns(size) {
             let cj = j / CHUNK_SIDE;
             let place = chunks::place_of(size, Chunk { cj, ci });

@@ -3,6 +3,7 @@ ghost use Rattle.nav_types.specs.declared.limits.TheConstants.{MAX_CHUNKS, CHUNK
 ghost use Rattle.nav_types.specs.declared.cells.Cell.{Cell};
 ghost use Rattle.nav_types.specs.Cells.{IsInside};
 ghost use Rattle.lane_rows.specs.Rows.{has_class};
+ghost use Rattle.class_planes.specs.Planes.{is_passable};
 ghost use Rattle.reach_sets.specs.AreaNumbers.{area_of};
 ghost use Rattle.grid_versions.specs.Chunks.{chunk_count};
 ghost use Rattle.grid_versions.specs.inner.Building.{AreSides};
@@ -15,12 +16,12 @@ mod borders;
 mod labelling;
 mod sums;
 
-use crate::chunk_bits::BitView;
 use crate::chunks;
 use crate::relabelling::Changed;
 use crate::shared_list::SharedList;
 use chunk_regions::Labels;
-use nav_types::{Cell, Class, NoMemory, Size, Ticks};
+use class_planes::ClassPlane;
+use nav_types::{Cell, NoMemory, Size, Ticks};
 use reach_sets::{AreaTable, RegionId};
 use region_edges::{Edges, Side};
 use std::alloc::Global;
@@ -59,44 +60,41 @@ impl Model for ClassTables {
 }
 
 impl ClassTables {
-    /// The tables of a class, made from the map's cells alone (`AreTables`). Each chunk is labelled once, which is
+    /// The tables of a class, made from its plane alone (`AreTables`). Each chunk is labelled once, which is
     /// one step of work. The work grows with the map's cells. It refuses for want of memory alone.
-    pub fn build<V: BitView, L: Ledger>(
+    pub fn build<L: Ledger>(
         alloc: Global,
-        view: &V,
-        class: Class,
+        plane: &ClassPlane,
         ticks: &mut Ticks<L>,
     ) -> Result<ClassTables, NoMemory>
-        requires { class < V.class_count view.now }
-        ensures tables { IfOk result (AreTables (V.passes view.now class) (V.extent view.now)) }
-        ensures ticks { OnOk result (ticks.new ≡ ticks.old + chunk_count (V.extent view.now)) }
-        ensures most { ticks.new ≤ ticks.old + chunk_count (V.extent view.now) }
+        ensures tables { IfOk result (AreTables (is_passable plane.now) plane.now.size) }
+        ensures ticks { OnOk result (ticks.new ≡ ticks.old + chunk_count plane.now.size) }
+        ensures most { ticks.new ≤ ticks.old + chunk_count plane.now.size }
     {
-        let size = view.size();
-        let labels = labelling::all_labels(alloc, view, class, ticks)?;
+        let size = plane.size();
+        let labels = labelling::all_labels(alloc, plane, ticks)?;
         let east = borders::all_edges(alloc, size, &labels, Side::East)?;
         let north = borders::all_edges(alloc, size, &labels, Side::North)?;
         ClassTables::joined(alloc, size, labels, east, north)
     }
 
-    /// The tables of a class after a change: these are those of before, and the bits say which chunks have changed.
-    /// Only these are labelled, which is one step of work each; what no change touches is shared with these tables, and
-    /// so are the areas where each chunk has as many regions as before and the edges are the same.
-    pub fn updated<V: BitView, L: Ledger>(
+    /// The tables of a class after a change, by its plane: these are those of before, and the bits say which chunks have
+    /// changed. Only these are labelled, which is one step of work each; what no change touches is shared with these
+    /// tables, and so are the areas where each chunk has as many regions as before and the edges are the same.
+    pub fn updated<L: Ledger>(
         &self,
         alloc: Global,
-        view: &V,
+        plane: &ClassPlane,
         changed: &Changed<'_>,
         ticks: &mut Ticks<L>,
     ) -> Result<ClassTables, NoMemory>
-        requires class { changed.now.class < V.class_count view.now }
-        requires before { (old : Cell → Bool) × (AreTables old (V.extent view.now) self.now
-            × AreChanges old (V.passes view.now changed.now.class) (V.extent view.now) changed.now.class changed.now.bits.now) }
-        ensures tables { IfOk result (AreTables (V.passes view.now changed.now.class) (V.extent view.now)) }
+        requires before { (old : Cell → Bool) × (AreTables old plane.now.size self.now
+            × AreChanges old (is_passable plane.now) plane.now.size changed.now.class changed.now.bits.now) }
+        ensures tables { IfOk result (AreTables (is_passable plane.now) plane.now.size) }
         ensures most { ticks.new ≤ ticks.old + count_by (has_class changed.now.class) changed.now.bits.now }
     {
-        let size = view.size();
-        let (labels, counts) = labelling::next_labels(alloc, view, &self.labels, changed, ticks)?;
+        let size = plane.size();
+        let (labels, counts) = labelling::next_labels(alloc, plane, &self.labels, changed, ticks)?;
         let (east, to_east) = borders::next_edges(
             alloc,
             size,

@@ -11,7 +11,7 @@ ghost use Rattle.grid_versions.specs.Chunks.{chunk_count, chunk_place};
 ghost use Rattle.grid_versions.specs.inner.Tables.{AreTables};
 
 use crate::layers::Layers;
-use crate::planed_map::PlanedMap;
+use crate::planes::plane_of;
 use crate::sites::Site;
 use crate::standing_edits::Changes;
 use crate::tables::ClassTables;
@@ -149,7 +149,7 @@ impl VersionParts {
         ensures extent { result.now.size ≡ self.now.map.size }
         ensures cells { is_passable result.now ≡ passes_of self.now class }
     {
-        PlanedMap::new(&self.map, &self.shapes, &self.layers.planes).plane(class)
+        plane_of(&self.layers.planes, class)
     }
 
     /// The tallies, as `Version::tallies` says.

@@ -4,6 +4,7 @@ use Rattle.std.specs.List.{count_by}
 use Rattle.std.specs.Arc.{arc_value}
 use Rattle.std.proofs.lemmas.Result.{IfOk-weaker}
 use Rattle.lane_rows.specs.Rows.{has_class}
+use Rattle.class_planes.specs.Planes.{is_passable}
 use Rattle.grid_versions.proofs.ChangeLemmas.{tables_stay}
 use Rattle.grid_versions.proofs.class_tables.tables_at.Goals as goal
 
@@ -14,16 +15,12 @@ returns-then-count_bit-eq0-clause-tables g c =
     let place = c.from-place.ensures ∙ c.number.ensures.value in
     let none = ap (λ (k : ℕ). count_by (has_class k) bits) (sym c.number-2.ensures.value) ∙ sym c.count_bit.ensures ∙ c.if-count_bit-eq0.true in
     IfOk-weaker c.shared.result _ _
-    (λ tables at. tables_stay c.requires.before.0 (g.V.View.passes c.args.view.now class) (g.V.View.extent c.args.view.now) class bits (arc_value tables) c.requires.before.1.1 none
+    (λ tables at. tables_stay c.requires.before.0 (is_passable c.args.plane.now) c.args.plane.now.size class bits (arc_value tables) c.requires.before.1.1 none
     (c.requires.before.1.0 (arc_value tables) (ap (λ (i : ℕ). slice_get c.args.before.now i) (sym place) ∙ at)))
     c.shared.ensures
 
-pub updated-requires-clause-before : goal.updated-requires-clause-before
-updated-requires-clause-before g c =
-    let place = c.from-place.ensures ∙ c.number.ensures.value in (
-      c.requires.before.0,
-      (
-        c.requires.before.1.0 c.at.result.now (ap (λ (i : ℕ). slice_get c.args.before.now i) (sym place) ∙ c.at.ensures),
-        c.requires.before.1.1,
-      ),
-    )
+pub updated-requires : goal.updated-requires
+updated-requires g c =
+    let place = c.from-place.ensures ∙ c.number.ensures.value in
+    let were = c.requires.before.1.0 c.at.result.now (ap (λ (i : ℕ). slice_get c.args.before.now i) (sym place) ∙ c.at.ensures) in
+    record { before = (c.requires.before.0, (were, c.requires.before.1.1)) }

@@ -1,4 +1,4 @@
-use Rattle.std.proofs.Common.{ℕ, List, ◌≡◌, ◌≢◌, ◌∙◌, ◌+◌, ◌<◌, ◌≤◌, Bool, length, ap, sym, subst}
+use Rattle.std.proofs.Common.{ℕ, List, ◌≡◌, ◌≢◌, ◌∙◌, ◌+◌, ◌<◌, ◌≤◌, Bool, length, refl, ap, sym, subst}
 use Rattle.std.specs.List.{count_by, sum_by, range_with_len}
 use Rattle.nav_types.specs.declared.cells.Cell.{Cell}
 use Rattle.nav_types.specs.declared.cells.Chunk.{Chunk}
@@ -10,12 +10,11 @@ use Rattle.lane_rows.specs.Rows.{has_class}
 use Rattle.obstruction_store.specs.Standing.{Standing}
 use Rattle.posts.specs.Maps.{Map}
 use Rattle.grid_versions.specs.Passing.{passable_at}
-use Rattle.grid_versions.specs.Versions.{MapState, map_state, passes_of}
 use Rattle.grid_versions.specs.inner.Painting.{ArePaintedChunks, AreDiffering}
 use Rattle.grid_versions.specs.inner.Changing.{AreChanges}
 use Rattle.grid_versions.specs.inner.Tables.{Tables}
 use Rattle.grid_versions.specs.inner.Tallying.{AreTablesOf}
-use Rattle.grid_versions.proofs.VersionLemmas.{changes_of, relabelled_counted, parts_of}
+use Rattle.grid_versions.proofs.VersionLemmas.{changes_of, relabelled_counted}
 use Rattle.grid_versions.proofs.layers.Layers.updated.Goals as goal
 
 -- a map under the obstructions before and now, the numbers of its chunks before and now, and the bits that differ
@@ -28,34 +27,24 @@ module _ (map : Map) (old new : Standing) (before now : List Numbering) (items b
   changes_here : (k : ℕ) → k < length map.classes → AreChanges (passable_at map old k) (passable_at map new k) map.size k bits
   changes_here k known = changes_of map old new before now were are bits k differing known
 
-  tables_here : (planed : MapState) (tables : List Tables) → planed ≡ map_state map new
-      → AreTablesOf (length map.classes) (passable_at map old) map.size tables
-      → (was : ℕ → Cell → Bool) × (AreTablesOf (length tables) was planed.map.size tables
-      × ((k : ℕ) → k < length tables → AreChanges (was k) (passes_of planed k) planed.map.size k bits))
-  tables_here planed tables planed_is of =
-      let each = of.each in
-      subst (λ (s : MapState). (was : ℕ → Cell → Bool) × (AreTablesOf (length tables) was s.map.size tables
-      × ((k : ℕ) → k < length tables → AreChanges (was k) (passes_of s k) s.map.size k bits))) (sym planed_is) (
-        passable_at map old,
-        (
-          subst (λ (n : ℕ). AreTablesOf n (passable_at map old) map.size tables) (sym each) of,
-          λ k low. changes_here k (subst (λ (n : ℕ). k < n) each low),
-        ),
-      )
+  tables_here : (tables : List Tables) → AreTablesOf (length map.classes) (passable_at map old) map.size tables
+      → (was : ℕ → Cell → Bool) × (AreTablesOf (length map.classes) was map.size tables
+      × ((k : ℕ) → k < length map.classes → AreChanges (was k) (passable_at map new k) map.size k bits))
+  tables_here tables of = (passable_at map old, (of, changes_here))
 
   counted_here : (classes : ℕ) → classes ≡ length map.classes
       → HasRelabelled (length map.classes) (passable_at map old) (passable_at map new)
       (sum_by (λ k. count_by (has_class k) bits) (range_with_len 0 classes))
   counted_here classes many = relabelled_counted map old new before now were are bits classes differing many
 
-  most_here : (classes start end : ℕ) → classes ≡ length map.classes
-      → end ≤ start + sum_by (λ k. count_by (has_class k) bits) (range_with_len 0 classes)
+  most_here : (start end : ℕ)
+      → end ≤ start + sum_by (λ k. count_by (has_class k) bits) (range_with_len 0 (length map.classes))
       → (count : ℕ) → HasRelabelled (length map.classes) (passable_at map old) (passable_at map new) count → end ≤ start + count
-  most_here classes start end many most count has =
-      let total = sum_by (λ k. count_by (has_class k) bits) (range_with_len 0 classes) in
+  most_here start end most count has =
+      let total = sum_by (λ k. count_by (has_class k) bits) (range_with_len 0 (length map.classes)) in
       let one : total ≡ count =
       Counts-unique (λ (p : ℕ × Chunk). (p.0 < length map.classes) × ((cell : Cell) × ((chunk_of cell ≡ p.1) × (passable_at map old p.0 cell ≢ passable_at map new p.0 cell))))
-      total count (counted_here classes many) has in
+      total count (counted_here (length map.classes) refl) has in
       subst (λ (n : ℕ). end ≤ start + n) one most
 
 pub next_planes-requires-clause-each : goal.next_planes-requires-clause-each
@@ -73,30 +62,23 @@ next_planes-requires-clause-before g c = record {
       c.in_ok-ground.ensures.bits c.as_slice-bits.ensures.value;
 }
 
-pub new-planed-requires-clause-few : goal.new-planed-requires-clause-few
-new-planed-requires-clause-few g c =
-    subst (λ (n : ℕ). n ≤ 16) c.requires.parts.tables_are.each c.requires.parts.few
-
 pub next_tables-requires-clause-before : goal.next_tables-requires-clause-before
 next_tables-requires-clause-before g c =
     tables_here c.args.site.now.map.now c.args.earlier.now c.args.site.now.shapes.now c.args.self.now.ground.cells c.in_ok-ground.ground.cells
     c.in_ok-ground.changed.items c.as_slice-bits.result.now c.requires.parts.cells_are c.in_ok-ground.ensures.cells
-    c.in_ok-ground.ensures.bits c.as_slice-bits.ensures.value c.new-planed.result c.args.self.now.tables c.new-planed.ensures
-    c.requires.parts.tables_are
+    c.in_ok-ground.ensures.bits c.as_slice-bits.ensures.value c.args.self.now.tables c.requires.parts.tables_are
 
 pub returns-in_err-tables-clause-most : goal.returns-in_err-tables-clause-most
 returns-in_err-tables-clause-most g c =
     most_here c.args.site.now.map.now c.args.earlier.now c.args.site.now.shapes.now c.args.self.now.ground.cells c.in_ok-ground.ground.cells
     c.in_ok-ground.changed.items c.as_slice-bits.result.now c.requires.parts.cells_are c.in_ok-ground.ensures.cells
-    c.in_ok-ground.ensures.bits c.as_slice-bits.ensures.value (length c.args.self.now.tables) c.args.ticks.now c.next_tables.new.ticks
-    c.requires.parts.tables_are.each c.next_tables.ensures.most
+    c.in_ok-ground.ensures.bits c.as_slice-bits.ensures.value c.args.ticks.now c.next_tables.new.ticks c.next_tables.ensures.most
 
 pub returns-clause-most : goal.returns-clause-most
 returns-clause-most g c =
     most_here c.args.site.now.map.now c.args.earlier.now c.args.site.now.shapes.now c.args.self.now.ground.cells c.in_ok-ground.ground.cells
     c.in_ok-ground.changed.items c.as_slice-bits.result.now c.requires.parts.cells_are c.in_ok-ground.ensures.cells
-    c.in_ok-ground.ensures.bits c.as_slice-bits.ensures.value (length c.args.self.now.tables) c.args.ticks.now c.next_tables.new.ticks
-    c.requires.parts.tables_are.each c.next_tables.ensures.most
+    c.in_ok-ground.ensures.bits c.as_slice-bits.ensures.value c.args.ticks.now c.next_tables.new.ticks c.next_tables.ensures.most
 
 pub returns-clause-relabelled : goal.returns-clause-relabelled
 returns-clause-relabelled g c =
@@ -108,8 +90,14 @@ returns-clause-relabelled g c =
 
 pub returns-clause-parts : goal.returns-clause-parts
 returns-clause-parts g c =
-    let ground = c.in_ok-ground.ground in
-    parts_of c.args.site.now.map.now c.args.site.now.shapes.now c.new-planed.result (length c.args.self.now.tables) ground.base ground.reachers
-    ground.cells c.in_ok-planes.planes c.in_ok-tables.tables c.new-planed.ensures c.requires.fit c.in_ok-ground.ensures.base
-    c.in_ok-ground.ensures.reachers c.in_ok-ground.ensures.cells c.in_ok-planes.ensures c.requires.parts.tables_are.each
-    c.requires.parts.few c.in_ok-tables.ensures.tables
+    let ground = c.in_ok-ground.ensures in
+    let tables = c.in_ok-tables.ensures.tables in
+    record {
+      fit = c.requires.fit;
+      base_are = ground.base;
+      reachers_are = ground.reachers;
+      cells_are = ground.cells;
+      planes_are = c.in_ok-planes.ensures;
+      tables_are = tables;
+      few = subst (λ (n : ℕ). n ≤ 16) (c.requires.parts.tables_are.each ∙ sym tables.each) c.requires.parts.few;
+    }

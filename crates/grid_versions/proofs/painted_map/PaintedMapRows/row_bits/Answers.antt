@@ -8,8 +8,8 @@ use Rattle.grid_versions.proofs.painted_map.PaintedMapRows.row_bits.Goals as goa
 
 pub row-row-requires-clause-south : goal.row-row-requires-clause-south
 row-row-requires-clause-south c =
-    let map = c.self.inside.map.now in
-    let standing = c.self.inside.shapes.now in
+    let map = c.self.inside.site.now.map.now in
+    let standing = c.self.inside.site.now.shapes.now in
     let size = c.size-size.result in
     let high = subst (λ (s : MapState). c.args.j < s.map.size.h) (sym c.self.view_is) c.requires.row in
     let columns = c.columns-ci-end.ensures.value in
@@ -20,8 +20,8 @@ row-row-requires-clause-south c =
 
 pub row-row-requires-clause-north : goal.row-row-requires-clause-north
 row-row-requires-clause-north c =
-    let map = c.self.inside.map.now in
-    let standing = c.self.inside.shapes.now in
+    let map = c.self.inside.site.now.map.now in
+    let standing = c.self.inside.site.now.shapes.now in
     let size = c.size-size.result in
     let high = subst (λ (s : MapState). c.args.j < s.map.size.h) (sym c.self.view_is) c.requires.row in
     let columns = c.columns-ci-end.ensures.value in
@@ -32,8 +32,8 @@ row-row-requires-clause-north c =
 
 pub write_numbers-requires : goal.write_numbers-requires
 write_numbers-requires c =
-    let map = c.self.inside.map.now in
-    let standing = c.self.inside.shapes.now in
+    let map = c.self.inside.site.now.map.now in
+    let standing = c.self.inside.site.now.shapes.now in
     let size = c.size-size.result in
     let high = subst (λ (s : MapState). c.args.j < s.map.size.h) (sym c.self.view_is) c.requires.row in
     let columns = c.columns-ci-end.ensures.value in
@@ -50,8 +50,8 @@ write_numbers-requires c =
 
 pub loop-ci-preserved : goal.loop-ci-preserved
 loop-ci-preserved c = λ k i known below within.
-    let map = c.self.inside.map.now in
-    let standing = c.self.inside.shapes.now in
+    let map = c.self.inside.site.now.map.now in
+    let standing = c.self.inside.site.now.shapes.now in
     let size = c.size-size.result in
     let j : ℕ = c.args.j in
     let ci : ℕ = c.loop-ci.ci in

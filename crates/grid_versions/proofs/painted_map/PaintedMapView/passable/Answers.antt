@@ -9,8 +9,8 @@ use Rattle.grid_versions.proofs.painted_map.PaintedMapView.passable.Goals as goa
 
 pub is_free-requires : goal.is_free-requires
 is_free-requires c =
-    let map = c.self.inside.map.now in
-    let standing = c.self.inside.shapes.now in
+    let map = c.self.inside.site.now.map.now in
+    let standing = c.self.inside.site.now.shapes.now in
     let inside = subst (λ (s : MapState). IsInside s.map.size c.args.cell) (sym c.self.view_is) c.requires.inside in
     let place : c.place_of-place.result ≡ chunk_place map.size (chunk_of c.args.cell) =
     c.place_of-place.ensures.value ∙ ap (λ (s : Size). chunk_place s c.chunk.result) c.size.ensures
@@ -21,8 +21,8 @@ is_free-requires c =
 
 pub returns : goal.returns
 returns c =
-    let map = c.self.inside.map.now in
-    let standing = c.self.inside.shapes.now in
+    let map = c.self.inside.site.now.map.now in
+    let standing = c.self.inside.site.now.shapes.now in
     let inside = subst (λ (s : MapState). IsInside s.map.size c.args.cell) (sym c.self.view_is) c.requires.inside in
     let low = subst (λ (s : MapState). c.args.class < length s.map.classes) (sym c.self.view_is) c.requires.class in
     let place : c.place_of-place.result ≡ chunk_place map.size (chunk_of c.args.cell) =

@@ -7,6 +7,8 @@ use Rattle.chunk_regions.specs.Labelling.{Labelling}
 use Rattle.region_edges.specs.Edges.{PassesInside}
 use Rattle.std.proofs.Common.{ℕ, List}
 use Rattle.region_edges.specs.declared.neighbours.Side.TheVariants.{East, North}
+use Rattle.class_planes.specs.Planes.{is_passable}
+use Rattle.class_planes.proofs.PlaneLemmas.{only_inside}
 use Rattle.grid_versions.specs.inner.Tables.{AreTables, AreAllLabels, AreAllEdges}
 use Rattle.grid_versions.specs.inner.Building.{AreSides}
 use Rattle.grid_versions.proofs.tables.ClassTables.build.Goals as goal
@@ -24,19 +26,19 @@ sides_here passes size extent labels east north same within labelled east_of nor
 
 pub joined-requires : goal.joined-requires
 joined-requires g c =
-    let passes = g.V.View.passes c.args.view.now c.args.class in (
+    let passes = is_passable c.args.plane.now in (
       passes,
-      sides_here passes c.size-size.result (g.V.View.extent c.args.view.now) c.in_ok-labels.labels c.in_ok-east.east c.in_ok-north.north c.size-size.ensures
-          (g.met.V.View.within c.args.view.now c.args.class) c.in_ok-labels.ensures.labels c.in_ok-east.ensures c.in_ok-north.ensures,
+      sides_here passes c.size-size.result c.args.plane.now.size c.in_ok-labels.labels c.in_ok-east.east c.in_ok-north.north c.size-size.ensures
+          (only_inside c.args.plane.now) c.in_ok-labels.ensures.labels c.in_ok-east.ensures c.in_ok-north.ensures,
     )
 
 pub returns-clause-tables : goal.returns-clause-tables
 returns-clause-tables g c =
-    let passes = g.V.View.passes c.args.view.now c.args.class in
+    let passes = is_passable c.args.plane.now in
     IfOk-weaker c.joined.result _ _
     (λ tables made.
     subst (λ (s : Size). AreTables passes s tables) c.size-size.ensures
     (made passes
-    (sides_here passes c.size-size.result (g.V.View.extent c.args.view.now) c.in_ok-labels.labels c.in_ok-east.east c.in_ok-north.north c.size-size.ensures
-    (g.met.V.View.within c.args.view.now c.args.class) c.in_ok-labels.ensures.labels c.in_ok-east.ensures c.in_ok-north.ensures)))
+    (sides_here passes c.size-size.result c.args.plane.now.size c.in_ok-labels.labels c.in_ok-east.east c.in_ok-north.north c.size-size.ensures
+    (only_inside c.args.plane.now) c.in_ok-labels.ensures.labels c.in_ok-east.ensures c.in_ok-north.ensures)))
     c.joined.ensures

@@ -7,6 +7,7 @@ use Rattle.nav_types.specs.declared.cells.Size.{Size}
 use Rattle.lane_rows.specs.Rows.{has_class}
 use Rattle.chunk_regions.specs.Labelling.{Labelling}
 use Rattle.region_edges.specs.declared.neighbours.Side.TheVariants.{East, North}
+use Rattle.class_planes.specs.Planes.{is_passable}
 use Rattle.grid_versions.specs.Chunks.{chunk_count}
 use Rattle.grid_versions.specs.inner.Tables.{Tables, AreTables, AreAllLabels, AreAllEdges, label_counts, region_counts}
 use Rattle.grid_versions.specs.inner.Building.{AreSides, IsLaidOut}
@@ -51,8 +52,8 @@ module _ (old now : Cell → Bool) (size extent : Size) (class : ℕ) (bits : Li
 
 pub next_edges-requires-clause-labels : goal.next_edges-requires-clause-labels
 next_edges-requires-clause-labels g c =
-    let passes = g.V.View.passes c.args.view.now c.args.changed.now.class in
-    let extent = g.V.View.extent c.args.view.now in
+    let passes = is_passable c.args.plane.now in
+    let extent = c.args.plane.now.size in
     let own = c.self.inside in
     let before : Tables = record { labels = own.labels; east = own.east; north = own.north; areas = arc_value own.areas } in
     let old = c.requires.before.0 in
@@ -98,8 +99,8 @@ relabelled-requires-clause-north g c =
 
 pub next_edges-requires-2-clause-labels : goal.next_edges-requires-2-clause-labels
 next_edges-requires-2-clause-labels g c =
-    let passes = g.V.View.passes c.args.view.now c.args.changed.now.class in
-    let extent = g.V.View.extent c.args.view.now in
+    let passes = is_passable c.args.plane.now in
+    let extent = c.args.plane.now.size in
     let own = c.self.inside in
     let before : Tables = record { labels = own.labels; east = own.east; north = own.north; areas = arc_value own.areas } in
     let old = c.requires.before.0 in
@@ -109,8 +110,8 @@ next_edges-requires-2-clause-labels g c =
 
 pub returns-then-to_north-clause-tables : goal.returns-then-to_north-clause-tables
 returns-then-to_north-clause-tables g c =
-    let passes = g.V.View.passes c.args.view.now c.args.changed.now.class in
-    let extent = g.V.View.extent c.args.view.now in
+    let passes = is_passable c.args.plane.now in
+    let extent = c.args.plane.now.size in
     let own = c.self.inside in
     let before : Tables = record { labels = own.labels; east = own.east; north = own.north; areas = arc_value own.areas } in
     let old = c.requires.before.0 in
@@ -125,8 +126,8 @@ returns-then-to_north-clause-tables g c =
 
 pub joined-requires : goal.joined-requires
 joined-requires g c =
-    let passes = g.V.View.passes c.args.view.now c.args.changed.now.class in
-    let extent = g.V.View.extent c.args.view.now in
+    let passes = is_passable c.args.plane.now in
+    let extent = c.args.plane.now.size in
     let own = c.self.inside in
     let before : Tables = record { labels = own.labels; east = own.east; north = own.north; areas = arc_value own.areas } in
     let old = c.requires.before.0 in
@@ -138,8 +139,8 @@ joined-requires g c =
 
 pub returns-clause-tables : goal.returns-clause-tables
 returns-clause-tables g c =
-    let passes = g.V.View.passes c.args.view.now c.args.changed.now.class in
-    let extent = g.V.View.extent c.args.view.now in
+    let passes = is_passable c.args.plane.now in
+    let extent = c.args.plane.now.size in
     let own = c.self.inside in
     let before : Tables = record { labels = own.labels; east = own.east; north = own.north; areas = arc_value own.areas } in
     let old = c.requires.before.0 in

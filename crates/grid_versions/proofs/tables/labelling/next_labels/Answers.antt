@@ -3,16 +3,12 @@ use Rattle.chunk_regions.specs.Labelling.{Labelling}
 use Rattle.grid_versions.specs.inner.Tables.{AreAllLabels, label_counts}
 use Rattle.grid_versions.proofs.tables.labelling.next_labels.Goals as goal
 
-pub relabel-requires-clause-before : goal.relabel-requires-clause-before
-relabel-requires-clause-before g c =
-    let old = c.requires.before.0 in (
-      old,
-      (
-        subst (λ (all : List Labelling). AreAllLabels old (g.V.View.extent c.args.view.now) all) (sym c.in_ok-labels.ensures)
-            c.requires.before.1.0,
-        c.requires.before.1.1,
-      ),
-    )
+pub relabel-requires : goal.relabel-requires
+relabel-requires g c =
+    let old = c.requires.before.0 in
+    let were = subst (λ (all : List Labelling). AreAllLabels old c.args.plane.now.size all) (sym c.in_ok-labels.ensures)
+    c.requires.before.1.0 in
+    record { before = (old, (were, c.requires.before.1.1)) }
 
 pub returns-clause-counts : goal.returns-clause-counts
 returns-clause-counts g c = λ all_stay.

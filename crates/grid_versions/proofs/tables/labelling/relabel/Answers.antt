@@ -5,6 +5,7 @@ use Rattle.nav_types.specs.declared.cells.Chunk.{Chunk}
 use Rattle.nav_types.specs.declared.cells.Size.{Size}
 use Rattle.lane_rows.specs.Rows.{has_class}
 use Rattle.chunk_regions.specs.Labelling.{Labelling, AreLabels}
+use Rattle.class_planes.specs.Planes.{is_passable}
 use Rattle.grid_versions.specs.Chunks.{chunk_count}
 use Rattle.grid_versions.specs.inner.ChunkLists.{chunk_numbered}
 use Rattle.grid_versions.proofs.ChangeLemmas.{marks_more, marks_most}
@@ -28,7 +29,7 @@ loop-place-init g c = record {
 
 pub relabel_at-requires-clause-within : goal.relabel_at-requires-clause-within
 relabel_at-requires-clause-within g c =
-    let equal : c.count-count.result ≡ chunk_count (g.V.View.extent c.args.view.now) = c.count-count.ensures.value ∙ ap (λ (s : Size). chunk_count s) c.size.ensures in
+    let equal : c.count-count.result ≡ chunk_count c.args.plane.now.size = c.count-count.ensures.value ∙ ap (λ (s : Size). chunk_count s) c.size.ensures in
     omega arith
 
 pub relabel_at-requires-clause-before : goal.relabel_at-requires-clause-before
@@ -45,15 +46,15 @@ pub returns-in_err-stays-clause-most : goal.returns-in_err-stays-clause-most
 returns-in_err-stays-clause-most g c =
     let bits = c.args.changed.now.bits.now in
     let place = c.loop-place.place in
-    let low = bit_below c.args.changed.now.class bits c.size.result (g.V.View.extent c.args.view.now) c.count-count.result place c.count-count.ensures.value c.size.ensures
+    let low = bit_below c.args.changed.now.class bits c.size.result c.args.plane.now.size c.count-count.result place c.count-count.ensures.value c.size.ensures
     c.requires.before.1.1.marks.each (omega arith) in
     let now = marks_more c.args.changed.now.class bits place c.loop-place.ticks c.relabel_at.new.ticks c.args.ticks.now low c.relabel_at.ensures.most c.loop-place.invariant.ticked in
     omega (arith, now, marks_most c.args.changed.now.class bits (place + 1))
 
 pub loop-place-preserved : goal.loop-place-preserved
 loop-place-preserved g c =
-    let passes = g.V.View.passes c.args.view.now c.args.changed.now.class in
-    let size = g.V.View.extent c.args.view.now in
+    let passes = is_passable c.args.plane.now in
+    let size = c.args.plane.now.size in
     let bits = c.args.changed.now.bits.now in
     let place = c.loop-place.place in
     let here = c.loop-place.invariant in
@@ -78,8 +79,8 @@ loop-place-preserved g c =
 
 pub returns-clause-labels : goal.returns-clause-labels
 returns-clause-labels g c =
-    let passes = g.V.View.passes c.args.view.now c.args.changed.now.class in
-    let size = g.V.View.extent c.args.view.now in
+    let passes = is_passable c.args.plane.now in
+    let size = c.args.plane.now.size in
     let old = c.requires.before.0 in
     let here = c.loop-place.invariant in
     let equal : c.count-count.result ≡ chunk_count size = c.count-count.ensures.value ∙ ap (λ (s : Size). chunk_count s) c.size.ensures in

@@ -3,6 +3,7 @@ use Rattle.std.specs.List.{count_by}
 use Rattle.nav_types.specs.declared.cells.Cell.{Cell}
 use Rattle.lane_rows.specs.Rows.{has_class}
 use Rattle.chunk_regions.specs.Labelling.{Labelling, AreLabels}
+use Rattle.class_planes.specs.Planes.{is_passable}
 use Rattle.grid_versions.specs.Chunks.{chunk_count}
 use Rattle.grid_versions.specs.inner.ChunkLists.{chunk_numbered}
 use Rattle.grid_versions.specs.inner.Tables.{AreAllLabels, label_counts}
@@ -11,12 +12,12 @@ use Rattle.grid_versions.proofs.tables.labelling.relabel.Given as goal
 
 abbrev pub invariant-loop-place : goal.invariant-loop-place
 invariant-loop-place g l = record {
-  each : length l.labels ≡ chunk_count (g.V.View.extent l.view);
-  remade : (old : Cell → Bool) → AreAllLabels old (g.V.View.extent l.view) l.initial.labels
+  each : length l.labels ≡ chunk_count l.plane.size;
+  remade : (old : Cell → Bool) → AreAllLabels old l.plane.size l.initial.labels
       → AreRemade
       (λ (k : ℕ) (one : Labelling).
-      AreLabels (g.V.View.passes l.view l.changed.class) (g.V.View.extent l.view) (chunk_numbered (g.V.View.extent l.view) k) one)
-      (λ (k : ℕ) (one : Labelling). AreLabels old (g.V.View.extent l.view) (chunk_numbered (g.V.View.extent l.view) k) one)
+      AreLabels (is_passable l.plane) l.plane.size (chunk_numbered l.plane.size k) one)
+      (λ (k : ℕ) (one : Labelling). AreLabels old l.plane.size (chunk_numbered l.plane.size k) one)
       l.place l.labels;
   counts : IsTrue l.stay → label_counts l.labels ≡ label_counts l.initial.labels;
   ticked : l.ticks ≤ l.initial.ticks + count_by (has_class l.changed.class) (take l.place l.changed.bits.now);

@@ -1,6 +1,7 @@
 use Rattle.std.proofs.Common.{length, sym, ◌∙◌, arith}
 use Rattle.std.proofs.lemmas.Bool.{eqb-true}
 use Rattle.chunk_regions.specs.Labelling.{Labelling, AreLabels}
+use Rattle.class_planes.specs.Planes.{is_passable}
 use Rattle.grid_versions.specs.inner.ChunkLists.{chunk_numbered}
 use Rattle.grid_versions.proofs.ChangeLemmas.{labels_stay, unmarked_agrees}
 use Rattle.grid_versions.proofs.RemakeLemmas.{kept_at, counts_kept}
@@ -8,8 +9,8 @@ use Rattle.grid_versions.proofs.tables.labelling.relabel_at.Goals as goal
 
 pub returns-then-not-is_marked-clause-labels : goal.returns-then-not-is_marked-clause-labels
 returns-then-not-is_marked-clause-labels g c =
-    let passes = g.V.View.passes c.args.view.now c.args.changed.now.class in
-    let size = g.V.View.extent c.args.view.now in
+    let passes = is_passable c.args.plane.now in
+    let size = c.args.plane.now.size in
     let place = c.args.place in
     let chunk = chunk_numbered size place in
     let old = c.requires.before.0 in
