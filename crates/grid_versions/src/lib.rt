@@ -34,7 +34,6 @@ mod shared_list;
 mod sites;
 mod standing_edits;
 mod tables;
-mod version_parts;
 mod versions;
 
 pub use class_views::ClassView;

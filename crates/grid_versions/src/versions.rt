@@ -1,5 +1,6 @@
 //! Versions of a map.
 ghost use Rattle.std.specs.Prelude.{ℕ, ◌≡◌, ◌+◌, ◌*◌, ◌<◌, ◌≤◌, [], None, length, slice_index_or, IfOk, OnOk, IsSome, IsTrue};
+ghost use Rattle.std.specs.Arc.{arc_value};
 ghost use Rattle.nav_types.specs.declared.cells.Cell.{Cell};
 ghost use Rattle.nav_types.specs.Cells.{IsInside, chunk_of};
 ghost use Rattle.nav_types.specs.Counting.{Counts};
@@ -7,11 +8,14 @@ ghost use Rattle.nav_types.specs.Regions.{HasRegion, HasTallies, HasRelabelled};
 ghost use Rattle.class_planes.specs.Planes.{AreOf, is_passable};
 ghost use Rattle.obstruction_store.specs.Standing.{AllFit};
 ghost use Rattle.grid_versions.specs.Chunks.{chunk_count, chunk_place};
+ghost use Rattle.grid_versions.specs.inner.Tables.{AreTables};
 
 use crate::class_views::ClassView;
+use crate::layers::Layers;
+use crate::planes::plane_of;
 use crate::sites::Site;
 use crate::standing_edits::{Changes, Edited, edited_copy};
-use crate::version_parts::VersionParts;
+use crate::tables::ClassTables;
 use class_planes::{ClassPlane, Planes};
 use nav_types::{Areas, Axis, Cell, Class, FreeCells, NoMemory, Size, Ticks, View};
 use obstruction_store::Store;
@@ -31,6 +35,15 @@ pub struct Version {
     parts: Arc<VersionParts, Global>,
 }
 
+/// What a version keeps: the map and the standing obstructions, the cells of each chunk, and the planes and the tables of
+/// each class.
+#[derive(Drop)]
+struct VersionParts {
+    map: Arc<MapSpec, Global>,
+    shapes: Arc<Store, Global>,
+    layers: Layers,
+}
+
 /// What edits make of a version.
 #[derive(Drop)]
 pub struct Next {
@@ -41,6 +54,26 @@ pub struct Next {
     /// The number of pairs of chunk and class in which some cell is passable in one of the two versions and not in
     /// the other.
     pub relabelled: u32,
+}
+
+impl Model for VersionParts {
+    ghost use Rattle.std.specs.FinMap as fin_map;
+    ghost use Rattle.std.specs.Coded.{coded_ℕ};
+    ghost use Rattle.obstruction_shapes.specs.contracts.shapes.Obstruction.{the_row as obstruction_row};
+    ghost use Rattle.posts.specs.contracts.maps.MapSpec.{the_row as map_row};
+    ghost use Rattle.grid_versions.specs.Versions.{MapState, map_state, state_code};
+    ghost use Rattle.std.specs.Arc.{arc_value};
+
+    ghost Value = { MapState };
+
+    ghost coded = { state_code map_row.coded (fin_map.code coded_ℕ obstruction_row.coded) };
+
+    ghost use Rattle.grid_versions.specs.inner.Parts.{AreParts};
+
+    ghost view = { λ v. map_state (arc_value v.map) (arc_value v.shapes) };
+
+    ghost invariant = { λ v. AreParts (arc_value v.map) (arc_value v.shapes) v.layers.ground.base v.layers.ground.reachers
+        v.layers.ground.cells v.layers.planes v.layers.tables };
 }
 
 impl Model for Version {
@@ -61,6 +94,7 @@ impl Model for Version {
 impl Version {
     ghost use Rattle.grid_versions.specs.Editing.{after_edits, edit_replies};
     ghost use Rattle.grid_versions.specs.Versions.{map_state, passes_of};
+    ghost use Rattle.grid_versions.specs.inner.Reaching.{CoverChanges, NameChanges};
 
     /// The version of this map and these obstructions, all of which fit the map. It is made from nothing: each chunk is
     /// labelled once for each class, which is one tick, and the work grows with the map's cells and classes. It refuses for want of memory alone.
@@ -77,7 +111,14 @@ impl Version {
             ≡ ticks.old + length map.now.classes * chunk_count map.now.size) }
         ensures most { ticks.new ≤ ticks.old + length map.now.classes * chunk_count map.now.size }
     {
-        let parts = VersionParts::build(alloc, &Site { map, shapes }, ticks)?;
+        let shared = shared_map(alloc, map)?;
+        let standing = shared_store(alloc, shapes)?;
+        let layers = Layers::build(alloc, &Site { map, shapes }, ticks)?;
+        let parts = VersionParts {
+            map: shared,
+            shapes: standing,
+            layers,
+        };
         Ok(Version {
             parts: Arc::new(alloc, parts)?,
         })
@@ -109,10 +150,9 @@ impl Version {
         if edits.is_empty() {
             return self.unchanged(alloc);
         }
-        let parts: &VersionParts = &self.parts;
         let site = Site {
-            map: parts.map(),
-            shapes: parts.shapes(),
+            map: self.map(),
+            shapes: self.shapes(),
         };
         let Edited {
             shapes,
@@ -124,12 +164,50 @@ impl Version {
             reaches: reaches.as_slice(),
             ids: ids.as_slice(),
         };
-        let (next, relabelled) = parts.updated(alloc, shapes, &changes, ticks)?;
+        let (version, relabelled) = self.updated(alloc, shapes, &changes, ticks)?;
         Ok(Next {
-            version: Version { parts: next },
+            version,
             replies,
             relabelled,
         })
+    }
+
+    /// The version of this map and other obstructions, all of which fit the map, and in how many pairs of chunk and class
+    /// it differs from this one. Only the cells of the changes' rectangles are painted, each pair that differs is labelled
+    /// once, and what lies elsewhere is shared.
+    fn updated<L: Ledger>(
+        &self,
+        alloc: Global,
+        shapes: Store,
+        changes: &Changes<'_>,
+        ticks: &mut Ticks<L>,
+    ) -> Result<(Version, u32), NoMemory>
+        requires fit { AllFit self.now.map.size shapes }
+        requires covers { CoverChanges self.now.map self.now.standing shapes changes.now.reaches.now }
+        requires names { NameChanges self.now.map self.now.standing shapes changes.now.reaches.now changes.now.ids.now }
+        ensures version { IfOk result (λ next. next.0 ≡ map_state self.now.map shapes) }
+        ensures relabelled { IfOk result (λ next. HasRelabelled (length self.now.map.classes) (passes_of self.now)
+            (passes_of (map_state self.now.map shapes)) next.1) }
+        ensures most { (count : ℕ) → HasRelabelled (length self.now.map.classes) (passes_of self.now)
+            (passes_of (map_state self.now.map shapes)) count → ticks.new ≤ ticks.old + count }
+    {
+        let parts = self.kept();
+        let shared = Arc::try_clone(&parts.map)?;
+        let standing = Arc::new(alloc, shapes)?;
+        let map: &MapSpec = &parts.map;
+        let before: &Store = &parts.shapes;
+        let now: &Store = &standing;
+        let site = Site { map, shapes: now };
+        let (layers, relabelled) = parts.layers.updated(alloc, before, &site, changes, ticks)?;
+        let next = VersionParts {
+            map: shared,
+            shapes: standing,
+            layers,
+        };
+        let version = Version {
+            parts: Arc::new(alloc, next)?,
+        };
+        Ok((version, relabelled))
     }
 
     /// The version after no edits, which shares all that this one has.
@@ -155,7 +233,7 @@ impl Version {
         ensures chunk { result.chunk ≡ chunk_place self.now.map.size (chunk_of cell) }
         ensures region { HasRegion (passes_of self.now class) (chunk_of cell) cell result.region }
     {
-        self.parts.region(class, cell)
+        self.tables(class).region(self.map().size(), cell)
     }
 
     /// How many regions, region edges and areas all classes have together (`HasTallies`).
@@ -163,7 +241,19 @@ impl Version {
         ensures { HasTallies (length self.now.map.classes) (passes_of self.now)
             result.regions result.edges result.areas }
     {
-        self.parts.tallies()
+        let parts = self.kept();
+        let mut tallies = Tallies {
+            regions: 0,
+            edges: 0,
+            areas: 0,
+        };
+        for class in 0..parts.layers.tables.len() {
+            let tables = parts.layers.tables.at(class);
+            tallies.regions += tables.regions();
+            tallies.edges += tables.edges();
+            tallies.areas += u64::from(tables.areas());
+        }
+        tallies
     }
 
     /// How many cells are passable for the class. The number is kept per chunk, so no cell is looked at.
@@ -171,7 +261,12 @@ impl Version {
         requires { class < length self.now.map.classes }
         ensures { Counts (λ (cell : Cell). IsTrue (passes_of self.now class cell)) result }
     {
-        self.parts.passable_cells(class)
+        let parts = self.kept();
+        let mut count = 0;
+        for place in 0..parts.layers.ground.cells.len() {
+            count += u32::from(parts.layers.ground.cells.at(place).free(class));
+        }
+        count
     }
 
     /// The planes of all classes of the map, for searches that look at 64 cells at once. They are of this version
@@ -181,7 +276,8 @@ impl Version {
         ensures each { (class : ℕ) → class < length self.now.map.classes
             → IsSome (slice_index_or result.now class None) }
     {
-        self.parts.planes()
+        let parts = self.kept();
+        &parts.layers.planes
     }
 
     /// This version for the requests of one class of the map, whose plane is looked up once, here.
@@ -192,20 +288,38 @@ impl Version {
         ClassView::new(self, class)
     }
 
+    /// What this version keeps.
+    fn kept(&self) -> &VersionParts
+        ensures { result.now ≡ self.now }
+    {
+        &self.parts
+    }
+
     /// The plane of a class of the map.
     pub(crate) fn plane(&self, class: Class) -> &ClassPlane
         requires { class < length self.now.map.classes }
         ensures extent { result.now.size ≡ self.now.map.size }
         ensures cells { is_passable result.now ≡ passes_of self.now class }
     {
-        self.parts.plane(class)
+        let parts = self.kept();
+        plane_of(&parts.layers.planes, class)
+    }
+
+    /// The tables of a class of the map.
+    fn tables(&self, class: Class) -> &ClassTables
+        requires { class < length self.now.map.classes }
+        ensures { AreTables (passes_of self.now class) self.now.map.size result.now }
+    {
+        let parts = self.kept();
+        parts.layers.tables.at(usize::from(class.number()))
     }
 
     /// The map.
     pub fn map(&self) -> &MapSpec
         ensures { result.now ≡ self.now.map }
     {
-        self.parts.map()
+        let parts = self.kept();
+        &parts.map
     }
 
     /// The standing obstructions, all of which fit the map.
@@ -213,7 +327,8 @@ impl Version {
         ensures standing { result.now ≡ self.now.standing }
         ensures fit { AllFit self.now.map.size result.now }
     {
-        self.parts.shapes()
+        let parts = self.kept();
+        &parts.shapes
     }
 }
 
@@ -243,7 +358,7 @@ impl View for Version {
     /// Whether the cell is passable for the class (`passable_at`): no base rectangle and no standing obstruction covers
     /// it for the class.
     fn passable(&self, class: Class, cell: Cell) -> bool {
-        self.parts.plane(class).passable(cell)
+        self.plane(class).passable(cell)
     }
 }
 
@@ -251,13 +366,13 @@ impl FreeCells for Version {
     /// The place of the first passable cell of the line, from this one up (`IsFirstFree`); the length of the line where
     /// there is none.
     fn next_free(&self, class: Class, axis: Axis, cell: Cell) -> u16 {
-        self.parts.plane(class).next_free(axis, cell)
+        self.plane(class).next_free(axis, cell)
     }
 
     /// The place of the first impassable cell of the line, from this one up (`IsFirstBlocked`); the length of the line
     /// where there is none.
     fn next_blocked(&self, class: Class, axis: Axis, cell: Cell) -> u16 {
-        self.parts.plane(class).next_blocked(axis, cell)
+        self.plane(class).next_blocked(axis, cell)
     }
 }
 
@@ -274,6 +389,20 @@ impl Areas for Version {
 
     /// The number of the cell's area for the class; 0 exactly for an impassable cell (`HasArea`).
     fn area(&self, class: Class, cell: Cell) -> u32 {
-        self.parts.area(class, cell)
+        self.tables(class).area(self.map().size(), cell)
     }
+}
+
+/// A copy of a map that versions may share.
+fn shared_map(alloc: Global, map: &MapSpec) -> Result<Arc<MapSpec, Global>, NoMemory>
+    ensures { IfOk result (λ shared. arc_value shared ≡ map.now) }
+{
+    Ok(Arc::new(alloc, map.copy(alloc)?)?)
+}
+
+/// A copy of the standing obstructions that versions may share.
+fn shared_store(alloc: Global, shapes: &Store) -> Result<Arc<Store, Global>, NoMemory>
+    ensures { IfOk result (λ shared. arc_value shared ≡ shapes.now) }
+{
+    Ok(Arc::new(alloc, shapes.copy(alloc)?)?)
 }

@@ -1,15 +1,13 @@
-use Rattle.std.proofs.Common.{ℕ, ◌∙◌, ap}
+use Rattle.std.proofs.Common.{ℕ}
 use Rattle.nav_types.specs.Lines.{IsFirstBlocked, place_on}
 use Rattle.class_planes.specs.Planes.{is_passable}
-use Rattle.grid_versions.specs.Versions.{MapState, passes_of}
+use Rattle.grid_versions.specs.Versions.{passes_of}
 use Rattle.grid_versions.proofs.PlaneLines.{on_same_line}
 use Rattle.grid_versions.proofs.versions.VersionFreeCells.next_blocked.Goals as goal
 
 pub returns : goal.returns
 returns c =
     let result : ℕ = c.next_blocked.result in
-    let same = c.deref.ensures ∙ c.self.view_is in
     on_same_line (λ free end. IsFirstBlocked free (place_on c.args.axis c.args.cell) end result) c.args.axis c.args.cell
     (is_passable c.plane.result.now) (passes_of c.args.self.now c.args.class) c.plane.result.now.size c.args.self.now.map.size
-    (c.plane.ensures.cells ∙ ap (λ (v : MapState). passes_of v c.args.class) same)
-    (c.plane.ensures.extent ∙ ap (λ (v : MapState). v.map.size) same) c.next_blocked.ensures
+    c.plane.ensures.cells c.plane.ensures.extent c.next_blocked.ensures

@@ -7,7 +7,7 @@ use Rattle.posts.specs.Maps.{Map}
 use Rattle.grid_versions.specs.Versions.{passes_of}
 use Rattle.grid_versions.specs.inner.Tables.{AreTables, region_in}
 use Rattle.grid_versions.proofs.RegionLemmas.{has_region}
-use Rattle.grid_versions.proofs.version_parts.VersionParts.region.Goals as goal
+use Rattle.grid_versions.proofs.versions.Version.region.Goals as goal
 
 pub region-requires-clause-tables : goal.region-requires-clause-tables
 region-requires-clause-tables c =

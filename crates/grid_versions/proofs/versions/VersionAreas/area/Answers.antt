@@ -7,7 +7,7 @@ use Rattle.grid_versions.specs.Versions.{passes_of}
 use Rattle.grid_versions.specs.inner.Tables.{AreTables, region_in}
 use Rattle.grid_versions.proofs.AreaLemmas.{has_area}
 use Rattle.grid_versions.proofs.VersionLemmas.{passable_within}
-use Rattle.grid_versions.proofs.version_parts.VersionParts.area.Goals as goal
+use Rattle.grid_versions.proofs.versions.VersionAreas.area.Goals as goal
 
 pub area-requires-clause-tables : goal.area-requires-clause-tables
 area-requires-clause-tables c =

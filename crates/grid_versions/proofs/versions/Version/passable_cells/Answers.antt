@@ -11,11 +11,11 @@ use Rattle.navcell_grid.specs.Patches.{free_count}
 use Rattle.grid_versions.specs.Passing.{passable_at}
 use Rattle.grid_versions.specs.Versions.{MapState, passes_of}
 use Rattle.grid_versions.proofs.VersionLemmas.{passable_counted}
-use Rattle.grid_versions.proofs.version_parts.VersionParts.passable_cells.Goals as goal
+use Rattle.grid_versions.proofs.versions.Version.passable_cells.Goals as goal
 
 pub loop-place-preserved : goal.loop-place-preserved
 loop-place-preserved c =
-    let cells = c.self.inside.layers.ground.cells in
+    let cells = c.parts.inside.layers.ground.cells in
     let place = c.loop-place.place in
     let found = c.at.result.now in
     let f : Numbering → ℕ = λ one. free_count c.args.class one.numbers in
@@ -30,12 +30,12 @@ loop-place-preserved c =
 
 pub returns : goal.returns
 returns c =
-    let map = arc_value c.self.inside.map in
-    let standing = (arc_value c.self.inside.shapes) in
-    let cells = c.self.inside.layers.ground.cells in
+    let map = arc_value c.parts.inside.map in
+    let standing = (arc_value c.parts.inside.shapes) in
+    let cells = c.parts.inside.layers.ground.cells in
     let f : Numbering → ℕ = λ one. free_count c.args.class one.numbers in
-    let low = subst (λ (s : MapState). c.args.class < length s.map.classes) (sym c.self.view_is) c.requires in
+    let low = subst (λ (s : MapState). c.args.class < length s.map.classes) (sym (c.parts.view_is ∙ c.kept-parts.ensures)) c.requires in
     let all : c.loop-place.count ≡ sum_by f cells = c.loop-place.invariant.sum ∙ ap (λ xs. sum_by f xs) (take_all c.loop-place.place cells (omega arith)) in
-    subst (λ (s : MapState). Counts (λ (cell : Cell). IsTrue (passes_of s c.args.class cell)) c.loop-place.count) c.self.view_is
+    subst (λ (s : MapState). Counts (λ (cell : Cell). IsTrue (passes_of s c.args.class cell)) c.loop-place.count) (c.parts.view_is ∙ c.kept-parts.ensures)
     (subst (λ (n : ℕ). Counts (λ (cell : Cell). IsTrue (passable_at map standing c.args.class cell)) n) (sym all)
-    (passable_counted map standing cells c.args.class c.self.invariant.cells_are low))
+    (passable_counted map standing cells c.args.class c.parts.invariant.cells_are low))
