@@ -86,11 +86,16 @@ def cause_is_right(script, text, said):
     if number > len(lines) or number == len(lines) and lines[-1] == b"":
         wanted = b"the script must not end inside a turn: its end line is missing"
         return found[1] == (wanted if number > 1 else b"the script must begin with a map line, and has no line")
+    line = lines[number - 1]
+    unread = b"the line must be one JSON value"
     try:
-        check.value_of(lines[number - 1])
+        check.value_of(line)
     except check.BadLine:
-        return found[1] == b"the line must be one JSON value in UTF-8"
-    return found[1] != b"the line must be one JSON value in UTF-8"
+        if not line.strip(b" \t\r"):
+            return found[1] == unread + b", and is blank"
+        marked = line.startswith(b"\xef\xbb\xbf")
+        return found[1] == unread + (b", and begins with a byte order mark" if marked else b" in UTF-8")
+    return not found[1].startswith(unread)
 
 
 def served_wrong(read_script, out):

@@ -29,8 +29,8 @@ use Rattle.script_text.specs.declared.causes.keys.Key.TheVariants as key
 use Rattle.script_text.specs.declared.causes.keys.Wanted.TheVariants.{Whole}
 use Rattle.script_text.specs.Values.{whole, whole_in, whole_below, obstruction_number, class_name, under, array_items, both, all_three, point_of, round_of, rectangle_of, size_of}
 use Rattle.script_text.specs.Forms.{map_by, map_of, each, entry_of, base_of, goal_of, add_keys, mask_of, shape_of, add_of, remove_of, move_of, path_of, region_of, edit_of, request_of, post_of, end_of}
-use Rattle.script_text.specs.Script.{Place, Item, Stop, Walk, whole_input, is_empty, finish_in, arrived, stuck, bad, bad_line, end_line, turn_line, base_line, map_line, placed_in}
-use Rattle.script_text.specs.Causes.{wants, is_right, first_wrong, map_fields, fields_of, cause_by, cause, end_cause}
+use Rattle.script_text.specs.Script.{Place, Item, Stop, Walk, whole_input, is_empty, finish_in, arrived, stuck, bad, bad_line, end_line, turn_line, base_line, map_line, placed_in, reading_of}
+use Rattle.script_text.specs.Causes.{wants, is_right, first_wrong, map_fields, fields_of, cause_by, value_cause, reading_cause, cause, end_cause}
 use Rattle.script_text.proofs.Members.{are_distinct, is_other, open_keys, has_keys-other}
 
 -- ---- truth values
@@ -513,7 +513,7 @@ says_base_or_turn : {rules : Rules} {turn : ℕ} {d : Data} {base post end : Boo
 says_base_or_turn {rules = rules} {turn = turn} {d = d} {base = base} says =
     ap (λ b. b || accepted (InTurns rules) turn d) says.says_base ∙ ap (λ b. base || b) (says_turn says)
 
-in_base : (rules : Rules) (turn : ℕ) (d : Data) → is_some (cause (InBase rules) turn (Some d)) ≡ not (accepted (InBase rules) turn d)
+in_base : (rules : Rules) (turn : ℕ) (d : Data) → is_some (value_cause (InBase rules) turn d) ≡ not (accepted (InBase rules) turn d)
 in_base rules turn d =
     choose (InBase rules) turn d (has_keys (codes "version" ∷ codes "size" ∷ codes "callers" ∷ codes "classes" ∷ []) d) _ _ (λ has. ap not (sym (says_base_or_turn (map_says_only rules turn d has))))
     (λ no_map. choose (InBase rules) turn d (has_keys (codes "base" ∷ []) d) _ _ (λ has. first_b (fields_of rules turn form.Base) d ∙ ap not (sym (says_base_or_turn (base_says_only rules turn d has) ∙ or_false (all_right (fields_of rules turn form.Base) d))))
@@ -526,7 +526,7 @@ in_base rules turn d =
     (λ no_path. choose (InBase rules) turn d (has_keys (codes "caller" ∷ codes "region" ∷ codes "at" ∷ []) d) _ _ (λ has. first_b (fields_of rules turn form.Region) d ∙ ap not (sym (says_base_or_turn (region_says_only rules turn d has) ∙ or_false (all_right (fields_of rules turn form.Region) d))))
     (λ no_region. ap not (sym (says_base_or_turn (none_says rules turn d (record { has_map = no_map; has_base = no_base; has_end = no_end; has_unit = no_unit; has_square = no_square; has_remove = no_remove; has_move = no_move; has_path = no_path; has_region = no_region })))))))))))))
 
-in_turns : (rules : Rules) (turn : ℕ) (d : Data) → is_some (cause (InTurns rules) turn (Some d)) ≡ not (accepted (InTurns rules) turn d)
+in_turns : (rules : Rules) (turn : ℕ) (d : Data) → is_some (value_cause (InTurns rules) turn d) ≡ not (accepted (InTurns rules) turn d)
 in_turns rules turn d =
     choose (InTurns rules) turn d (has_keys (codes "version" ∷ codes "size" ∷ codes "callers" ∷ codes "classes" ∷ []) d) _ _ (λ has. ap not (sym (says_turn (map_says_only rules turn d has))))
     (λ no_map. choose (InTurns rules) turn d (has_keys (codes "base" ∷ []) d) _ _ (λ has. ap not (sym (says_turn (base_says_only rules turn d has))))
@@ -539,7 +539,7 @@ in_turns rules turn d =
     (λ no_path. choose (InTurns rules) turn d (has_keys (codes "caller" ∷ codes "region" ∷ codes "at" ∷ []) d) _ _ (λ has. first_b (fields_of rules turn form.Region) d ∙ ap not (sym (says_turn (region_says_only rules turn d has) ∙ or_false (all_right (fields_of rules turn form.Region) d))))
     (λ no_region. ap not (sym (says_turn (none_says rules turn d (record { has_map = no_map; has_base = no_base; has_end = no_end; has_unit = no_unit; has_square = no_square; has_remove = no_remove; has_move = no_move; has_path = no_path; has_region = no_region })))))))))))))
 
-before_map : (turn : ℕ) (d : Data) → is_some (cause BeforeMap turn (Some d)) ≡ not (accepted BeforeMap turn d)
+before_map : (turn : ℕ) (d : Data) → is_some (value_cause BeforeMap turn d) ≡ not (accepted BeforeMap turn d)
 before_map turn d =
     choose BeforeMap turn d (has_keys (codes "version" ∷ codes "size" ∷ codes "callers" ∷ codes "classes" ∷ []) d) _ _ (λ has. first_b map_fields d ∙ ap not (sym (map_says d ∙ ap (λ k. k && all_right map_fields d) has)))
     (λ no_map. choose BeforeMap turn d (has_keys (codes "base" ∷ []) d) _ _ (λ has. ap not (sym (none no_map)))
@@ -587,14 +587,18 @@ bad_map : (p : Place) (o : Option Map) → (map_line p o ≡ bad p → is_some o
 bad_map p None = (λ e. refl, λ e. refl)
 bad_map p (Some m) = (λ e. absurd (goes_on e), λ e. absurd (cc))
 
+-- a line in this part, by its reading
+by_reading : (part : Part) (p : Place) (line : List ℕ) (reading : Option Data) → (placed_in part p reading ≡ bad p) ↔ IsSome (reading_cause part (p.turns + 1) line reading)
+by_reading BeforeMap p line None = (λ e. refl, λ e. refl)
+by_reading (InBase rules) p line None = (λ e. refl, λ e. refl)
+by_reading (InTurns rules) p line None = (λ e. refl, λ e. refl)
+by_reading BeforeMap p line (Some d) = same_as (before_map (p.turns + 1) d) (bad_map p (map_of d))
+by_reading (InBase rules) p line (Some d) = same_as (in_base rules (p.turns + 1) d) (bad_base p rules d (base_of rules.size d))
+by_reading (InTurns rules) p line (Some d) = same_as (in_turns rules (p.turns + 1) d) (bad_turn p rules (post_of rules.version rules.callers d) (end_of d))
+
 -- a line in this part is bad exactly where it has a cause
-pub bad_line-cause : (part : Part) (p : Place) (reading : Option Data) → (placed_in part p reading ≡ bad p) ↔ IsSome (cause part (p.turns + 1) reading)
-bad_line-cause BeforeMap p None = (λ e. refl, λ e. refl)
-bad_line-cause (InBase rules) p None = (λ e. refl, λ e. refl)
-bad_line-cause (InTurns rules) p None = (λ e. refl, λ e. refl)
-bad_line-cause BeforeMap p (Some d) = same_as (before_map (p.turns + 1) d) (bad_map p (map_of d))
-bad_line-cause (InBase rules) p (Some d) = same_as (in_base rules (p.turns + 1) d) (bad_base p rules d (base_of rules.size d))
-bad_line-cause (InTurns rules) p (Some d) = same_as (in_turns rules (p.turns + 1) d) (bad_turn p rules (post_of rules.version rules.callers d) (end_of d))
+pub bad_line-cause : (part : Part) (p : Place) (line : List ℕ) → (placed_in part p (reading_of line) ≡ bad p) ↔ IsSome (cause part (p.turns + 1) line)
+bad_line-cause part p line = by_reading part p line (reading_of line)
 
 -- an input that may not end in this part has a cause
 pub bad_end-cause : (part : Part) (p : Place) → (finish_in part p ≡ stuck (bad_line (p.lines + 1))) ↔ IsSome (end_cause part p.posts)

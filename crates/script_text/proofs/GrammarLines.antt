@@ -170,7 +170,7 @@ entry-is size d entry e =
       mask = p.6;
     }
 
-entry-from : (size : Size) (d : Data) (entry : Rect × ℕ) → IsEntry size entry d → entry_of size d ≡ Some entry
+pub entry-from : (size : Size) (d : Data) (entry : Rect × ℕ) → IsEntry size entry d → entry_of size d ≡ Some entry
 unfolding entry_of
 entry-from size d entry is =
     let i0 = entry.0.i0 in let j0 = entry.0.j0 in let i1 = entry.0.i1 in let j1 = entry.0.j1 in let mask = entry.1 in

@@ -13,7 +13,7 @@ use Rattle.input_lines.proofs.FirstLines.{first_of_whole, some_held}
 use Rattle.script_text.proofs.CauseLemmas.{bad_line-cause}
 
 -- a bad line that is held first has its number and its cause
-by_bytes : (p : Place) (bytes : List ℕ) (ended : Bool) → bytes ≢ [] → IsSome (cause p.part (p.turns + 1) (reading_of (first_line bytes)))
+by_bytes : (p : Place) (bytes : List ℕ) (ended : Bool) → bytes ≢ [] → IsSome (cause p.part (p.turns + 1) (first_line bytes))
     → HoldsBad p.lines (record { place = p; bytes = bytes; ended = ended; over = false; failed = false })
 by_bytes p [] ended some found = absurd (some refl)
 by_bytes p (byte ∷ bytes) ended some found = record { number = refl; cause = found }
@@ -35,8 +35,8 @@ holds_line p q h size NoMemory plain whole refused at = tt
 holds_line p q h size (BadLine n) plain whole refused at =
     let here = counted p size in
     let stands = bad_accept p h.line size (refused ∙ ap (λ m. stuck (bad_line m)) at.1) in
-    let why : IsSome (cause here.part (here.turns + 1) (reading_of h.line)) = (bad_line-cause here.part here (reading_of h.line)).0 stands in
-    let HasCause : List ℕ → Type 0 = λ line. IsSome (cause here.part (here.turns + 1) (reading_of line)) in
+    let why : IsSome (cause here.part (here.turns + 1) h.line) = (bad_line-cause here.part here h.line).0 stands in
+    let HasCause : List ℕ → Type 0 = λ line. IsSome (cause here.part (here.turns + 1) line) in
     let first = first_of_whole h.line h.line_end h.rest plain whole.ends in
     let some = some_held h.line (newline_of h.line_end) h.rest.bytes (subst (λ m. 1 ≤ m) whole.counted whole.some_byte) in
     let holds : HoldsBad here.lines (held_at here h) = by_bytes here (bytes_of h) h.rest.ended some (subst HasCause (sym first) why) in

@@ -11,6 +11,7 @@ pub mod PushedReads
 pub mod PushedEnds
 pub mod FormValues
 pub mod Members
+pub mod StrangeKeys
 pub mod GrammarValues
 pub mod GrammarLines
 pub mod GrammarGoals
@@ -27,4 +28,5 @@ pub mod BackScript
 pub mod CauseLemmas
 pub mod HeldCauses
 pub mod StopCauses
-pub mod WrongValues
+pub mod TrueCauses
+pub mod BlankLines

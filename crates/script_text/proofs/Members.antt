@@ -23,10 +23,10 @@ use Rattle.script_text.specs.Grammar.{joined, AreMembers, IsObject}
 same_order : (key : List ℕ) → slice_cmp nat_cmp key key ≡ Equal
 same_order key = (Equal-is (slice_cmp nat_cmp key key)).0 (is_eq-slice_cmp key key ∙ (bytes_eq-Decides key key).1 refl)
 
-get-here : (key : List ℕ) (d : Data) (ms : Members) → get_member key (member key d ms) ≡ Some d
+pub get-here : (key : List ℕ) (d : Data) (ms : Members) → get_member key (member key d ms) ≡ Some d
 get-here key d ms = ap (λ o. match_ordering o (get_member key ms) (Some d) (get_member key ms)) (same_order key)
 
-get-there : (key other : List ℕ) (d : Data) (ms : Members) → (key ≡ other → ⊥) → get_member key (member other d ms) ≡ get_member key ms
+pub get-there : (key other : List ℕ) (d : Data) (ms : Members) → (key ≡ other → ⊥) → get_member key (member other d ms) ≡ get_member key ms
 get-there key other d ms differ = by_order (slice_cmp nat_cmp key other) (exact_bytes key other)
   where
     by_order : (o : Ordering) → (o ≡ Equal → key ≡ other) → match_ordering o (get_member key ms) (Some d) (get_member key ms) ≡ get_member key ms
@@ -35,7 +35,7 @@ get-there key other d ms differ = by_order (slice_cmp nat_cmp key other) (exact_
     by_order Greater tells = refl
 
 -- a key is this one or another
-by_key : {A : Type 0} (key other : List ℕ) → (key ≡ other → A) → ((key ≡ other → ⊥) → A) → A
+pub by_key : {A : Type 0} (key other : List ℕ) → (key ≡ other → A) → ((key ≡ other → ⊥) → A) → A
 by_key {A} key other same differ = by_test (bytes_eq key other) (bytes_eq-Decides key other).0 (bytes_eq-Decides key other).1
   where
     by_test : (b : Bool) → (b ≡ true → key ≡ other) → (key ≡ other → b ≡ true) → A

@@ -8,7 +8,7 @@ use Rattle.input_lines.specs.Held.{HeldLine, IsWholeLine, Taken, after_line, byt
 use Rattle.script_text.specs.declared.faults.ScriptFault.{ScriptFault}
 use Rattle.script_text.specs.declared.faults.ScriptFault.TheVariants.{BadLine, TooLong, ReadFault, NoMemory}
 use Rattle.script_text.specs.declared.items.ScriptItem.{ScriptItem}
-use Rattle.script_text.specs.Script.{Place, Item, Walk, bad_line, arrived, stuck, chain, counted, accept, finish, reading, reading_of}
+use Rattle.script_text.specs.Script.{Place, Item, Walk, bad_line, arrived, stuck, chain, counted, accept, finish, reading}
 use Rattle.script_text.specs.Causes.{cause, end_cause, next_cause, stop_cause}
 use Rattle.script_text.specs.Reader.{Held, HoldsRefused, held_cause}
 use Rattle.script_text.specs.Pushed.{EndTold, item_of}
@@ -74,7 +74,7 @@ cause-bad h size n p behind total some plain e =
     ∙ ap (λ bytes. held_cause (record { place = counted p size; bytes = bytes; ended = h.rest.ended; over = false; failed = false })) (sym (last_bytes h behind))
 
 -- why the line that is held is not in the grammar
-pub cause-held : (p : Place) (h : HeldLine) (size : ℕ) → h.rest ≡ nothing_behind → size ≡ length (bytes_of h) → 1 ≤ size → IsPlain h.line → next_cause p (bytes_of h) ≡ cause p.part (p.turns + 1) (reading_of h.line)
+pub cause-held : (p : Place) (h : HeldLine) (size : ℕ) → h.rest ≡ nothing_behind → size ≡ length (bytes_of h) → 1 ≤ size → IsPlain h.line → next_cause p (bytes_of h) ≡ cause p.part (p.turns + 1) h.line
 unfolding last
 cause-held p h size behind total some plain = ap (next_cause p) (last_bytes h behind) ∙ next_cause-whole p (last h) size plain (last_is_whole h size behind total some)
 

@@ -4,7 +4,7 @@ use Rattle.std.proofs.lemmas.List.{append-nil}
 use Rattle.input_lines.specs.declared.intake.LineEnd.{LineEnd}
 use Rattle.input_lines.specs.declared.intake.LineEnd.TheVariants.{Newline, Input}
 use Rattle.input_lines.specs.Lines.{first_line, full_lines, tail_of, IsPlain}
-use Rattle.script_text.specs.Script.{Place, Item, Stop, Walk, arrived, stuck, reading_of, accept}
+use Rattle.script_text.specs.Script.{Place, Item, Stop, Walk, arrived, stuck, accept}
 use Rattle.script_text.specs.Causes.{cause, cause_from, next_cause, line_cause, lines_cause, last_cause, stop_cause}
 use Rattle.input_lines.specs.Held.{Taken, HeldLine, newline_of, bytes_of, HasEnd, IsWholeLine}
 use Rattle.input_lines.proofs.FirstLines.{first_of_whole, some_held}
@@ -45,23 +45,23 @@ pub stop_cause-used : (h : HeldLine) (size : ℕ) (left : List ℕ) (p q : Place
     → accept size h.line p ≡ arrived items q → stop_cause (bytes_of h ++ left) p ≡ stop_cause (h.rest.bytes ++ left) q
 stop_cause-used h size left p q items w plain at_end e =
     whole_by h.line h.line_end h.rest size left p w.ends w.counted w.some_byte plain at_end
-    ∙ ap (λ (v : Walk). cause_from v.ends (cause p.part (p.turns + 1) (reading_of h.line)) (stop_cause (h.rest.bytes ++ left))) e
+    ∙ ap (λ (v : Walk). cause_from v.ends (cause p.part (p.turns + 1) h.line) (stop_cause (h.rest.bytes ++ left))) e
 
 -- the input stops at a line that is held whole
 pub stop_cause-stuck : (h : HeldLine) (size : ℕ) (left : List ℕ) (p : Place) (s : Stop) → IsWholeLine h size → IsPlain h.line → (IsTrue h.rest.ended → left ≡ [])
-    → accept size h.line p ≡ stuck s → stop_cause (bytes_of h ++ left) p ≡ cause p.part (p.turns + 1) (reading_of h.line)
+    → accept size h.line p ≡ stuck s → stop_cause (bytes_of h ++ left) p ≡ cause p.part (p.turns + 1) h.line
 stop_cause-stuck h size left p s w plain at_end e =
     whole_by h.line h.line_end h.rest size left p w.ends w.counted w.some_byte plain at_end
-    ∙ ap (λ (v : Walk). cause_from v.ends (cause p.part (p.turns + 1) (reading_of h.line)) (stop_cause (h.rest.bytes ++ left))) e
+    ∙ ap (λ (v : Walk). cause_from v.ends (cause p.part (p.turns + 1) h.line) (stop_cause (h.rest.bytes ++ left))) e
 
 -- ---- what is held
 
-next_cause-some : (p : Place) (bytes : List ℕ) → bytes ≢ [] → next_cause p bytes ≡ cause p.part (p.turns + 1) (reading_of (first_line bytes))
+next_cause-some : (p : Place) (bytes : List ℕ) → bytes ≢ [] → next_cause p bytes ≡ cause p.part (p.turns + 1) (first_line bytes)
 next_cause-some p [] some = absurd (some refl)
 next_cause-some p (byte ∷ bytes) some = refl
 
 -- the next cause is that of the line that is held whole
-pub next_cause-whole : (p : Place) (h : HeldLine) (size : ℕ) → IsPlain h.line → IsWholeLine h size → next_cause p (bytes_of h) ≡ cause p.part (p.turns + 1) (reading_of h.line)
+pub next_cause-whole : (p : Place) (h : HeldLine) (size : ℕ) → IsPlain h.line → IsWholeLine h size → next_cause p (bytes_of h) ≡ cause p.part (p.turns + 1) h.line
 next_cause-whole p h size plain whole =
     let some = some_held h.line (newline_of h.line_end) h.rest.bytes (subst (λ m. 1 ≤ m) whole.counted whole.some_byte) in
-    next_cause-some p (bytes_of h) some ∙ ap (λ line. cause p.part (p.turns + 1) (reading_of line)) (first_of_whole h.line h.line_end h.rest plain whole.ends)
+    next_cause-some p (bytes_of h) some ∙ ap (λ line. cause p.part (p.turns + 1) line) (first_of_whole h.line h.line_end h.rest plain whole.ends)

@@ -1,7 +1,7 @@
 -- What a cause says.
 use Rattle.std.specs.Prelude.{ℕ, List, ◌++◌, codes, decimal}
 use Rattle.script_text.specs.declared.causes.Cause.{Cause}
-use Rattle.script_text.specs.declared.causes.Cause.TheVariants.{NotJson, NoSuchForm, WrongValue, MissingMask, LaterVersion, NotHere, EndsInsideTurn, NoLine}
+use Rattle.script_text.specs.declared.causes.Cause.TheVariants.{BlankLine, ByteOrderMark, NotJson, UnknownKey, MissingKey, NoSuchForm, WrongValue, WrongRectangle, MissingMask, LaterVersion, NotHere, EndsInsideTurn, NoLine}
 use Rattle.script_text.specs.declared.causes.keys.Wanted.{Wanted}
 use Rattle.script_text.specs.declared.causes.keys.Wanted.TheVariants.{Whole, Caller, Turn, Sides, Classes, Rectangles, ClassName, TwoDecimals, ThreeDecimals, SixDecimals, NumberAndDecimal, Goal}
 use Rattle.script_text.specs.Causes.{key_text}
@@ -24,9 +24,14 @@ wanted_text (Goal version) = codes "an object with exactly one key: point, circl
 
 -- what is to change in a line
 abbrev pub cause_text : Cause → List ℕ
+cause_text BlankLine = codes "the line must be one JSON value, and is blank"
+cause_text ByteOrderMark = codes "the line must be one JSON value, and begins with a byte order mark"
 cause_text NotJson = codes "the line must be one JSON value in UTF-8"
+cause_text (UnknownKey name) = codes "the line must have the keys of one form, and no form has the key \"" ++ name ++ codes "\""
+cause_text (MissingKey key) = codes "the line must have the key \"" ++ key_text key ++ codes "\" too"
 cause_text NoSuchForm = codes "the line must be an object with exactly the keys of one form"
 cause_text (WrongValue key wanted) = codes "the key \"" ++ key_text key ++ codes "\" must have " ++ wanted_text wanted
+cause_text (WrongRectangle number size) = codes "the key \"base\" must have " ++ wanted_text (Rectangles size) ++ codes "; array " ++ decimal number ++ codes " is wrong"
 cause_text MissingMask = codes "an add line must have the key \"mask\" from version 2 on"
 cause_text (LaterVersion version) = codes "the map line must name version " ++ decimal version ++ codes " or later for this"
 cause_text NotHere = codes "the map line must be line 1 alone, and base lines must stand between it and the turns"

@@ -1,13 +1,15 @@
 -- Why a line is not in the grammar in its place.
-use Rattle.std.specs.Prelude.{ℕ, ◌≡◌, ◌⊎◌, ◌+◌, ◌&&◌, ◌||◌, List, [], ◌∷◌, length, nat_le, nat_lt, Bool, true, false, if◌then◌else◌, Option, Some, None, is_some, option_and_then, codes}
-use Rattle.std.specs.List.{list_all}
+use Rattle.std.specs.Prelude.{ℕ, ◌≡◌, ◌⊎◌, ◌+◌, ◌&&◌, ◌||◌, ◌==◌, List, [], ◌∷◌, ◌++◌, length, All, nat_le, nat_lt, nat_eq, Bool, true, false, not, if◌then◌else◌, Option, Some, None, is_some, IsSome, option_and_then, bytes_eq, codes}
+use Rattle.std.specs.List.{list_all, list_any, find, starts_with}
 use Rattle.serde_json.specs.Data.{Data}
-use Rattle.serde_json.specs.Find.{get}
-use Rattle.class_config.specs.Forms.{has_keys}
+use Rattle.serde_json.specs.Find.{get, as_object}
+use Rattle.nav_types.specs.declared.cells.Rect.{Rect}
+use Rattle.nav_types.specs.declared.cells.Size.{Size}
+use Rattle.class_config.specs.Forms.{has_keys, is_class_name, keys_of}
 use Rattle.class_config.specs.Classes.{classes_of}
 use Rattle.posts.specs.declared.posts.Post.{Post}
 use Rattle.script_text.specs.declared.causes.Cause.{Cause}
-use Rattle.script_text.specs.declared.causes.Cause.TheVariants.{NotJson, NoSuchForm, WrongValue, MissingMask, LaterVersion, NotHere, EndsInsideTurn, NoLine}
+use Rattle.script_text.specs.declared.causes.Cause.TheVariants.{BlankLine, ByteOrderMark, NotJson, UnknownKey, MissingKey, NoSuchForm, WrongValue, WrongRectangle, MissingMask, LaterVersion, NotHere, EndsInsideTurn, NoLine}
 use Rattle.script_text.specs.declared.causes.keys.Key.{Key}
 use Rattle.script_text.specs.declared.causes.keys.Key.TheVariants as key
 use Rattle.script_text.specs.declared.causes.keys.Wanted.{Wanted}
@@ -20,6 +22,7 @@ use Rattle.script_text.specs.declared.parts.Part.{Part}
 use Rattle.script_text.specs.declared.parts.Part.TheVariants.{BeforeMap, InBase, InTurns}
 use Rattle.script_text.specs.Values.{under, whole_in, whole_below, class_name, array_items, point_of, round_of, rectangle_of, size_of}
 use Rattle.script_text.specs.Forms.{each, entry_of, add_keys, grown_of, goal_of}
+use Rattle.script_text.specs.Grammar.{IsEntry}
 use Rattle.input_lines.specs.Lines.{full_lines, tail_of, first_line}
 use Rattle.script_text.specs.Script.{Place, Ends, at_place, stuck_by, is_empty, reading_of, accept}
 
@@ -130,12 +133,27 @@ wrong_goal version f g = if has_keys (codes "point" ∷ []) g then WrongValue ke
     then (if nat_lt version 3 then LaterVersion 3 else WrongValue key.Obstruction NumberAndDecimal)
     else WrongValue f.key f.wanted)))))
 
-abbrev pub wrong_by : Field → Wanted → Option Data → Cause
-wrong_by f (Goal version) (Some g) = wrong_goal version f g
-wrong_by f wanted found = WrongValue f.key f.wanted
+-- the value is no rectangle of the map with its mask
+abbrev pub is_no_entry : Size → Data → Bool
+is_no_entry size d = not (is_some (entry_of size d))
+
+-- the cause of items behind so many others, of which one is no rectangle: the first of these, by its number from 1
+abbrev pub wrong_items : Size → Field → ℕ → List Data → Cause
+wrong_items size f before [] = WrongValue f.key f.wanted
+wrong_items size f before (d ∷ items) = if is_no_entry size d then WrongRectangle (before + 1) size else wrong_items size f (before + 1) items
+
+-- the cause of what is no array of rectangles
+abbrev pub wrong_array : Size → Option (List Data) → Field → Cause
+wrong_array size None f = WrongValue f.key f.wanted
+wrong_array size (Some items) f = wrong_items size f 0 items
+
+abbrev pub wrong_by : Field → Wanted → Data → Option Data → Cause
+wrong_by f (Goal version) d (Some g) = wrong_goal version f g
+wrong_by f (Rectangles size) d found = wrong_array size (under array_items (key_text f.key) d) f
+wrong_by f wanted d found = WrongValue f.key f.wanted
 
 abbrev pub wrong_value : Field → Data → Cause
-wrong_value f d = wrong_by f f.wanted (get (key_text f.key) d)
+wrong_value f d = wrong_by f f.wanted d (get (key_text f.key) d)
 
 abbrev pub is_right : Field → Data → Bool
 is_right f d = is_wanted f.wanted (key_text f.key) d
@@ -149,6 +167,66 @@ first_wrong (f ∷ fs) d = if is_right f d then first_wrong fs d else Some (wron
 abbrev pub IsWrongIn : Key → Wanted → Data → Type 0
 IsWrongIn key wanted d = (is_wanted wanted (key_text key) d ≡ false)
     ⊎ ((outer : List ℕ) × (inner : Data) × (get outer d ≡ Some inner) × (is_wanted wanted (key_text key) inner ≡ false))
+
+-- An array stands under a key of the line. Its item of this number, from 1, is no rectangle of a map of this size with its
+-- mask, and each before it is one.
+pub record IsWrongRectangle (number : ℕ) (size : Size) (d : Data) : Type 0 where
+  pub key : List ℕ
+  pub before : List Data
+  pub item : Data
+  pub after : List Data
+  pub items : under array_items key d ≡ Some (before ++ item ∷ after)
+  pub numbered : number ≡ length before + 1
+  pub right : All (λ entry. IsSome (entry_of size entry)) before
+  pub wrong : (entry : Rect × ℕ) → IsEntry size entry item → ⊥
+
+-- ---- keys of no form
+
+-- the keys of lines
+abbrev pub line_keys : List Key
+line_keys = key.Version ∷ key.Size ∷ key.Callers ∷ key.Classes ∷ key.Base ∷ key.Caller ∷ key.Add ∷ key.Unit ∷ key.Square ∷ key.Mask
+    ∷ key.Remove ∷ key.Move ∷ key.To ∷ key.Path ∷ key.From ∷ key.Goal ∷ key.Region ∷ key.At ∷ key.End ∷ []
+
+-- a key that no form has, of the form of a name
+abbrev pub is_unknown : List ℕ → Bool
+is_unknown name = is_class_name name && not (list_any (λ k. bytes_eq name (key_text k)) line_keys)
+
+-- the first key of an object, in the order of their bytes, that no form has
+unfoldable pub unknown_key : Data → Option (List ℕ)
+unknown_key d = option_and_then (λ ms. find is_unknown (keys_of ms)) (as_object d)
+
+-- the first of these keys under which nothing stands
+abbrev pub first_missing : List Key → Data → Option Key
+first_missing [] d = None
+first_missing (k ∷ ks) d = if is_some (get (key_text k) d) then first_missing ks d else Some k
+
+-- the keys of the add line that has this one: from version 2 on the mask, and one of the shapes
+abbrev pub add_keys_beside : ℕ → Bool → List Key
+add_keys_beside version square = key.Caller ∷ (if square then key.Square else key.Unit) ∷ (if nat_le 2 version then key.Mask ∷ [] else [])
+
+-- the keys that stand beside the one that names the form of a post line
+abbrev pub post_keys_beside : ℕ → Data → List Key
+post_keys_beside version d = if is_some (get (codes "add") d) then add_keys_beside version (is_some (get (codes "square") d))
+    else (if is_some (get (codes "remove") d) then key.Caller ∷ []
+    else (if nat_le 3 version && is_some (get (codes "move") d) then key.Caller ∷ key.To ∷ []
+    else (if is_some (get (codes "path") d) then key.Caller ∷ key.From ∷ key.Goal ∷ []
+    else (if is_some (get (codes "region") d) then key.Caller ∷ key.At ∷ []
+    else []))))
+
+-- the same of any line: before the map line, the version names its form
+abbrev pub keys_beside : Part → Data → List Key
+keys_beside BeforeMap d = if is_some (get (codes "version") d) then key.Size ∷ key.Callers ∷ key.Classes ∷ [] else []
+keys_beside (InBase rules) d = post_keys_beside rules.version d
+keys_beside (InTurns rules) d = post_keys_beside rules.version d
+
+abbrev pub missing_cause : Option Key → Cause
+missing_cause None = NoSuchForm
+missing_cause (Some k) = MissingKey k
+
+-- a line with the keys of no form in any version: it has a key that no form has, or it lacks one
+abbrev pub strange_cause : Option (List ℕ) → Option Key → Cause
+strange_cause (Some name) missing = UnknownKey name
+strange_cause None missing = missing_cause missing
 
 -- ---- lines in their places
 
@@ -171,11 +249,11 @@ abbrev pub other_version : ℕ → ℕ → Cause
 other_version version first = if nat_lt version first then LaterVersion first else MissingMask
 
 -- a line that has the keys of no form of the script's version
-abbrev pub no_form_cause : Part → Option ℕ → Cause
-no_form_cause part None = NoSuchForm
-no_form_cause BeforeMap (Some first) = NotHere
-no_form_cause (InBase rules) (Some first) = other_version rules.version first
-no_form_cause (InTurns rules) (Some first) = other_version rules.version first
+abbrev pub no_form_cause : Part → Option ℕ → Data → Cause
+no_form_cause part None d = strange_cause (unknown_key d) (first_missing (keys_beside part d) d)
+no_form_cause BeforeMap (Some first) d = NotHere
+no_form_cause (InBase rules) (Some first) d = other_version rules.version first
+no_form_cause (InTurns rules) (Some first) d = other_version rules.version first
 
 -- the version of the script; before the map line, the newest
 abbrev pub version_of : Part → ℕ
@@ -185,12 +263,35 @@ version_of (InTurns rules) = rules.version
 
 abbrev pub cause_by : Part → ℕ → Data → Option Form → Option Cause
 cause_by part turn d (Some f) = form_cause part turn d f
-cause_by part turn d None = Some (no_form_cause part (first_version d))
+cause_by part turn d None = Some (no_form_cause part (first_version d) d)
 
--- why a line with this reading is not in the grammar in this part of a script, among the lines of the turn of this number
-abbrev pub cause : Part → ℕ → Option Data → Option Cause
-cause part turn None = Some NotJson
-cause part turn (Some d) = cause_by part turn d (form_of (version_of part) d)
+-- why a value is no line of the grammar in this part of a script, among the lines of the turn of this number
+abbrev pub value_cause : Part → ℕ → Data → Option Cause
+value_cause part turn d = cause_by part turn d (form_of (version_of part) d)
+
+-- white space round a value: spaces, tabs, newlines and carriage returns
+abbrev pub is_white : ℕ → Bool
+is_white byte = byte == 32 || byte == 9 || byte == 10 || byte == 13
+
+-- a line without a byte but white space
+abbrev pub is_blank : List ℕ → Bool
+is_blank line = list_all is_white line
+
+-- a line that begins with a byte order mark
+abbrev pub has_mark : List ℕ → Bool
+has_mark line = starts_with nat_eq line (239 ∷ 187 ∷ 191 ∷ [])
+
+-- why a line that is no value is none
+abbrev pub unread_cause : List ℕ → Cause
+unread_cause line = if is_blank line then BlankLine else (if has_mark line then ByteOrderMark else NotJson)
+
+abbrev pub reading_cause : Part → ℕ → List ℕ → Option Data → Option Cause
+reading_cause part turn line None = Some (unread_cause line)
+reading_cause part turn line (Some d) = value_cause part turn d
+
+-- why a line is not in the grammar there
+abbrev pub cause : Part → ℕ → List ℕ → Option Cause
+cause part turn line = reading_cause part turn line (reading_of line)
 
 -- why an input may not end in this part, with these posts of the turn that has begun
 abbrev pub end_cause : Part → List (List Post) → Option Cause
@@ -201,7 +302,7 @@ end_cause (InTurns rules) posts = if list_all is_empty posts then None else Some
 -- why the first line of these bytes is not in the grammar at a place; where there is no byte, why an input may not end there
 abbrev pub next_cause : Place → List ℕ → Option Cause
 next_cause p [] = end_cause p.part p.posts
-next_cause p (byte ∷ bytes) = cause p.part (p.turns + 1) (reading_of (first_line (byte ∷ bytes)))
+next_cause p (byte ∷ bytes) = cause p.part (p.turns + 1) (first_line (byte ∷ bytes))
 
 -- the number of the bad line: a line that is held was counted, and the one that is missing was not
 abbrev pub bad_number : Place → List ℕ → ℕ
@@ -217,7 +318,7 @@ cause_from (stuck_by stop) why go_on = why
 
 -- the same of a line of so many bytes, with its newline where it has one
 abbrev pub line_cause : ℕ → List ℕ → Place → (Place → Option Cause) → Option Cause
-line_cause size line p go_on = cause_from (accept size line p).ends (cause p.part (p.turns + 1) (reading_of line)) go_on
+line_cause size line p go_on = cause_from (accept size line p).ends (cause p.part (p.turns + 1) line) go_on
 
 abbrev pub lines_cause : List (List ℕ) → Place → (Place → Option Cause) → Option Cause
 lines_cause [] p go_on = go_on p

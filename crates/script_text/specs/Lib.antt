@@ -8,5 +8,6 @@ pub mod Reader
 pub mod Pushed
 pub mod ReadsBack
 pub mod Script
+pub mod TrueCauses
 pub mod Values
 pub mod inner

@@ -1,32 +1,48 @@
 //! Why a line is bad.
 ghost use Rattle.std.specs.Prelude.{◌≡◌, IfOk, Some, None};
 ghost use Rattle.serde_json.specs.View.{view};
-ghost use Rattle.script_text.specs.Script.{reading_of};
 ghost use Rattle.script_text.specs.Causes as why;
 
 mod keys;
 mod line_forms;
+mod strange_keys;
 mod wrong_values;
 
 use crate::parts::{Part, Rules};
 use crate::progress::read_line;
+use class_config::ClassName;
 pub use keys::{Key, Wanted};
 use line_forms::{Form, first_version, form_of};
-use nav_types::NoMemory;
+use nav_types::{NoMemory, Size};
 use serde_json::Value;
 use std::alloc::Global;
-use std::fmt;
+use std::{fmt, str};
+use strange_keys::{missing_key, unknown_key};
 use wrong_values::{fields_cause, map_cause};
+
+/// The bytes with which some editors begin a file.
+const BYTE_ORDER_MARK: [u8; 3] = [0xEF, 0xBB, 0xBF];
 
 /// Why a line is not in the grammar in its place.
 #[derive(Clone, Copy, Debug, PartialEq, Eq)]
 pub enum Cause {
-    /// The line is no JSON value in UTF-8. An empty line is none.
+    /// The line has no byte but white space, or none at all.
+    BlankLine,
+    /// The line is no JSON value, and begins with a byte order mark.
+    ByteOrderMark,
+    /// The line is no JSON value in UTF-8 for another reason.
     NotJson,
-    /// The value is no object, or an object whose keys are those of no form, in any version.
+    /// The keys are those of no form, in any version, and no form has this one.
+    UnknownKey { key: ClassName },
+    /// The keys are those of no form, in any version. One of them names a form, and this key of the form is not there.
+    MissingKey { key: Key },
+    /// The value is no object, or its keys are those of no form for another reason.
     NoSuchForm,
     /// The value under this key is not what it must be. Of several, it is the first in the order of the form's keys.
     WrongValue { key: Key, wanted: Wanted },
+    /// The item of this number, from 1, in the array of a base line is no rectangle of cells of the map, which is of this
+    /// size, with its mask. Of several, it is the first.
+    WrongRectangle { number: u64, size: Size },
     /// An add line lacks its mask, which it has from version 2 on.
     MissingMask,
     /// The form, or the goal, stands only in scripts from this version on.
@@ -47,11 +63,30 @@ impl fmt::Display for Cause {
 
     fn fmt<W: fmt::Write>(&self, f: &mut fmt::Formatter<W>) -> fmt::Result {
         match *self {
+            Cause::BlankLine => f.write_str("the line must be one JSON value, and is blank"),
+            Cause::ByteOrderMark => f.write_str(
+                "the line must be one JSON value, and begins with a byte order mark",
+            ),
             Cause::NotJson => f.write_str("the line must be one JSON value in UTF-8"),
+            Cause::UnknownKey { key } => {
+                let name = text_of(&key);
+                write!(
+                    f,
+                    "the line must have the keys of one form, and no form has the key \"{name}\""
+                )
+            }
+            Cause::MissingKey { key } => write!(f, "the line must have the key \"{key}\" too"),
             Cause::NoSuchForm => f.write_str(
                 "the line must be an object with exactly the keys of one form",
             ),
             Cause::WrongValue { key, wanted } => write!(f, "the key \"{key}\" must have {wanted}"),
+            Cause::WrongRectangle { number, size } => {
+                let wanted = Wanted::Rectangles { size };
+                write!(
+                    f,
+                    "the key \"base\" must have {wanted}; array {number} is wrong"
+                )
+            }
             Cause::MissingMask => f.write_str(
                 "an add line must have the key \"mask\" from version 2 on",
             ),
@@ -72,6 +107,16 @@ impl fmt::Display for Cause {
     }
 }
 
+/// A name as text.
+fn text_of(name: &ClassName) -> &str
+    ensures { result.now ≡ name.now }
+{
+    match str::from_utf8(name.as_bytes()) {
+        Ok(text) => text,
+        Err(_) => unreachable!(),
+    }
+}
+
 /// Why the line is not in the grammar in a place (`cause`): in this part of a script, among the lines of the turn of
 /// this number. None exactly where it is in the grammar there (`line_causes`).
 pub(crate) fn cause_of(
@@ -80,26 +125,53 @@ pub(crate) fn cause_of(
     turn: u64,
     line: &[u8],
 ) -> Result<Option<Cause>, NoMemory>
-    ensures { IfOk result (λ cause. cause ≡ why.cause part turn (reading_of line.now)) }
+    ensures { IfOk result (λ cause. cause ≡ why.cause part turn line.now) }
 {
     match read_line(alloc, line)? {
-        Some(value) => reading_cause(alloc, part, turn, &value),
-        None => Ok(Some(Cause::NotJson)),
+        Some(value) => value_cause(alloc, part, turn, &value),
+        None => Ok(Some(unread_cause(line))),
     }
 }
 
-/// The same of a line that is a JSON value.
-fn reading_cause(
+/// The cause of a line that is no JSON value.
+fn unread_cause(line: &[u8]) -> Cause
+    ensures { result ≡ why.unread_cause line.now }
+{
+    if is_blank(line) {
+        Cause::BlankLine
+    } else if line.starts_with(&BYTE_ORDER_MARK) {
+        Cause::ByteOrderMark
+    } else {
+        Cause::NotJson
+    }
+}
+
+/// Whether the line has no byte but white space.
+fn is_blank(line: &[u8]) -> bool
+    ensures { result ≡ why.is_blank line.now }
+{
+    line.iter().all(|byte| is_white(*byte))
+}
+
+/// Whether the byte is white space of JSON.
+fn is_white(byte: u8) -> bool
+    ensures { result ≡ why.is_white byte }
+{
+    byte == b' ' || byte == b'\t' || byte == b'\n' || byte == b'\r'
+}
+
+/// The cause of a line that is a JSON value.
+fn value_cause(
     alloc: Global,
     part: Part,
     turn: u64,
     value: &Value,
 ) -> Result<Option<Cause>, NoMemory>
-    ensures { IfOk result (λ cause. cause ≡ why.cause part turn (Some (view value.now))) }
+    ensures { IfOk result (λ cause. cause ≡ why.value_cause part turn (view value.now)) }
 {
     match form_of(version_of(part), value) {
         Some(form) => form_cause(alloc, part, turn, form, value),
-        None => Ok(Some(no_form_cause(part, first_version(value)))),
+        None => Ok(Some(no_form_cause(part, first_version(value), value))),
     }
 }
 
@@ -142,13 +214,27 @@ fn form_cause(
 
 /// The cause of a line that has the keys of no form of the script's version. `first` is the first version that has
 /// them.
-fn no_form_cause(part: Part, first: Option<u8>) -> Cause
-    ensures { result ≡ why.no_form_cause part first }
+fn no_form_cause(part: Part, first: Option<u8>, value: &Value) -> Cause
+    ensures { result ≡ why.no_form_cause part first (view value.now) }
 {
     match (part, first) {
-        (_, None) => Cause::NoSuchForm,
+        (_, None) => strange_cause(part, value),
         (Part::BeforeMap, Some(_)) => Cause::NotHere,
         (Part::InBase(rules) | Part::InTurns(rules), Some(first)) => other_version(rules, first),
+    }
+}
+
+/// The cause of a line that has the keys of no form in any version.
+fn strange_cause(part: Part, value: &Value) -> Cause
+    ensures { result ≡ why.strange_cause (why.unknown_key (view value.now))
+        (why.first_missing (why.keys_beside part (view value.now)) (view value.now)) }
+{
+    if let Some(key) = unknown_key(value) {
+        return Cause::UnknownKey { key };
+    }
+    match missing_key(part, value) {
+        Some(key) => Cause::MissingKey { key },
+        None => Cause::NoSuchForm,
     }
 }
 

@@ -1,6 +1,6 @@
 //! Laws: the forms of lines are the grammar, no value is a line of two forms, each bad line and no other has a cause,
 //! and canonical scripts read back.
-ghost use Rattle.std.specs.Prelude.{◌≡◌, ◌↔◌, ◌+◌, ℕ, IsSome, List, Some};
+ghost use Rattle.std.specs.Prelude.{◌≡◌, ◌↔◌, ◌+◌, ℕ, IsSome, IsTrue, List, Some};
 ghost use Rattle.nav_types.specs.declared.cells.Rect.{Rect};
 ghost use Rattle.nav_types.specs.declared.cells.Size.{Size};
 ghost use Rattle.serde_json.specs.Data.{Data};
@@ -10,11 +10,13 @@ ghost use Rattle.script_text.specs.declared.forms.CallerPost.{CallerPost};
 ghost use Rattle.script_text.specs.Forms as form;
 ghost use Rattle.script_text.specs.Grammar.{Line, IsLine, IsMapLine, IsBaseLine, IsPostLine, IsEndLine};
 ghost use Rattle.script_text.specs.Script.{Place, bad, bad_line, finish, placed, reading_of, stuck};
-ghost use Rattle.script_text.specs.declared.causes.Cause.TheVariants.{WrongValue};
+ghost use Rattle.script_text.specs.declared.causes.Cause.{Cause};
+ghost use Rattle.script_text.specs.declared.causes.Cause.TheVariants.{BlankLine, WrongValue};
+ghost use Rattle.script_text.specs.TrueCauses.{HasNoForm, IsStrange, IsTrueOf};
 ghost use Rattle.script_text.specs.declared.causes.keys.Key.{Key};
 ghost use Rattle.script_text.specs.declared.causes.keys.Wanted.{Wanted};
 ghost use Rattle.script_text.specs.declared.parts.Part.{Part};
-ghost use Rattle.script_text.specs.Causes.{IsWrongIn, cause, end_cause};
+ghost use Rattle.script_text.specs.Causes.{IsWrongIn, cause, end_cause, is_blank, value_cause};
 ghost use Rattle.script_text.specs.ReadsBack as back;
 
 /// A law: the form of a map line gives a map exactly where the value is a map line of the grammar that says it.
@@ -48,14 +50,30 @@ pub fn one_line()
 /// A law: a line has a cause exactly where it is bad in its place.
 pub fn line_causes()
     ensures { (p : Place) (line : List ℕ) → (placed p (reading_of line) ≡ bad p)
-        ↔ IsSome (cause p.part (p.turns + 1) (reading_of line)) }
+        ↔ IsSome (cause p.part (p.turns + 1) line) }
 {}
 
 /// A law: a value that a cause names as wrong is not what is wanted.
 pub fn wrong_values()
     ensures { (part : Part) (turn : ℕ) (d : Data) (key : Key) (wanted : Wanted)
-        → cause part turn (Some d) ≡ Some (WrongValue key wanted)
+        → value_cause part turn d ≡ Some (WrongValue key wanted)
         → IsWrongIn key wanted d }
+{}
+
+/// A law: what a cause says of a value is true of it, in the words of the grammar.
+pub fn true_causes()
+    ensures { (part : Part) (turn : ℕ) (d : Data) (found : Cause) → value_cause part turn d ≡ Some found → IsTrueOf d found }
+{}
+
+/// A law: a value that has the keys of no form in any version is told so: a key of it is unknown, or one is missing, or
+/// it is of no form for another reason.
+pub fn strange_lines()
+    ensures { (part : Part) (turn : ℕ) (d : Data) → HasNoForm d → IsStrange (value_cause part turn d) }
+{}
+
+/// A law: a line is told to be blank exactly where it has no byte but white space.
+pub fn blank_lines()
+    ensures { (part : Part) (turn : ℕ) (line : List ℕ) → (cause part turn line ≡ Some BlankLine) ↔ IsTrue (is_blank line) }
 {}
 
 /// A law: the end of an input has a cause exactly where the input may not end there.

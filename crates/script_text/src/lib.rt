@@ -28,8 +28,8 @@ pub use forms::CallerPost;
 pub use input_lines::READ_SIZE;
 pub use items::ScriptItem;
 pub use laws::{
-    base_lines, canonical_reads_back, end_causes, end_lines, line_causes, map_lines, one_line,
-    post_lines, wrong_values,
+    base_lines, blank_lines, canonical_reads_back, end_causes, end_lines, line_causes, map_lines,
+    one_line, post_lines, strange_lines, true_causes, wrong_values,
 };
 pub use pushed::PushedScript;
 pub use reader::ScriptReader;

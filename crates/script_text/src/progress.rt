@@ -270,7 +270,7 @@ impl Progress {
 
     /// Why the line is not in the grammar here. The place may have counted it.
     pub fn line_cause(&self, alloc: Global, line: &[u8]) -> Result<Option<Cause>, NoMemory>
-        ensures { IfOk result (λ found. found ≡ cause self.now.part (self.now.turns + 1) (reading_of line.now)) }
+        ensures { IfOk result (λ found. found ≡ cause self.now.part (self.now.turns + 1) line.now) }
     {
         causes::cause_of(alloc, self.part, self.turns + 1, line)
     }

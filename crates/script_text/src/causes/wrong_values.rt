@@ -1,5 +1,5 @@
 //! The first value of a line that is not what it must be.
-ghost use Rattle.std.specs.Prelude.{◌≡◌, ◌∷◌, IfOk, is_some, option_and_then};
+ghost use Rattle.std.specs.Prelude.{◌≡◌, ◌∷◌, IfOk, is_some, map, option_and_then};
 ghost use Rattle.serde_json.specs.View.{view};
 ghost use Rattle.script_text.specs.Values.{under, array_items};
 ghost use Rattle.script_text.specs.Forms.{each, entry_of};
@@ -174,7 +174,8 @@ fn are_rectangles(alloc: Global, size: Size, value: &Value, key: &str) -> Result
     }
 }
 
-/// The cause of a field under whose key not what is wanted stands. Of a goal that has a goal's key it names that one.
+/// The cause of a field under whose key not what is wanted stands. Of a goal that has a goal's key it names that one, and
+/// of rectangles the first that is none.
 fn wrong_value(field: Field, value: &Value) -> Cause
     ensures { result ≡ why.wrong_value field (view value.now) }
 {
@@ -185,8 +186,26 @@ fn wrong_value(field: Field, value: &Value) -> Cause
             Some(goal) => wrong_goal(version, field, goal),
             None => Cause::WrongValue { key, wanted },
         },
+        Wanted::Rectangles { size } => match items_under(value, key.as_str()) {
+            Some(items) => wrong_items(size, field, items),
+            None => Cause::WrongValue { key, wanted },
+        },
         _ => Cause::WrongValue { key, wanted },
     }
+}
+
+/// The cause of an array with an item that is no rectangle of the map with its mask.
+fn wrong_items(size: Size, field: Field, items: &[Value]) -> Cause
+    ensures { result ≡ why.wrong_items size field 0 (map view items.now) }
+{
+    let mut number: u64 = 0;
+    for item in items {
+        number += 1;
+        if bases::is_no_entry(size, item) {
+            return Cause::WrongRectangle { number, size };
+        }
+    }
+    wrong(field.key, field.wanted)
 }
 
 /// The cause of a goal that is none in a script of this version.

@@ -2,6 +2,7 @@
 ghost use Rattle.std.specs.Prelude.{◌≡◌, All, IfOk, IfSome, map};
 ghost use Rattle.nav_types.specs.Cells.{IsRectInside};
 ghost use Rattle.serde_json.specs.View.{view};
+ghost use Rattle.script_text.specs.Causes.{is_no_entry};
 ghost use Rattle.script_text.specs.Forms as form;
 
 use crate::forms::values::{has_items, whole_at};
@@ -48,6 +49,13 @@ fn entry_of(size: Size, value: &Value) -> Option<(Rect, u16)>
         Some(mask) => entry_in(size, i0, j0, i1, j1, mask),
         None => None,
     }
+}
+
+/// Whether the value is no rectangle of the map with its mask.
+pub(crate) fn is_no_entry(size: Size, value: &Value) -> bool
+    ensures { result ≡ is_no_entry size (view value.now) }
+{
+    entry_of(size, value).is_none()
 }
 
 /// A rectangle of the map with its mask, where the numbers are in their limits.

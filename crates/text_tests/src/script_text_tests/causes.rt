@@ -1,5 +1,6 @@
 //! The causes of bad lines, as values and as text.
 use super::{MAP_1, MAP_2, MAP_3, read_behind};
+use class_config::ClassName;
 use nav_types::Size;
 use script_text::{Cause, Key, Wanted};
 use std::alloc::Global;
@@ -70,9 +71,24 @@ fn lines_of_version_3_have_causes(rt: HostRuntime) {
                 "the line must be one JSON value in UTF-8",
             ),
             (
-                "{\"caller\":0,\"fly\":1}\n",
+                "{\"caller\":0,\"end\":1}\n",
                 Cause::NoSuchForm,
                 "the line must be an object with exactly the keys of one form",
+            ),
+            (
+                "{\"caller\":0,\"move\":1}\n",
+                Cause::MissingKey { key: Key::To },
+                "the line must have the key \"to\" too",
+            ),
+            (
+                " \r\n",
+                Cause::BlankLine,
+                "the line must be one JSON value, and is blank",
+            ),
+            (
+                "\u{feff}{\"end\":1}\n",
+                Cause::ByteOrderMark,
+                "the line must be one JSON value, and begins with a byte order mark",
             ),
             (
                 "{\"caller\":2,\"remove\":\"1\"}\n",
@@ -100,7 +116,12 @@ fn lines_of_version_3_have_causes(rt: HostRuntime) {
                 "the key \"end\" must have the number of this turn, 2",
             ),
             (
-                "{\"base\":[[0,0,5,0,1]]}\n",
+                "{\"base\":[[0,0,4,3,1],[0,0,5,0,1]]}\n",
+                Cause::WrongRectangle { number: 2, size },
+                "the key \"base\" must have an array of arrays [i0,j0,i1,j1,mask] with i0 <= i1, j0 <= j1 and mask <= 65535, on a map of 5 by 4; array 2 is wrong",
+            ),
+            (
+                "{\"base\":1}\n",
                 wrong(Key::Base, Wanted::Rectangles { size }),
                 "the key \"base\" must have an array of arrays [i0,j0,i1,j1,mask] with i0 <= i1, j0 <= j1 and mask <= 65535, on a map of 5 by 4",
             ),
@@ -116,6 +137,20 @@ fn lines_of_version_3_have_causes(rt: HostRuntime) {
             ),
         ],
     );
+}
+
+#[test]
+fn a_key_of_no_form_is_told(rt: HostRuntime) {
+    let Some(key) = ClassName::new(b"fly") else {
+        return;
+    };
+    let text = "the line must have the keys of one form, and no form has the key \"fly\"";
+    let rows = [(
+        "{\"caller\":0,\"fly\":1}\n",
+        Cause::UnknownKey { key },
+        text,
+    )];
+    have_causes(&rt, rt.alloc(), MAP_3, &rows);
 }
 
 #[test]

@@ -1,7 +1,6 @@
 use Rattle.std.proofs.Common.{◌≡◌, ◌∙◌, ◌+◌, length, Option, IfOk, ap, sym, subst, arith}
 use Rattle.input_lines.specs.Lines.{IsPlain}
 use Rattle.script_text.specs.declared.causes.Cause.{Cause}
-use Rattle.script_text.specs.Script.{reading_of}
 use Rattle.script_text.specs.Causes.{cause}
 use Rattle.script_text.specs.Reader.{Held, held_cause}
 use Rattle.script_text.proofs.PushedEnds.{cause-held}
@@ -12,7 +11,7 @@ pub returns : goal.returns
 returns c =
     let place = c.self.inside.progress in
     let same =
-    ap (λ line. cause place.part (place.turns + 1) (reading_of line)) c.line.ensures.line
+    ap (λ line. cause place.part (place.turns + 1) line) c.line.ensures.line
     ∙ sym (cause-held place c.self.inside.line c.held.result c.self.invariant.behind (c.held.ensures.bytes ∙ ap (λ (h : Held). length h.bytes) (sym c.self.view_is)) (omega (arith, c.if-held-eq0.false))
     (subst IsPlain c.line.ensures.line c.line.ensures.plain))
     ∙ ap held_cause c.self.view_is in

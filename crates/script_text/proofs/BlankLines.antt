@@ -1,0 +1,63 @@
+-- A line of white space is no value.
+use Rattle.std.proofs.Common.{◌≡◌, ◌↔◌, ℕ, ◌||◌, ◌==◌, List, [], ◌∷◌, Bool, true, false, cond, Option, Some, None, option_and_then, refl, ap, ◌∙◌}
+use Rattle.std.specs.Prelude.{IsTrue}
+use Rattle.std.specs.List.{list_all}
+use Rattle.std.specs.Str.{is_utf8}
+use Rattle.std.proofs.lemmas.Bool.{and_parts}
+use Rattle.std.proofs.lemmas.Bool.Decides.{Decides-eqb}
+use Rattle.json.specs.Lex.{between, lex, punctuate, fresh}
+use Rattle.json.specs.Json as json
+use Rattle.serde_json.specs.Data.{Data}
+use Rattle.serde_json.specs.Read.{read, of_json}
+use Rattle.script_text.specs.declared.parts.Part.{Part}
+use Rattle.script_text.specs.declared.causes.Cause.TheVariants.{BlankLine, ByteOrderMark, NotJson}
+use Rattle.script_text.specs.Script.{reading_of}
+use Rattle.script_text.specs.Causes.{is_white, is_blank, has_mark, reading_cause, cause}
+use Rattle.script_text.proofs.TrueCauses.{true_causes}
+
+-- white space is passed over
+lex-white : (byte : ℕ) (line : List ℕ) → is_white byte ≡ true → lex between (byte ∷ line) ≡ lex between line
+unfolding lex
+lex-white byte line white = by_byte (byte == 32) (byte == 9) (byte == 10) (byte == 13) refl refl refl refl white
+  where
+    by_byte : (a b c e : Bool) → (byte == 32) ≡ a → (byte == 9) ≡ b → (byte == 10) ≡ c → (byte == 13) ≡ e → (a || b || c || e) ≡ true → lex between (byte ∷ line) ≡ lex between line
+    by_byte true b c e is_a is_b is_c is_e h = ap (λ n. lex between (n ∷ line)) ((Decides-eqb byte 32).0 is_a)
+    by_byte false true c e is_a is_b is_c is_e h = ap (λ n. lex between (n ∷ line)) ((Decides-eqb byte 9).0 is_b)
+    by_byte false false true e is_a is_b is_c is_e h = ap (λ n. lex between (n ∷ line)) ((Decides-eqb byte 10).0 is_c)
+    by_byte false false false true is_a is_b is_c is_e h = ap (λ n. lex between (n ∷ line)) ((Decides-eqb byte 13).0 is_e)
+    by_byte false false false false is_a is_b is_c is_e h = absurd (cc)
+
+lex-blank : (line : List ℕ) → is_blank line ≡ true → lex between line ≡ []
+unfolding lex
+lex-blank [] blank = refl
+lex-blank (byte ∷ line) blank =
+    let parts = and_parts (is_white byte) (list_all is_white line) blank in
+    lex-white byte line parts.0 ∙ lex-blank line parts.1
+
+-- there is no value among no tokens
+read-blank : (line : List ℕ) → is_blank line ≡ true → read line ≡ None
+unfolding json.value punctuate
+read-blank line blank = ap (λ lexemes. option_and_then of_json (option_and_then (λ p. json.if_last p.0 p.1) (json.value 127 (punctuate fresh lexemes)))) (lex-blank line blank)
+
+unread : (line : List ℕ) → is_blank line ≡ true → reading_of line ≡ None
+unread line blank = by_text (is_utf8 line)
+  where
+    by_text : (b : Bool) → cond b (read line) None ≡ None
+    by_text true = read-blank line blank
+    by_text false = refl
+
+pub blank_lines : (part : Part) (turn : ℕ) (line : List ℕ) → (cause part turn line ≡ Some BlankLine) ↔ IsTrue (is_blank line)
+blank_lines part turn line = (λ e. told (reading_of line) e, λ blank. ap (reading_cause part turn line) (unread line blank) ∙ first (is_blank line) blank)
+  where
+    first : (b : Bool) → b ≡ true → Some (cond b BlankLine (cond (has_mark line) ByteOrderMark NotJson)) ≡ Some BlankLine
+    first true e = refl
+    first false e = absurd (cc)
+
+    by_tests : (blank mark : Bool) → Some (cond blank BlankLine (cond mark ByteOrderMark NotJson)) ≡ Some BlankLine → blank ≡ true
+    by_tests true mark e = refl
+    by_tests false true e = absurd (cc)
+    by_tests false false e = absurd (cc)
+
+    told : (reading : Option Data) → reading_cause part turn line reading ≡ Some BlankLine → is_blank line ≡ true
+    told None e = by_tests (is_blank line) (has_mark line) e
+    told (Some d) e = absurd (true_causes part turn d BlankLine e)
