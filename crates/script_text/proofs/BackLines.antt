@@ -7,7 +7,8 @@ use Rattle.script_text.specs.Canon.{whole_json, post_json, end_json, is_post_of}
 use Rattle.script_text.specs.ReadsBack.{IsPostValue}
 use Rattle.script_text.proofs.BackForms.{ReadsTo}
 use Rattle.script_text.proofs.BackTexts.{sorted, reads_sorted}
-use Rattle.script_text.proofs.BackPosts.{one_key, post_back}
+use Rattle.script_text.proofs.BackValues.{one_key}
+use Rattle.script_text.proofs.BackPosts.{post_back}
 use Rattle.script_text.proofs.GrammarLines.{end-from}
 
 pub post_reads : (version callers caller : ℕ) (post : Post) → callers ≤ 64 → caller < callers → IsPostValue post

@@ -22,7 +22,7 @@ use Rattle.script_text.specs.Grammar.{IsObject, IsMapLine, IsEntry}
 use Rattle.script_text.specs.ReadsBack.{IsMapValue}
 use Rattle.script_text.proofs.BackForms.{ReadsTo}
 use Rattle.script_text.proofs.BackTexts.{IsSimple, sorted, text-fixed_text, text-name, reads_sorted}
-use Rattle.script_text.proofs.BackPosts.{one_key, simple_list, sorted_list, array_list}
+use Rattle.script_text.proofs.BackValues.{one_key, simple_list, sorted_list, array_list}
 use Rattle.script_text.proofs.GrammarLines.{map-from, base-from}
 use Rattle.class_config.proofs.ClassLists.{list_of-items_of}
 

@@ -1,35 +1,26 @@
 -- The canonical lines of posts read back.
-use Rattle.std.proofs.Common.{◌≡◌, ℕ, ◌<◌, ◌≤◌, ◌^◌, ◌||◌, ◌==◌, List, [], ◌∷◌, map, Bool, true, false, cond, Some, nat_le, ℤ, refl, ap, inl, inr, arith, FitsSigned}
-use Rattle.std.specs.Prelude.{All, codes}
-use Rattle.std.specs.Int.{w32}
+use Rattle.std.proofs.Common.{◌≡◌, ℕ, ◌<◌, ◌≤◌, ◌^◌, ◌||◌, ◌==◌, List, [], ◌∷◌, Bool, true, false, cond, Some, nat_le, refl, inl, inr, arith}
+use Rattle.std.specs.Prelude.{codes}
 use Rattle.std.proofs.lemmas.Bool.{leb-true, eqb-true}
 use Rattle.std.proofs.lemmas.Bool.Decides.{leb_tells}
-use Rattle.std.proofs.lemmas.List.Elements.{All-head, All-tail}
-use Rattle.serde_json.specs.Data.{Data, string, array, object, no_members, member, no_items, item}
-use Rattle.serde_json.specs.View.{items_of}
-use Rattle.fixed_point.specs.Text.{fixed_text}
-use Rattle.fixed_point.proofs.ReadsBack.{reads_back}
+use Rattle.serde_json.specs.Data.{Data, string, object, no_members, member}
 use Rattle.obstruction_shapes.specs.declared.shapes.Shape.{Shape}
 use Rattle.obstruction_shapes.specs.declared.shapes.Shape.TheVariants.{Unit as UnitShape, Square as SquareShape}
-use Rattle.goal_shapes.specs.declared.goals.Goal.TheVariants.{Point, Circle, NotCircle, Square, NotSquare}
-use Rattle.goal_shapes.specs.declared.goals.GoalSpec.{GoalSpec}
-use Rattle.goal_shapes.specs.declared.goals.GoalSpec.TheVariants.{Plain, Obstruction as ByObstruction}
 use Rattle.posts.specs.declared.posts.Post.{Post}
 use Rattle.posts.specs.declared.edits.Edit.TheVariants.{Add, Remove, Move}
 use Rattle.posts.specs.declared.posts.Post.TheVariants.{Edit as Edits, Ask as Asks}
 use Rattle.posts.specs.declared.posts.Request.TheVariants.{Path, Region}
-use Rattle.script_text.specs.Canon.{whole_json, decimal_json, list_json, decimals_json, object_json, shape_json, goal_json, post_json, is_goal_of, is_post_of}
+use Rattle.script_text.specs.Canon.{whole_json, decimals_json, object_json, goal_json, post_json, is_post_of}
 use Rattle.script_text.specs.Forms.{post_of}
-use Rattle.script_text.specs.Grammar.{IsObject, IsDecimal, SayEach, IsArray, HasDecimals, IsGoal, IsPostLine, rectangle_decimals, shape_key, shape_decimals}
-use Rattle.script_text.specs.ReadsBack.{AreFixed, IsGoalValue, IsPostValue}
+use Rattle.script_text.specs.Grammar.{IsObject, IsPostLine, rectangle_decimals, shape_key, shape_decimals}
+use Rattle.script_text.specs.ReadsBack.{AreFixed, IsPostValue}
 use Rattle.script_text.proofs.BackForms.{ReadsTo}
-use Rattle.script_text.proofs.BackTexts.{IsSimple, AreSimple, sorted, sorted_items, text-fixed_text, text-name, reads_sorted}
+use Rattle.script_text.proofs.BackTexts.{IsSimple, sorted, text-name, reads_sorted}
 use Rattle.script_text.proofs.GrammarPosts.{post-from}
+use Rattle.script_text.proofs.BackValues.{simple_decimals, says_decimals, small}
+use Rattle.script_text.proofs.GoalTable.{simple_goal, says_goal}
 
 -- ---- objects, with their keys in one order and their members in another
-
-pub one_key : (k : List ℕ) (d : Data) → IsObject (k ∷ []) (d ∷ []) (object (member k d no_members))
-one_key k d = record { members = member k d no_members; is = refl; are = (no_members, no_members, refl, refl) }
 
 two_keys : (k l : List ℕ) (d e : Data) → IsObject (k ∷ l ∷ []) (d ∷ e ∷ []) (object (member k d (member l e no_members)))
 two_keys k l d e = record {
@@ -81,77 +72,6 @@ second_last k l m n d e f g = record {
   is = refl;
   are = (no_members, member m f (member n g (member l e no_members)), refl, (member m f (member n g no_members), no_members, refl, (no_members, member n g no_members, refl, (no_members, no_members, refl, refl))));
 }
-
--- ---- lists
-
-pub simple_list : {X : Type 0} (write : X → Data) (P : X → Type 0) (levels : ℕ) → ((x : X) → P x → IsSimple (write x) levels)
-    → (xs : List X) → All P xs → AreSimple (items_of (map write xs)) levels
-simple_list write P levels each [] all = tt
-simple_list write P levels each (x ∷ xs) all = (each x (All-head P x xs all), simple_list write P levels each xs (All-tail P x xs all))
-
-pub sorted_list : {X : Type 0} (write : X → Data) (xs : List X) → sorted_items (items_of (map write xs)) ≡ items_of (map (λ x. sorted (write x)) xs)
-sorted_list write [] = refl
-sorted_list write (x ∷ xs) = ap (item (sorted (write x))) (sorted_list write xs)
-
-say_list : {X : Type 0} (write : X → Data) (P : X → Type 0) (Says : X → Data → Type 0) → ((x : X) → P x → Says x (sorted (write x)))
-    → (xs : List X) → All P xs → SayEach Says xs (map (λ x. sorted (write x)) xs)
-say_list write P Says each [] all = tt
-say_list write P Says each (x ∷ xs) all = (each x (All-head P x xs all), say_list write P Says each xs (All-tail P x xs all))
-
-pub array_list : {X : Type 0} (write : X → Data) (P : X → Type 0) (Says : X → Data → Type 0) → ((x : X) → P x → Says x (sorted (write x)))
-    → (xs : List X) → All P xs → IsArray Says xs (sorted (list_json (map write xs)))
-array_list write P Says each xs all =
-    (map (λ x. sorted (write x)) xs, ap array (sorted_list write xs), say_list write P Says each xs all)
-
--- ---- decimals
-
-abbrev IsFixed : ℤ → Type 0
-IsFixed raw = FitsSigned w32 raw
-
-says_decimal : (raw : ℤ) → IsFixed raw → IsDecimal raw (sorted (decimal_json raw))
-says_decimal raw fits = (fixed_text raw, refl, reads_back raw fits)
-
-simple_decimals : (raws : List ℤ) (levels : ℕ) → AreFixed raws → AreSimple (items_of (map decimal_json raws)) levels
-simple_decimals raws levels fixed = simple_list decimal_json IsFixed levels text-fixed_text raws fixed
-
-says_decimals : (raws : List ℤ) → AreFixed raws → IsArray IsDecimal raws (sorted (decimals_json raws))
-says_decimals raws fixed = array_list decimal_json IsFixed IsDecimal says_decimal raws fixed
-
--- ---- goals
-
-says_shape : (key : List ℕ) (raws : List ℤ) → AreFixed raws → HasDecimals key raws (sorted (shape_json key raws))
-says_shape key raws fixed = (sorted (decimals_json raws), one_key key (sorted (decimals_json raws)), says_decimals raws fixed)
-
-small : (n most : ℕ) → most ≤ 4294967295 → n ≤ most → n < 2 ^ 64
-small n most limit few = omega (arith, limit, few)
-
-simple_goal : (goal : GoalSpec) → IsGoalValue goal → IsSimple (goal_json goal) 126
-unfolding goal_json
-simple_goal (Plain (Point x z)) is = ((refl, refl), simple_decimals (x ∷ z ∷ []) 124 is, tt)
-simple_goal (Plain (Circle x z r)) is = ((refl, refl), simple_decimals (x ∷ z ∷ r ∷ []) 124 is, tt)
-simple_goal (Plain (NotCircle x z r)) is = ((refl, refl), simple_decimals (x ∷ z ∷ r ∷ []) 124 is, tt)
-simple_goal (Plain (Square r)) is = ((refl, refl), simple_decimals (rectangle_decimals r) 124 is, tt)
-simple_goal (Plain (NotSquare r)) is = ((refl, refl), simple_decimals (rectangle_decimals r) 124 is, tt)
-simple_goal (ByObstruction id grow) is = ((refl, refl), (small id 4294967295 (omega arith) is.0, (text-fixed_text grow is.1, tt)), tt)
-
-says_goal : (version : ℕ) (goal : GoalSpec) → IsGoalValue goal → is_goal_of version goal ≡ true → IsGoal version goal (sorted (goal_json goal))
-unfolding goal_json
-says_goal version (Plain (Point x z)) is has = says_shape (codes "point") (x ∷ z ∷ []) is
-says_goal version (Plain (Circle x z r)) is has = says_shape (codes "circle") (x ∷ z ∷ r ∷ []) is
-says_goal version (Plain (NotCircle x z r)) is has = says_shape (codes "not-circle") (x ∷ z ∷ r ∷ []) is
-says_goal version (Plain (Square r)) is has = says_shape (codes "square") (rectangle_decimals r) is
-says_goal version (Plain (NotSquare r)) is has = says_shape (codes "not-square") (rectangle_decimals r) is
-says_goal version (ByObstruction id grow) is has =
-    let parts : Data = array (item (whole_json id) (item (decimal_json grow) no_items)) in record {
-      newest = leb-true 3 version has;
-      obstruction = parts;
-      number = whole_json id;
-      distance = decimal_json grow;
-      keys = one_key (codes "obstruction") parts;
-      items = refl;
-      says_number = (refl, is.0);
-      says_distance = says_decimal grow is.1;
-    }
 
 -- ---- add lines
 

@@ -28,7 +28,8 @@ use Rattle.script_text.specs.declared.causes.line_forms.Form.TheVariants as form
 use Rattle.script_text.specs.declared.causes.keys.Key.TheVariants as key
 use Rattle.script_text.specs.declared.causes.keys.Wanted.TheVariants.{Whole}
 use Rattle.script_text.specs.Values.{whole, whole_in, whole_below, obstruction_number, class_name, under, array_items, both, all_three, point_of, round_of, rectangle_of, size_of}
-use Rattle.script_text.specs.Forms.{map_by, map_of, each, entry_of, base_of, goal_of, add_keys, mask_of, shape_of, add_of, remove_of, move_of, path_of, region_of, edit_of, request_of, post_of, end_of}
+use Rattle.script_text.specs.Goals.{goal_of}
+use Rattle.script_text.specs.Forms.{map_by, map_of, each, entry_of, base_of, add_keys, mask_of, shape_of, add_of, remove_of, move_of, path_of, region_of, edit_of, request_of, post_of, end_of}
 use Rattle.script_text.specs.Script.{Place, Item, Stop, Walk, whole_input, is_empty, finish_in, arrived, stuck, bad, bad_line, end_line, turn_line, base_line, map_line, placed_in, reading_of}
 use Rattle.script_text.specs.Causes.{wants, is_right, first_wrong, map_fields, fields_of, cause_by, value_cause, reading_cause, cause, end_cause}
 use Rattle.script_text.proofs.Members.{are_distinct, is_other, open_keys, has_keys-other}

@@ -19,12 +19,13 @@ use Rattle.posts.specs.declared.posts.Request.{Request}
 use Rattle.posts.specs.declared.posts.Request.TheVariants.{Path, Region}
 use Rattle.script_text.specs.declared.forms.CallerPost.{CallerPost}
 use Rattle.script_text.specs.Values.{whole_in, whole_below, obstruction_number, class_name, under, both, all_three, point_of, round_of, rectangle_of}
-use Rattle.script_text.specs.Forms.{map_of, base_of, goal_of, add_keys, mask_of, shape_of, add_of, remove_of, move_of, path_of, region_of, edit_of, request_of, post_of, end_of}
+use Rattle.script_text.specs.Forms.{map_of, base_of, add_keys, mask_of, shape_of, add_of, remove_of, move_of, path_of, region_of, edit_of, request_of, post_of, end_of}
+use Rattle.script_text.specs.Goals.{goal_of}
 use Rattle.script_text.specs.Grammar.{IsObject, IsNumber, HasAddKeys, IsCaller, IsPostLine, Line, map_line, base_line, post_line, end_line, IsLine}
 use Rattle.script_text.proofs.GrammarValues.{map_some, if_some, under_some, under_is, whole_in-is, whole_in-from, caller-is, caller-from, number-is, number-from, name-is, name-from}
 use Rattle.script_text.proofs.Members.{are_distinct, is_other, lacks, open_two, open_three, open_four, has_keys-object, has_keys-other, stand-object, get-object-none}
 use Rattle.script_text.proofs.GrammarLines.{map_keys, map-from, base-from, end-from, all_three_some, two_some, either_some, or_some, or_first, or_second, point-is, point-from, round-is, round-from, rectangle-is, rectangle-from}
-use Rattle.script_text.proofs.GrammarGoals.{goal-is, goal-from}
+use Rattle.script_text.proofs.GoalTable.{goal-is, goal-from}
 
 -- ---- add lines
 

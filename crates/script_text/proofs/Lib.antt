@@ -14,12 +14,13 @@ pub mod Members
 pub mod StrangeKeys
 pub mod GrammarValues
 pub mod GrammarLines
-pub mod GrammarGoals
+pub mod GoalTable
 pub mod GrammarPosts
 pub mod PostVersions
 pub mod CanonTexts
 pub mod BackForms
 pub mod BackTexts
+pub mod BackValues
 pub mod BackPosts
 pub mod BackMaps
 pub mod BackLines

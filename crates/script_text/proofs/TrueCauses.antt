@@ -1,9 +1,8 @@
 -- What a cause says of a line is true of it.
-use Rattle.std.proofs.Common.{◌≡◌, ◌≢◌, inl, inr, ℕ, ◌+◌, ◌≤◌, ◌&&◌, ◌||◌, List, [], ◌∷◌, ◌++◌, length, Bool, true, false, not, cond, Option, Some, None, option_map, option_and_then, refl, ap, sym, subst, ◌∙◌, arith, nat_le, nat_lt}
+use Rattle.std.proofs.Common.{◌≡◌, ◌≢◌, inl, inr, ℕ, ◌+◌, ◌≤◌, ◌&&◌, ◌||◌, List, [], ◌∷◌, ◌++◌, length, Bool, true, false, not, cond, Option, Some, None, option_and_then, refl, ap, sym, subst, ◌∙◌, arith, nat_le, nat_lt}
 use Rattle.std.specs.Prelude.{◌⊎◌, codes, is_some, bytes_eq, All, IsSome}
 use Rattle.std.specs.List.{list_all, list_any, find}
-use Rattle.std.specs.Option.{option_or}
-use Rattle.std.proofs.lemmas.Bool.{and_parts, ltb-false, le-leb, leb-true, and_from, or_left, or_right}
+use Rattle.std.proofs.lemmas.Bool.{and_parts, ltb-false, le-leb, leb-true, or_left, or_right}
 use Rattle.std.proofs.lemmas.List.Elements.{All-cons, All-nil}
 use Rattle.std.proofs.lemmas.Slice.Eq.{bytes_eq-Decides}
 use Rattle.serde_json.specs.Data.{Data, null, boolean, number, string, array, object, Members, no_members, member}
@@ -11,30 +10,26 @@ use Rattle.serde_json.specs.Find.{get, get_member}
 use Rattle.nav_types.specs.declared.cells.Rect.{Rect}
 use Rattle.nav_types.specs.declared.cells.Size.{Size}
 use Rattle.class_config.specs.Forms.{has_keys, keys_of}
-use Rattle.goal_shapes.specs.declared.goals.GoalSpec.TheVariants.{Plain}
 use Rattle.script_text.specs.declared.parts.Part.{Part}
 use Rattle.script_text.specs.declared.parts.Part.TheVariants.{BeforeMap, InBase, InTurns}
 use Rattle.script_text.specs.declared.causes.Cause.{Cause}
 use Rattle.script_text.specs.declared.causes.Cause.TheVariants.{WrongValue, WrongRectangle, MissingMask, LaterVersion, NotHere}
 use Rattle.script_text.specs.declared.causes.keys.Key.{Key}
-use Rattle.script_text.specs.declared.causes.keys.Key.TheVariants as key
 use Rattle.script_text.specs.declared.causes.keys.Wanted.{Wanted}
 use Rattle.script_text.specs.declared.causes.keys.Wanted.TheVariants.{Whole, Caller, Turn, Sides, Classes, Rectangles, ClassName, TwoDecimals, ThreeDecimals, SixDecimals, NumberAndDecimal, Goal}
 use Rattle.script_text.specs.declared.causes.line_forms.Form.{Form}
 use Rattle.script_text.specs.declared.causes.line_forms.Form.TheVariants as form
 use Rattle.script_text.specs.declared.causes.wrong_values.Field.{Field}
 use Rattle.script_text.specs.Values.{under, array_items}
-use Rattle.script_text.specs.Forms.{entry_of, plain_goal, obstruction_goal, goal_of}
+use Rattle.script_text.specs.Forms.{entry_of}
+use Rattle.script_text.specs.Goals.{goal_of}
 use Rattle.script_text.specs.Grammar.{IsEntry}
-use Rattle.script_text.specs.Causes.{key_text, is_wanted, is_right, first_wrong, map_fields, fields_of, is_no_entry, wrong_items, wrong_array, wrong_goal, wrong_by, wrong_value, form_of, first_version, is_map, is_base, form_cause, line_keys, is_unknown, unknown_key, first_missing, keys_beside, strange_cause, other_version, no_form_cause, version_of, cause_by, value_cause, IsWrongIn}
-use Rattle.script_text.specs.TrueCauses.{HasOneOf, both_adds, keys_of_forms, HasForm, HasNoForm, HasGrownGoal, IsStrange, IsTrueOf}
+use Rattle.script_text.specs.Causes.{key_text, is_wanted, is_right, first_wrong, map_fields, fields_of, is_no_entry, wrong_items, wrong_array, wrong_by, wrong_value, form_of, first_version, is_map, is_base, form_cause, line_keys, is_unknown, unknown_key, first_missing, keys_beside, strange_cause, other_version, no_form_cause, version_of, cause_by, value_cause}
+use Rattle.script_text.specs.TrueCauses.{HasOneOf, both_adds, keys_of_forms, HasForm, HasNoForm, IsStrange, IsTrueOf}
 use Rattle.script_text.proofs.Members.{are_distinct, open_keys, has_keys-object, get-here, get-there, by_key}
 use Rattle.script_text.proofs.GrammarLines.{entry-from}
+use Rattle.script_text.proofs.GoalTable.{by_test, goal_true}
 use Rattle.script_text.proofs.StrangeKeys.{found-passes}
-
-by_test : (d : Data) (b : Bool) (c e : Cause) → (b ≡ true → IsTrueOf d c) → (b ≡ false → IsTrueOf d e) → IsTrueOf d (cond b c e)
-by_test d true c e yes_ no_ = yes_ refl
-by_test d false c e yes_ no_ = no_ refl
 
 -- ---- the keys of forms
 
@@ -307,53 +302,6 @@ strange_true part d none = by_keys _ _ refl refl
     by_keys (Some name) missing e h = (none, unknown_true d name e)
     by_keys None (Some k) e h = (none, missing_true (keys_beside part d) d k h)
     by_keys None None e h = none
-
--- ---- goals
-
-or_none : {A : Type 0} (o p : Option A) → is_some (option_or o p) ≡ false → (is_some o ≡ false) × (is_some p ≡ false)
-or_none None p e = (refl, e)
-or_none (Some x) p e = absurd (cc)
-
-map_none : {A B : Type 0} (f : A → B) (o : Option A) → is_some (option_map f o) ≡ false → is_some o ≡ false
-map_none f None e = refl
-map_none f (Some x) e = absurd (cc)
-
--- a test that holds, and one that does not
-on : {A : Type 0} (b : Bool) (o p : Option A) → b ≡ true → is_some (cond b o p) ≡ false → is_some o ≡ false
-on true o p has e = e
-on false o p has e = absurd (cc)
-
-off : {A : Type 0} (b : Bool) (o p : Option A) → b ≡ false → is_some (cond b o p) ≡ false → is_some p ≡ false
-off true o p lacks e = absurd (cc)
-off false o p lacks e = e
-
-third : (version : ℕ) → nat_lt version 3 ≡ false → nat_le 3 version ≡ true
-third version e = le-leb 3 version (ltb-false version 3 e)
-
-grown : (d g : Data) (outer : List ℕ) → get outer d ≡ Some g → has_keys (codes "obstruction" ∷ []) g ≡ true → HasGrownGoal d
-grown d g outer at has = let opened = open_keys (codes "obstruction" ∷ []) g refl has in
-    record { key = outer; goal = g; under = at; keys = inl (opened.values, opened.is) }
-
-goal_true : (version : ℕ) (f : Field) (d g : Data) (outer : List ℕ) → get outer d ≡ Some g → IsWrongIn f.key f.wanted d → is_some (goal_of version g) ≡ false
-    → IsTrueOf d (wrong_goal version f g)
-unfolding goal_of plain_goal obstruction_goal
-goal_true version f d g outer at whole none =
-    let parts = or_none (option_map Plain (plain_goal g)) (obstruction_goal version g) none in
-    let plain = map_none Plain (plain_goal g) parts.0 in
-    let inner : (k : Key) (w : Wanted) → is_wanted w (key_text k) g ≡ false → IsTrueOf d (WrongValue k w) = λ k w wrong. inr (outer, g, at, wrong) in
-    by_test d (has_keys (codes "point" ∷ []) g) _ _ (λ has. inner key.Point TwoDecimals (map_none _ _ (on _ _ _ has plain)))
-    (λ a. let after_a = off _ _ _ a plain in
-    by_test d (has_keys (codes "circle" ∷ []) g) _ _ (λ has. inner key.Circle ThreeDecimals (map_none _ _ (on _ _ _ has after_a)))
-    (λ b. let after_b = off _ _ _ b after_a in
-    by_test d (has_keys (codes "not-circle" ∷ []) g) _ _ (λ has. inner key.NotCircle ThreeDecimals (map_none _ _ (on _ _ _ has after_b)))
-    (λ c. let after_c = off _ _ _ c after_b in
-    by_test d (has_keys (codes "square" ∷ []) g) _ _ (λ has. inner key.Square SixDecimals (map_none _ _ (on _ _ _ has after_c)))
-    (λ e. let after_e = off _ _ _ e after_c in
-    by_test d (has_keys (codes "not-square" ∷ []) g) _ _ (λ has. inner key.NotSquare SixDecimals (map_none _ _ (on _ _ _ has after_e)))
-    (λ h. by_test d (has_keys (codes "obstruction" ∷ []) g) _ _
-    (λ has. by_test d (nat_lt version 3) (LaterVersion 3) (WrongValue key.Obstruction NumberAndDecimal) (λ early. inr (refl, grown d g outer at has))
-    (λ late. inner key.Obstruction NumberAndDecimal (on _ _ _ (and_from (nat_le 3 version) (has_keys (codes "obstruction" ∷ []) g) (third version late) has) parts.1)))
-    (λ other. whole))))))
 
 -- ---- rectangles
 

@@ -8,7 +8,6 @@ use Rattle.serde_json.specs.Written.{compact_text}
 use Rattle.nav_types.specs.declared.cells.Rect.{Rect}
 use Rattle.fixed_point.specs.Text.{fixed_text}
 use Rattle.class_config.specs.declared.table.PassabilityClass.{PassabilityClass}
-use Rattle.goal_shapes.specs.declared.goals.Goal.TheVariants.{Point, Circle, NotCircle, Square, NotSquare}
 use Rattle.goal_shapes.specs.declared.goals.GoalSpec.{GoalSpec}
 use Rattle.goal_shapes.specs.declared.goals.GoalSpec.TheVariants.{Plain, Obstruction as ByObstruction}
 use Rattle.posts.specs.declared.posts.Post.{Post}
@@ -16,7 +15,8 @@ use Rattle.posts.specs.declared.edits.Edit.TheVariants.{Add, Remove, Move}
 use Rattle.posts.specs.declared.posts.Post.TheVariants.{Edit as Edits, Ask as Asks}
 use Rattle.posts.specs.declared.posts.Request.TheVariants.{Path, Region}
 use Rattle.posts.specs.Maps.{Map}
-use Rattle.script_text.specs.Grammar.{rectangle_decimals, shape_key, shape_decimals}
+use Rattle.script_text.specs.Goals.{goal_key_text, key_of, goal_decimals}
+use Rattle.script_text.specs.Grammar.{shape_key, shape_decimals}
 
 -- ---- values
 
@@ -83,11 +83,7 @@ abbrev pub shape_json : List ℕ → List ℤ → Data
 shape_json key raws = object_json ((key, decimals_json raws) ∷ [])
 
 unfoldable pub goal_json : GoalSpec → Data
-goal_json (Plain (Point x z)) = shape_json (codes "point") (x ∷ z ∷ [])
-goal_json (Plain (Circle x z r)) = shape_json (codes "circle") (x ∷ z ∷ r ∷ [])
-goal_json (Plain (NotCircle x z r)) = shape_json (codes "not-circle") (x ∷ z ∷ r ∷ [])
-goal_json (Plain (Square rectangle)) = shape_json (codes "square") (rectangle_decimals rectangle)
-goal_json (Plain (NotSquare rectangle)) = shape_json (codes "not-square") (rectangle_decimals rectangle)
+goal_json (Plain goal) = shape_json (goal_key_text (key_of goal)) (goal_decimals goal)
 goal_json (ByObstruction id grow) = object_json ((codes "obstruction", list_json (whole_json id ∷ decimal_json grow ∷ [])) ∷ [])
 
 -- the mask stands last, from version 2 on

@@ -5,6 +5,7 @@ use Rattle.script_text.specs.declared.causes.Cause.TheVariants.{BlankLine, ByteO
 use Rattle.script_text.specs.declared.causes.keys.Wanted.{Wanted}
 use Rattle.script_text.specs.declared.causes.keys.Wanted.TheVariants.{Whole, Caller, Turn, Sides, Classes, Rectangles, ClassName, TwoDecimals, ThreeDecimals, SixDecimals, NumberAndDecimal, Goal}
 use Rattle.script_text.specs.Causes.{key_text}
+use Rattle.script_text.specs.Goals.{goal_keys_text}
 
 -- what must stand under a key
 abbrev pub wanted_text : Wanted → List ℕ
@@ -20,7 +21,7 @@ wanted_text TwoDecimals = codes "an array of two decimals in quotes with at most
 wanted_text ThreeDecimals = codes "an array of three decimals in quotes with at most 16 places, from -32768 to below 32768"
 wanted_text SixDecimals = codes "an array of six decimals in quotes with at most 16 places, from -32768 to below 32768"
 wanted_text NumberAndDecimal = codes "an array of an obstruction number from 0 to 4294967295 and a decimal in quotes"
-wanted_text (Goal version) = codes "an object with exactly one key: point, circle, not-circle, square, not-square or, from version 3 on, obstruction"
+wanted_text (Goal version) = codes "an object with exactly one key: " ++ goal_keys_text
 
 -- what is to change in a line
 abbrev pub cause_text : Cause → List ℕ

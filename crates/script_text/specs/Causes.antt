@@ -21,7 +21,8 @@ use Rattle.script_text.specs.declared.parts.Rules.{Rules}
 use Rattle.script_text.specs.declared.parts.Part.{Part}
 use Rattle.script_text.specs.declared.parts.Part.TheVariants.{BeforeMap, InBase, InTurns}
 use Rattle.script_text.specs.Values.{under, whole_in, whole_below, class_name, array_items, point_of, round_of, rectangle_of, size_of}
-use Rattle.script_text.specs.Forms.{each, entry_of, add_keys, grown_of, goal_of}
+use Rattle.script_text.specs.Forms.{each, entry_of, add_keys}
+use Rattle.script_text.specs.Goals.{goal_key_text, grown_of, goal_of, wrong_goal}
 use Rattle.script_text.specs.Grammar.{IsEntry}
 use Rattle.input_lines.specs.Lines.{full_lines, tail_of, first_line}
 use Rattle.script_text.specs.Script.{Place, Ends, at_place, stuck_by, is_empty, reading_of, accept}
@@ -49,11 +50,7 @@ key_text key.Goal = codes "goal"
 key_text key.Region = codes "region"
 key_text key.At = codes "at"
 key_text key.End = codes "end"
-key_text key.Point = codes "point"
-key_text key.Circle = codes "circle"
-key_text key.NotCircle = codes "not-circle"
-key_text key.NotSquare = codes "not-square"
-key_text key.Obstruction = codes "obstruction"
+key_text (key.OfGoal goal) = goal_key_text goal
 
 -- what is wanted stands under the key
 abbrev pub is_wanted : Wanted → List ℕ → Data → Bool
@@ -121,17 +118,6 @@ abbrev pub first_version : Data → Option ℕ
 first_version d = if is_some (form_of 1 d) then Some 1 else (if is_some (form_of 2 d) then Some 2 else (if is_some (form_of 3 d) then Some 3 else None))
 
 -- ---- wrong values
-
--- the cause of a goal that is none in a script of this version: the value under its key, its version, or its keys
-abbrev pub wrong_goal : ℕ → Field → Data → Cause
-wrong_goal version f g = if has_keys (codes "point" ∷ []) g then WrongValue key.Point TwoDecimals
-    else (if has_keys (codes "circle" ∷ []) g then WrongValue key.Circle ThreeDecimals
-    else (if has_keys (codes "not-circle" ∷ []) g then WrongValue key.NotCircle ThreeDecimals
-    else (if has_keys (codes "square" ∷ []) g then WrongValue key.Square SixDecimals
-    else (if has_keys (codes "not-square" ∷ []) g then WrongValue key.NotSquare SixDecimals
-    else (if has_keys (codes "obstruction" ∷ []) g
-    then (if nat_lt version 3 then LaterVersion 3 else WrongValue key.Obstruction NumberAndDecimal)
-    else WrongValue f.key f.wanted)))))
 
 -- the value is no rectangle of the map with its mask
 abbrev pub is_no_entry : Size → Data → Bool

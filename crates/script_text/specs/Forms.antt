@@ -3,7 +3,6 @@
 use Rattle.std.specs.Prelude.{ℕ, ◌&&◌, List, [], ◌∷◌, nat_le, nat_lt, if◌then◌else◌, Option, Some, None, option_map, option_and_then, codes}
 use Rattle.std.specs.Option.{option_or}
 use Rattle.serde_json.specs.Data.{Data}
-use Rattle.serde_json.specs.Find.{at}
 use Rattle.nav_types.specs.declared.cells.Rect.{Rect}
 use Rattle.nav_types.specs.declared.cells.Size.{Size}
 use Rattle.fixed_point.specs.Text.{some_if}
@@ -12,10 +11,6 @@ use Rattle.class_config.specs.Classes.{classes_of}
 use Rattle.class_config.specs.declared.table.PassabilityClass.{PassabilityClass}
 use Rattle.obstruction_shapes.specs.declared.shapes.Shape.{Shape}
 use Rattle.obstruction_shapes.specs.declared.shapes.Shape.TheVariants.{Unit as UnitShape, Square as SquareShape}
-use Rattle.goal_shapes.specs.declared.goals.Goal.{Goal}
-use Rattle.goal_shapes.specs.declared.goals.Goal.TheVariants.{Point, Circle, NotCircle, Square, NotSquare}
-use Rattle.goal_shapes.specs.declared.goals.GoalSpec.{GoalSpec}
-use Rattle.goal_shapes.specs.declared.goals.GoalSpec.TheVariants.{Plain, Obstruction as ByObstruction}
 use Rattle.posts.specs.declared.edits.Edit.{Edit}
 use Rattle.posts.specs.declared.edits.Edit.TheVariants.{Add, Remove, Move}
 use Rattle.posts.specs.declared.posts.Post.TheVariants.{Edit as Edits, Ask as Asks}
@@ -23,7 +18,8 @@ use Rattle.posts.specs.declared.posts.Request.{Request}
 use Rattle.posts.specs.declared.posts.Request.TheVariants.{Path, Region}
 use Rattle.posts.specs.Maps.{Map, map_of as map_with}
 use Rattle.script_text.specs.declared.forms.CallerPost.{CallerPost}
-use Rattle.script_text.specs.Values.{whole, whole_in, whole_below, obstruction_number, class_name, under, array_items, has_items, whole_at, decimal_at, both, all_three, point_of, round_of, rectangle_of, size_of}
+use Rattle.script_text.specs.Goals.{goal_of}
+use Rattle.script_text.specs.Values.{whole, whole_in, whole_below, obstruction_number, class_name, under, array_items, has_items, whole_at, both, all_three, point_of, round_of, rectangle_of, size_of}
 
 -- ---- the map line
 
@@ -66,31 +62,6 @@ unfoldable pub base_of : Size → Data → Option (List (Rect × ℕ))
 base_of size d = if has_keys (codes "base" ∷ []) d
     then option_and_then (each (entry_of size)) (under array_items (codes "base") d)
     else None
-
--- ---- goals
-
--- a goal that is a shape, which its key names
-unfoldable pub plain_goal : Data → Option Goal
-plain_goal d = if has_keys (codes "point" ∷ []) d then option_map (λ p. Point p.0 p.1) (under point_of (codes "point") d)
-    else (if has_keys (codes "circle" ∷ []) d then option_map (λ c. Circle c.0 c.1 c.2) (under round_of (codes "circle") d)
-    else (if has_keys (codes "not-circle" ∷ []) d then option_map (λ c. NotCircle c.0 c.1 c.2) (under round_of (codes "not-circle") d)
-    else (if has_keys (codes "square" ∷ []) d then option_map Square (under rectangle_of (codes "square") d)
-    else (if has_keys (codes "not-square" ∷ []) d then option_map NotSquare (under rectangle_of (codes "not-square") d)
-    else None))))
-
--- an array of an obstruction number and a decimal, by which the obstruction grows
-unfoldable pub grown_of : Data → Option GoalSpec
-grown_of d = if has_items 2 d
-    then option_map (λ parts. ByObstruction parts.0 parts.1) (both (option_and_then obstruction_number (at 0 d)) (decimal_at 1 d))
-    else None
-
--- a goal that is an obstruction, under version 3 only
-unfoldable pub obstruction_goal : ℕ → Data → Option GoalSpec
-obstruction_goal version d = if nat_le 3 version && has_keys (codes "obstruction" ∷ []) d then under grown_of (codes "obstruction") d else None
-
--- the goal of a path line: an object with exactly one key
-unfoldable pub goal_of : ℕ → Data → Option GoalSpec
-goal_of version d = option_or (option_map Plain (plain_goal d)) (obstruction_goal version d)
 
 -- ---- post lines
 

@@ -3,6 +3,7 @@ pub mod CauseTexts
 pub mod Causes
 pub mod Faults
 pub mod Forms
+pub mod Goals
 pub mod Grammar
 pub mod Reader
 pub mod Pushed

@@ -5,8 +5,6 @@ use Rattle.nav_types.specs.declared.cells.Rect.{Rect}
 use Rattle.nav_types.specs.declared.limits.TheConstants.{MAX_INPUT_BYTES, MAX_LINE_BYTES}
 use Rattle.class_config.specs.Forms.{is_class_name}
 use Rattle.class_config.specs.Classes.{is_table}
-use Rattle.goal_shapes.specs.declared.goals.Goal.{Goal}
-use Rattle.goal_shapes.specs.declared.goals.Goal.TheVariants.{Point, Circle, NotCircle, Square, NotSquare}
 use Rattle.goal_shapes.specs.declared.goals.GoalSpec.{GoalSpec}
 use Rattle.goal_shapes.specs.declared.goals.GoalSpec.TheVariants.{Plain, Obstruction as ByObstruction}
 use Rattle.posts.specs.declared.posts.Post.{Post}
@@ -17,7 +15,8 @@ use Rattle.posts.specs.Maps.{Map, IsMap}
 use Rattle.input_lines.specs.Lines.{full_lines}
 use Rattle.script_text.specs.Script.{beginning, Item, whole_input, map_after, turns_of, reading}
 use Rattle.script_text.specs.Reader.{stuck_after}
-use Rattle.script_text.specs.Grammar.{rectangle_decimals, shape_decimals}
+use Rattle.script_text.specs.Goals.{goal_decimals}
+use Rattle.script_text.specs.Grammar.{shape_decimals}
 use Rattle.script_text.specs.Canon.{canon_map, canon_journal, HaveLines}
 
 -- ---- the values of maps and posts
@@ -26,14 +25,7 @@ use Rattle.script_text.specs.Canon.{canon_map, canon_journal, HaveLines}
 abbrev pub AreFixed : List ℤ → Type 0
 AreFixed raws = All (λ raw. FitsSigned w32 raw) raws
 
--- the coordinates and lengths of a goal
-abbrev pub goal_decimals : Goal → List ℤ
-goal_decimals (Point x z) = x ∷ z ∷ []
-goal_decimals (Circle x z r) = x ∷ z ∷ r ∷ []
-goal_decimals (NotCircle x z r) = x ∷ z ∷ r ∷ []
-goal_decimals (Square rectangle) = rectangle_decimals rectangle
-goal_decimals (NotSquare rectangle) = rectangle_decimals rectangle
-
+-- the numbers of a goal
 abbrev pub IsGoalValue : GoalSpec → Type 0
 IsGoalValue (Plain goal) = AreFixed (goal_decimals goal)
 IsGoalValue (ByObstruction id grow) = (id ≤ 4294967295) × FitsSigned w32 grow

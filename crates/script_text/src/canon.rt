@@ -4,7 +4,7 @@ ghost use Rattle.script_text.specs.Canon as canon;
 ghost use Rattle.script_text.specs.ReadsBack.{IsMapValue, IsPostValue, ArePostValues};
 
 mod maps;
-mod pieces;
+pub(crate) mod pieces;
 mod post_lines;
 
 use nav_types::{Bytes, NoMemory};

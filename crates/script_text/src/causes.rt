@@ -6,7 +6,7 @@ ghost use Rattle.script_text.specs.Causes as why;
 mod keys;
 mod line_forms;
 mod strange_keys;
-mod wrong_values;
+pub(crate) mod wrong_values;
 
 use crate::parts::{Part, Rules};
 use crate::progress::read_line;

@@ -7,7 +7,6 @@ ghost use Rattle.script_text.specs.Values as value_form;
 ghost use Rattle.script_text.specs.Forms as form;
 
 pub(crate) mod bases;
-pub(crate) mod goals;
 pub(crate) mod post_lines;
 pub(crate) mod values;
 

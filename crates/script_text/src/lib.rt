@@ -13,6 +13,7 @@ mod canon;
 mod causes;
 mod faults;
 mod forms;
+mod goals;
 mod items;
 mod laws;
 mod parts;
@@ -25,6 +26,7 @@ pub use canon::{write_journal, write_map};
 pub use causes::{Cause, Key, Wanted};
 pub use faults::ScriptFault;
 pub use forms::CallerPost;
+pub use goals::GoalKey;
 pub use input_lines::READ_SIZE;
 pub use items::ScriptItem;
 pub use laws::{

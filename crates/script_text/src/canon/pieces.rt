@@ -7,9 +7,10 @@ ghost use Rattle.serde_json.specs.Written.{comma_if, compact_text};
 ghost use Rattle.script_text.specs.Canon as canon;
 ghost use Rattle.script_text.specs.inner.Pieces.{IsPieceValue, piece_text};
 ghost use Rattle.script_text.specs.inner.Plain.{is_plain};
+ghost use Rattle.script_text.specs.Grammar.{rectangle_decimals};
 ghost use Rattle.script_text.specs.ReadsBack.{AreFixed};
 
-use fixed_point::Fixed;
+use fixed_point::{Fixed, Rectangle};
 use nav_types::{Bytes, NoMemory};
 
 /// A piece of a canonical line.
@@ -89,4 +90,18 @@ pub(crate) fn push_decimals(text: &mut Bytes, numbers: &[Fixed]) -> Result<(), N
     }
     text.push(b']')?;
     Ok(())
+}
+
+/// The six numbers of a rectangle.
+pub(crate) fn decimals_of(rectangle: Rectangle) -> [Fixed; 6]
+    ensures { result ≡ rectangle_decimals rectangle }
+{
+    [
+        rectangle.x,
+        rectangle.z,
+        rectangle.ux,
+        rectangle.uz,
+        rectangle.hw,
+        rectangle.hh,
+    ]
 }

@@ -1,21 +1,21 @@
 //! The canonical lines of posts. Each call appends a text; where there is no memory, what stands is a beginning of it.
-ghost use Rattle.std.specs.Prelude.{◌≡◌, ◌++◌, ◌∷◌, [], true, OnOk, IsTrue};
+ghost use Rattle.std.specs.Prelude.{◌≡◌, ◌++◌, ◌∷◌, true, OnOk, IsTrue};
 ghost use Rattle.serde_json.specs.Data.{string};
 ghost use Rattle.serde_json.specs.Written.{compact_text, members_text};
 ghost use Rattle.class_config.specs.Forms.{is_class_name};
-ghost use Rattle.goal_shapes.specs.declared.goals.GoalSpec.TheVariants as goal_spec;
 ghost use Rattle.posts.specs.declared.edits.Edit.TheVariants as edit;
 ghost use Rattle.posts.specs.declared.posts.Post.TheVariants as kind;
 ghost use Rattle.posts.specs.declared.posts.Request.TheVariants as request;
 ghost use Rattle.script_text.specs.Canon as canon;
 ghost use Rattle.script_text.specs.Grammar.{rectangle_decimals, shape_key, shape_decimals};
-ghost use Rattle.script_text.specs.ReadsBack.{AreFixed, IsGoalValue, IsPostValue};
+ghost use Rattle.script_text.specs.ReadsBack.{AreFixed, IsPostValue};
 
-use crate::canon::pieces::{Piece, push_decimals, push_pieces, push_quoted};
+use crate::canon::pieces::{Piece, decimals_of, push_decimals, push_pieces, push_quoted};
+use crate::goals::push_goal;
 use crate::versions::FIRST_WITH_MASKS;
 use class_config::ClassName;
 use fixed_point::{Fixed, Rectangle};
-use goal_shapes::{Goal, GoalSpec};
+use goal_shapes::GoalSpec;
 use nav_types::{Bytes, NoMemory};
 use obstruction_shapes::{Obstruction, Shape};
 use posts::{Edit, Post, Request};
@@ -118,15 +118,7 @@ fn push_rectangle(text: &mut Bytes, rectangle: Rectangle) -> Result<(), NoMemory
         ++ compact_text (canon.decimals_json (rectangle_decimals rectangle))) }
     ensures values { OnOk result (AreFixed (rectangle_decimals rectangle)) }
 {
-    let numbers = [
-        rectangle.x,
-        rectangle.z,
-        rectangle.ux,
-        rectangle.uz,
-        rectangle.hw,
-        rectangle.hh,
-    ];
-    push_decimals(text, &numbers)
+    push_decimals(text, &decimals_of(rectangle))
 }
 
 /// Appends the member of a mask, where the version has one, and ends the object.
@@ -259,76 +251,6 @@ pub(crate) fn push_name(text: &mut Bytes, name: &ClassName) -> Result<(), NoMemo
     ensures values { OnOk result (IsTrue (is_class_name name.now)) }
 {
     push_quoted(text, name.as_bytes())
-}
-
-/// Appends a goal.
-fn push_goal(text: &mut Bytes, goal: GoalSpec) -> Result<(), NoMemory>
-    ensures text { OnOk result (text.new ≡ text.old ++ compact_text (canon.goal_json goal)) }
-    ensures values { OnOk result (IsGoalValue goal) }
-{
-    match goal {
-        GoalSpec::Plain(goal) => push_plain_goal(text, goal),
-        GoalSpec::Obstruction { id, grow } => push_obstruction_goal(text, id, grow),
-    }
-}
-
-/// Appends a goal that is an obstruction, which grows by a distance.
-fn push_obstruction_goal(text: &mut Bytes, id: u32, grow: Fixed) -> Result<(), NoMemory>
-    ensures text { OnOk result (text.new ≡ text.old ++ compact_text (canon.goal_json (goal_spec.Obstruction id grow))) }
-    ensures values { OnOk result (IsGoalValue (goal_spec.Obstruction id grow)) }
-{
-    let pieces = [
-        Piece::Bytes(b"{\"obstruction\":["),
-        Piece::Whole(u64::from(id)),
-        Piece::Bytes(b","),
-        Piece::Decimal(grow),
-        Piece::Bytes(b"]}"),
-    ];
-    push_pieces(text, &pieces)?;
-    Ok(())
-}
-
-/// Appends a goal that is a shape.
-fn push_plain_goal(text: &mut Bytes, goal: Goal) -> Result<(), NoMemory>
-    ensures text { OnOk result (text.new ≡ text.old ++ compact_text (canon.goal_json (goal_spec.Plain goal))) }
-    ensures values { OnOk result (IsGoalValue (goal_spec.Plain goal)) }
-{
-    match goal {
-        Goal::Point { x, z } => push_object(text, b"{\"point\":", &[x, z]),
-        Goal::Circle { x, z, r } => push_object(text, b"{\"circle\":", &[x, z, r]),
-        Goal::NotCircle { x, z, r } => { push_object(text, b"{\"not-circle\":", &[x, z, r]) }
-        Goal::Square(rectangle) => push_square(text, b"{\"square\":", rectangle),
-        Goal::NotSquare(rectangle) => push_square(text, b"{\"not-square\":", rectangle),
-    }
-}
-
-/// Appends an object of one key, which is opened already, and of a rectangle.
-fn push_square(text: &mut Bytes, opening: &[u8], rectangle: Rectangle) -> Result<(), NoMemory>
-    ensures text { OnOk result (text.new ≡ text.old
-        ++ (opening.now ++ (compact_text (canon.decimals_json (rectangle_decimals rectangle)) ++ 125 ∷ []))) }
-    ensures values { OnOk result (AreFixed (rectangle_decimals rectangle)) }
-{
-    let numbers = [
-        rectangle.x,
-        rectangle.z,
-        rectangle.ux,
-        rectangle.uz,
-        rectangle.hw,
-        rectangle.hh,
-    ];
-    push_object(text, opening, &numbers)
-}
-
-/// Appends an object of one key, which is opened already, and of fixed-point numbers.
-fn push_object(text: &mut Bytes, opening: &[u8], numbers: &[Fixed]) -> Result<(), NoMemory>
-    ensures text { OnOk result (text.new ≡ text.old
-        ++ (opening.now ++ (compact_text (canon.decimals_json numbers.now) ++ 125 ∷ []))) }
-    ensures values { OnOk result (AreFixed numbers.now) }
-{
-    text.extend(opening)?;
-    push_decimals(text, numbers)?;
-    text.push(b'}')?;
-    Ok(())
 }
 
 /// Appends the end line of a turn, without its newline.

@@ -2,10 +2,11 @@
 ghost use Rattle.std.specs.Prelude.{◌≡◌};
 ghost use Rattle.script_text.specs.Causes.{key_text};
 
+use crate::goals::{GoalKey, goal_keys};
 use nav_types::Size;
 use std::fmt;
 
-/// A key of a line or of a goal.
+/// A key of a line, or of a goal in it.
 #[derive(Clone, Copy, Debug, PartialEq, Eq)]
 pub enum Key {
     Version,
@@ -27,11 +28,8 @@ pub enum Key {
     Region,
     At,
     End,
-    Point,
-    Circle,
-    NotCircle,
-    NotSquare,
-    Obstruction,
+    /// A key of a goal.
+    OfGoal(GoalKey),
 }
 
 impl Key {
@@ -59,11 +57,7 @@ impl Key {
             Key::Region => "region",
             Key::At => "at",
             Key::End => "end",
-            Key::Point => "point",
-            Key::Circle => "circle",
-            Key::NotCircle => "not-circle",
-            Key::NotSquare => "not-square",
-            Key::Obstruction => "obstruction",
+            Key::OfGoal(goal) => goal.as_str(),
         }
     }
 }
@@ -149,9 +143,10 @@ impl fmt::Display for Wanted {
             Wanted::NumberAndDecimal => f.write_str(
                 "an array of an obstruction number from 0 to 4294967295 and a decimal in quotes",
             ),
-            Wanted::Goal { .. } => f.write_str(
-                "an object with exactly one key: point, circle, not-circle, square, not-square or, from version 3 on, obstruction",
-            ),
+            Wanted::Goal { .. } => {
+                let keys = goal_keys();
+                write!(f, "an object with exactly one key: {keys}")
+            }
         }
     }
 }

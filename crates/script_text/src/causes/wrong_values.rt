@@ -7,15 +7,14 @@ ghost use Rattle.script_text.specs.Causes as why;
 
 use crate::causes::line_forms::Form;
 use crate::causes::{Cause, Key, Wanted};
-use crate::forms::goals::{goal_under, grown_under};
 use crate::forms::values::{
     caller_under, items_under, name_under, point_under, rectangle_under, round_under, size_under,
     whole_under,
 };
 use crate::forms::{NEWEST_VERSION, bases, classes_under};
+use crate::goals::{goal_under, grown_under, wrong_goal};
 use crate::parts::Rules;
-use crate::versions::{FIRST_WITH_MASKS, FIRST_WITH_MOVES};
-use class_config::has_keys;
+use crate::versions::FIRST_WITH_MASKS;
 use nav_types::limits::MAX_CALLERS;
 use nav_types::{NoMemory, Size};
 use serde_json::Value;
@@ -208,33 +207,8 @@ fn wrong_items(size: Size, field: Field, items: &[Value]) -> Cause
     wrong(field.key, field.wanted)
 }
 
-/// The cause of a goal that is none in a script of this version.
-fn wrong_goal(version: u8, field: Field, goal: &Value) -> Cause
-    ensures { result ≡ why.wrong_goal version field (view goal.now) }
-{
-    if has_keys(goal, &["point"]) {
-        wrong(Key::Point, Wanted::TwoDecimals)
-    } else if has_keys(goal, &["circle"]) {
-        wrong(Key::Circle, Wanted::ThreeDecimals)
-    } else if has_keys(goal, &["not-circle"]) {
-        wrong(Key::NotCircle, Wanted::ThreeDecimals)
-    } else if has_keys(goal, &["square"]) {
-        wrong(Key::Square, Wanted::SixDecimals)
-    } else if has_keys(goal, &["not-square"]) {
-        wrong(Key::NotSquare, Wanted::SixDecimals)
-    } else if !has_keys(goal, &["obstruction"]) {
-        wrong(field.key, field.wanted)
-    } else if version < FIRST_WITH_MOVES {
-        Cause::LaterVersion {
-            version: FIRST_WITH_MOVES,
-        }
-    } else {
-        wrong(Key::Obstruction, Wanted::NumberAndDecimal)
-    }
-}
-
 /// The cause that under this key not what is wanted stands.
-fn wrong(key: Key, wanted: Wanted) -> Cause
+pub(crate) fn wrong(key: Key, wanted: Wanted) -> Cause
     ensures { result ≡ Cause.WrongValue key wanted }
 {
     Cause::WrongValue { key, wanted }

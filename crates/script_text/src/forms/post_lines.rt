@@ -4,10 +4,10 @@ ghost use Rattle.serde_json.specs.View.{view};
 ghost use Rattle.class_config.specs.Forms as config;
 ghost use Rattle.script_text.specs.Forms as form;
 
-use crate::forms::goals::goal_under;
 use crate::forms::values::{
     name_under, number_under, point_under, rectangle_under, round_under, whole_under,
 };
+use crate::goals::goal_under;
 use crate::versions::{FIRST_WITH_MASKS, FIRST_WITH_MOVES};
 use class_config::has_keys;
 use obstruction_shapes::{Obstruction, Shape};

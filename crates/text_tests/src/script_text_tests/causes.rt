@@ -2,7 +2,7 @@
 use super::{MAP_1, MAP_2, MAP_3, read_behind};
 use class_config::ClassName;
 use nav_types::Size;
-use script_text::{Cause, Key, Wanted};
+use script_text::{Cause, GoalKey, Key, Wanted};
 use std::alloc::Global;
 use std::process::Abort;
 
@@ -102,7 +102,7 @@ fn lines_of_version_3_have_causes(rt: HostRuntime) {
             ),
             (
                 "{\"caller\":0,\"path\":\"a\",\"from\":[\"0\",\"0\"],\"goal\":{\"circle\":[\"1\",\"1\"]}}\n",
-                wrong(Key::Circle, Wanted::ThreeDecimals),
+                wrong(Key::OfGoal(GoalKey::Circle), Wanted::ThreeDecimals),
                 "the key \"circle\" must have an array of three decimals in quotes with at most 16 places, from -32768 to below 32768",
             ),
             (

@@ -1,5 +1,6 @@
--- The goals of the grammar are those that the forms give.
-use Rattle.std.proofs.Common.{◌≡◌, inl, inr, ℕ, ◌&&◌, List, [], ◌∷◌, length, Bool, true, false, not, cond, Option, Some, None, option_map, option_and_then, ℤ, refl, ap, sym, subst, ◌∙◌, arith, nat_le}
+-- Goals, all in one place: those of the grammar are those that are read, causes of wrong ones are true, and canonical ones
+-- read back.
+use Rattle.std.proofs.Common.{◌≡◌, inl, inr, ℕ, ◌&&◌, List, [], ◌∷◌, ◌++◌, length, Bool, true, false, not, cond, Option, Some, None, option_map, option_and_then, ℤ, refl, ap, sym, subst, ◌∙◌, arith, append_assoc, nat_le, nat_lt}
 use Rattle.std.specs.Prelude.{codes}
 use Rattle.std.proofs.lemmas.Slice.Eq.{bytes_eq-Decides}
 use Rattle.std.proofs.lemmas.Bool.{and_parts, leb-true, cond-true, cond-false, and_from, le-leb}
@@ -12,11 +13,33 @@ use Rattle.goal_shapes.specs.declared.goals.Goal.TheVariants.{Point, Circle, Not
 use Rattle.goal_shapes.specs.declared.goals.GoalSpec.{GoalSpec}
 use Rattle.goal_shapes.specs.declared.goals.GoalSpec.TheVariants.{Plain, Obstruction as ByObstruction}
 use Rattle.script_text.specs.Values.{obstruction_number, decimal, under, has_items, decimal_at, both, point_of, round_of, rectangle_of}
-use Rattle.script_text.specs.Forms.{plain_goal, grown_of, obstruction_goal, goal_of}
+use Rattle.script_text.specs.Goals.{goal_key_text, key_of, goal_decimals, plain_goal, grown_of, obstruction_goal, goal_of, wrong_goal}
 use Rattle.script_text.specs.Grammar.{IsObject, IsDecimal, IsArray, HasDecimals, rectangle_decimals, IsPlainGoal, IsGrownGoal, IsGoal}
 use Rattle.script_text.proofs.GrammarValues.{map_some, if_some, under_some, under_is, number-is, number-from, decimal-is, decimal-from, array_items-is, items_there, two_there}
-use Rattle.script_text.proofs.Members.{is_other, open_one, has_keys-object, has_keys-other, stand-object}
+use Rattle.script_text.proofs.Members.{is_other, open_keys, open_one, has_keys-object, has_keys-other, stand-object}
 use Rattle.script_text.proofs.GrammarLines.{two_some, either_some, or_some, or_first, or_second, point-is, point-from, round-is, round-from, rectangle-is, rectangle-from}
+use Rattle.std.specs.Prelude.{is_some}
+use Rattle.std.specs.Option.{option_or}
+use Rattle.std.proofs.lemmas.Bool.{ltb-false}
+use Rattle.serde_json.specs.Data.{no_items, item}
+use Rattle.serde_json.specs.Find.{get}
+use Rattle.script_text.specs.declared.goals.GoalKey.{GoalKey}
+use Rattle.script_text.specs.declared.goals.GoalKey.TheVariants as goal_key
+use Rattle.script_text.specs.declared.causes.Cause.{Cause}
+use Rattle.script_text.specs.declared.causes.Cause.TheVariants.{WrongValue, LaterVersion}
+use Rattle.script_text.specs.declared.causes.keys.Key.{Key}
+use Rattle.script_text.specs.declared.causes.keys.Key.TheVariants.{OfGoal}
+use Rattle.script_text.specs.declared.causes.keys.Wanted.{Wanted}
+use Rattle.script_text.specs.declared.causes.keys.Wanted.TheVariants.{TwoDecimals, ThreeDecimals, SixDecimals, NumberAndDecimal}
+use Rattle.script_text.specs.declared.causes.wrong_values.Field.{Field}
+use Rattle.script_text.specs.Causes.{key_text, is_wanted, IsWrongIn}
+use Rattle.script_text.specs.TrueCauses.{HasGrownGoal, IsTrueOf}
+use Rattle.script_text.specs.Canon.{whole_json, decimal_json, shape_json, decimals_json, goal_json, is_goal_of}
+use Rattle.script_text.specs.ReadsBack.{AreFixed, IsGoalValue}
+use Rattle.serde_json.specs.Written.{compact_text}
+use Rattle.serde_json.proofs.OnLiterals.{serde_json_on_literals}
+use Rattle.script_text.proofs.BackTexts.{IsSimple, sorted, text-fixed_text}
+use Rattle.script_text.proofs.BackValues.{one_key, says_decimal, simple_decimals, says_shape, small}
 
 -- ---- goals
 
@@ -200,3 +223,112 @@ goal-from version d (Plain goal) is = or_first (option_map Plain (plain_goal d))
 goal-from version d (ByObstruction id grow) is =
     or_second (option_map Plain (plain_goal d)) (obstruction_goal version d) (ByObstruction id grow) (ap (option_map Plain) (not_plain d is.obstruction is.keys))
     (grown-from version id grow d is)
+
+pub by_test : (d : Data) (b : Bool) (c e : Cause) → (b ≡ true → IsTrueOf d c) → (b ≡ false → IsTrueOf d e) → IsTrueOf d (cond b c e)
+by_test d true c e yes_ no_ = yes_ refl
+by_test d false c e yes_ no_ = no_ refl
+
+-- ---- causes
+
+or_none : {A : Type 0} (o p : Option A) → is_some (option_or o p) ≡ false → (is_some o ≡ false) × (is_some p ≡ false)
+or_none None p e = (refl, e)
+or_none (Some x) p e = absurd (cc)
+
+map_none : {A B : Type 0} (f : A → B) (o : Option A) → is_some (option_map f o) ≡ false → is_some o ≡ false
+map_none f None e = refl
+map_none f (Some x) e = absurd (cc)
+
+-- a test that holds, and one that does not
+on : {A : Type 0} (b : Bool) (o p : Option A) → b ≡ true → is_some (cond b o p) ≡ false → is_some o ≡ false
+on true o p has e = e
+on false o p has e = absurd (cc)
+
+off : {A : Type 0} (b : Bool) (o p : Option A) → b ≡ false → is_some (cond b o p) ≡ false → is_some p ≡ false
+off true o p lacks e = absurd (cc)
+off false o p lacks e = e
+
+third : (version : ℕ) → nat_lt version 3 ≡ false → nat_le 3 version ≡ true
+third version e = le-leb 3 version (ltb-false version 3 e)
+
+grown : (d g : Data) (outer : List ℕ) → get outer d ≡ Some g → has_keys (codes "obstruction" ∷ []) g ≡ true → HasGrownGoal d
+grown d g outer at has = let opened = open_keys (codes "obstruction" ∷ []) g refl has in
+    record { key = outer; goal = g; under = at; keys = inl (opened.values, opened.is) }
+
+pub goal_true : (version : ℕ) (f : Field) (d g : Data) (outer : List ℕ) → get outer d ≡ Some g → IsWrongIn f.key f.wanted d → is_some (goal_of version g) ≡ false
+    → IsTrueOf d (wrong_goal version f g)
+unfolding goal_of plain_goal obstruction_goal
+goal_true version f d g outer at whole none =
+    let parts = or_none (option_map Plain (plain_goal g)) (obstruction_goal version g) none in
+    let plain = map_none Plain (plain_goal g) parts.0 in
+    let inner : (k : Key) (w : Wanted) → is_wanted w (key_text k) g ≡ false → IsTrueOf d (WrongValue k w) = λ k w wrong. inr (outer, g, at, wrong) in
+    by_test d (has_keys (codes "point" ∷ []) g) _ _ (λ has. inner (OfGoal goal_key.Point) TwoDecimals (map_none _ _ (on _ _ _ has plain)))
+    (λ a. let after_a = off _ _ _ a plain in
+    by_test d (has_keys (codes "circle" ∷ []) g) _ _ (λ has. inner (OfGoal goal_key.Circle) ThreeDecimals (map_none _ _ (on _ _ _ has after_a)))
+    (λ b. let after_b = off _ _ _ b after_a in
+    by_test d (has_keys (codes "not-circle" ∷ []) g) _ _ (λ has. inner (OfGoal goal_key.NotCircle) ThreeDecimals (map_none _ _ (on _ _ _ has after_b)))
+    (λ c. let after_c = off _ _ _ c after_b in
+    by_test d (has_keys (codes "square" ∷ []) g) _ _ (λ has. inner (OfGoal goal_key.Square) SixDecimals (map_none _ _ (on _ _ _ has after_c)))
+    (λ e. let after_e = off _ _ _ e after_c in
+    by_test d (has_keys (codes "not-square" ∷ []) g) _ _ (λ has. inner (OfGoal goal_key.NotSquare) SixDecimals (map_none _ _ (on _ _ _ has after_e)))
+    (λ h. by_test d (has_keys (codes "obstruction" ∷ []) g) _ _
+    (λ has. by_test d (nat_lt version 3) (LaterVersion 3) (WrongValue (OfGoal goal_key.Obstruction) NumberAndDecimal) (λ early. inr (refl, grown d g outer at has))
+    (λ late. inner (OfGoal goal_key.Obstruction) NumberAndDecimal (on _ _ _ (and_from (nat_le 3 version) (has_keys (codes "obstruction" ∷ []) g) (third version late) has) parts.1)))
+    (λ other. whole))))))
+
+-- ---- canonical goals
+
+simple_shape : (goal : Goal) → AreFixed (goal_decimals goal) → IsSimple (shape_json (goal_key_text (key_of goal)) (goal_decimals goal)) 126
+simple_shape (Point x z) is = ((refl, refl), simple_decimals (x ∷ z ∷ []) 124 is, tt)
+simple_shape (Circle x z r) is = ((refl, refl), simple_decimals (x ∷ z ∷ r ∷ []) 124 is, tt)
+simple_shape (NotCircle x z r) is = ((refl, refl), simple_decimals (x ∷ z ∷ r ∷ []) 124 is, tt)
+simple_shape (Square r) is = ((refl, refl), simple_decimals (rectangle_decimals r) 124 is, tt)
+simple_shape (NotSquare r) is = ((refl, refl), simple_decimals (rectangle_decimals r) 124 is, tt)
+
+pub simple_goal : (goal : GoalSpec) → IsGoalValue goal → IsSimple (goal_json goal) 126
+unfolding goal_json
+simple_goal (Plain goal) is = simple_shape goal is
+simple_goal (ByObstruction id grow) is = ((refl, refl), (small id 4294967295 (omega arith) is.0, (text-fixed_text grow is.1, tt)), tt)
+
+-- a goal is what its key and its decimals say
+by_key : (goal : Goal) (d : Data) → HasDecimals (goal_key_text (key_of goal)) (goal_decimals goal) d → IsPlainGoal goal d
+by_key (Point x z) d is = is
+by_key (Circle x z r) d is = is
+by_key (NotCircle x z r) d is = is
+by_key (Square r) d is = is
+by_key (NotSquare r) d is = is
+
+pub says_goal : (version : ℕ) (goal : GoalSpec) → IsGoalValue goal → is_goal_of version goal ≡ true → IsGoal version goal (sorted (goal_json goal))
+unfolding goal_json
+says_goal version (Plain goal) is has = by_key goal (sorted (shape_json (goal_key_text (key_of goal)) (goal_decimals goal))) (says_shape (goal_key_text (key_of goal)) (goal_decimals goal) is)
+says_goal version (ByObstruction id grow) is has =
+    let parts : Data = array (item (whole_json id) (item (decimal_json grow) no_items)) in record {
+      newest = leb-true 3 version has;
+      obstruction = parts;
+      number = whole_json id;
+      distance = decimal_json grow;
+      keys = one_key (codes "obstruction") parts;
+      items = refl;
+      says_number = (refl, is.0);
+      says_distance = says_decimal grow is.1;
+    }
+
+-- the text of a goal that is a shape
+pub shape_text : (key : GoalKey) (raws : List ℤ) → compact_text (shape_json (goal_key_text key) raws) ≡ 123 ∷ 34 ∷ (goal_key_text key ++ 34 ∷ 58 ∷ (compact_text (decimals_json raws) ++ 125 ∷ []))
+unfolding serde_json_on_literals
+shape_text goal_key.Point raws = refl
+shape_text goal_key.Circle raws = refl
+shape_text goal_key.NotCircle raws = refl
+shape_text goal_key.Square raws = refl
+shape_text goal_key.NotSquare raws = refl
+shape_text goal_key.Obstruction raws = refl
+
+-- its pieces, behind what stands
+pub shape_pieces : (text : List ℕ) (key : GoalKey) (raws : List ℤ) (k : List ℕ) → k ≡ goal_key_text key
+    → ((text ++ 123 ∷ 34 ∷ (k ++ 34 ∷ 58 ∷ [])) ++ compact_text (decimals_json raws)) ++ 125 ∷ [] ≡ text ++ compact_text (shape_json (goal_key_text key) raws)
+shape_pieces text key raws k same =
+    let decimals = compact_text (decimals_json raws) in
+    append_assoc (text ++ 123 ∷ 34 ∷ (k ++ 34 ∷ 58 ∷ [])) decimals (125 ∷ [])
+    ∙ append_assoc text (123 ∷ 34 ∷ (k ++ 34 ∷ 58 ∷ [])) (decimals ++ 125 ∷ [])
+    ∙ ap (λ (j : List ℕ). text ++ 123 ∷ 34 ∷ ((j ++ 34 ∷ 58 ∷ []) ++ (decimals ++ 125 ∷ []))) same
+    ∙ ap (λ (t : List ℕ). text ++ 123 ∷ 34 ∷ t) (append_assoc (goal_key_text key) (34 ∷ 58 ∷ []) (decimals ++ 125 ∷ []))
+    ∙ ap (λ (t : List ℕ). text ++ t) (sym (shape_text key raws))

@@ -4,7 +4,7 @@ use Rattle.serde_json.specs.Written.{compact_text}
 use Rattle.script_text.specs.Canon.{decimal_json, goal_json}
 use Rattle.script_text.proofs.CanonTexts.{key_text, pair_pieces}
 use Rattle.serde_json.proofs.OnLiterals.{serde_json_on_literals}
-use Rattle.script_text.proofs.canon.post_lines.push_obstruction_goal.Goals as goal
+use Rattle.script_text.proofs.goals.push_obstruction_goal.Goals as goal
 
 pub returns-clause-text : goal.returns-clause-text
 unfolding serde_json_on_literals goal_json
