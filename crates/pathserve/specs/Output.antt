@@ -12,51 +12,13 @@ use Rattle.posts.specs.declared.notes.Report.{Report}
 use Rattle.turn_core.specs.Notes.{AreNotes}
 use Rattle.input_lines.specs.Lines.{full_lines}
 use Rattle.script_text.specs.Script.{Item, begins, adds_base, ends_turn, map_after_item, Place, beginning, Stop, whole_input, too_long, bad_line, Ends, at_place, stuck_by, arrived, walk, reading}
-use Rattle.answer_text.specs.Answers.{turn_text, bad_line_text}
+use Rattle.answer_text.specs.Answers.{turn_text}
+pub use Rattle.match_play.specs.Texts.{Said, unsaid, with_map, with_turn, IsTurnText, Says, Gives, IsText, stop_text, ends_text, IsOut}
 use Rattle.answer_text.specs.Noted.{noted_text}
 use Rattle.answer_text.specs.Summaries.{summary_text}
 use Rattle.made_match.specs.Making.{made_map, made_journal}
 use Rattle.pathserve.specs.declared.status.Status.{Status}
 use Rattle.pathserve.specs.declared.status.Status.TheVariants.{Done, Usage, BadLine, ReadFault, WriteFault, NoMemory, TooLong}
-
--- what the next answers rest on: the map so far, what stands on it, and how many turns were answered
-pub record Said : Type 0 where
-  pub map : Option Map
-  pub standing : Standing
-  pub turns : ℕ
-
-abbrev pub unsaid : Said
-unsaid = record { map = None; standing = bare; turns = 0 }
-
--- a part of the map was read
-abbrev pub with_map : Said → Item → Said
-with_map s item = record s { map = map_after_item s.map item }
-
--- a turn was answered
-abbrev pub with_turn : Said → Map → List (List Post) → Said
-with_turn s m posts = record s { standing = after_turn m s.standing posts; turns = s.turns + 1 }
-
--- The text of the turn of a number, before which this stands: that of the replies of one thread, with the turn's numbers,
--- and with the notes of the turn's requests on what stands after its edits.
-abbrev pub IsTurnText : Report → Map → Standing → ℕ → List (List Post) → List ℕ → Type 0
-IsTurnText report m standing turn posts text = (told : TurnReplies) × ((notes : List Note) × (IsTurnTold m standing posts told
-    × (AreNotes m (after_turn m standing posts) report (jobs posts) notes × (text ≡ noted_text turn told notes))))
-
--- what is written for one item: nothing for a part of the map, and for a turn the text of its answers
-abbrev pub Says : Report → Said → Item → List ℕ → Said → Type 0
-Says report s (begins m) text t = (text ≡ []) × (t ≡ with_map s (begins m))
-Says report s (adds_base rects) text t = (text ≡ []) × (t ≡ with_map s (adds_base rects))
-Says report s (ends_turn posts) text t =
-    (m : Map) × ((s.map ≡ Some m) × (IsTurnText report m s.standing (s.turns + 1) posts text × (t ≡ with_turn s m posts)))
-
--- what is written for items, one after another
-abbrev pub Gives : Report → Said → List Item → List ℕ → Said → Type 0
-Gives report s [] text t = (text ≡ []) × (s ≡ t)
-Gives report s (item ∷ items) text t = (piece : List ℕ) × ((mid : Said) × ((more : List ℕ)
-    × (Says report s item piece mid × (Gives report mid items more t × (text ≡ piece ++ more)))))
-
-abbrev pub IsText : Report → List Item → List ℕ → Type 0
-IsText report items text = (t : Said) × Gives report unsaid items text t
 
 -- the texts of turns, from one of this number on
 abbrev pub turn_texts : ℕ → List TurnReplies → List ℕ
@@ -76,21 +38,6 @@ abbrev pub noted_texts : ℕ → List TurnReplies → List (List Note) → List 
 noted_texts number [] lists = []
 noted_texts number (told ∷ others) [] = []
 noted_texts number (told ∷ others) (notes ∷ lists) = noted_text number told notes ++ noted_texts (number + 1) others lists
-
--- what is written for a stop: a bad line is named
-abbrev pub stop_text : Stop → List ℕ
-stop_text whole_input = []
-stop_text too_long = []
-stop_text (bad_line n) = bad_line_text n
-
-abbrev pub ends_text : Ends → List ℕ
-ends_text (at_place p) = []
-ends_text (stuck_by stop) = stop_text stop
-
--- the output text of an input: that of its turns, then that of its stop
-abbrev pub IsOut : Report → List ℕ → List ℕ → Type 0
-IsOut report bytes out =
-    (text : List ℕ) × (IsText report (reading bytes beginning).items text × (out ≡ text ++ ends_text (reading bytes beginning).ends))
 
 -- the next piece: that of the next item, or that of the stop
 abbrev pub IsPiece : Report → Said → List Item → Ends → List ℕ → Type 0

@@ -1,0 +1,94 @@
+-- What a match has been fed with, what it has told, and how the one goes with the other.
+use Rattle.std.specs.Prelude.{ℕ, ◌≡◌, List, [], ◌∷◌, ◌++◌, Option, Some, None, Result, Ok, Err, ⊤}
+use Rattle.posts.specs.declared.notes.Report.{Report}
+use Rattle.turn_core.specs.Words.{bare}
+use Rattle.input_lines.specs.Lines.{full_lines}
+use Rattle.script_text.specs.Script.{Item, Place, beginning, Stop, too_long, bad_line, stuck_by, arrived, walk, reading}
+use Rattle.script_text.specs.Reader.{Held, unread, UsesLines, stuck_after}
+use Rattle.script_text.specs.Pushed.{item_of}
+use Rattle.match_play.specs.declared.states.ScriptStop.{ScriptStop}
+use Rattle.match_play.specs.declared.states.ScriptStop.TheVariants.{BadLine, TooLong}
+use Rattle.match_play.specs.declared.states.Ahead.{Ahead}
+use Rattle.match_play.specs.declared.states.Ahead.TheVariants as ahead
+use Rattle.match_play.specs.declared.states.Ground.{Ground}
+use Rattle.match_play.specs.declared.states.Ground.TheVariants as ground
+use Rattle.match_play.specs.declared.states.Course.{Course}
+use Rattle.match_play.specs.declared.faults.MatchFault.{MatchFault}
+use Rattle.match_play.specs.declared.faults.MatchFault.TheVariants as fault
+use Rattle.match_play.specs.Texts.{Said, unsaid, Gives, IsText, stop_text, IsOut}
+
+-- what the next answers rest on
+abbrev pub said_of : Ground → Said
+said_of ground.Nothing = unsaid
+said_of (ground.Map m) = record { map = Some m; standing = bare; turns = 0 }
+said_of (ground.Turns version turns) = record { map = Some version.map; standing = version.standing; turns = turns }
+
+-- a stop, as the reading of an input names it
+abbrev pub stop_of : ScriptStop → Stop
+stop_of (BadLine n) = bad_line n
+stop_of TooLong = too_long
+
+-- What was read, where these items were told: lines that give the items, and one item more where one waits; or a script that
+-- stops behind the items, whatever follows.
+abbrev pub HasRead : Held → List ℕ → List Item → Ahead → Type 0
+HasRead held fed items ahead.Lines = UsesLines unread held fed items
+HasRead held fed items (ahead.Item item) = UsesLines unread held fed (items ++ item_of item ∷ [])
+HasRead held fed items (ahead.Stop stop) = (more : List ℕ) → reading (fed ++ more) beginning ≡ stuck_after items (stop_of stop)
+HasRead held fed items (ahead.Nothing stop) = (more : List ℕ) → reading (fed ++ more) beginning ≡ stuck_after items (stop_of stop)
+
+-- what was told of a stop
+abbrev pub told_stop : Ahead → List ℕ
+told_stop ahead.Lines = []
+told_stop (ahead.Item item) = []
+told_stop (ahead.Stop stop) = []
+told_stop (ahead.Nothing stop) = stop_text (stop_of stop)
+
+-- The match was fed with these bytes since it was opened, and has told this text in all.
+pub record HasPlayed (m : Course) (fed told : List ℕ) : Type 0 where
+  pub items : List Item
+  pub text : List ℕ
+  pub read : HasRead m.script fed items m.ahead
+  pub gives : Gives m.report unsaid items text (said_of m.ground)
+  pub told : told ≡ text ++ told_stop m.ahead
+
+-- ---- calls
+
+-- All whole lines were played: the text is that of what they give.
+pub record IsLinesText (report : Report) (fed told : List ℕ) : Type 0 where
+  pub items : List Item
+  pub place : Place
+  pub walked : walk (full_lines fed) beginning ≡ arrived items place
+  pub text : IsText report items told
+
+-- The script stops so, whatever comes behind these bytes, and the text is its output text.
+pub record IsStopText (report : Report) (stop : Stop) (fed told : List ℕ) : Type 0 where
+  pub stuck : (more : List ℕ) → (reading (fed ++ more) beginning).ends ≡ stuck_by stop
+  pub out : (more : List ℕ) → IsOut report (fed ++ more) told
+
+-- what an answer says of all that was fed and told
+abbrev pub FeedTold : Report → Result (Unit {0}) MatchFault → List ℕ → List ℕ → Type 0
+FeedTold report (Ok done) fed told = IsLinesText report fed told
+FeedTold report (Err (fault.BadLine n)) fed told = IsStopText report (bad_line n) fed told
+FeedTold report (Err fault.TooLong) fed told = IsStopText report too_long fed told
+FeedTold report (Err fault.NoMemory) fed told = ⊤
+
+-- Of a piece, from which what is left was not taken: its bytes were fed, and text was told, which waits.
+pub record Plays (old new : Course) (piece left : List ℕ) : Type 0 where
+  pub taken : List ℕ
+  pub took : piece ≡ taken ++ left
+  pub text : List ℕ
+  pub waits : new.waiting ≡ old.waiting ++ text
+  pub report : new.report ≡ old.report
+  pub played : (fed told : List ℕ) → HasPlayed old fed told → HasPlayed new (fed ++ taken) (told ++ text)
+
+-- the same with what the answer says
+pub record FeedPlays (old new : Course) (piece left : List ℕ) (result : Result (Unit {0}) MatchFault) : Type 0 where
+  pub plays : Plays old new piece left
+  pub told : (fed told : List ℕ) → HasPlayed old fed told → FeedTold old.report result (fed ++ plays.taken) (told ++ plays.text)
+
+-- nothing is left of a piece, unless there was no memory
+abbrev pub TakesAll : List ℕ → Result (Unit {0}) MatchFault → Type 0
+TakesAll left (Ok done) = left ≡ []
+TakesAll left (Err (fault.BadLine n)) = left ≡ []
+TakesAll left (Err fault.TooLong) = left ≡ []
+TakesAll left (Err fault.NoMemory) = ⊤

@@ -1,0 +1,145 @@
+//! How a match goes from bytes to texts.
+ghost use Rattle.std.specs.Prelude.{◌≡◌, ◌≢◌, ◌×◌, ◌→◌, ◌++◌, [], IfErr, OnErr, OnOk, Some, Err};
+ghost use Rattle.script_text.specs.declared.faults.ScriptFault.{ScriptFault};
+ghost use Rattle.match_play.specs.Playing.{FeedPlays, Plays, TakesAll};
+ghost use Rattle.match_play.specs.inner.Fitting.{IsFit, IsGoing, IsStopped, fault_of, stop_in};
+ghost use Rattle.match_play.specs.declared.states.Ahead.TheVariants.{Lines, Stop};
+
+use crate::faults::MatchFault;
+use crate::grounds::play_item;
+use crate::states::{Ahead, Course, ScriptStop};
+use answer_text::bad_line_text;
+use nav_types::{Bytes, NoMemory};
+use script_text::ScriptFault;
+use std::alloc::Global;
+use std::mem;
+
+/// Plays the next bytes of the script. At a stop it takes them all.
+pub(crate) fn feed(
+    alloc: Global,
+    course: &mut Course,
+    bytes: &mut &[u8],
+) -> Result<(), MatchFault>
+    requires fit { IsFit course.old }
+    ensures plays { FeedPlays course.old course.new bytes.old.now bytes.new.now result }
+    ensures all { TakesAll bytes.new.now result }
+    ensures fit { IsFit course.new }
+{
+    if is_stopped(&course.ahead) {
+        *bytes = &[];
+        return tell_stop(alloc, course);
+    }
+    read_on(alloc, course, bytes)
+}
+
+/// Whether a stop was met.
+fn is_stopped(ahead: &Ahead) -> bool {
+    match ahead {
+        Ahead::Lines | Ahead::Item(_) => false,
+        Ahead::Stop(_) | Ahead::Nothing(_) => true,
+    }
+}
+
+/// Plays the next bytes of a script that has not stopped.
+fn read_on(alloc: Global, course: &mut Course, bytes: &mut &[u8]) -> Result<(), MatchFault>
+    requires fit { IsFit course.old }
+    requires going { IsGoing course.old.ahead }
+    ensures plays { FeedPlays course.old course.new bytes.old.now bytes.new.now result }
+    ensures all { TakesAll bytes.new.now result }
+    ensures fit { IsFit course.new }
+{
+    'items: loop {
+        tell_item(alloc, course)?;
+        match course.script.next(alloc, bytes) {
+            Ok(Some(item)) => course.ahead = Ahead::Item(item),
+            Ok(None) => return Ok(()),
+            Err(fault) => return stop(alloc, course, bytes, fault),
+        }
+    }
+}
+
+/// Tells the item that waits, if one does.
+fn tell_item(alloc: Global, course: &mut Course) -> Result<(), NoMemory>
+    requires fit { IsFit course.old }
+    requires going { IsGoing course.old.ahead }
+    ensures plays { Plays course.old course.new [] [] }
+    ensures fit { IsFit course.new }
+    ensures going { IsGoing course.new.ahead }
+    ensures told { OnOk result (course.new.ahead ≡ Lines) }
+    ensures script { course.new.script ≡ course.old.script }
+{
+    match mem::replace(&mut course.ahead, Ahead::Lines) {
+        Ahead::Item(item) => {
+            let report = course.report;
+            match play_item(alloc, report, &mut course.ground, item, &mut course.waiting) {
+                Ok(()) => Ok(()),
+                Err((NoMemory, item)) => {
+                    course.ahead = Ahead::Item(item);
+                    Err(NoMemory)
+                }
+            }
+        }
+        Ahead::Lines => Ok(()),
+        Ahead::Stop(_) | Ahead::Nothing(_) => unreachable!(),
+    }
+}
+
+/// Stops where the script was refused, unless there was no memory.
+fn stop(
+    alloc: Global,
+    course: &mut Course,
+    bytes: &mut &[u8],
+    fault: ScriptFault,
+) -> Result<(), MatchFault> {
+    match stop_in(fault) {
+        Some(stop) => {
+            *bytes = &[];
+            course.ahead = Ahead::Stop(stop);
+            tell_stop(alloc, course)
+        }
+        None => Err(MatchFault::NoMemory),
+    }
+}
+
+/// The stop that a refusal of the script is, if it is one.
+fn stop_in(fault: ScriptFault) -> Option<ScriptStop>
+    ensures { result ≡ stop_in fault }
+{
+    match fault {
+        ScriptFault::BadLine(number) => Some(ScriptStop::BadLine(number)),
+        ScriptFault::TooLong => Some(ScriptStop::TooLong),
+        ScriptFault::ReadFault | ScriptFault::NoMemory => None,
+    }
+}
+
+/// Tells the stop that was met, unless it was told.
+fn tell_stop(alloc: Global, course: &mut Course) -> Result<(), MatchFault>
+    requires stopped { IsStopped course.old.ahead }
+{
+    let stop = match course.ahead {
+        Ahead::Stop(stop) => stop,
+        Ahead::Nothing(stop) => return Err(fault_of(stop)),
+        Ahead::Lines | Ahead::Item(_) => unreachable!(),
+    };
+    append_stop(alloc, stop, &mut course.waiting)?;
+    course.ahead = Ahead::Nothing(stop);
+    Err(fault_of(stop))
+}
+
+/// Appends the text of a stop.
+fn append_stop(alloc: Global, stop: ScriptStop, text: &mut Bytes) -> Result<(), NoMemory> {
+    match stop {
+        ScriptStop::BadLine(number) => text.extend(bad_line_text(alloc, number)?.as_slice()),
+        ScriptStop::TooLong => Ok(()),
+    }
+}
+
+/// The refusal of a match that has stopped.
+fn fault_of(stop: ScriptStop) -> MatchFault
+    ensures { result ≡ fault_of stop }
+{
+    match stop {
+        ScriptStop::BadLine(number) => MatchFault::BadLine(number),
+        ScriptStop::TooLong => MatchFault::TooLong,
+    }
+}

@@ -1,0 +1,53 @@
+//! What a match holds.
+use grid_versions::Version;
+use nav_types::Bytes;
+use posts::{MapSpec, Report};
+use script_text::{PushedScript, ScriptItem};
+
+/// Why a script stops before its end.
+#[derive(Clone, Copy, Debug, PartialEq, Eq)]
+pub enum ScriptStop {
+    /// The line of this number is not in the grammar in its place.
+    BadLine(u64),
+    /// A line or the script is past its limit.
+    TooLong,
+}
+
+/// What comes next in a match.
+#[derive(Drop)]
+pub enum Ahead {
+    /// More of the script.
+    Lines,
+    /// What a line gave, which is not told yet.
+    Item(ScriptItem),
+    /// A stop, which is not told yet.
+    Stop(ScriptStop),
+    /// Nothing: a stop was told.
+    Nothing(ScriptStop),
+}
+
+/// What the next answers rest on.
+#[derive(Drop)]
+pub enum Ground {
+    /// Nothing: the map has not come.
+    Nothing,
+    /// The map, to which base rectangles may be added, since no turn has come.
+    Map(MapSpec),
+    /// The version after so many turns.
+    Turns(Version, u64),
+}
+
+/// A match between the bytes that it is fed with and the text that waits to be taken.
+#[derive(Drop)]
+pub struct Course {
+    /// What is told beside the answers.
+    pub report: Report,
+    /// How far the script was read.
+    pub script: PushedScript,
+    /// What comes next.
+    pub ahead: Ahead,
+    /// What the next answers rest on.
+    pub ground: Ground,
+    /// The text that was told and not taken yet.
+    pub waiting: Bytes,
+}

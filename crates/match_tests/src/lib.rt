@@ -1,0 +1,5 @@
+//! Tests of matches by their public calls alone.
+#![tactic(auto)]
+
+#[cfg(test)]
+mod match_play_tests;
