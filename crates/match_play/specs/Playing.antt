@@ -49,7 +49,7 @@ pub record HasPlayed (m : Course) (fed told : List ℕ) : Type 0 where
   pub text : List ℕ
   pub read : HasRead m.script fed items m.ahead
   pub gives : Gives m.report unsaid items text (said_of m.ground)
-  pub told : told ≡ text ++ told_stop m.ahead
+  pub all : told ≡ text ++ told_stop m.ahead
 
 -- ---- calls
 

@@ -1,9 +1,9 @@
 //! How a match goes from bytes to texts.
-ghost use Rattle.std.specs.Prelude.{◌≡◌, ◌≢◌, ◌×◌, ◌→◌, ◌++◌, [], IfErr, OnErr, OnOk, Some, Err};
-ghost use Rattle.script_text.specs.declared.faults.ScriptFault.{ScriptFault};
-ghost use Rattle.match_play.specs.Playing.{FeedPlays, Plays, TakesAll};
+ghost use Rattle.std.specs.Prelude.{◌≡◌, ◌++◌, ℕ, List, [], IsTrue, ◌↔◌, IfOk, OnErr, OnOk, Err};
+ghost use Rattle.match_play.specs.declared.states.Ahead.TheVariants.{Lines};
+ghost use Rattle.match_play.specs.Playing.{FeedPlays, Plays, TakesAll, stop_of};
+ghost use Rattle.match_play.specs.Texts.{stop_text};
 ghost use Rattle.match_play.specs.inner.Fitting.{IsFit, IsGoing, IsStopped, fault_of, stop_in};
-ghost use Rattle.match_play.specs.declared.states.Ahead.TheVariants.{Lines, Stop};
 
 use crate::faults::MatchFault;
 use crate::grounds::play_item;
@@ -33,7 +33,9 @@ pub(crate) fn feed(
 }
 
 /// Whether a stop was met.
-fn is_stopped(ahead: &Ahead) -> bool {
+fn is_stopped(ahead: &Ahead) -> bool
+    ensures { IsTrue result ↔ IsStopped ahead.now }
+{
     match ahead {
         Ahead::Lines | Ahead::Item(_) => false,
         Ahead::Stop(_) | Ahead::Nothing(_) => true,
@@ -49,11 +51,21 @@ fn read_on(alloc: Global, course: &mut Course, bytes: &mut &[u8]) -> Result<(), 
     ensures fit { IsFit course.new }
 {
     'items: loop {
-        tell_item(alloc, course)?;
+        match tell_item(alloc, course) {
+            Ok(()) => {}
+            Err(NoMemory) => return Err(MatchFault::NoMemory),
+        }
         match course.script.next(alloc, bytes) {
             Ok(Some(item)) => course.ahead = Ahead::Item(item),
             Ok(None) => return Ok(()),
-            Err(fault) => return stop(alloc, course, bytes, fault),
+            Err(fault) => match stop_in(fault) {
+                Some(stop) => {
+                    *bytes = &[];
+                    course.ahead = Ahead::Stop(stop);
+                    return tell_stop(alloc, course);
+                }
+                None => return Err(MatchFault::NoMemory),
+            },
         }
     }
 }
@@ -62,7 +74,7 @@ fn read_on(alloc: Global, course: &mut Course, bytes: &mut &[u8]) -> Result<(), 
 fn tell_item(alloc: Global, course: &mut Course) -> Result<(), NoMemory>
     requires fit { IsFit course.old }
     requires going { IsGoing course.old.ahead }
-    ensures plays { Plays course.old course.new [] [] }
+    ensures plays { (left : List ℕ) → Plays course.old course.new left left }
     ensures fit { IsFit course.new }
     ensures going { IsGoing course.new.ahead }
     ensures told { OnOk result (course.new.ahead ≡ Lines) }
@@ -84,23 +96,6 @@ fn tell_item(alloc: Global, course: &mut Course) -> Result<(), NoMemory>
     }
 }
 
-/// Stops where the script was refused, unless there was no memory.
-fn stop(
-    alloc: Global,
-    course: &mut Course,
-    bytes: &mut &[u8],
-    fault: ScriptFault,
-) -> Result<(), MatchFault> {
-    match stop_in(fault) {
-        Some(stop) => {
-            *bytes = &[];
-            course.ahead = Ahead::Stop(stop);
-            tell_stop(alloc, course)
-        }
-        None => Err(MatchFault::NoMemory),
-    }
-}
-
 /// The stop that a refusal of the script is, if it is one.
 fn stop_in(fault: ScriptFault) -> Option<ScriptStop>
     ensures { result ≡ stop_in fault }
@@ -115,19 +110,28 @@ fn stop_in(fault: ScriptFault) -> Option<ScriptStop>
 /// Tells the stop that was met, unless it was told.
 fn tell_stop(alloc: Global, course: &mut Course) -> Result<(), MatchFault>
     requires stopped { IsStopped course.old.ahead }
+    ensures plays { FeedPlays course.old course.new [] [] result }
+    ensures fit { IsFit course.new }
 {
     let stop = match course.ahead {
         Ahead::Stop(stop) => stop,
         Ahead::Nothing(stop) => return Err(fault_of(stop)),
         Ahead::Lines | Ahead::Item(_) => unreachable!(),
     };
-    append_stop(alloc, stop, &mut course.waiting)?;
-    course.ahead = Ahead::Nothing(stop);
-    Err(fault_of(stop))
+    match append_stop(alloc, stop, &mut course.waiting) {
+        Ok(()) => {
+            course.ahead = Ahead::Nothing(stop);
+            Err(fault_of(stop))
+        }
+        Err(NoMemory) => Err(MatchFault::NoMemory),
+    }
 }
 
 /// Appends the text of a stop.
-fn append_stop(alloc: Global, stop: ScriptStop, text: &mut Bytes) -> Result<(), NoMemory> {
+fn append_stop(alloc: Global, stop: ScriptStop, text: &mut Bytes) -> Result<(), NoMemory>
+    ensures ok { OnOk result (text.new ≡ text.old ++ stop_text (stop_of stop)) }
+    ensures err { OnErr result (text.new ≡ text.old) }
+{
     match stop {
         ScriptStop::BadLine(number) => text.extend(bad_line_text(alloc, number)?.as_slice()),
         ScriptStop::TooLong => Ok(()),

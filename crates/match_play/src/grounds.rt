@@ -3,8 +3,10 @@ ghost use Rattle.std.specs.Prelude.{◌≡◌, ◌<◌, ◌^◌, ◌+◌, IfErr,
 ghost use Rattle.script_text.specs.Pushed.{item_of};
 ghost use Rattle.turn_core.specs.Turns.{after_turn};
 ghost use Rattle.match_play.specs.Texts.{IsTurnText};
-ghost use Rattle.match_play.specs.Grounds.{said_of};
-ghost use Rattle.match_play.specs.inner.Fitting.{AddsBase, FitsBase, FitsItem, FitsTurn, HasBegun, HasTold, StaysFit, Tells, TellsText, TellsTurn};
+ghost use Rattle.script_text.specs.Script.{ends_turn};
+ghost use Rattle.script_text.specs.declared.items.ScriptItem.TheVariants.{Turn};
+ghost use Rattle.match_play.specs.Playing.{said_of};
+ghost use Rattle.match_play.specs.inner.Fitting.{AddsBase, Begins, FitsBase, FitsItem, FitsTurn, HasTold, StaysFit, Tells, TellsText};
 
 use crate::states::Ground;
 use crate::turn_texts::{TurnText, text_of_turn};
@@ -25,10 +27,10 @@ pub(crate) fn play_item(
     waiting: &mut Bytes,
 ) -> Result<(), (NoMemory, ScriptItem)>
     requires fits { FitsItem ground.old item }
-    ensures told { OnOk result (Tells report (said_of ground.old) (item_of item) (said_of ground.new) waiting.old waiting.new) }
+    ensures told { OnOk result (Tells report (said_of ground.old) (item_of item) (said_of ground.new) waiting.old
+        waiting.new) }
     ensures ground { OnOk result (HasTold ground.old item ground.new) }
-    ensures still { OnErr result (StaysFit ground.old ground.new) }
-    ensures kept { OnErr result (said_of ground.new ≡ said_of ground.old) }
+    ensures still { OnErr result (StaysFit ground.old item ground.new) }
     ensures waiting { OnErr result (waiting.new ≡ waiting.old) }
     ensures item { IfErr result (λ refused. refused.1 ≡ item) }
 {
@@ -63,9 +65,8 @@ fn add_base(ground: &mut Ground, rects: &BaseRects) -> Result<(), NoMemory>
 /// Makes the version before the first turn, where no turn has come.
 fn begin_turns(alloc: Global, ground: &mut Ground) -> Result<(), NoMemory>
     requires fits { FitsTurn ground.old }
-    ensures said { said_of ground.new ≡ said_of ground.old }
-    ensures fits { FitsTurn ground.new }
-    ensures begun { OnOk result (HasBegun ground.new) }
+    ensures begun { OnOk result (Begins ground.old ground.new) }
+    ensures kept { OnErr result (ground.new ≡ ground.old) }
 {
     let version = match ground {
         Ground::Map(map) => bare_version(alloc, map)?,
@@ -84,12 +85,12 @@ fn play_turn(
     waiting: &mut Bytes,
 ) -> Result<(), (NoMemory, TurnPosts)>
     requires fits { FitsTurn ground.old }
-    ensures told { OnOk result (TellsTurn report (said_of ground.old) posts (said_of ground.new) waiting.old waiting.new) }
-    ensures begun { OnOk result (HasBegun ground.new) }
-    ensures kept { OnErr result (said_of ground.new ≡ said_of ground.old) }
+    ensures told { OnOk result (Tells report (said_of ground.old) (ends_turn posts) (said_of ground.new) waiting.old
+        waiting.new) }
+    ensures ground { OnOk result (HasTold ground.old (Turn posts) ground.new) }
+    ensures still { OnErr result (StaysFit ground.old (Turn posts) ground.new) }
     ensures waiting { OnErr result (waiting.new ≡ waiting.old) }
     ensures posts { IfErr result (λ refused. refused.1 ≡ posts) }
-    ensures fits { OnErr result (FitsTurn ground.new) }
 {
     match begin_turns(alloc, ground) {
         Ok(()) => {}

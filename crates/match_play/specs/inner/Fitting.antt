@@ -10,7 +10,8 @@ use Rattle.script_text.specs.declared.items.ScriptItem.{ScriptItem}
 use Rattle.script_text.specs.declared.items.ScriptItem.TheVariants as item
 use Rattle.script_text.specs.declared.parts.Part.{Part}
 use Rattle.script_text.specs.declared.parts.Part.TheVariants.{BeforeMap, InBase, InTurns}
-use Rattle.script_text.specs.Script.{Item, ends_turn, Place, rules_of}
+use Rattle.turn_core.specs.Words.{MapState, bare}
+use Rattle.script_text.specs.Script.{Item, rules_of}
 use Rattle.script_text.specs.Reader.{Held, rules_at}
 use Rattle.script_text.specs.declared.faults.ScriptFault.{ScriptFault}
 use Rattle.script_text.specs.declared.faults.ScriptFault.TheVariants as met
@@ -59,11 +60,11 @@ AddsBase ground.Nothing rects new = ⊥
 AddsBase (ground.Map m) rects new = new ≡ ground.Map (with_base m rects)
 AddsBase (ground.Turns version turns) rects new = ⊥
 
--- turns have begun
-abbrev pub HasBegun : Ground → Type 0
-HasBegun ground.Nothing = ⊥
-HasBegun (ground.Map m) = ⊥
-HasBegun (ground.Turns version turns) = ⊤
+-- the version before the first turn stands, and else the one that stood
+abbrev pub Begins : Ground → Ground → Type 0
+Begins ground.Nothing new = ⊥
+Begins (ground.Map m) new = (version : MapState) × ((new ≡ ground.Turns version 0) × ((version.map ≡ m) × (version.standing ≡ bare)))
+Begins (ground.Turns version turns) new = new ≡ ground.Turns version turns
 
 -- a text that is such was told behind what waits
 abbrev pub TellsText : (List ℕ → Type 0) → List ℕ → List ℕ → Type 0
@@ -94,10 +95,17 @@ turns_in ground.Nothing = 0
 turns_in (ground.Map m) = 0
 turns_in (ground.Turns version turns) = turns
 
--- the item is part of what stands now, and one turn more was told at most
+-- the item is part of what stands now, and at most one turn more was told
 pub record HasTold (old : Ground) (i : ScriptItem) (new : Ground) : Type 0 where
   pub part : (part : Part) → WillFitPart old i part → FitsPart new part
   pub turns : turns_in new ≤ turns_in old + 1
+
+-- the item was not told, and may be told later
+pub record StaysFit (old : Ground) (i : ScriptItem) (new : Ground) : Type 0 where
+  pub said : said_of new ≡ said_of old
+  pub fits : FitsItem new i
+  pub part : (part : Part) → WillFitPart old i part → WillFitPart new i part
+  pub turns : turns_in new ≡ turns_in old
 
 -- The script may be read on, from where it was read to. There were no more turns than bytes.
 pub record IsOpen (held : Held) (turns : ℕ) : Type 0 where

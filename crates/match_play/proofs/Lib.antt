@@ -1,0 +1,4 @@
+pub mod Walked
+pub mod Playing
+pub mod Fits
+pub mod Notes

@@ -1,0 +1,366 @@
+-- How a match goes from what it was fed with to what it tells.
+use Rattle.std.proofs.Common.{◌≡◌, ℕ, ◌+◌, List, [], ◌∷◌, ◌++◌, length, true, false, All, IsFalse, Option, Some, None, Result, Ok, Err, refl, sym, ap, subst, ◌∙◌, append_assoc, append-nil}
+use Rattle.std.proofs.lemmas.List.Elements.{All-nil, All-head, All-tail}
+use Rattle.posts.specs.declared.notes.Report.{Report}
+use Rattle.input_lines.specs.Lines.{full_lines, tail_of, unlines, IsPlain}
+use Rattle.input_lines.proofs.LineLists.{unlines-line, full_lines-behind}
+use Rattle.script_text.specs.declared.faults.ScriptFault.{ScriptFault}
+use Rattle.script_text.specs.declared.faults.ScriptFault.TheVariants as met
+use Rattle.script_text.specs.declared.items.ScriptItem.{ScriptItem}
+use Rattle.script_text.specs.Script.{Item, Place, beginning, Stop, too_long, bad_line, Ends, stuck_by, Walk, arrived, stuck, chain, accept, walk, reading}
+use Rattle.script_text.specs.Reader.{Held, unread, UsesLines, GoesOn, stuck_after}
+use Rattle.script_text.specs.Pushed.{item_of, PushTold}
+use Rattle.script_text.proofs.ReadCalls.{uses_then}
+use Rattle.script_text.proofs.ReadNext.{took_more}
+use Rattle.script_text.proofs.ReadWalk.{chain-assoc, chain-same, reading-line}
+use Rattle.match_play.specs.declared.states.ScriptStop.{ScriptStop}
+use Rattle.match_play.specs.declared.states.ScriptStop.TheVariants.{BadLine, TooLong}
+use Rattle.match_play.specs.declared.states.Ahead.{Ahead}
+use Rattle.match_play.specs.declared.states.Ahead.TheVariants as ahead
+use Rattle.match_play.specs.declared.states.Ground.{Ground}
+use Rattle.match_play.specs.declared.states.Ground.TheVariants as ground
+use Rattle.match_play.specs.declared.states.Course.{Course}
+use Rattle.match_play.specs.declared.faults.MatchFault.{MatchFault}
+use Rattle.match_play.specs.declared.faults.MatchFault.TheVariants as fault
+use Rattle.match_play.specs.Texts.{Said, unsaid, Says, Gives, IsText, stop_text, ends_text, IsOut}
+use Rattle.match_play.specs.Playing.{said_of, stop_of, HasRead, told_stop, HasPlayed, IsLinesText, IsStopText, FeedTold, Plays, FeedPlays}
+use Rattle.match_play.specs.inner.Fitting.{IsStopped, Tells, fault_of, stop_in}
+
+-- ---- texts
+
+-- what is written for items, and then for more
+pub gives_on : (report : Report) (s mid t : Said) (items more : List Item) (text piece : List ℕ)
+    → Gives report s items text mid → Gives report mid more piece t → Gives report s (items ++ more) (text ++ piece) t
+gives_on report s mid t [] more text piece (none, here) gives =
+    subst (λ (l : List ℕ). Gives report s more (l ++ piece) t) (sym none) (subst (λ (r : Said). Gives report r more piece t) (sym here) gives)
+gives_on report s mid t (first ∷ items) more text piece (one, (next, (rest, (said, (gives, parts))))) goes = (
+  one,
+  (
+    next,
+    (
+      rest ++ piece,
+      (
+        said,
+        (
+          gives_on report next mid t items more rest piece gives goes,
+          ap (λ (l : List ℕ). l ++ piece) parts ∙ append_assoc one rest piece,
+        ),
+      ),
+    ),
+  ),
+)
+
+-- what is written for one item
+pub gives_one : (report : Report) (s t : Said) (item : Item) (piece : List ℕ) → Says report s item piece t → Gives report s (item ∷ []) piece t
+gives_one report s t item piece says = (piece, (t, ([], (says, ((refl, refl), sym (append-nil piece))))))
+
+-- ---- readings behind lines
+
+reading_lines : (lines : List (List ℕ)) (rest : List ℕ) (p : Place) → All IsPlain lines
+    → reading (unlines lines ++ rest) p ≡ chain (walk lines p) (λ q. reading rest q)
+reading_lines [] rest p plain = refl
+reading_lines (line ∷ lines) rest p plain =
+    let w = accept (length line + 1) line p in
+    ap (λ (bytes : List ℕ). reading bytes p) (unlines-line line lines rest)
+    ∙ reading-line line (unlines lines ++ rest) p (All-head IsPlain line lines plain)
+    ∙ chain-same w (λ q. reading (unlines lines ++ rest) q) (λ q. chain (walk lines q) (λ r. reading rest r)) (λ q. reading_lines lines rest q (All-tail IsPlain line lines plain))
+    ∙ sym (chain-assoc w (λ q. walk lines q) (λ r. reading rest r))
+
+-- the reading goes on behind lines that were used
+reading_used : (fed rest : List ℕ) (held : Held) (items : List Item) → UsesLines unread held fed items
+    → reading (fed ++ rest) beginning ≡ chain (arrived items held.place) (λ q. reading (held.bytes ++ rest) q)
+reading_used fed rest held items u =
+    ap (λ (bytes : List ℕ). reading bytes beginning) (ap (λ (l : List ℕ). l ++ rest) u.bytes ∙ append_assoc (unlines u.lines) held.bytes rest)
+    ∙ reading_lines u.lines (held.bytes ++ rest) beginning u.plain
+    ∙ ap (λ (w : Walk). chain w (λ q. reading (held.bytes ++ rest) q)) u.walked
+
+-- ---- steps
+
+pub plays_none : (a : Course) (left : List ℕ) → Plays a a left left
+plays_none a left = record {
+  taken = [];
+  took = refl;
+  text = [];
+  waits = sym (append-nil a.waiting);
+  report = refl;
+  played = λ fed told h. subst (λ (l : List ℕ). HasPlayed a l (told ++ [])) (sym (append-nil fed)) (subst (HasPlayed a fed) (sym (append-nil told)) h);
+}
+
+pub plays_then : (a b c : Course) (x y z : List ℕ) → Plays a b x y → Plays b c y z → Plays a c x z
+plays_then a b c x y z p q = record {
+  taken = p.taken ++ q.taken;
+  took = took_more x y z p.taken q.taken p.took q.took;
+  text = p.text ++ q.text;
+  waits = q.waits ∙ (ap (λ (l : List ℕ). l ++ q.text) p.waits ∙ append_assoc a.waiting p.text q.text);
+  report = q.report ∙ p.report;
+  played = λ fed told h.
+      subst (λ (l : List ℕ). HasPlayed c l (told ++ (p.text ++ q.text))) (append_assoc fed p.taken q.taken)
+      (subst (HasPlayed c ((fed ++ p.taken) ++ q.taken)) (append_assoc told p.text q.text)
+      (q.played (fed ++ p.taken) (told ++ p.text) (p.played fed told h)));
+}
+
+-- the piece without what may come behind it
+took_here : (piece left taken : List ℕ) → piece ++ [] ≡ taken ++ (left ++ []) → piece ≡ taken ++ left
+took_here piece left taken took = sym (append-nil piece) ∙ took ∙ ap (λ (l : List ℕ). taken ++ l) (append-nil left)
+
+-- the script after a call
+abbrev pub with_script : Course → Held → Course
+with_script a new = record a { script = new }
+
+abbrev pub with_ahead : Course → Held → Ahead → Course
+with_ahead a new next = record a { script = new; ahead = next }
+
+-- lines were used that give nothing
+plays_on : (a : Course) (new : Held) (piece left : List ℕ) → a.ahead ≡ ahead.Lines → GoesOn a.script new (piece ++ []) (left ++ []) [] → IsFalse new.ended
+    → Plays a (with_script a new) piece left
+plays_on a new piece left at g going = record {
+  taken = g.taken;
+  took = took_here piece left g.taken g.took;
+  text = [];
+  waits = sym (append-nil a.waiting);
+  report = refl;
+  played = λ fed told h.
+      let read : UsesLines unread a.script fed h.items = subst (HasRead a.script fed h.items) at h.read in
+      let used = uses_then unread a.script new fed g.taken h.items [] read (g.used going) in
+      record {
+        items = h.items;
+        text = h.text;
+        read = subst (HasRead new (fed ++ g.taken) h.items) (sym at) (subst (UsesLines unread new (fed ++ g.taken)) (append-nil h.items) used);
+        gives = h.gives;
+        all = append-nil told ∙ h.all;
+      };
+}
+
+pub plays_lines : (a : Course) (new : Held) (piece left : List ℕ) → a.ahead ≡ ahead.Lines → PushTold a.script new piece left (Ok None) → IsFalse new.ended
+    → Plays a (with_script a new) piece left
+plays_lines a new piece left at told going = plays_on a new piece left at (told []) going
+
+-- there was no memory
+pub plays_fault : (a : Course) (new : Held) (piece left : List ℕ) (fault : ScriptFault) → a.ahead ≡ ahead.Lines → PushTold a.script new piece left (Err fault)
+    → IsFalse new.ended → stop_in fault ≡ None → Plays a (with_script a new) piece left
+plays_fault a new piece left (met.BadLine n) at told going none = absurd (cc)
+plays_fault a new piece left met.TooLong at told going none = absurd (cc)
+plays_fault a new piece left met.ReadFault at told going none = absurd (told [])
+plays_fault a new piece left met.NoMemory at told going none = plays_on a new piece left at (told []) going
+
+-- an item was read
+pub plays_item : (a : Course) (new : Held) (item : ScriptItem) (piece left : List ℕ) → a.ahead ≡ ahead.Lines
+    → PushTold a.script new piece left (Ok (Some item)) → IsFalse new.ended → Plays a (with_ahead a new (ahead.Item item)) piece left
+plays_item a new item piece left at told going =
+    let g = told [] in
+    record {
+      taken = g.taken;
+      took = took_here piece left g.taken g.took;
+      text = [];
+      waits = sym (append-nil a.waiting);
+      report = refl;
+      played = λ fed told h.
+          let read : UsesLines unread a.script fed h.items = subst (HasRead a.script fed h.items) at h.read in
+          record {
+            items = h.items;
+            text = h.text;
+            read = uses_then unread a.script new fed g.taken h.items (item_of item ∷ []) read (g.used going);
+            gives = h.gives;
+            all = append-nil told ∙ (h.all ∙ ap (λ (next : Ahead). h.text ++ told_stop next) at);
+          };
+    }
+
+stops_same : (a b : ScriptStop) → Some a ≡ Some b → a ≡ b
+stops_same a b is = cc
+
+-- the script stops, whatever comes
+stopped : (old new : Held) (piece left : List ℕ) (fault : ScriptFault) (stop : ScriptStop) → PushTold old new piece left (Err fault) → stop_in fault ≡ Some stop
+    → (more : List ℕ) → reading (old.bytes ++ (piece ++ more)) old.place ≡ stuck_after [] (stop_of stop)
+stopped old new piece left (met.BadLine n) stop told is more =
+    let same : BadLine n ≡ stop = stops_same (BadLine n) stop is in
+    subst (λ (s : ScriptStop). reading (old.bytes ++ (piece ++ more)) old.place ≡ stuck_after [] (stop_of s)) same (told more).stuck
+stopped old new piece left met.TooLong stop told is more =
+    let same : TooLong ≡ stop = stops_same TooLong stop is in
+    subst (λ (s : ScriptStop). reading (old.bytes ++ (piece ++ more)) old.place ≡ stuck_after [] (stop_of s)) same (told more)
+stopped old new piece left met.ReadFault stop told is more = absurd (told more)
+stopped old new piece left met.NoMemory stop told is more = absurd (cc)
+
+stuck_behind : (fed piece more : List ℕ) (held : Held) (items : List Item) (stop : Stop) → UsesLines unread held fed items
+    → reading (held.bytes ++ (piece ++ more)) held.place ≡ stuck_after [] stop → reading ((fed ++ piece) ++ more) beginning ≡ stuck_after items stop
+stuck_behind fed piece more held items stop u is =
+    ap (λ (bytes : List ℕ). reading bytes beginning) (append_assoc fed piece more)
+    ∙ reading_used fed (piece ++ more) held items u
+    ∙ ap (λ (w : Walk). chain (arrived items held.place) (λ q. w)) is
+    ∙ ap (λ (l : List Item). stuck_after l stop) (append-nil items)
+
+pub plays_stop : (a : Course) (new : Held) (piece left : List ℕ) (fault : ScriptFault) (stop : ScriptStop) → a.ahead ≡ ahead.Lines
+    → PushTold a.script new piece left (Err fault) → stop_in fault ≡ Some stop → Plays a (with_ahead a new (ahead.Stop stop)) piece []
+plays_stop a new piece left fault stop at told is = record {
+  taken = piece;
+  took = sym (append-nil piece);
+  text = [];
+  waits = sym (append-nil a.waiting);
+  report = refl;
+  played = λ fed said h.
+      let read : UsesLines unread a.script fed h.items = subst (HasRead a.script fed h.items) at h.read in
+      record {
+        items = h.items;
+        text = h.text;
+        read = λ more. stuck_behind fed piece more a.script h.items (stop_of stop) read (stopped a.script new piece left fault stop told is more);
+        gives = h.gives;
+        all = append-nil said ∙ (h.all ∙ ap (λ (next : Ahead). h.text ++ told_stop next) at);
+      };
+}
+
+-- the item that waits was told
+pub plays_told : (a : Course) (item : ScriptItem) (next : Ground) (waits left : List ℕ) → a.ahead ≡ ahead.Item item
+    → Tells a.report (said_of a.ground) (item_of item) (said_of next) a.waiting waits
+    → Plays a (record a { ahead = ahead.Lines; ground = next; waiting = waits }) left left
+plays_told a item next waits left at (piece, (says, is)) = record {
+  taken = [];
+  took = refl;
+  text = piece;
+  waits = is;
+  report = refl;
+  played = λ fed told h.
+      let read : UsesLines unread a.script fed (h.items ++ item_of item ∷ []) = subst (HasRead a.script fed h.items) at h.read in
+      let said : told ≡ h.text = h.all ∙ (ap (λ (n : Ahead). h.text ++ told_stop n) at ∙ append-nil h.text) in
+      record {
+        items = h.items ++ item_of item ∷ [];
+        text = h.text ++ piece;
+        read = subst (λ (l : List ℕ). UsesLines unread a.script l (h.items ++ item_of item ∷ [])) (sym (append-nil fed)) read;
+        gives = gives_on a.report unsaid (said_of a.ground) (said_of next) h.items (item_of item ∷ []) h.text piece h.gives
+            (gives_one a.report (said_of a.ground) (said_of next) (item_of item) piece says);
+        all = ap (λ (l : List ℕ). l ++ piece) said ∙ sym (append-nil (h.text ++ piece));
+      };
+}
+
+-- the item that waits was not told
+pub plays_kept : (a : Course) (next : Ground) (left : List ℕ) → said_of next ≡ said_of a.ground → Plays a (record a { ground = next }) left left
+plays_kept a next left same = record {
+  taken = [];
+  took = refl;
+  text = [];
+  waits = sym (append-nil a.waiting);
+  report = refl;
+  played = λ fed told h. record {
+    items = h.items;
+    text = h.text;
+    read = subst (λ (l : List ℕ). HasRead a.script l h.items a.ahead) (sym (append-nil fed)) h.read;
+    gives = subst (Gives a.report unsaid h.items h.text) (sym same) h.gives;
+    all = append-nil told ∙ h.all;
+  };
+}
+
+-- the stop was told
+pub plays_end : (a : Course) (stop : ScriptStop) (waits left : List ℕ) → a.ahead ≡ ahead.Stop stop → waits ≡ a.waiting ++ stop_text (stop_of stop)
+    → Plays a (record a { ahead = ahead.Nothing stop; waiting = waits }) left left
+plays_end a stop waits left at is = record {
+  taken = [];
+  took = refl;
+  text = stop_text (stop_of stop);
+  waits = is;
+  report = refl;
+  played = λ fed told h.
+      let read : (more : List ℕ) → reading (fed ++ more) beginning ≡ stuck_after h.items (stop_of stop) = subst (HasRead a.script fed h.items) at h.read in
+      let said : told ≡ h.text = h.all ∙ (ap (λ (n : Ahead). h.text ++ told_stop n) at ∙ append-nil h.text) in
+      record {
+        items = h.items;
+        text = h.text;
+        read = subst (λ (l : List ℕ). (more : List ℕ) → reading (l ++ more) beginning ≡ stuck_after h.items (stop_of stop)) (sym (append-nil fed)) read;
+        gives = h.gives;
+        all = ap (λ (l : List ℕ). l ++ stop_text (stop_of stop)) said;
+      };
+}
+
+-- a stopped match takes what comes
+more_read : (held : Held) (fed more : List ℕ) (items : List Item) (next : Ahead) → IsStopped next → HasRead held fed items next → HasRead held (fed ++ more) items next
+more_read held fed more items ahead.Lines stopped read = absurd stopped
+more_read held fed more items (ahead.Item item) stopped read = absurd stopped
+more_read held fed more items (ahead.Stop stop) stopped read = λ rest.
+    ap (λ (bytes : List ℕ). reading bytes beginning) (append_assoc fed more rest) ∙ read (more ++ rest)
+more_read held fed more items (ahead.Nothing stop) stopped read = λ rest.
+    ap (λ (bytes : List ℕ). reading bytes beginning) (append_assoc fed more rest) ∙ read (more ++ rest)
+
+pub plays_stopped : (a : Course) (piece : List ℕ) → IsStopped a.ahead → Plays a a piece []
+plays_stopped a piece stopped = record {
+  taken = piece;
+  took = sym (append-nil piece);
+  text = [];
+  waits = sym (append-nil a.waiting);
+  report = refl;
+  played = λ fed told h. record {
+    items = h.items;
+    text = h.text;
+    read = more_read a.script fed piece h.items a.ahead stopped h.read;
+    gives = h.gives;
+    all = append-nil told ∙ h.all;
+  };
+}
+
+-- ---- answers
+
+pub opened : (report : Report) → HasPlayed (record { report = report; script = unread; ahead = ahead.Lines; ground = ground.Nothing; waiting = [] }) [] []
+opened report = record {
+  items = [];
+  text = [];
+  read = record { lines = []; plain = All-nil IsPlain; bytes = refl; walked = refl };
+  gives = (refl, refl);
+  all = refl;
+}
+
+-- all whole lines were played
+lines_text : (b : Course) (fed told : List ℕ) → b.ahead ≡ ahead.Lines → full_lines b.script.bytes ≡ [] → HasPlayed b fed told → IsLinesText b.report fed told
+lines_text b fed told at none h =
+    let u : UsesLines unread b.script fed h.items = subst (HasRead b.script fed h.items) at h.read in
+    let lines : full_lines fed ≡ u.lines =
+    ap full_lines u.bytes ∙ (full_lines-behind u.lines b.script.bytes u.plain ∙ (ap (λ (ls : List (List ℕ)). u.lines ++ ls) none ∙ append-nil u.lines)) in
+    let said : told ≡ h.text = h.all ∙ (ap (λ (n : Ahead). h.text ++ told_stop n) at ∙ append-nil h.text) in
+    record {
+      items = h.items;
+      place = b.script.place;
+      walked = ap (λ (ls : List (List ℕ)). walk ls beginning) lines ∙ u.walked;
+      text = (said_of b.ground, subst (λ (l : List ℕ). Gives b.report unsaid h.items l (said_of b.ground)) (sym said) h.gives);
+    }
+
+pub feed_lines : (a b : Course) (piece left : List ℕ) → Plays a b piece left → b.ahead ≡ ahead.Lines → full_lines b.script.bytes ≡ [] → FeedPlays a b piece left (Ok tt)
+feed_lines a b piece left p at none = record {
+  plays = p;
+  told = λ fed told h. subst (λ (r : Report). IsLinesText r (fed ++ p.taken) (told ++ p.text)) p.report
+      (lines_text b (fed ++ p.taken) (told ++ p.text) at none (p.played fed told h));
+}
+
+pub feed_nothing : (a b : Course) (piece left : List ℕ) → Plays a b piece left → FeedPlays a b piece left (Err fault.NoMemory)
+feed_nothing a b piece left p = record { plays = p; told = λ fed told h. tt }
+
+-- the match has stopped
+stop_told : (b : Course) (stop : ScriptStop) (fed told : List ℕ) → b.ahead ≡ ahead.Nothing stop → HasPlayed b fed told → IsStopText b.report (stop_of stop) fed told
+stop_told b stop fed told at h =
+    let read : (more : List ℕ) → reading (fed ++ more) beginning ≡ stuck_after h.items (stop_of stop) = subst (HasRead b.script fed h.items) at h.read in
+    let said : told ≡ h.text ++ stop_text (stop_of stop) = h.all ∙ ap (λ (n : Ahead). h.text ++ told_stop n) at in
+    record {
+      stuck = λ more. ap (λ (w : Walk). w.ends) (read more);
+      out = λ more.
+          subst (λ (w : Walk). (body : List ℕ) × (IsText b.report w.items body × (told ≡ body ++ ends_text w.ends))) (sym (read more))
+          (h.text, ((said_of b.ground, h.gives), said));
+    }
+
+told_by : (report : Report) (stop : ScriptStop) (fed told : List ℕ) → IsStopText report (stop_of stop) fed told → FeedTold report (Err (fault_of stop)) fed told
+told_by report (BadLine n) fed told is = is
+told_by report TooLong fed told is = is
+
+pub feed_stopped : (a b : Course) (stop : ScriptStop) (piece left : List ℕ) → Plays a b piece left → b.ahead ≡ ahead.Nothing stop
+    → FeedPlays a b piece left (Err (fault_of stop))
+feed_stopped a b stop piece left p at = record {
+  plays = p;
+  told = λ fed told h. told_by a.report stop (fed ++ p.taken) (told ++ p.text)
+      (subst (λ (r : Report). IsStopText r (stop_of stop) (fed ++ p.taken) (told ++ p.text)) p.report
+      (stop_told b stop (fed ++ p.taken) (told ++ p.text) at (p.played fed told h)));
+}
+
+-- a step, and then a call
+pub feed_then : (a b c : Course) (x y z : List ℕ) (result : Result (Unit {0}) MatchFault) → Plays a b x y → FeedPlays b c y z result → FeedPlays a c x z result
+unfolding plays_then
+feed_then a b c x y z result p f = record {
+  plays = plays_then a b c x y z p f.plays;
+  told = λ fed told h.
+      let here = f.told (fed ++ p.taken) (told ++ p.text) (p.played fed told h) in
+      subst (λ (r : Report). FeedTold r result (fed ++ (p.taken ++ f.plays.taken)) (told ++ (p.text ++ f.plays.text))) p.report
+      (subst (λ (l : List ℕ). FeedTold b.report result l (told ++ (p.text ++ f.plays.text))) (append_assoc fed p.taken f.plays.taken)
+      (subst (λ (l : List ℕ). FeedTold b.report result ((fed ++ p.taken) ++ f.plays.taken) l) (append_assoc told p.text f.plays.text) here));
+}

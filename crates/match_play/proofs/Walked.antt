@@ -1,0 +1,176 @@
+-- What lines make of the place, whatever they give.
+use Rattle.std.proofs.Common.{◌≡◌, ℕ, ◌+◌, ◌≤◌, List, [], ◌∷◌, ◌++◌, length, Bool, true, false, Option, Some, None, refl, sym, ap, subst, ◌∙◌, arith, length-append}
+use Rattle.std.specs.Prelude.{⊤, ◌==◌, if◌then◌else◌, option_and_then}
+use Rattle.serde_json.specs.Data.{Data}
+use Rattle.nav_types.specs.declared.cells.Rect.{Rect}
+use Rattle.posts.specs.declared.posts.Post.{Post}
+use Rattle.posts.specs.Maps.{Map}
+use Rattle.script_text.specs.declared.forms.CallerPost.{CallerPost}
+use Rattle.script_text.specs.declared.parts.Rules.{Rules}
+use Rattle.script_text.specs.declared.parts.Part.{Part}
+use Rattle.script_text.specs.declared.parts.Part.TheVariants.{BeforeMap, InBase, InTurns}
+use Rattle.script_text.specs.Forms.{map_of, base_of, post_of, end_of}
+use Rattle.script_text.specs.Script.{Item, begins, adds_base, ends_turn, Place, Stop, too_long, Ends, at_place, stuck_by, Walk, arrived, stuck, chain_from, chain, map_line, bad, no_posts, with_post, rules_of, end_line, turn_line, placed_in_turn, base_line, placed_in, placed, is_long, counted, accept, reading_of, walk}
+use Rattle.script_text.specs.inner.Judging.{IsInTurns}
+
+
+-- each of the items is a turn
+abbrev pub AreTurns : List Item → Type 0
+AreTurns [] = ⊤
+AreTurns (begins m ∷ items) = ⊥
+AreTurns (adds_base rects ∷ items) = ⊥
+AreTurns (ends_turn posts ∷ items) = AreTurns items
+
+-- one of the items is a turn
+abbrev pub HasTurn : List Item → Type 0
+HasTurn [] = ⊥
+HasTurn (begins m ∷ items) = HasTurn items
+HasTurn (adds_base rects ∷ items) = HasTurn items
+HasTurn (ends_turn posts ∷ items) = ⊤
+
+turns_both : (xs ys : List Item) → AreTurns xs → AreTurns ys → AreTurns (xs ++ ys)
+turns_both [] ys x y = y
+turns_both (begins m ∷ xs) ys x y = absurd x
+turns_both (adds_base rects ∷ xs) ys x y = absurd x
+turns_both (ends_turn posts ∷ xs) ys x y = turns_both xs ys x y
+
+-- a turn among items is one of the first or of the others
+turn_in : (to : Type 0) (xs ys : List Item) → (HasTurn xs → to) → (HasTurn ys → to) → HasTurn (xs ++ ys) → to
+turn_in to [] ys first next has = next has
+turn_in to (begins m ∷ xs) ys first next has = turn_in to xs ys first next has
+turn_in to (adds_base rects ∷ xs) ys first next has = turn_in to xs ys first next has
+turn_in to (ends_turn posts ∷ xs) ys first next has = first tt
+
+-- ---- places
+
+-- Lines led from a place to a place and gave these items: turns stay turns, and each item took a byte.
+pub record Led (p : Place) (items : List Item) (q : Place) : Type 0 where
+  pub turns : IsInTurns p.part → IsInTurns q.part × AreTurns items
+  pub begun : HasTurn items → IsInTurns q.part
+  pub bytes : length items + p.bytes ≤ q.bytes
+
+
+place_in : Place → Ends → Place
+place_in default (at_place p) = p
+place_in default (stuck_by stop) = default
+
+-- a walk that arrives does so once
+arrives : (Is : List Item → Place → Type 0) (xs ys : List Item) (p q : Place) → arrived xs p ≡ arrived ys q → Is xs p → Is ys q
+unfolding place_in
+arrives Is xs ys p q is x = subst (λ (w : Walk). Is w.items (place_in p w.ends)) is x
+
+never : {A : Type 0} (stop : Stop) (items xs : List Item) (q : Place) → record { items = xs; ends = stuck_by stop } ≡ arrived items q → A
+never stop items xs q is = let ends : stuck_by stop ≡ at_place q = ap (λ (w : Walk). w.ends) is in absurd (cc)
+
+-- the two walks of a chain that arrives
+pub record Both (w : Walk) (go_on : Place → Walk) (items : List Item) (q : Place) : Type 0 where
+  pub first : List Item
+  pub mid : Place
+  pub second : List Item
+  pub led : w ≡ arrived first mid
+  pub on : go_on mid ≡ arrived second q
+  pub all : items ≡ first ++ second
+
+both_from : (xs : List Item) (ends : Ends) (go_on : Place → Walk) (items : List Item) (q : Place) → chain_from xs ends go_on ≡ arrived items q
+    → Both (record { items = xs; ends = ends }) go_on items q
+both_from xs (at_place p) go_on items q is =
+    let ends : (go_on p).ends ≡ at_place q = ap (λ (w : Walk). w.ends) is in
+    record {
+      first = xs;
+      mid = p;
+      second = (go_on p).items;
+      led = refl;
+      on = λ i. record { items = (go_on p).items; ends = ends i };
+      all = sym (ap (λ (w : Walk). w.items) is);
+    }
+both_from xs (stuck_by stop) go_on items q is = never stop items xs q is
+
+-- ---- one line
+
+-- a line led from the place that has counted it
+record Line (p : Place) (items : List Item) (q : Place) : Type 0 where
+  turns : IsInTurns p.part → IsInTurns q.part × AreTurns items
+  begun : HasTurn items → IsInTurns q.part
+  bytes : q.bytes ≡ p.bytes
+  few : length items ≤ 1
+
+stands : (p q : Place) (items : List Item) → (IsInTurns p.part → IsInTurns q.part × AreTurns items) → (HasTurn items → IsInTurns q.part) → q.bytes ≡ p.bytes → length items ≤ 1 → Line p items q
+stands p q items turns begun bytes few = record { turns = turns; begun = begun; bytes = bytes; few = few }
+
+if_turn : (p to : Place) (posts : List (List Post)) (same : Bool) (items : List Item) (q : Place) → IsInTurns to.part → to.bytes ≡ p.bytes
+    → (if same then arrived (ends_turn posts ∷ []) to else bad p) ≡ arrived items q → Line p items q
+if_turn p to posts true items q inside bytes is =
+    arrives (Line p) (ends_turn posts ∷ []) items to q is (stands p to (ends_turn posts ∷ []) (λ _. (inside, tt)) (λ _. inside) bytes (omega arith))
+if_turn p to posts false items q inside bytes is = never _ items [] q is
+
+line_end : (p : Place) (rules : Rules) (number : Option ℕ) (items : List Item) (q : Place) → end_line p rules number ≡ arrived items q → Line p items q
+line_end p rules None items q is = never _ items [] q is
+line_end p rules (Some number) items q is =
+    if_turn p (record p { part = InTurns rules; turns = p.turns + 1; posts = no_posts rules.callers }) p.posts (number == p.turns + 1) items q tt refl is
+
+line_turn : (p : Place) (rules : Rules) (said : Option CallerPost) (number : Option ℕ) (items : List Item) (q : Place)
+    → turn_line p rules said number ≡ arrived items q → Line p items q
+line_turn p rules None number items q is = line_end p rules number items q is
+line_turn p rules (Some said) number items q is =
+    let to : Place = record p { part = InTurns rules; posts = with_post p.posts said } in
+    arrives (Line p) [] items to q is (stands p to [] (λ _. (tt, tt)) (λ has. absurd has) refl (omega arith))
+
+line_base : (p : Place) (rules : Rules) (d : Option Data) (rects : Option (List (Rect × ℕ))) (items : List Item) (q : Place) → (IsInTurns p.part → ⊥)
+    → base_line p rules d rects ≡ arrived items q → Line p items q
+line_base p rules d None items q before is =
+    line_turn p rules (option_and_then (post_of rules.version rules.callers) d) (option_and_then end_of d) items q is
+line_base p rules d (Some rects) items q before is =
+    arrives (Line p) (adds_base rects ∷ []) items p q is (stands p p (adds_base rects ∷ []) (λ inside. absurd (before inside)) (λ has. absurd has) refl (omega arith))
+
+line_map : (p : Place) (found : Option Map) (items : List Item) (q : Place) → (IsInTurns p.part → ⊥) → map_line p found ≡ arrived items q → Line p items q
+line_map p None items q before is = never _ items [] q is
+line_map p (Some m) items q before is =
+    let to : Place = record p { part = InBase (rules_of m); posts = no_posts m.callers } in
+    arrives (Line p) (begins m ∷ []) items to q is (stands p to (begins m ∷ []) (λ inside. absurd (before inside)) (λ has. absurd has) refl (omega arith))
+
+line_in : (part : Part) (p : Place) (d : Option Data) (items : List Item) (q : Place) → p.part ≡ part → placed_in part p d ≡ arrived items q → Line p items q
+line_in BeforeMap p d items q at is = line_map p (option_and_then map_of d) items q (λ inside. subst IsInTurns at inside) is
+line_in (InBase rules) p d items q at is =
+    line_base p rules d (option_and_then (base_of rules.size) d) items q (λ inside. subst IsInTurns at inside) is
+line_in (InTurns rules) p d items q at is =
+    line_turn p rules (option_and_then (post_of rules.version rules.callers) d) (option_and_then end_of d) items q is
+
+line_if : (long : Bool) (p : Place) (d : Option Data) (items : List Item) (q : Place)
+    → (if long then stuck too_long else placed p d) ≡ arrived items q → Line p items q
+line_if true p d items q is = never _ items [] q is
+line_if false p d items q is = line_in p.part p d items q refl is
+
+led_line : (size : ℕ) (line : List ℕ) (p : Place) (items : List Item) (q : Place) → 1 ≤ size → accept size line p ≡ arrived items q → Led p items q
+led_line size line p items q some is =
+    let l = line_if (is_long p size line) (counted p size) (reading_of line) items q is in
+    let bytes = l.bytes in
+    let few = l.few in
+    record { turns = l.turns; begun = l.begun; bytes = omega (arith, some, bytes, few) }
+
+-- ---- lines
+
+led_nowhere : (p : Place) → Led p [] p
+led_nowhere p = record { turns = λ inside. (inside, tt); begun = λ has. absurd has; bytes = omega arith }
+
+led_both : (p q r : Place) (xs ys : List Item) → Led p xs q → Led q ys r → Led p (xs ++ ys) r
+led_both p q r xs ys first next =
+    let less = first.bytes in
+    let more = next.bytes in
+    let all = length-append xs ys in
+    record {
+      turns = λ inside.
+          let mid = first.turns inside in
+          let end = next.turns mid.0 in
+          (end.0, turns_both xs ys mid.1 end.1);
+      begun = turn_in (IsInTurns r.part) xs ys (λ has. (next.turns (first.begun has)).0) next.begun;
+      bytes = omega (arith, less, more, all);
+    }
+
+pub led : (lines : List (List ℕ)) (p : Place) (items : List Item) (q : Place) → walk lines p ≡ arrived items q → Led p items q
+led [] p items q is = arrives (Led p) [] items p q is (led_nowhere p)
+led (line ∷ lines) p items q is =
+    let w = accept (length line + 1) line p in
+    let b = both_from w.items w.ends (λ r. walk lines r) items q is in
+    let first = led_line (length line + 1) line p b.first b.mid (omega arith) b.led in
+    let next = led lines b.mid b.second q b.on in
+    subst (λ (xs : List Item). Led p xs q) (sym b.all) (led_both p b.mid q b.first b.second first next)

@@ -1,0 +1,14 @@
+use Rattle.std.proofs.Common.{◌≡◌, ◌+◌, length}
+use Rattle.match_play.specs.Playing.{Plays}
+use Rattle.match_play.specs.inner.Fitting.{IsFit, IsGoing}
+use Rattle.match_play.proofs.courses.read_on.Given as goal
+
+abbrev pub invariant-items : goal.invariant-items
+invariant-items l = record {
+  plays : Plays l.fn.course l.course l.fn.bytes.now l.bytes.now;
+  fit : IsFit l.course;
+  going : IsGoing l.course.ahead;
+}
+
+abbrev pub decreases-items : goal.decreases-items
+decreases-items l = length l.course.script.bytes + length l.bytes.now

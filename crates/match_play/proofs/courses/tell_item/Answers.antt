@@ -1,0 +1,31 @@
+use Rattle.std.proofs.Common.{◌≡◌, List, ℕ, sym, subst, ap, ◌∙◌}
+use Rattle.match_play.specs.declared.states.Ahead.{Ahead}
+use Rattle.match_play.specs.declared.states.Ahead.TheVariants as ahead
+use Rattle.match_play.specs.Playing.{Plays}
+use Rattle.match_play.proofs.Playing.{plays_none, plays_told, plays_kept}
+use Rattle.match_play.proofs.courses.tell_item.Goals as goal
+
+pub returns-in-Ok-clause-plays : goal.returns-in-Ok-clause-plays
+returns-in-Ok-clause-plays c = λ left.
+    let a = c.args.course.now in
+    let next = c.play_item.new.ground in
+    let waits = c.play_item.new.waiting in
+    let at : a.ahead ≡ ahead.Item c.in-Item.item = sym c.replace.ensures.value ∙ c.in-Item.is in
+    subst (λ (n : Ahead). Plays a (record a { ahead = n; ground = next; waiting = waits }) left left) (sym c.replace.ensures.after)
+    (plays_told a c.in-Item.item next waits left at c.in-Ok.ensures.told)
+
+pub returns-in-Err-clause-plays : goal.returns-in-Err-clause-plays
+returns-in-Err-clause-plays c = λ left.
+    let a = c.args.course.now in
+    let next = c.play_item.new.ground in
+    let at : a.ahead ≡ ahead.Item c.in-Item.item = sym c.replace.ensures.value ∙ c.in-Item.is in
+    let same : c.in-Err.item ≡ c.in-Item.item = c.in-Err.ensures.item in
+    subst (λ (n : Ahead). Plays a (record a { ahead = n; ground = next; waiting = c.play_item.new.waiting }) left left) (at ∙ ap ahead.Item (sym same))
+    (subst (λ (waits : List ℕ). Plays a (record a { ground = next; waiting = waits }) left left) (sym c.in-Err.ensures.waiting)
+    (plays_kept a next left c.in-Err.ensures.still.said))
+
+pub returns-in-Lines-clause-plays : goal.returns-in-Lines-clause-plays
+returns-in-Lines-clause-plays c = λ left.
+    let a = c.args.course.now in
+    let at : a.ahead ≡ ahead.Lines = sym c.replace.ensures.value ∙ c.in-Lines.is in
+    subst (λ (n : Ahead). Plays a (record a { ahead = n }) left left) (at ∙ sym c.replace.ensures.after) (plays_none a left)
