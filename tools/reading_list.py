@@ -43,7 +43,7 @@ SKIPS = [
      "a waypoint is the text of its cell's centre along both axes"),
     ("pathserve", ["beginning_is_prefix"], "pathserve.specs.Output", ["IsBeginning"],
      "what a run writes that ends early is a prefix of the one output text"),
-    ("pathserve", ["notes_are_one_thread"], "pathserve.specs.Output", ["IsText"],
+    ("pathserve", ["notes_are_one_thread"], "match_play.specs.Texts", ["IsText"],
      "the text of the turns is that of the replies to the whole journal (`IsOneThread`), with the notes of each turn"),
 ]
 
