@@ -5,9 +5,15 @@ Reads `.map` with `type octile` and `.scen` of version 1, as the benchmarks at m
 "Benchmarks for Grid-Based Pathfinding", 2012). The script has one class `walker` without a clearance. Cells `.`, `G` and
 `S` are passable, all others are not. A map's first row is its northernmost, so row y of the map is row height-1-y here.
 
-    from_movingai.py arena.map arena.map.scen > arena.script
+    from_movingai.py arena.map > arena.script                       # 20 random paths
+    from_movingai.py arena.map arena.map.scen > arena.script        # the paths of the scenario
     ./pathserve replay < arena.script > arena.answers
+    tools/view.py arena.script arena.answers > arena.html
     from_movingai.py arena.map arena.map.scen --check arena.answers
+
+A line of a scenario has nine words: bucket, map, width and height of the map, column and row of the start, column and row
+of the goal, and the optimal length. Columns and rows are those of the map's text, from 0. In a scenario of your own the
+length may be left out; such a path is not compared.
 
 Both count steps that cut no corner. A diagonal step costs the square root of 2 there, and 92682/65536 here, which is more
 by 0.00011 percent. So a walk that is cheapest here is, measured as there, at most so much longer than the optimum, and no
@@ -17,6 +23,7 @@ some differ, and 2 where a file has another form.
 import argparse
 import json
 import math
+import random
 import sys
 
 import contradictions
@@ -43,19 +50,29 @@ def read_map(lines):
         raise BadFile("a map has the lines 'type octile', 'height H', 'width W' and 'map', and then its rows")
     height, width = int(head["height"]), int(head["width"])
     rows = [it.rstrip("\r\n") for it in lines[at + 1:at + 1 + height]]
-    if len(rows) != height or any(len(it) != width for it in rows):
-        raise BadFile(f"the map does not have {height} rows of {width} cells")
+    if len(rows) != height:
+        raise BadFile(f"the map has {len(rows)} rows, and its line 'height' says {height}")
+    for number, row in enumerate(rows):
+        if len(row) != width:
+            raise BadFile(f"line {at + 2 + number} of the map has {len(row)} cells, and its line 'width' says {width}")
     if not 1 <= min(width, height) <= max(width, height) <= MOST:
         raise BadFile(f"a script's map has 1 to {MOST} cells a side, and this one is {width} by {height}")
     return rows
 
 
 class Query:
-    """Cells from and to, with columns from the west and rows from the north, and the optimal length."""
+    """Cells from and to, with columns from the west and rows from the north, and the optimal length where it is known."""
 
-    def __init__(self, words):
-        self.width, self.height, *places = map(int, words[2:8])
-        self.start, self.goal, self.length = places[:2], places[2:], float(words[8])
+    def __init__(self, start, goal, length=None):
+        self.start, self.goal, self.length = start, goal, length
+
+
+def read_query(words, width, height):
+    """The query of a scenario's line, and the size of its map."""
+    w, h, a, b, c, d = map(int, words[2:8])
+    if (w, h) != (width, height):
+        raise BadFile(f"is for a map of {w} by {h}")
+    return Query((a, b), (c, d), float(words[8]) if len(words) > 8 else None)
 
 
 def read_scenario(lines, rows, most):
@@ -65,15 +82,21 @@ def read_scenario(lines, rows, most):
         if not words or words[0] == "version":
             continue
         try:
-            query = Query(words)
-        except (ValueError, IndexError):
-            raise BadFile(f"line {number} of the scenario has not nine words") from None
-        if (query.width, query.height) != (len(rows[0]), len(rows)):
-            raise BadFile(f"line {number} of the scenario is for a map of {query.width} by {query.height}")
-        found.append(query)
+            found.append(read_query(words, len(rows[0]), len(rows)))
+        except BadFile as it:
+            raise BadFile(f"line {number} of the scenario {it}") from None
+        except ValueError:
+            raise BadFile(f"line {number} of the scenario is not: bucket, map, width, height, start, goal, length") from None
         if len(found) == most:
             break
     return found
+
+
+def drawn(rows, count, seed):
+    """Queries between passable cells, drawn from a seed; none where no cell is passable."""
+    free = [(i, y) for y, row in enumerate(rows) for i, it in enumerate(row) if it in PASSABLE]
+    draw = random.Random(seed)
+    return [Query(draw.choice(free), draw.choice(free)) for _ in range(count if free else 0)]
 
 
 def script(rows, queries):
@@ -119,7 +142,7 @@ def differs(query, said, height):
     if straight * STRAIGHT + diagonal * DIAGONAL != path.cost:
         return f"the walk does not cost {path.cost}"
     length = straight + diagonal * math.sqrt(2)
-    if not query.length - ROUNDING <= length <= query.length * (1 + MORE) + ROUNDING:
+    if query.length is not None and not query.length - ROUNDING <= length <= query.length * (1 + MORE) + ROUNDING:
         return f"the walk is {length:.5f} long, and the optimum is {query.length}"
     return None
 
@@ -140,8 +163,10 @@ def words():
     about, _, more = __doc__.partition("\n\n")
     parser = argparse.ArgumentParser(description=about, epilog=more, formatter_class=argparse.RawDescriptionHelpFormatter)
     parser.add_argument("map", help="the .map file")
-    parser.add_argument("scenario", nargs="?", help="the .scen file; without it the script asks for no path")
+    parser.add_argument("scenario", nargs="?", help="the .scen file; without it the script asks for --paths N")
     parser.add_argument("--most", type=int, default=0, metavar="N", help="only the first N queries of the scenario")
+    parser.add_argument("--paths", type=int, default=20, metavar="N", help="without a scenario, N random paths between passable cells (20)")
+    parser.add_argument("--seed", type=int, default=1, help="which random paths (1)")
     parser.add_argument("--check", metavar="ANSWERS", help="compare the lengths with these answers, and write no script")
     said = parser.parse_args()
     if said.check and not said.scenario:
@@ -158,7 +183,10 @@ def main():
     said = words()
     try:
         rows = read_map(lines_of(said.map))
-        queries = read_scenario(lines_of(said.scenario), rows, said.most) if said.scenario else []
+        if said.scenario:
+            queries = read_scenario(lines_of(said.scenario), rows, said.most)
+        else:
+            queries = drawn(rows, said.paths, said.seed)
     except BadFile as it:
         print(f"from_movingai.py: {it}", file=sys.stderr)
         return 2

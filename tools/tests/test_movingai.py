@@ -72,9 +72,36 @@ class MovingAi(unittest.TestCase):
         self.assertEqual(status, 1)
         self.assertEqual(out, b"query 3: the walk is 7.65685 long, and the optimum is 7.65\n3 of 4 lengths agree\n")
 
-    def test_a_map_of_another_form(self):
-        for text, told in ((MAP.replace("octile", "tile"), "a map has the lines"), (MAP.replace("height 5", "height 6"), "6 rows of 7 cells")):
-            _, status, said = tool("tools/from_movingai.py", self.file("bad.map", text))
+    def test_paths_without_a_scenario(self):
+        out = {it: tool("tools/from_movingai.py", self.map, "--paths", "30", "--seed", it)[0] for it in ("1", "2")}
+        script = mapscript.Script(out["1"])
+        rows = mapscript.base_rows(script.map)[0]
+        posts = script.turns[0].posts
+        self.assertEqual((script.bad, len(posts), out["1"] == out["2"]), (0, 30, False))
+        self.assertEqual(tool("tools/from_movingai.py", self.map, "--paths", "30")[0], out["1"])
+        for post in posts:
+            for x, z in (post.values[3], post.values[4][1]):
+                self.assertFalse(rows[z // mapscript.SIDE] >> x // mapscript.SIDE & 1, post.text)
+        # where nothing is passable it asks for no path
+        shut = self.file("shut.map", "type octile\nheight 1\nwidth 2\nmap\n@T\n")
+        self.assertEqual(mapscript.Script(tool("tools/from_movingai.py", shut)[0]).turns[0].posts, [])
+
+    def test_a_scenario_without_lengths(self):
+        answers = self.file("answers", check.predicted(self.script)[0])
+        other = self.file("other.scen", "\n".join(it.rpartition("\t")[0] or it for it in SCENARIO.splitlines()))
+        self.assertEqual(tool("tools/from_movingai.py", self.map, other)[0], self.script)
+        self.assertEqual(tool("tools/from_movingai.py", self.map, other, "--check", answers)[:2], (b"4 of 4 lengths agree\n", 0))
+
+    def test_files_of_another_form(self):
+        maps = [
+            (MAP.replace("octile", "tile"), "a map has the lines"), (MAP.replace("height 5", "height 6"), "the map has 5 rows, and its line 'height' says 6"),
+            (MAP.replace(".S.W...", ".S.W.."), "line 6 of the map has 6 cells, and its line 'width' says 7"),
+        ]
+        scenarios = [("0 two.map 7 5 0 0 0", "line 1 of the scenario is not: bucket, map, width"), ("0 two.map 7 6 0 0 0 4 4.0", "line 1 of the scenario is for a map of 7 by 6")]
+        cases = [([self.file(f"{n}.map", text)], told) for n, (text, told) in enumerate(maps)]
+        cases += [([self.map, self.file(f"{n}.scen", text)], told) for n, (text, told) in enumerate(scenarios)]
+        for words, told in cases:
+            _, status, said = tool("tools/from_movingai.py", *words)
             self.assertEqual(status, 2)
             self.assertIn(told, said)
 
