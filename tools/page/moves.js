@@ -338,10 +338,16 @@ function panelled() {
   by("theme").onclick = () => themed(state.theme === "dark" ? "light" : "dark");
 }
 
+/** Takes the room that the window leaves. A map that was seen whole is so again; else its middle stays in the middle. */
 function sized() {
-  const side = map.getBoundingClientRect();
+  const side = map.getBoundingClientRect(), was = { ...view };
+  const x = was.x + map.width / was.scale / 2, z = was.z + map.height / was.scale / 2;
+  fitted();
+  const isWhole = view.scale === was.scale && view.x === was.x && view.z === was.z;
   map.width = Math.max(1, Math.round(side.width * dpr()));
   map.height = Math.max(1, Math.round(side.height * dpr()));
+  if (isWhole) fitted();
+  else view = { scale: was.scale, x: x - map.width / was.scale / 2, z: z - map.height / was.scale / 2 };
   redraw();
 }
 
@@ -359,4 +365,5 @@ async function started() {
   window.addEventListener("resize", sized);
   document.addEventListener("keydown", keyed);
 }
-started().catch((fault) => (by("busy").textContent = `this page could not be read: ${fault.message}`));
+const ready = started();
+ready.catch((fault) => (by("busy").textContent = `this page could not be read: ${fault.message}`));

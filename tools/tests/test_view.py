@@ -119,17 +119,35 @@ class Page(unittest.TestCase):
     @needs_browser
     def test_a_browser_moves_through_it(self):
         # turn 2, second class, the post after, its field; then the pointer on the middle of the map, where the wall stands
-        code = """setTimeout(() => {
+        code = """ready.then(() => {
           for (const key of ["ArrowRight", "c", "t", "j", "f"]) document.dispatchEvent(new KeyboardEvent("keydown", { key, bubbles: true }));
           const side = map.getBoundingClientRect(), half = { clientX: side.left + side.width / 2, clientY: side.top + side.height / 2 };
           map.dispatchEvent(new PointerEvent("pointermove", { ...half, bubbles: true }));
-        }, 1500);"""
+        });"""
         dom = shown(self.page.replace("</body>", f"<script>{code}</script></body>"), "turn=1&class=infantry")
         self.assertIn("2 of 2", dom)
         self.assertIn("line 8: post 1 0, path, siege", dom)
         self.assertIn("cell 6 4: blocked by a clearance for siege", dom)
         # 84 cells south of the north wall, of which the moved wall takes 18
         self.assertRegex(dom, "field: 66 cells, farthest [0-9]+, sum [0-9]+")
+
+    @needs_browser
+    def test_the_map_stays_in_the_middle_of_a_window_that_changes(self):
+        # first seen whole, and then zoomed in: the pointer on the middle of a narrow window is on the middle of the map
+        code = """ready.then(() => {
+          const main = document.querySelector("main"), said = [];
+          for (const [key, width] of [["0", 300], ["+", 400]]) {
+            document.dispatchEvent(new KeyboardEvent("keydown", { key, bubbles: true }));
+            main.style.cssText = `flex: none; width: ${width}px; height: 320px`;
+            window.dispatchEvent(new Event("resize"));
+            const side = map.getBoundingClientRect(), half = { clientX: side.left + side.width / 2 + 1, clientY: side.top + side.height / 2 - 1 };
+            map.dispatchEvent(new PointerEvent("pointermove", { ...half, bubbles: true }));
+            said.push(by("tip").textContent.slice(0, 8), (view.scale * data.w < map.width) + "");
+          }
+          by("title").textContent = said.join("|");
+        });"""
+        dom = shown(self.page.replace("</body>", f"<script>{code}</script></body>"), "turn=1&class=infantry")
+        self.assertIn("cell 6 4|true|cell 6 4|false", dom)
 
     @needs_browser
     def test_its_cells_are_those_of_the_tools(self):
