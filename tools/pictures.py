@@ -115,8 +115,9 @@ class Drawing:
             self.line(middles(path.places()), ink, wide)
             if kept:
                 self.line(middles(kept), INK, wide / 2, "5 4")
-            self.end(path.start, ink, "start")
-            self.end(path.end, ink, path.word)
+        for caller, path, _ in self.panel.paths:  # ends stand over all lines
+            self.end(path.start, CALLERS[caller % len(CALLERS)], "start")
+            self.end(path.end, CALLERS[caller % len(CALLERS)], path.word)
         for i, j in self.panel.marks:
             x, y, r = (i + 0.5) * self.scale, (self.panel.h - j - 0.5) * self.scale, max(6, self.scale / 2)
             lines = f"M{num(x - r)} {num(y - r)}L{num(x + r)} {num(y + r)}M{num(x - r)} {num(y + r)}L{num(x + r)} {num(y - r)}"
@@ -151,6 +152,14 @@ def rgb(text):
     return bytes.fromhex(text[1:])
 
 
+# What of the points about an end its shape has, of half a side r.
+SHAPES = {
+    "start": lambda a, b, r: a * a + b * b <= r * r,
+    "goal": lambda a, b, r: max(abs(a), abs(b)) <= r,
+    "near": lambda a, b, r: abs(a) + abs(b) <= 1.4 * r,
+}
+
+
 class Sheet:
     """Points in rows from the north, three bytes each."""
 
@@ -179,6 +188,14 @@ class Sheet:
             for n in range(count + 1):
                 self.dot(a + (c - a) * n // count, b + (d - b) * n // count, size, ink)
 
+    def end(self, cell, ink, word, size):
+        x, y, r = int((cell[0] + 0.5) * self.scale), self.high - 1 - int((cell[1] + 0.5) * self.scale), 2 * size + 2
+        has, far = SHAPES[word], 3 * r // 2
+        for b in range(-far, far + 1):
+            for a in range(-far, far + 1):
+                if has(a, b, r):
+                    self.dot(x + a, y + b, 0, HALO if word != "goal" and has(a, b, r - 2) else ink)
+
     def bytes(self):
         def piece(kind, data):
             return struct.pack(">I", len(data)) + kind + data + struct.pack(">I", zlib.crc32(kind + data))
@@ -200,10 +217,9 @@ def png(panel, scale=None):
         sheet.line(middles(path.places()), ink, size)
         if kept:
             sheet.line(middles(kept), INK, size // 2)
-        for cell, inner in ((path.start, HALO), (path.end, ink if path.word == "goal" else HALO)):
-            x, y = int((cell[0] + 0.5) * scale), sheet.high - 1 - int((cell[1] + 0.5) * scale)
-            sheet.dot(x, y, 2 * size + 2, ink)
-            sheet.dot(x, y, 2 * size, inner)
+    for caller, path, _ in panel.paths:
+        sheet.end(path.start, CALLERS[caller % len(CALLERS)], "start", size)
+        sheet.end(path.end, CALLERS[caller % len(CALLERS)], path.word, size)
     for i, j in panel.marks:
         x, z, r = i + 0.5, j + 0.5, max(0.5, 8 / scale)
         for way in (1, -1):

@@ -105,8 +105,7 @@ function chosen(post, go) {
 
 /** Moves the view where not all of some points are on it. */
 function seen(points) {
-  const xs = points.map((it) => it[0]), zs = points.map((it) => it[1]);
-  const [x0, x1, z0, z1] = [Math.min(...xs), Math.max(...xs), Math.min(...zs), Math.max(...zs)];
+  const [x0, z0, x1, z1] = boxOf(points);
   if (x0 > view.x && z0 > view.z && x1 < view.x + map.width / view.scale && z1 < view.z + map.height / view.scale) return;
   view.scale = Math.min(view.scale, 0.8 * map.width / (x1 - x0 + 1), 0.8 * map.height / (z1 - z0 + 1));
   view.x = (x0 + x1) / 2 - map.width / view.scale / 2;

@@ -42,11 +42,22 @@ function standingAfter(turn) {
   return found;
 }
 
+/** The path of a post, or null; it is read once. */
 function pathOf(post) {
-  const words = (post.r[0] || "").split(" ");
+  if (post.walk === undefined) post.walk = pathRead((post.r[0] || "").split(" "));
+  return post.walk;
+}
+
+function pathRead(words) {
   if (words[0] !== "path") return null;
-  const cell = (it) => it.split(",").map(Number);
-  return { start: [+words[1], +words[2]], end: [+words[3], +words[4]], word: words[5], cost: +words[6], points: [[+words[1] + 0.5, +words[2] + 0.5], ...words.slice(8).map(cell)] };
+  const cell = (it) => it.split(",").map(Number), points = [[+words[1] + 0.5, +words[2] + 0.5], ...words.slice(8).map(cell)];
+  return { start: [+words[1], +words[2]], end: [+words[3], +words[4]], word: words[5], cost: +words[6], points, box: boxOf(points) };
+}
+
+/** What some points span, as [x0, z0, x1, z1]. */
+function boxOf(points) {
+  const wider = ([x0, z0, x1, z1], [x, z]) => [Math.min(x0, x), Math.min(z0, z), Math.max(x1, x), Math.max(z1, z)];
+  return points.reduce(wider, [Infinity, Infinity, -Infinity, -Infinity]);
 }
 
 function noteOf(post, word) {
@@ -165,11 +176,14 @@ function drawn() {
   const posts = shown();
   if (state.on.goals) for (const it of posts) if (it.k === "path") goalDrawn(it, colour(it.c), 1.5);
   pen.globalAlpha = state.post ? 0.35 : 1; // what is not chosen steps back
-  if (state.on.paths) for (const it of posts) if (it !== state.post) pathDrawn(it, 2);
+  const others = state.on.paths ? posts.filter((it) => it !== state.post) : [];
+  for (const it of others) pathDrawn(it, 2);
+  for (const it of others) endsDrawn(it); // over all lines
   pen.globalAlpha = 1;
   if (state.post && posts.includes(state.post)) {
     if (state.post.k === "path") goalDrawn(state.post, colour(state.post.c), 2.5);
     pathDrawn(state.post, 4);
+    endsDrawn(state.post);
     pointDrawn(state.post);
   }
   for (const it of wrongHere()) cross(it.at, inks);
@@ -188,10 +202,9 @@ function rules(seen, step, ink, width) {
 function chunkRules(seen, inks) {
   rules(seen, CHUNK, inks.chunk, 1.5 * dpr());
   if (CHUNK * view.scale < 60 * dpr()) return;
-  pen.fillStyle = inks.chunk;
   pen.font = `${12 * dpr()}px system-ui, sans-serif`;
   for (let c = Math.floor(seen.i0 / CHUNK); c * CHUNK < seen.i1; c++) {
-    for (let d = Math.floor(seen.j0 / CHUNK); d * CHUNK < seen.j1; d++) pen.fillText(`${c} ${d}`, toX(c * CHUNK) + 5 * dpr(), toY(d * CHUNK) - 5 * dpr());
+    for (let d = Math.floor(seen.j0 / CHUNK); d * CHUNK < seen.j1; d++) label(`${c} ${d}`, toX(c * CHUNK) + 16 * dpr(), toY(d * CHUNK) - 10 * dpr(), inks.ink, inks.halo);
   }
 }
 
@@ -208,22 +221,21 @@ function ring(points) {
 }
 
 function outlines(seen, inks) {
-  pen.lineWidth = 1.2 * dpr();
-  const far = (it) => it.square[0] / SIDE + 400 < seen.i0 || it.square[0] / SIDE - 400 > seen.i1 || it.square[1] / SIDE + 400 < seen.j0 || it.square[1] / SIDE - 400 > seen.j1;
+  const named = [], far = (it) => it.square[0] / SIDE + 400 < seen.i0 || it.square[0] / SIDE - 400 > seen.i1 || it.square[1] / SIDE + 400 < seen.j0 || it.square[1] / SIDE - 400 > seen.j1;
   for (const it of state.standing.values()) {
     const size = Math.max(it.square[4], it.square[5]) / SIDE * view.scale;
     if (size < 2 || far(it)) continue;
     const mine = it.mask >> state.k & 1;
     ring(cornersOf(it.square));
     pen.strokeStyle = mine ? inks.line : inks.other;
+    pen.lineWidth = 1.2 * dpr();
     pen.setLineDash(mine ? [] : [4 * dpr(), 4 * dpr()]);
     pen.stroke();
-    if (size > 14 * dpr()) {
-      pen.font = `${11 * dpr()}px system-ui, sans-serif`;
-      label(`${it.id}`, toX(it.square[0] / SIDE), toY(it.square[1] / SIDE), inks.ink, inks.halo);
-    }
+    if (size > 14 * dpr()) named.push(it);
   }
   pen.setLineDash([]);
+  pen.font = `${11 * dpr()}px system-ui, sans-serif`;
+  for (const it of named) label(`${it.id}`, toX(it.square[0] / SIDE), toY(it.square[1] / SIDE), inks.ink, inks.halo); // over all outlines
 }
 
 function label(text, x, y, ink, halo) {
@@ -268,18 +280,29 @@ function dot(x, z, size, ink, shape) {
   pen.stroke();
 }
 
-function pathDrawn(post, width) {
+/** The path of a post where some of it is on the screen, or null. */
+function pathSeen(post) {
   const path = post.k === "path" && pathOf(post);
+  if (!path) return null;
+  const [x0, z0, x1, z1] = path.box;
+  return toX(x1) < 0 || toY(z0) < 0 || toX(x0) > map.width || toY(z1) > map.height ? null : path;
+}
+
+const keptOf = (post) => (state.on.smooth ? noteOf(post, "smooth").slice(1).map((it) => it.split(",").map(Number)) : []);
+
+function pathDrawn(post, width) {
+  const path = pathSeen(post), wide = width * dpr();
   if (!path) return;
-  const ink = colour(post.c), wide = width * dpr(), size = Math.max(3.2, Math.min(7, view.scale / dpr() * 0.3)) * dpr();
-  const xs = path.points.map((it) => toX(it[0])), ys = path.points.map((it) => toY(it[1]));
-  if (Math.max(...xs) < 0 || Math.max(...ys) < 0 || Math.min(...xs) > map.width || Math.min(...ys) > map.height) return;
-  line(path.points, ink, wide, DASHES[Math.floor(post.c / 6) % 6].map((it) => it * dpr()));
-  const kept = state.on.smooth && noteOf(post, "smooth").slice(1).map((it) => it.split(",").map(Number));
-  if (kept && kept.length) {
-    line([path.points[0], ...kept], INKS[state.theme].ink, Math.max(1, wide / 2), [5 * dpr(), 4 * dpr()]);
-    for (const [x, z] of kept) dot(x, z, size * 0.6, INKS[state.theme].ink, "round");
-  }
+  line(path.points, colour(post.c), wide, DASHES[Math.floor(post.c / 6) % 6].map((it) => it * dpr()));
+  const kept = keptOf(post);
+  if (kept.length) line([path.points[0], ...kept], INKS[state.theme].ink, Math.max(1, wide / 2), [5 * dpr(), 4 * dpr()]);
+}
+
+/** Where a path starts, turns and ends. */
+function endsDrawn(post) {
+  const path = pathSeen(post), ink = colour(post.c), size = Math.max(3.2, Math.min(7, view.scale / dpr() * 0.3)) * dpr();
+  if (!path) return;
+  for (const [x, z] of keptOf(post)) dot(x, z, size * 0.6, INKS[state.theme].ink, "round");
   if (view.scale > 4 * dpr()) for (const [x, z] of path.points.slice(1, -1)) dot(x, z, size * 0.45, ink, "round");
   dot(...path.points[0], size, ink, "round");
   dot(path.end[0] + 0.5, path.end[1] + 0.5, size, ink, path.word === "goal" ? "square" : "diamond");
