@@ -47,7 +47,7 @@ class Ground:
         self.side = TILE * self.tiles
         self.full = row_bits(0, self.side - 1)
         self.edge = self.edge_rows(scene.is_circular)
-        self.shore = None
+        self.shore, self.spans, self.below = None, None, {}  # what several classes ask for, once it was asked
 
     def denied(self, kind):
         low, high = kind.depths
@@ -67,20 +67,30 @@ class Ground:
 
     def heights_below(self, limit):
         """Where 64 heights of the middle of a navcell, between the four corners of its tile, are below a limit."""
+        if limit not in self.below:
+            self.below[limit] = self.found_below(limit)
+        return self.below[limit]
+
+    def found_below(self, limit):
         found = []
-        for j in range(self.side):
-            south, north, up = self.terrain.rows[j // TILE], self.terrain.rows[j // TILE + 1], 2 * (j % TILE) + 1
-            line = [(8 - up) * a + up * b for a, b in zip(south, north)]
-            parts = []
-            for a, b in zip(line, line[1:]):
-                if 8 * a < limit and 8 * b < limit:
-                    parts.append("1111")
-                elif 8 * a >= limit and 8 * b >= limit:
-                    parts.append("0000")
-                else:
-                    parts.append("".join("1" if (8 - n) * a + n * b < limit else "0" for n in (1, 3, 5, 7)))
-            found.append(int("".join(parts)[::-1], 2))
+        for j, spans in enumerate(self.span_rows()):
+            # most tiles are below the limit with all their corners, or with none
+            parts = ["1111" if 64 * high < limit else "0000" if 64 * low >= limit else "" for low, high in spans]
+            cut = [i for i, it in enumerate(parts) if not it]
+            south, north = self.terrain.rows[j], self.terrain.rows[j + 1]
+            for up in (1, 3, 5, 7):
+                for i in cut:
+                    a, b = ((8 - up) * south[k] + up * north[k] for k in (i, i + 1))
+                    parts[i] = "".join("1" if (8 - n) * a + n * b < limit else "0" for n in (1, 3, 5, 7))
+                found.append(int("".join(parts)[::-1], 2))
         return found
+
+    def span_rows(self):
+        """For each tile the least and the greatest height of its corners."""
+        if self.spans is None:
+            pairs = [list(zip(map(min, row, row[1:]), map(max, row, row[1:]))) for row in self.terrain.rows]
+            self.spans = [[(min(a, c), max(b, d)) for (a, b), (c, d) in zip(*it)] for it in zip(pairs, pairs[1:])]
+        return self.spans
 
     def denied_tiles(self, kind):
         """For each row of tiles the navcells that slope and shore distance deny, which are asked by tile."""
@@ -88,17 +98,13 @@ class Ground:
         for j in range(self.tiles):
             denied = [False] * self.tiles
             if kind.slope is not None:
-                denied = [it >= kind.slope for it in self.slopes(j)]
+                steep = TILE * -(-kind.slope * HEIGHT // SIDE)  # the rise over a tile from which on it is denied
+                denied = [high - low >= steep for low, high in self.span_rows()[j]]
             if near is not None or far is not None:
                 shore = [TILE * SIDE * it for it in self.shore_rows()[j]]
                 denied = [a or (near is not None and d < near) or (far is not None and d > far) for a, d in zip(denied, shore)]
             found.append(int("".join("1111" if it else "0000" for it in reversed(denied)), 2))
         return found
-
-    def slopes(self, j):
-        south, north = self.terrain.rows[j], self.terrain.rows[j + 1]
-        corners = zip(south, south[1:], north, north[1:])
-        return [(max(it) - min(it)) // TILE * SIDE // HEIGHT for it in corners]
 
     def shore_rows(self):
         """For each tile how many tiles it is from the shore: 0 on water and beside it."""
