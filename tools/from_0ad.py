@@ -1,19 +1,23 @@
 #!/usr/bin/env python3
 """A map of an installed 0 A.D. (0.0.26) as a script.
 
-The terrain becomes base rectangles that do not meet, with what it denies grown by each class's clearance as the game
-grows it. What stands becomes one obstruction each in turn 1, of the caller who owns it, under its number in the scene; an
-entity of several squares has an outline with mask 0 under that number, which serves as a goal, and its squares beyond.
-What stands with its middle off the map becomes base rectangles. In turn 2 each class with a clearance asks for paths.
-
-    from_0ad.py --mod /usr/share/games/0ad/mods/public --list
-    from_0ad.py --mod /usr/share/games/0ad/mods/public skirmishes/acropolis_bay_2p > bay.script
+    from_0ad.py --mod MOD --list
+    from_0ad.py --mod MOD skirmishes/acropolis_bay_2p > bay.script
     ./pathserve replay < bay.script > bay.answers
     tools/view.py bay.script bay.answers > bay.html
 
-Here a clearance blocks a cell whose middle lies within it; the game blocks a cell whose four corners lie within the
+The terrain becomes base rectangles that do not meet. What it denies is grown by each class's clearance, as in the game.
+What stands becomes one obstruction each in turn 1, of the player who owns it, under its number in the scene. An entity of
+several squares has an outline with mask 0 under that number, which serves as a goal, and its squares have numbers beyond.
+What stands with its middle off the map becomes base rectangles. In turn 2 each class with a clearance asks for paths
+between cells that the terrain leaves to it.
+
+Here a clearance blocks a cell whose middle lies within it. The game blocks a cell whose four corners lie within the
 clearance and 1. So clearances are written with 0.35 more, which comes nearest; --more 0.5 blocks all that the game does,
-and about a tenth too much. Nothing of the game is copied but numbers. The status is 2 where a map cannot be made.
+and about a tenth too much. Nothing of the game is copied but numbers.
+
+The numbers of rectangles and obstructions, and each template that the mod lacks, are told on standard error. The status is
+2 where a map cannot be made.
 """
 import argparse
 import json
@@ -316,7 +320,7 @@ def words():
     about, _, more = __doc__.partition("\n\n")
     parser = argparse.ArgumentParser(description=about, epilog=more, formatter_class=argparse.RawDescriptionHelpFormatter)
     parser.add_argument("map", nargs="?", help="a map's name below maps/, without its ending")
-    parser.add_argument("--mod", required=True, help="the folder mods/public of the game, or its public.zip")
+    parser.add_argument("--mod", required=True, help="the folder mods/public of the game, or the public.zip in it")
     parser.add_argument("--list", action="store_true", help="write the names of all maps, and nothing else")
     parser.add_argument("--classes", default="", metavar="NAME,..", help="only these passability classes")
     parser.add_argument("--more", type=float, default=0.35, help="what to add to the clearances of moving classes (0.35)")

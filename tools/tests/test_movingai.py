@@ -1,5 +1,6 @@
 """Grid maps and scenarios of the literature, with lengths counted by hand."""
 import os
+import re
 import tempfile
 import unittest
 
@@ -91,6 +92,15 @@ class MovingAi(unittest.TestCase):
         other = self.file("other.scen", "\n".join(it.rpartition("\t")[0] or it for it in SCENARIO.splitlines()))
         self.assertEqual(tool("tools/from_movingai.py", self.map, other)[0], self.script)
         self.assertEqual(tool("tools/from_movingai.py", self.map, other, "--check", answers)[:2], (b"4 of 4 lengths agree\n", 0))
+
+    def test_what_the_page_of_maps_shows(self):
+        blocks = [it.replace("\n    ", "\n").strip() + "\n" for it in re.findall(r"(?m)(?:^    .*\n)+", read("docs/MAPS.md").decode())]
+        grid, scenario, script = (next(it for it in blocks if it.startswith(head)) for head in ("type", "version 1", '{"version"'))
+        out, status, told = tool("tools/from_movingai.py", self.file("yard.map", grid), self.file("yard.map.scen", scenario))
+        self.assertEqual(status, 0, told)
+        # two steps down to the gap, two through it, two up again; those down and up are diagonal
+        self.assertIn(b"0 0 path 0 3 6 3 goal 501800 3 2.5,1.5 4.5,1.5 6.5,3.5\n", check.predicted(out)[0])
+        self.assertEqual(check.predicted(script.encode())[1], 0)
 
     def test_files_of_another_form(self):
         maps = [
