@@ -27,7 +27,7 @@ use fixed_point::Fixed;
 use goal_reach::{Target, made_reachable, nearest_passable};
 use goal_shapes::{Goal, GoalSpec, cell_of_point};
 use grid_versions::{Refusal, Version};
-use jump_search::{Pool, Traced, jump_search_with};
+use jump_search::{Pool, Traced, jump_search_in};
 use line_smooth::smooth;
 use nav_types::{Aim, Areas, Cell, Class, NoMemory, Ticks, View};
 use posts::{Answer, FlowLine, Note, Noted, PathAnswer, RegionAnswer, Report, Request};
@@ -237,7 +237,7 @@ impl<'a> Solver<'a> {
                 })
             }
             Report::OpenedNumbers => {
-                let Traced { found, opened } = search.trace(alloc)?;
+                let Traced { found, opened } = search.trace(alloc, &mut self.pool)?;
                 let path = path_of(&search, found);
                 Ok(NotedPath {
                     path,
@@ -284,8 +284,8 @@ impl<'a> Solver<'a> {
 }
 
 impl<'a> Search<'a> {
-    /// The walk of a search, and the opened number of its path.
-    fn trace(&self, alloc: Global) -> Result<Traced, NoMemory>
+    /// The walk of a search, by the room of the pool, and the opened number of its path.
+    fn trace(&self, alloc: Global, pool: &mut Pool) -> Result<Traced, NoMemory>
         requires { CanFind self.now.version.now self.now.class self.now.start self.now.target.now }
         ensures found { IfOk result (λ traced.
             IsFoundTo self.now.version.now self.now.class self.now.start self.now.target.now traced.found) }
@@ -293,11 +293,16 @@ impl<'a> Search<'a> {
             self.now.version.now.map.size self.now.target.now (path_by self.now.start self.now.target.now traced.found)
             traced.opened) }
     {
-        self.trace_counted::<Brand>(alloc, Blank::new(1))
+        self.trace_counted::<Brand>(alloc, pool, Blank::new(1))
     }
 
     /// The same, with the opened jump states counted in a ledger of their own.
-    fn trace_counted<L: Ledger>(&self, alloc: Global, blank: Blank) -> Result<Traced, NoMemory>
+    fn trace_counted<L: Ledger>(
+        &self,
+        alloc: Global,
+        pool: &mut Pool,
+        blank: Blank,
+    ) -> Result<Traced, NoMemory>
         requires name { blank.name ≡ L.name }
         requires parts { blank.parts ≡ L.parts }
         requires some { 0 < L.parts }
@@ -312,7 +317,8 @@ impl<'a> Search<'a> {
         let _box = self.target.bounds(self.version.size());
         let runs = PlaneRuns::new(self.version, self.version.planes());
         let mut ticks = Ticks::<L>::new(blank);
-        jump_search_with(
+        jump_search_in(
+            pool,
             alloc,
             &runs,
             self.class,
