@@ -9,7 +9,7 @@ pub mod FittingLemmas
 pub mod PassingLemmas
 pub mod EditingLemmas
 pub mod PaintLemmas
-pub mod BandLemmas
+pub mod MarkLemmas
 pub mod ReachLemmas
 pub mod ReacherLemmas
 pub mod VersionLemmas

@@ -5,6 +5,7 @@ pub mod Blocks
 pub mod Building
 pub mod Tallying
 pub mod Painting
+pub mod Marking
 pub mod Reaching
 pub mod Reachers
 pub mod Parts

@@ -13,7 +13,7 @@
 //! version built from scratch out of what stands. Paths are searched above, in `turn_core`.
 #![tactic(auto)]
 
-mod base_bands;
+mod base_grids;
 mod changed_parts;
 mod chunk_bits;
 mod chunk_cells;

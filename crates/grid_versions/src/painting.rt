@@ -1,26 +1,27 @@
 //! The numbers of a map's cells, chunk by chunk, from its base rectangles and its obstructions.
-ghost use Rattle.std.specs.Prelude.{ℕ, ◌≡◌, ◌<◌, ◌*◌, ◌&&◌, ◌||◌, length, IfOk};
+ghost use Rattle.std.specs.Prelude.{ℕ, ◌≡◌, ◌<◌, ◌*◌, ◌||◌, length, IfOk};
 ghost use Rattle.nav_types.specs.declared.cells.Cell.{Cell};
 ghost use Rattle.nav_types.specs.Cells.{IsInRect, IsRectInside};
 ghost use Rattle.nav_types.specs.Numbering.{IsPatch, columns, rows, number_of};
 ghost use Rattle.lane_rows.specs.Rows.{has_class};
 ghost use Rattle.nav_types.specs.Rects.{IsPartOf};
 ghost use Rattle.obstruction_shapes.specs.Shapes.{FitsMap};
+ghost use Rattle.navcell_grid.specs.Grids.{number_at};
 ghost use Rattle.clearance_raster.specs.Rasters.{blocks_class};
 ghost use Rattle.clearance_raster.specs.inner.TestRasters.{IsRasterIn};
 ghost use Rattle.obstruction_store.specs.Standing.{AllFit};
-ghost use Rattle.grid_versions.specs.Passing.{is_in_rect, is_listed, is_blocked};
+ghost use Rattle.grid_versions.specs.Passing.{is_blocked};
 ghost use Rattle.grid_versions.specs.inner.Painting.{AreBaseChunks, ArePaintedChunks};
 ghost use Rattle.grid_versions.specs.inner.Reachers.{blocks_under, HoldUnpainted, AreReachers};
 
-use crate::base_bands::BaseBand;
+use crate::base_grids::base_grid;
 use crate::chunk_cells::ChunkCells;
 use crate::chunks;
 use crate::shared_list::SharedList;
 use crate::sites::Site;
 use clearance_raster::{raster_in, reach_of};
 use nav_types::{NoMemory, Rect};
-use navcell_grid::Patch;
+use navcell_grid::{Grid, Patch};
 use obstruction_shapes::Obstruction;
 use obstruction_store::Ids;
 use posts::MapSpec;
@@ -41,16 +42,11 @@ pub fn base_patches(alloc: Global, map: &MapSpec) -> Result<SharedList<Patch>, N
 {
     let size = map.size();
     let count = chunks::count(size);
-    let base = map.base().as_slice();
+    let grid = base_grid(alloc, map)?;
     let mut all = SharedList::with_capacity(alloc, count as usize)?;
-    let mut band = BaseBand::of_no_row(alloc);
     for place in 0..count {
         let rect = Rect::of_chunk(size, chunks::numbered(size, place));
-        // Chunks side by side have one band.
-        if !band.is_of(rect.j0, rect.j1) {
-            band = BaseBand::of_rows(alloc, base, rect.j0, rect.j1)?;
-        }
-        all.push(alloc, base_patch(alloc, &band.entries, rect)?)?;
+        all.push(alloc, base_patch(alloc, &grid, rect)?)?;
     }
     Ok(all)
 }
@@ -88,57 +84,18 @@ pub fn painted_patches(
     Ok(all)
 }
 
-/// The numbers of the rectangle's cells under these base rectangles alone.
-fn base_patch(alloc: Global, base: &[(Rect, u16)], rect: Rect) -> Result<Patch, NoMemory>
-    requires { IsPatch rect }
+/// The numbers that a grid has in this rectangle, one for each cell.
+fn base_patch(alloc: Global, grid: &Grid, rect: Rect) -> Result<Patch, NoMemory>
+    requires patch { IsPatch rect }
+    requires inside { IsRectInside grid.now.size rect }
     ensures rect { IfOk result (λ patch. patch.rect ≡ rect) }
     ensures whole { IfOk result (λ patch. length patch.numbers ≡ columns patch.rect * rows patch.rect) }
-    ensures bits { IfOk result (λ patch. (k : ℕ) (cell : Cell) → IsInRect rect cell
-        → has_class k (number_of patch cell) ≡ is_listed base.now k cell) }
+    ensures numbers { IfOk result (λ patch. (cell : Cell) → IsInRect rect cell
+        → number_of patch cell ≡ number_at grid.now cell) }
 {
-    let mut patch = Patch::new(alloc, rect)?;
-    paint_base(&mut patch, rect, base);
+    let patch = Patch::cut(alloc, grid, rect)?;
     let _ = patch.rect();
     Ok(patch)
-}
-
-/// Sets the bits of these base rectangles in a patch of this rectangle.
-fn paint_base(patch: &mut Patch, rect: Rect, base: &[(Rect, u16)])
-    requires patch { IsPatch rect }
-    requires rect { patch.old.rect ≡ rect }
-    ensures rect { patch.new.rect ≡ rect }
-    ensures set { IsRasterIn rect rect (is_listed base.now) (number_of patch.old) (number_of patch.new) }
-{
-    for entry in base {
-        paint_area(patch, rect, entry.0, entry.1);
-    }
-}
-
-/// Sets the mask's bits in each cell of a patch of this rectangle that lies in the area.
-fn paint_area(patch: &mut Patch, rect: Rect, area: Rect, mask: u16)
-    requires patch { IsPatch rect }
-    requires rect { patch.old.rect ≡ rect }
-    ensures rect { patch.new.rect ≡ rect }
-    ensures set { IsRasterIn rect rect (λ k cell. has_class k mask && is_in_rect area cell)
-        (number_of patch.old) (number_of patch.new) }
-{
-    if let Some(part) = area.intersection(rect) {
-        paint_part(patch, rect, part, mask);
-    }
-}
-
-/// Sets the mask's bits in each cell of a part of a patch of this rectangle.
-fn paint_part(patch: &mut Patch, rect: Rect, part: Rect, mask: u16)
-    requires patch { IsPatch rect }
-    requires rect { patch.old.rect ≡ rect }
-    requires part { IsPartOf rect part }
-    ensures rect { patch.new.rect ≡ rect }
-    ensures set { IsRasterIn rect rect (λ k cell. has_class k mask && is_in_rect part cell)
-        (number_of patch.old) (number_of patch.new) }
-{
-    for j in part.j0..part.j1 + 1 {
-        patch.or_span(j, part.i0, part.i1, mask);
-    }
 }
 
 /// A copy of a patch in which the cells of a part are painted anew: each has the number of the paint's base, with the

@@ -1,4 +1,4 @@
-ghost use Rattle.std.specs.Prelude.{◌≡◌, ◌≤◌, ◌<◌, ◌+◌, ◌-◌, ◌*◌, ◌⊎◌, ℕ, length, replicate, slice_index, slice_range, bit_or, IfOk};
+ghost use Rattle.std.specs.Prelude.{◌≡◌, ◌≢◌, ◌≤◌, ◌<◌, ◌+◌, ◌-◌, ◌*◌, ◌⊎◌, ℕ, length, replicate, slice_index, slice_range, bit_or, IfOk};
 ghost use Rattle.nav_types.specs.Cells.{cell_at, IsInside, IsInRect, IsRectInside};
 ghost use Rattle.nav_types.specs.Places.{place_of};
 ghost use Rattle.navcell_grid.specs.Grids.{GridCells, IsWholeGrid, number_at, IsInSpan, is_free_for};
@@ -102,6 +102,21 @@ impl Grid {
         let from = place(self.size, i0, j);
         let to = place(self.size, i1, j) + 1;
         lane_rows::or_span(&mut self.cells, from, to, mask);
+    }
+
+    /// Gives each cell of row `j` the bits of the cell of its column in the row `from` besides its own. That row comes
+    /// before it.
+    pub fn or_row(&mut self, j: u16, from: u16)
+        requires before { from < j }
+        requires row { j < self.old.size.h }
+        ensures size { self.new.size ≡ self.old.size }
+        ensures row { (i : ℕ) → i < self.old.size.w → number_at self.new (cell_at i j)
+            ≡ bit_or (number_at self.old (cell_at i j)) (number_at self.old (cell_at i from)) }
+        ensures others { (cell : Cell) → IsInside self.old.size cell → cell.j ≢ j → number_at self.new cell ≡ number_at self.old cell }
+    {
+        let to = place(self.size, 0, j);
+        let before = place(self.size, 0, from);
+        or_places(&mut self.cells, to, before, usize::from(self.size.w));
     }
 
     /// Gives each cell of the rectangle, which lies inside the map, the number 0.
@@ -215,6 +230,20 @@ fn place(size: Size, i: u16, j: u16) -> usize
     ensures within { result < size.w * size.h }
 {
     usize::from(j) * usize::from(size.w) + usize::from(i)
+}
+
+/// Gives so many places from `to` on the bits of as many from `from` on, besides their own. The latter come before the
+/// former.
+fn or_places(cells: &mut [u16], to: usize, from: usize, count: usize)
+    requires apart { from + count ≤ to }
+    requires within { to + count ≤ length cells.old }
+    ensures inside { (k : ℕ) → k < count
+        → slice_index cells.new (to + k) ≡ bit_or (slice_index cells.old (to + k)) (slice_index cells.old (from + k)) }
+    ensures outside { (k : ℕ) → (k < to) ⊎ (to + count ≤ k) → slice_index cells.new k ≡ slice_index cells.old k }
+{
+    for k in 0..count {
+        cells[to + k] |= cells[from + k];
+    }
 }
 
 /// Writes 0 to each place from `from` up to and without `to`.

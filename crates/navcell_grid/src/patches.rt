@@ -2,10 +2,10 @@
 ghost use Rattle.std.specs.Prelude.{◌≡◌, ◌≤◌, ◌<◌, ◌+◌, ◌-◌, ◌*◌, ◌↔◌, ℕ, length, not, replicate, slice_index, bit_or, IfOk};
 ghost use Rattle.std.specs.Int.{bit_at};
 ghost use Rattle.nav_types.specs.declared.cells.Cell.{Cell};
-ghost use Rattle.nav_types.specs.Cells.{cell_at, IsInRect};
+ghost use Rattle.nav_types.specs.Cells.{cell_at, IsInRect, IsRectInside};
 ghost use Rattle.nav_types.specs.Numbering.{Numbering, IsPatch, columns, rows, number_of};
 ghost use Rattle.lane_rows.specs.Rows.{has_class};
-ghost use Rattle.navcell_grid.specs.Grids.{IsInSpan};
+ghost use Rattle.navcell_grid.specs.Grids.{IsInSpan, number_at};
 ghost use Rattle.navcell_grid.specs.Patches.{IsWholePatch, DiffersIn, free_count};
 ghost use Rattle.nav_types.specs.Rects.{IsPartOf};
 ghost use Rattle.navcell_grid.specs.inner.Framing.{IsFramed};
@@ -50,6 +50,27 @@ impl Patch {
             rect,
             grid: Grid::new(alloc, size)?,
         })
+    }
+
+    /// The numbers that a grid has in this rectangle.
+    pub fn cut(alloc: Global, from: &Grid, rect: Rect) -> Result<Patch, NoMemory>
+        requires patch { IsPatch rect }
+        requires inside { IsRectInside from.now.size rect }
+        ensures rect { IfOk result (λ patch. patch.rect ≡ rect) }
+        ensures numbers { IfOk result (λ patch. (cell : Cell) → IsInRect rect cell
+            → number_of patch cell ≡ number_at from.now cell) }
+    {
+        let mut patch = Patch::new(alloc, rect)?;
+        for j in rect.j0..rect.j1 + 1 {
+            let row = from.row(j);
+            patch.write_span(
+                j,
+                rect.i0,
+                rect.i1,
+                &row[usize::from(rect.i0)..usize::from(rect.i1) + 1],
+            );
+        }
+        Ok(patch)
     }
 
     /// A patch of the same rectangle and the same numbers.

@@ -1,9 +1,8 @@
 -- The numbers of a map's cells: bit k is set where the cell is impassable for class k.
-use Rattle.std.specs.Prelude.{ℕ, ◌≡◌, ◌↔◌, ◌*◌, ◌<◌, ◌≤◌, Bool, ◌||◌, List, length, slice_get, slice_index, Some}
+use Rattle.std.specs.Prelude.{ℕ, ◌≡◌, ◌↔◌, ◌*◌, ◌<◌, Bool, ◌||◌, List, length, slice_get, slice_index, Some}
 use Rattle.std.specs.Int.{bit_at}
 use Rattle.nav_types.specs.declared.cells.Cell.{Cell}
 use Rattle.nav_types.specs.declared.cells.Chunk.{Chunk}
-use Rattle.nav_types.specs.declared.cells.Rect.{Rect}
 use Rattle.nav_types.specs.Cells.{IsInRect}
 use Rattle.nav_types.specs.Numbering.{Numbering, columns, rows, number_of}
 use Rattle.lane_rows.specs.Rows.{has_class}
@@ -11,7 +10,7 @@ use Rattle.navcell_grid.specs.Patches.{DiffersIn, free_count}
 use Rattle.nav_types.specs.Rects.{chunk_rect}
 use Rattle.obstruction_store.specs.Standing.{Standing}
 use Rattle.posts.specs.Maps.{Map}
-use Rattle.grid_versions.specs.Passing.{has_base, is_blocked, is_listed}
+use Rattle.grid_versions.specs.Passing.{has_base, is_blocked}
 use Rattle.grid_versions.specs.Chunks.{chunk_count}
 use Rattle.grid_versions.specs.inner.ChunkLists.{AreOfChunks}
 
@@ -25,11 +24,6 @@ pub record IsBaseChunk (map : Map) (chunk : Chunk) (cells : Numbering) : Type 0 
   pub whole : length cells.numbers ≡ columns cells.rect * rows cells.rect
   pub bits : (k : ℕ) (cell : Cell) → IsInRect cells.rect cell
       → has_class k (number_of cells cell) ≡ has_base map k cell
-
--- in the rows from `south` to `north` some of the rectangles cover what all of them cover
-abbrev pub CoverRows : List (Rect × ℕ) → List (Rect × ℕ) → ℕ → ℕ → Type 0
-CoverRows all some south north = (k : ℕ) (cell : Cell) → south ≤ cell.j → cell.j ≤ north
-    → is_listed some k cell ≡ is_listed all k cell
 
 -- the numbers of all chunks under the base rectangles alone
 abbrev pub AreBaseChunks : Map → List Numbering → Type 0

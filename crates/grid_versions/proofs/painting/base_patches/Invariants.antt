@@ -1,7 +1,6 @@
 use Rattle.grid_versions.specs.inner.ChunkLists.{AreOfChunks}
-use Rattle.grid_versions.specs.inner.Painting.{CoverRows, IsBaseChunk}
+use Rattle.grid_versions.specs.inner.Painting.{IsBaseChunk}
 use Rattle.grid_versions.proofs.painting.base_patches.Given as goal
 
 abbrev pub invariant-loop-place : goal.invariant-loop-place
-invariant-loop-place l =
-    AreOfChunks l.size l.place (IsBaseChunk l.map) l.all × CoverRows l.base l.band.entries.items l.band.south l.band.north
+invariant-loop-place l = AreOfChunks l.size l.place (IsBaseChunk l.map) l.all
