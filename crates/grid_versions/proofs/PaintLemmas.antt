@@ -92,3 +92,12 @@ raster_over rect part listed all old new some each is = record {
       ∙ over_bit (old cell) k (listed k cell) (all k cell) (some k cell inside) (each k cell inside);
   others = is.others;
 }
+
+-- where all that the rest would set is set already
+pub Ends-set : {X : Type 0} (rect part : Rect) (test : ℕ → Cell → X → Bool) (all rest : List X) (first now : Numbers)
+    → ((k : ℕ) (cell : Cell) → IsInRect part cell → list_any (test k cell) rest ≡ true → has_class k (now cell) ≡ true)
+    → Ends rect part test all rest first now → IsRasterIn rect part (λ k cell. list_any (test k cell) all) first now
+Ends-set rect part test all rest first now set so =
+    so.ends now (raster_over rect part (λ k cell. false) (λ k cell. list_any (test k cell) rest) now now
+    (λ k cell inside none. absurd (both_ways false refl none)) (λ k cell inside is. inl (set k cell inside is))
+    (part_none rect part (λ k cell. false) now (λ k cell inside. refl)))

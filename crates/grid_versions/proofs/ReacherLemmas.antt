@@ -1,6 +1,6 @@
 -- Lists that have the obstructions that reach into a rectangle.
 use Rattle.std.proofs.Common.{◌≡◌, ℕ, ◌⊎◌, ◌||◌, Bool, true, false, List, [], ◌∷◌, ◌++◌, Option, None, Some, IsTrue}
-use Rattle.std.proofs.Common.{refl, sym, ap, subst, ⊎_elim, ◌∙◌, inl, inr}
+use Rattle.std.proofs.Common.{refl, sym, ap, ⊎_elim, ◌∙◌, inl, inr}
 use Rattle.std.specs.List.{list_any, Contains}
 use Rattle.std.specs.Option.{option_map_or}
 use Rattle.std.specs.FinMap as fin_map
@@ -21,8 +21,8 @@ use Rattle.posts.specs.Maps.{Map}
 use Rattle.grid_versions.specs.declared.reachers.Reacher.{Reacher}
 use Rattle.grid_versions.specs.Passing.{has_base, is_blocked}
 use Rattle.grid_versions.specs.inner.Painting.{is_covered}
-use Rattle.grid_versions.specs.inner.Reaching.{is_in_some, LiesWithin, NameChanges, OnlyAdds}
-use Rattle.grid_versions.specs.inner.Reachers.{blocks_under, HoldReachers, HoldUnpainted, IsReachNoted, HoldReached}
+use Rattle.grid_versions.specs.inner.Reaching.{is_in_some, LiesWithin, NameChanges, AreNamed, StillStands}
+use Rattle.grid_versions.specs.inner.Reachers.{blocks_under, HaveBlocked, HoldReachers, HoldUnpainted, IsReachNoted, HoldReached}
 use Rattle.grid_versions.proofs.PassingLemmas.{none_meets, any_none}
 
 -- ---- what stands under a number
@@ -113,62 +113,72 @@ unpainted_same map standing rect a b ids same holds = record {
 
 -- ---- obstructions that are added
 
--- where nothing stood under the listed numbers, all that has changed is that theirs were added
-pub only_adds : (map : Map) (before now : Standing) (rects : List Rect) (ids added : List ℕ)
-    → NameChanges map before now rects ids → added ≡ ids
-    → ((id : ℕ) → Contains added id → fin_map.get before id ≡ None) → OnlyAdds before now added
-only_adds map before now rects ids added names all none = record {
-  kept = λ id o stood. elim (names.each id) [
-    | inl same ↦ same ∙ stood
-    | inr named ↦
-        let nothing : fin_map.get before id ≡ None =
-        none id (subst (λ (xs : List ℕ). Contains xs id) (sym all) named.0) in
-        let apart : Some o ≡ None = sym stood ∙ nothing in absurd (cc)
-  ];
-  named = λ id o stands. elim (names.each id) [
-    | inl same ↦ inl (sym same ∙ stands)
-    | inr named ↦ inr (subst (λ (xs : List ℕ). Contains xs id) (sym all) named.0)
-  ];
-}
+-- where nothing stood under the numbers of the changes, what stood stands
+pub only_adds : (map : Map) (before now : Standing) (rects : List Rect) (ids : List ℕ)
+    → NameChanges map before now rects ids
+    → ((id : ℕ) → Contains ids id → fin_map.get before id ≡ None) → StillStands before now
+only_adds map before now rects ids names none = λ id o stood. elim (names.each id) [
+  | inl same ↦ same ∙ stood
+  | inr named ↦
+      let nothing : fin_map.get before id ≡ None = none id named.0 in
+      let apart : Some o ≡ None = sym stood ∙ nothing in absurd (cc)
+]
+
+-- where nothing stands under them, what stands stood
+pub only_removes : (map : Map) (before now : Standing) (rects : List Rect) (ids : List ℕ)
+    → NameChanges map before now rects ids
+    → ((id : ℕ) → Contains ids id → fin_map.get now id ≡ None) → StillStands now before
+only_removes map before now rects ids names none = λ id o stands. elim (names.each id) [
+  | inl same ↦ sym same ∙ stands
+  | inr named ↦
+      let nothing : fin_map.get now id ≡ None = none id named.0 in
+      let apart : Some o ≡ None = sym stands ∙ nothing in absurd (cc)
+]
 
 or_absorb : (b e n : Bool) → (e ≡ true → n ≡ true) → ((b || e) || n) ≡ (b || n)
 or_absorb true e n later = refl
 or_absorb false true n later = sym (later refl)
 or_absorb false false n later = refl
 
-module _ (map : Map) (earlier now : Standing) (added : List ℕ) (adds : OnlyAdds earlier now added) where
-  -- what was blocked is
-  stays_blocked : (k : ℕ) (cell : Cell) → is_blocked map earlier k cell ≡ true → is_blocked map now k cell ≡ true
-  stays_blocked k cell was = true_from_ne_false (is_blocked map now k cell) (λ none.
-      both_ways (is_blocked map earlier k cell)
-      (any_none (λ (entry : ℕ × Obstruction). blocks_class entry.1 map.classes k cell) (fin_map.entries earlier)
-      (λ entry listed.
-      none_meets (λ (e : ℕ × Obstruction). blocks_class e.1 map.classes k cell) (fin_map.entries now) none entry
-      ((Contains-entries now entry.0 entry.1).1
-      (adds.kept entry.0 entry.1 ((Contains-entries earlier entry.0 entry.1).0 listed)))))
-      was)
+-- what is blocked is where all of it stands
+stays_blocked : (map : Map) (one other : Standing) → StillStands one other → (k : ℕ) (cell : Cell)
+    → is_blocked map one k cell ≡ true → is_blocked map other k cell ≡ true
+stays_blocked map one other still k cell was = true_from_ne_false (is_blocked map other k cell) (λ none.
+    both_ways (is_blocked map one k cell)
+    (any_none (λ (entry : ℕ × Obstruction). blocks_class entry.1 map.classes k cell) (fin_map.entries one)
+    (λ entry listed.
+    none_meets (λ (e : ℕ × Obstruction). blocks_class e.1 map.classes k cell) (fin_map.entries other) none entry
+    ((Contains-entries other entry.0 entry.1).1
+    (still entry.0 entry.1 ((Contains-entries one entry.0 entry.1).0 listed)))))
+    was)
 
-  module _ (rect : Rect) (old : Cell → ℕ)
-      (bits : (k : ℕ) (cell : Cell) → IsInRect rect cell → has_class k (old cell) ≡ is_covered map earlier k cell) where
-    -- over numbers of before, the added ones are all that are left
-    pub added_unpainted : HoldUnpainted map now rect old added
-    added_unpainted = record {
-      all = λ id o stands k cell inside blocks. elim (adds.named id o stands) [
-        | inl stood ↦
-            inl (bits k cell inside
-            ∙ or_right (has_base map k cell) (is_blocked map earlier k cell)
-            (one_blocks map earlier k cell id o stood blocks))
-        | inr listed ↦ inr listed
-      ];
-    }
+module _ (map : Map) (earlier now : Standing) (rect : Rect) (old : Cell → ℕ)
+    (bits : (k : ℕ) (cell : Cell) → IsInRect rect cell → has_class k (old cell) ≡ is_covered map earlier k cell) where
+  -- over numbers of before, what stands under changed numbers is all that is left
+  pub changed_unpainted : (ids : List ℕ) → AreNamed earlier now ids → HoldUnpainted map now rect old ids
+  changed_unpainted ids named = record {
+    all = λ id o stands k cell inside blocks. elim (named id) [
+      | inl same ↦
+          inl (bits k cell inside
+          ∙ or_right (has_base map k cell) (is_blocked map earlier k cell)
+          (one_blocks map earlier k cell id o (sym same ∙ stands) blocks))
+      | inr listed ↦ inr listed
+    ];
+  }
 
-    -- a bit of before or of now
-    pub covered_now : (k : ℕ) (cell : Cell) → IsInRect rect cell
-        → (has_class k (old cell) || is_blocked map now k cell) ≡ is_covered map now k cell
-    covered_now k cell inside =
-        ap (λ b. b || is_blocked map now k cell) (bits k cell inside)
-        ∙ or_absorb (has_base map k cell) (is_blocked map earlier k cell) (is_blocked map now k cell)
-        (stays_blocked k cell)
+  -- where nothing was but removed, the numbers of before have all bits that are left
+  pub has_blocked : StillStands now earlier → HaveBlocked map now rect old
+  has_blocked removes k cell inside blocked =
+      bits k cell inside
+      ∙ or_right (has_base map k cell) (is_blocked map earlier k cell) (stays_blocked map now earlier removes k cell blocked)
+
+  -- a bit of before or of now
+  pub covered_now : StillStands earlier now → (k : ℕ) (cell : Cell) → IsInRect rect cell
+      → (has_class k (old cell) || is_blocked map now k cell) ≡ is_covered map now k cell
+  covered_now adds k cell inside =
+      ap (λ b. b || is_blocked map now k cell) (bits k cell inside)
+      ∙ or_absorb (has_base map k cell) (is_blocked map earlier k cell) (is_blocked map now k cell)
+      (stays_blocked map earlier now adds k cell)
 
 -- a list for a rectangle serves for a part of it
 pub HoldReachers-part : (map : Map) (standing : Standing) (rect part : Rect) (ids : List ℕ)

@@ -11,7 +11,7 @@ use crate::painting::{base_patches, painted_patches};
 use crate::reachers::{all_reachers, next_reachers};
 use crate::shared_list::SharedList;
 use crate::sites::Site;
-use crate::standing_edits::{Changes, numbers_added};
+use crate::standing_edits::{Changes, are_free};
 use nav_types::NoMemory;
 use navcell_grid::Patch;
 use obstruction_store::{Ids, Store};
@@ -68,7 +68,8 @@ impl Ground {
         ensures bits { IfOk result (λ next. AreDiffering self.now.cells next.0.cells next.1.items) }
     {
         let base = self.base.share(alloc)?;
-        let added = numbers_added(earlier, changes.ids);
+        let adds = are_free(earlier, changes.ids);
+        let removes = are_free(site.shapes, changes.ids);
         let reachers = next_reachers(alloc, site, &self.reachers, changes)?;
         let source = Source {
             site,
@@ -78,7 +79,9 @@ impl Ground {
         let before = Before {
             cells: &self.cells,
             reaches: changes.reaches,
-            added,
+            ids: changes.ids,
+            adds,
+            removes,
         };
         let (cells, changed) = next_patches(alloc, &source, &before)?;
         let ground = Ground {

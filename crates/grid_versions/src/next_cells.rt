@@ -18,7 +18,7 @@ ghost use Rattle.grid_versions.specs.inner.Reaching.{AreBefore, IsCoveredBefore}
 
 use crate::chunk_cells::ChunkCells;
 use crate::dirty_parts::dirty_part;
-use crate::painting::{Paint, repainted};
+use crate::painting::{Paint, repainted, repainted_below};
 use crate::shared_list::SharedList;
 use crate::sites::Site;
 use nav_types::{NoMemory, Rect};
@@ -36,24 +36,29 @@ pub struct Source<'a> {
     pub reachers: &'a SharedList<Ids>,
 }
 
-/// The numbers of before, with the rectangles that cover what has changed since, and with the numbers of what was added,
-/// where nothing else has changed; else with none.
+/// The numbers of before, with the rectangles that cover what has changed since, and with the numbers of what has.
 #[derive(Drop)]
 pub struct Before<'a> {
     pub cells: &'a SharedList<ChunkCells>,
     pub reaches: &'a [Rect],
-    pub added: &'a [u32],
+    pub ids: &'a [u32],
+    /// Whether nothing was but added.
+    pub adds: bool,
+    /// Whether nothing was but removed.
+    pub removes: bool,
 }
 
-/// A copy of the old numbers of a chunk's cells in which the cells of a part have their numbers of now. Where the list
-/// of what was added has numbers, nothing else has changed, and these alone are painted over the old numbers, unless
-/// fewer obstructions reach into the chunk.
+/// A copy of the old numbers of a chunk's cells in which the cells of a part have their numbers of now.
+///
+/// Where nothing was but removed, no cell has a bit that it had not, so that the part is painted anew only until it is as
+/// it was. Else what has changed is painted over the old numbers first, and where nothing was but added, that is all.
+/// Where fewer obstructions reach into the chunk than have changed, these are painted alone.
 fn next_numbers(
     alloc: Global,
     site: &Site<'_>,
     whole: &Paint<'_>,
     old: &Patch,
-    added: &[u32],
+    before: &Before<'_>,
     part: Rect,
 ) -> Result<Patch, NoMemory>
     requires fit { AllFit site.now.map.now.size site.now.shapes.now }
@@ -61,7 +66,7 @@ fn next_numbers(
         → has_class k (number_of whole.now.base.now cell) ≡ has_base site.now.map.now k cell }
     requires same { whole.now.base.now.rect ≡ old.now.rect }
     requires near { HoldReachers site.now.map.now site.now.shapes.now part whole.now.near.now }
-    requires before { IsCoveredBefore site.now.map.now site.now.shapes.now part old.now added.now }
+    requires before { IsCoveredBefore site.now.map.now site.now.shapes.now part old.now before.now.ids.now before.now.adds before.now.removes }
     requires inside { IsRectInside site.now.map.now.size part }
     requires part { IsPartOf old.now.rect part }
     ensures rect { IfOk result (λ patch. patch.rect ≡ old.now.rect) }
@@ -71,14 +76,21 @@ fn next_numbers(
     ensures others { IfOk result (λ patch. (cell : Cell) → IsInRect old.now.rect cell → ¬ IsInRect part cell
         → number_of patch cell ≡ number_of old.now cell) }
 {
-    if !added.is_empty() && added.len() <= whole.near.len() {
-        let more = Paint {
-            base: old,
-            near: added,
-        };
-        return repainted(alloc, site, &more, old, part);
+    if before.removes {
+        return repainted_below(alloc, site, whole, old, part);
     }
-    repainted(alloc, site, whole, old, part)
+    if before.ids.len() > whole.near.len() {
+        return repainted(alloc, site, whole, old, part);
+    }
+    let more = Paint {
+        base: old,
+        near: before.ids,
+    };
+    let most = repainted(alloc, site, &more, old, part)?;
+    if before.adds {
+        return Ok(most);
+    }
+    repainted_below(alloc, site, whole, &most, part)
 }
 
 /// The numbers of one chunk's cells under the obstructions of now, and the bits that differ from those of before. Only
@@ -92,7 +104,7 @@ fn next_patch(
     requires fit { AllFit source.now.site.now.map.now.size source.now.site.now.shapes.now }
     requires base { AreBaseChunks source.now.site.now.map.now source.now.base.now }
     requires reachers { AreReachers source.now.site.now.map.now source.now.site.now.shapes.now source.now.reachers.now }
-    requires before { AreBefore source.now.site.now.map.now source.now.site.now.shapes.now before.now.cells.now before.now.reaches.now before.now.added.now }
+    requires before { AreBefore source.now.site.now.map.now source.now.site.now.shapes.now before.now.cells.now before.now.reaches.now before.now.ids.now before.now.adds before.now.removes }
     requires place { place < chunk_count source.now.site.now.map.now.size }
     ensures painted { IfOk result (λ next. IsPaintedChunk source.now.site.now.map.now source.now.site.now.shapes.now (chunk_numbered source.now.site.now.map.now.size place)
         (arc_value next.0)) }
@@ -110,7 +122,7 @@ fn next_patch(
         near: near.as_slice(),
     };
     let site = source.site;
-    let patch = next_numbers(alloc, site, &whole, old, before.added, part)?;
+    let patch = next_numbers(alloc, site, &whole, old, before, part)?;
     let bits = old.differs_in(&patch, part);
     if bits == 0 {
         return Ok((before.cells.shared(place)?, 0));
@@ -129,7 +141,7 @@ pub fn next_patches(
     requires fit { AllFit source.now.site.now.map.now.size source.now.site.now.shapes.now }
     requires base { AreBaseChunks source.now.site.now.map.now source.now.base.now }
     requires reachers { AreReachers source.now.site.now.map.now source.now.site.now.shapes.now source.now.reachers.now }
-    requires before { AreBefore source.now.site.now.map.now source.now.site.now.shapes.now before.now.cells.now before.now.reaches.now before.now.added.now }
+    requires before { AreBefore source.now.site.now.map.now source.now.site.now.shapes.now before.now.cells.now before.now.reaches.now before.now.ids.now before.now.adds before.now.removes }
     ensures painted { IfOk result (λ next. ArePaintedChunks source.now.site.now.map.now source.now.site.now.shapes.now next.0) }
     ensures bits { IfOk result (λ next. AreDiffering before.now.cells.now next.0 next.1.items) }
 {

@@ -1,5 +1,5 @@
 //! The numbers of a map's cells, chunk by chunk, from its base rectangles and its obstructions.
-ghost use Rattle.std.specs.Prelude.{ℕ, ◌≡◌, ◌<◌, ◌*◌, ◌||◌, length, IfOk};
+ghost use Rattle.std.specs.Prelude.{ℕ, ◌≡◌, ◌<◌, ◌*◌, ◌||◌, length, IfOk, IsTrue};
 ghost use Rattle.nav_types.specs.declared.cells.Cell.{Cell};
 ghost use Rattle.nav_types.specs.Cells.{IsInRect, IsRectInside};
 ghost use Rattle.nav_types.specs.Numbering.{IsPatch, columns, rows, number_of};
@@ -12,7 +12,7 @@ ghost use Rattle.clearance_raster.specs.inner.TestRasters.{IsRasterIn};
 ghost use Rattle.obstruction_store.specs.Standing.{AllFit};
 ghost use Rattle.grid_versions.specs.Passing.{is_blocked};
 ghost use Rattle.grid_versions.specs.inner.Painting.{AreBaseChunks, ArePaintedChunks};
-ghost use Rattle.grid_versions.specs.inner.Reachers.{blocks_under, HoldUnpainted, AreReachers};
+ghost use Rattle.grid_versions.specs.inner.Reachers.{blocks_under, HaveBlocked, HoldUnpainted, AreReachers};
 
 use crate::base_grids::base_grid;
 use crate::chunk_cells::ChunkCells;
@@ -26,6 +26,9 @@ use obstruction_shapes::Obstruction;
 use obstruction_store::Ids;
 use posts::MapSpec;
 use std::alloc::Global;
+
+/// After how many obstructions it is looked at first whether others have anything left to set.
+const FIRST_LOOK: usize = 32;
 
 /// What a part of a chunk is painted from: numbers to begin with, and the numbers of the obstructions whose bits are to
 /// be set.
@@ -126,6 +129,68 @@ pub fn repainted(
     paint_shapes(&mut patch, part, site, paint.near);
     let _ = patch.rect();
     Ok(patch)
+}
+
+/// The same from other numbers, which have each bit that an obstruction sets in the part. No obstruction is painted once
+/// the part is like them, so that few are where they cover one another.
+pub fn repainted_below(
+    alloc: Global,
+    site: &Site<'_>,
+    paint: &Paint<'_>,
+    most: &Patch,
+    part: Rect,
+) -> Result<Patch, NoMemory>
+    requires fit { AllFit site.now.map.now.size site.now.shapes.now }
+    requires near { HoldUnpainted site.now.map.now site.now.shapes.now part (number_of paint.now.base.now) paint.now.near.now }
+    requires base { paint.now.base.now.rect ≡ most.now.rect }
+    requires inside { IsRectInside site.now.map.now.size part }
+    requires part { IsPartOf most.now.rect part }
+    requires most { HaveBlocked site.now.map.now site.now.shapes.now part (number_of most.now) }
+    ensures rect { IfOk result (λ patch. patch.rect ≡ most.now.rect) }
+    ensures whole { IfOk result (λ patch. length patch.numbers ≡ columns patch.rect * rows patch.rect) }
+    ensures bits { IfOk result (λ patch. (k : ℕ) (cell : Cell) → IsInRect part cell
+        → has_class k (number_of patch cell)
+        ≡ (has_class k (number_of paint.now.base.now cell) || is_blocked site.now.map.now site.now.shapes.now k cell)) }
+    ensures others { IfOk result (λ patch. (cell : Cell) → IsInRect most.now.rect cell → ¬ IsInRect part cell
+        → number_of patch cell ≡ number_of most.now cell) }
+{
+    let mut patch = most.copy(alloc)?;
+    patch.copy_rect(paint.base, part);
+    paint_below(&mut patch, part, site, paint.near, most);
+    let _ = patch.rect();
+    Ok(patch)
+}
+
+/// Sets the bits of all obstructions in a part of a patch, until it is like another one, which has all these bits. The
+/// list has the obstructions that reach into the part, but for those that have set their bits already.
+fn paint_below(patch: &mut Patch, part: Rect, site: &Site<'_>, near: &[u32], most: &Patch)
+    requires fit { AllFit site.now.map.now.size site.now.shapes.now }
+    requires near { HoldUnpainted site.now.map.now site.now.shapes.now part (number_of patch.old) near.now }
+    requires inside { IsRectInside site.now.map.now.size part }
+    requires part { IsPartOf patch.old.rect part }
+    requires other { IsPartOf most.now.rect part }
+    requires most { HaveBlocked site.now.map.now site.now.shapes.now part (number_of most.now) }
+    ensures rect { patch.new.rect ≡ patch.old.rect }
+    ensures set { IsRasterIn patch.old.rect part (is_blocked site.now.map.now site.now.shapes.now)
+        (number_of patch.old) (number_of patch.new) }
+{
+    for (index, id) in near.iter().enumerate() {
+        if is_painted(patch, part, most, index) {
+            return;
+        }
+        paint_listed(patch, part, *id, site);
+    }
+}
+
+/// Whether a part of a patch is like that of another one. That is looked at after so many obstructions, twice as many,
+/// four times and so on, so that it costs little beside the painting.
+fn is_painted(patch: &Patch, part: Rect, most: &Patch, index: usize) -> bool
+    requires part { IsPartOf patch.now.rect part }
+    requires other { IsPartOf most.now.rect part }
+    ensures { IsTrue result → (k : ℕ) (cell : Cell) → IsInRect part cell
+        → has_class k (number_of patch.now cell) ≡ has_class k (number_of most.now cell) }
+{
+    index >= FIRST_LOOK && index.is_power_of_two() && patch.differs_in(most, part) == 0
 }
 
 /// Sets the bits of all obstructions in a part of a patch. The list has those that reach into it, but for those that

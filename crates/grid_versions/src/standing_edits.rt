@@ -1,5 +1,5 @@
 //! Edits applied to the standing obstructions.
-ghost use Rattle.std.specs.Prelude.{ℕ, ◌≡◌, ◌<◌, ◌++◌, option_to_list, None, Contains, length, IfOk, OnOk};
+ghost use Rattle.std.specs.Prelude.{ℕ, ◌≡◌, ◌++◌, option_to_list, None, Contains, IfOk, IsTrue, OnOk};
 ghost use Rattle.std.specs.FinMap as fin_map;
 ghost use Rattle.obstruction_store.specs.Standing.{Standing, AllFit};
 ghost use Rattle.grid_versions.specs.Fitting.{fits};
@@ -84,17 +84,16 @@ pub fn reach_under(map: &MapSpec, shapes: &Store, id: u32) -> Option<Rect>
     reach_of(obstruction, map.classes(), map.size())
 }
 
-/// The numbers, where nothing stands under any of them; else none of them.
-pub fn numbers_added<'a>(shapes: &Store, ids: &'a [u32]) -> &'a [u32]
-    ensures all { 0 < length result.now → result.now ≡ ids.now }
-    ensures added { (id : ℕ) → Contains result.now id → fin_map.get shapes.now id ≡ None }
+/// Whether nothing stands under any of the numbers. It says so only where it is.
+pub fn are_free(shapes: &Store, ids: &[u32]) -> bool
+    ensures { IsTrue result → (id : ℕ) → Contains ids.now id → fin_map.get shapes.now id ≡ None }
 {
     for id in ids {
         if shapes.get(*id).is_some() {
-            return &ids[..0];
+            return false;
         }
     }
-    ids
+    true
 }
 
 /// Appends the rectangle, if there is one.

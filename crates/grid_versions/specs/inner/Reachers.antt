@@ -13,6 +13,7 @@ use Rattle.clearance_raster.specs.Rasters.{blocks_class}
 use Rattle.obstruction_store.specs.Standing.{Standing}
 use Rattle.posts.specs.Maps.{Map}
 use Rattle.grid_versions.specs.declared.reachers.Reacher.{Reacher}
+use Rattle.grid_versions.specs.Passing.{is_blocked}
 use Rattle.grid_versions.specs.Chunks.{chunk_count}
 use Rattle.grid_versions.specs.inner.ChunkLists.{AreOfChunks}
 use Rattle.grid_versions.specs.inner.Reaching.{LiesWithin, NameChanges}
@@ -44,6 +45,11 @@ pub record HoldUnpainted (map : Map) (standing : Standing) (rect : Rect) (number
   pub all : (id : ℕ) (obstruction : Obstruction) → fin_map.get standing id ≡ Some obstruction → (k : ℕ) (cell : Cell)
       → IsInRect rect cell → IsTrue (blocks_class obstruction map.classes k cell)
       → IsTrue (has_class k (numbers cell)) ⊎ Contains ids id
+
+-- the numbers have each bit that an obstruction sets in the rectangle
+abbrev pub HaveBlocked : Map → Standing → Rect → (Cell → ℕ) → Type 0
+HaveBlocked map standing rect numbers = (k : ℕ) (cell : Cell) → IsInRect rect cell
+    → IsTrue (is_blocked map standing k cell) → IsTrue (has_class k (numbers cell))
 
 -- the lists of all chunks under some earlier obstructions, with the rectangles and the numbers of what has changed since
 pub record AreReachersBefore (map : Map) (now : Standing) (all : List (List ℕ)) (rects : List Rect) (ids : List ℕ)

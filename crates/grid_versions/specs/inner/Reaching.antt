@@ -1,5 +1,5 @@
 -- Rectangles that cover what edits change.
-use Rattle.std.specs.Prelude.{ℕ, ◌≡◌, ◌⊎◌, ◌<◌, Bool, List, length, Option, Some, Contains, IsTrue, IsFalse, IsSomeAnd}
+use Rattle.std.specs.Prelude.{ℕ, ◌≡◌, ◌⊎◌, Bool, List, Option, Some, Contains, IsTrue, IsFalse, IsSomeAnd}
 use Rattle.std.specs.List.{list_any}
 use Rattle.std.specs.FinMap as fin_map
 use Rattle.nav_types.specs.declared.cells.Cell.{Cell}
@@ -42,26 +42,33 @@ pub record NameChanges (map : Map) (before now : Standing) (rects : List Rect) (
   pub each : (id : ℕ)
       → (fin_map.get now id ≡ fin_map.get before id) ⊎ (Contains ids id × LiesWithin map now id rects)
 
--- What stood stands, and what stands now stood, or the list has its number.
-pub record OnlyAdds (before now : Standing) (ids : List ℕ) : Type 0 where
-  pub kept : (id : ℕ) (obstruction : Obstruction) → fin_map.get before id ≡ Some obstruction
-      → fin_map.get now id ≡ Some obstruction
-  pub named : (id : ℕ) (obstruction : Obstruction) → fin_map.get now id ≡ Some obstruction
-      → (fin_map.get before id ≡ Some obstruction) ⊎ Contains ids id
+-- under each number stands what stood before, or the list has the number
+abbrev pub AreNamed : Standing → Standing → List ℕ → Type 0
+AreNamed before now ids = (id : ℕ) → (fin_map.get now id ≡ fin_map.get before id) ⊎ Contains ids id
 
--- the bits of the rectangle's cells say what was covered under some earlier obstructions, to which some were added, if
--- the list has numbers
-pub record IsCoveredBefore (map : Map) (now : Standing) (rect : Rect) (old : Numbering) (added : List ℕ) : Type 0 where
+-- what stands in the one stands in the other
+abbrev pub StillStands : Standing → Standing → Type 0
+StillStands one other = (id : ℕ) (obstruction : Obstruction) → fin_map.get one id ≡ Some obstruction
+    → fin_map.get other id ≡ Some obstruction
+
+-- the bits of the rectangle's cells say what was covered under some earlier obstructions; the list has the numbers of what
+-- has changed since; where `adds` holds, nothing was but added, and where `removes` does, nothing was but removed
+pub record IsCoveredBefore (map : Map) (now : Standing) (rect : Rect) (old : Numbering) (ids : List ℕ)
+    (adds removes : Bool) : Type 0 where
   pub earlier : Standing
   pub bits : (k : ℕ) (cell : Cell) → IsInRect rect cell
       → has_class k (number_of old cell) ≡ is_covered map earlier k cell
-  pub adds : 0 < length added → OnlyAdds earlier now added
+  pub named : AreNamed earlier now ids
+  pub only_adds : IsTrue adds → StillStands earlier now
+  pub only_removes : IsTrue removes → StillStands now earlier
 
 -- the numbers of all chunks under some earlier obstructions, with rectangles that cover what has changed since, and with
--- the numbers of what was added, where nothing else has changed
-pub record AreBefore (map : Map) (now : Standing) (cells : List Numbering) (rects : List Rect) (added : List ℕ)
-    : Type 0 where
+-- the numbers of what has; where `adds` holds, nothing was but added, and where `removes` does, nothing was but removed
+pub record AreBefore (map : Map) (now : Standing) (cells : List Numbering) (rects : List Rect) (ids : List ℕ)
+    (adds removes : Bool) : Type 0 where
   pub earlier : Standing
   pub painted : ArePaintedChunks map earlier cells
   pub covered : CoverChanges map earlier now rects
-  pub adds : 0 < length added → OnlyAdds earlier now added
+  pub named : AreNamed earlier now ids
+  pub only_adds : IsTrue adds → StillStands earlier now
+  pub only_removes : IsTrue removes → StillStands now earlier

@@ -1,44 +1,47 @@
-use Rattle.std.proofs.Common.{ℕ, ◌≡◌, ◌∙◌, ◌<◌, ◌==◌, ◌||◌, false, Result, Ok, Err, length, sym, arith}
-use Rattle.std.proofs.lemmas.Bool.{eqb-false}
-use Rattle.std.specs.Prelude.{IfOk}
-use Rattle.nav_types.specs.declared.cells.Cell.{Cell}
-use Rattle.nav_types.specs.Cells.{IsInRect}
-use Rattle.nav_types.specs.Numbering.{Numbering, number_of}
+use Rattle.std.proofs.Common.{◌∙◌}
+use Rattle.std.proofs.lemmas.Bool.{or_right}
+use Rattle.nav_types.specs.Numbering.{number_of}
 use Rattle.lane_rows.specs.Rows.{has_class}
 use Rattle.grid_versions.specs.Passing.{is_blocked}
-use Rattle.grid_versions.specs.inner.Painting.{is_covered}
-use Rattle.grid_versions.proofs.ReacherLemmas.{added_unpainted, covered_now}
+use Rattle.grid_versions.proofs.ReacherLemmas.{all_unpainted, changed_unpainted, covered_now, has_blocked}
 use Rattle.grid_versions.proofs.next_cells.next_numbers.Goals as goal
-
--- what holds of each patch that is made
-if_made : {E : Type 0} (P Q : Numbering → Type 0) (made : Result Numbering E) → ((patch : Numbering) → P patch → Q patch)
-    → IfOk made P → IfOk made Q
-if_made P Q (Ok patch) each is = each patch is
-if_made P Q (Err error) each is = is
-
-not_none : (n : ℕ) → (n == 0) ≡ false → 0 < n
-not_none n apart = let none = eqb-false n 0 apart in omega arith
 
 pub repainted-requires-clause-near : goal.repainted-requires-clause-near
 repainted-requires-clause-near c =
-    let before = c.requires.before in
-    added_unpainted c.args.site.now.map.now before.earlier c.args.site.now.shapes.now c.args.added.now
-    (before.adds (not_none (length c.args.added.now) (sym c.is_empty.ensures ∙ c.if-not-is_empty.true))) c.args.part
-    (number_of c.args.old.now) before.bits
+    all_unpainted c.args.site.now.map.now c.args.site.now.shapes.now c.args.part (number_of c.args.whole.now.base.now)
+    c.args.whole.now.near.now c.requires.near
 
-pub returns-then-added-whole-clause-bits : goal.returns-then-added-whole-clause-bits
-returns-then-added-whole-clause-bits c =
-    let map = c.args.site.now.map.now in let now = c.args.site.now.shapes.now in
+pub repainted-requires-2-clause-near : goal.repainted-requires-2-clause-near
+repainted-requires-2-clause-near c =
     let before = c.requires.before in
-    let part = c.args.part in
-    let old = number_of c.args.old.now in
-    let adds = before.adds (not_none (length c.args.added.now) (sym c.is_empty.ensures ∙ c.if-not-is_empty.true)) in
-    if_made
-    (λ patch. (k : ℕ) (cell : Cell) → IsInRect part cell
-    → has_class k (number_of patch cell) ≡ (has_class k (old cell) || is_blocked map now k cell))
-    (λ patch. (k : ℕ) (cell : Cell) → IsInRect part cell
-    → has_class k (number_of patch cell) ≡ is_covered map now k cell)
-    c.repainted.result
-    (λ patch bits k cell inside. bits k cell inside
-    ∙ covered_now map before.earlier now c.args.added.now adds part old before.bits k cell inside)
-    c.repainted.ensures.bits
+    changed_unpainted c.args.site.now.map.now before.earlier c.args.site.now.shapes.now c.args.part
+    (number_of c.args.old.now) before.bits c.args.before.now.ids.now before.named
+
+pub repainted_below-requires-clause-most : goal.repainted_below-requires-clause-most
+repainted_below-requires-clause-most c =
+    let before = c.requires.before in
+    has_blocked c.args.site.now.map.now before.earlier c.args.site.now.shapes.now c.args.part (number_of c.args.old.now)
+    before.bits (before.only_removes c.if-before.true)
+
+pub repainted_below-requires-clause-near : goal.repainted_below-requires-clause-near
+repainted_below-requires-clause-near c =
+    all_unpainted c.args.site.now.map.now c.args.site.now.shapes.now c.args.part (number_of c.args.whole.now.base.now)
+    c.args.whole.now.near.now c.requires.near
+
+pub repainted_below-requires-2-clause-near : goal.repainted_below-requires-2-clause-near
+repainted_below-requires-2-clause-near c =
+    all_unpainted c.args.site.now.map.now c.args.site.now.shapes.now c.args.part (number_of c.args.whole.now.base.now)
+    c.args.whole.now.near.now c.requires.near
+
+pub repainted_below-requires-2-clause-most : goal.repainted_below-requires-2-clause-most
+repainted_below-requires-2-clause-most c = λ k cell inside blocked.
+    c.in_ok-most.ensures.bits k cell inside
+    ∙ or_right (has_class k (number_of c.args.old.now cell))
+    (is_blocked c.args.site.now.map.now c.args.site.now.shapes.now k cell) blocked
+
+pub returns-then-before-2-clause-bits : goal.returns-then-before-2-clause-bits
+returns-then-before-2-clause-bits c = λ k cell inside.
+    let before = c.requires.before in
+    c.in_ok-most.ensures.bits k cell inside
+    ∙ covered_now c.args.site.now.map.now before.earlier c.args.site.now.shapes.now c.args.part (number_of c.args.old.now)
+    before.bits (before.only_adds c.if-before-2.true) k cell inside

@@ -69,7 +69,9 @@ next_numbers-requires-clause-before c =
     record {
       earlier = before.earlier;
       bits = λ k cell inside. was.bits k cell (in_whole old.rect part cell within inside);
-      adds = before.adds;
+      named = before.named;
+      only_adds = before.only_adds;
+      only_removes = before.only_removes;
     }
 
 pub next_numbers-requires-clause-inside : goal.next_numbers-requires-clause-inside

@@ -1,7 +1,7 @@
-use Rattle.std.proofs.Common.{List, sym, subst}
+use Rattle.std.proofs.Common.{List, inl, inr, sym, subst}
 use Rattle.nav_types.specs.Numbering.{Numbering}
 use Rattle.grid_versions.specs.inner.Painting.{AreBaseChunks}
-use Rattle.grid_versions.proofs.ReacherLemmas.{only_adds}
+use Rattle.grid_versions.proofs.ReacherLemmas.{only_adds, only_removes}
 use Rattle.grid_versions.proofs.ground.Ground.updated.Goals as goal
 
 pub next_reachers-requires-clause-before : goal.next_reachers-requires-clause-before
@@ -13,8 +13,14 @@ next_patches-requires-clause-before c = record {
   earlier = c.args.earlier.now;
   painted = c.requires.cells;
   covered = c.requires.covers;
-  adds = λ some. only_adds c.args.site.now.map.now c.args.earlier.now c.args.site.now.shapes.now c.args.changes.now.reaches.now c.args.changes.now.ids.now
-      c.numbers_added-added.result.now c.requires.names (c.numbers_added-added.ensures.all some) c.numbers_added-added.ensures.added;
+  named = λ id. elim (c.requires.names.each id) [
+    | inl same ↦ inl same
+    | inr was ↦ inr was.0
+  ];
+  only_adds = λ free. only_adds c.args.site.now.map.now c.args.earlier.now c.args.site.now.shapes.now c.args.changes.now.reaches.now
+      c.args.changes.now.ids.now c.requires.names (c.are_free-adds.ensures free);
+  only_removes = λ free. only_removes c.args.site.now.map.now c.args.earlier.now c.args.site.now.shapes.now
+      c.args.changes.now.reaches.now c.args.changes.now.ids.now c.requires.names (c.are_free-removes.ensures free);
 }
 
 pub returns-clause-base : goal.returns-clause-base

@@ -1,6 +1,6 @@
 use Rattle.std.proofs.Common.{ℕ, ◌<◌, ◌≡◌, None, get_or}
 use Rattle.std.specs.FinMap as fin_map
-use Rattle.grid_versions.proofs.standing_edits.numbers_added.Given as goal
+use Rattle.grid_versions.proofs.standing_edits.are_free.Given as goal
 
 -- nothing stands under the numbers before `id-index`
 abbrev pub invariant-loop-id : goal.invariant-loop-id
