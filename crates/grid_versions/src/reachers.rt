@@ -1,5 +1,5 @@
 //! The numbers of the obstructions that reach into each chunk.
-ghost use Rattle.std.specs.Prelude.{ℕ, ◌≡◌, ◌⊎◌, ◌<◌, Some, Contains, length, IfOk, OnOk};
+ghost use Rattle.std.specs.Prelude.{ℕ, ◌≡◌, ◌⊎◌, ◌<◌, Some, Contains, length, IfOk, IsTrue, OnOk};
 ghost use Rattle.std.specs.Arc.{arc_value};
 ghost use Rattle.std.specs.FinMap as fin_map;
 ghost use Rattle.nav_types.specs.declared.cells.Cell.{Cell};
@@ -55,7 +55,7 @@ fn reachers_of(alloc: Global, site: &Site<'_>, ids: &[u32]) -> Result<Vec<Reache
     Ok(reachers)
 }
 
-/// Appends the number, if it is not listed and its cells meet the rectangle.
+/// Appends the number, if its cells meet the rectangle.
 fn list_reacher(rect: Rect, reacher: Reacher, ids: &mut Ids) -> Result<(), NoMemory>
     ensures kept { OnOk result ((n : ℕ) → Contains ids.old n → Contains ids.new n) }
     ensures listed { OnOk result ((cell : Cell) → IsInRect reacher.rect cell → IsInRect rect cell
@@ -64,14 +64,11 @@ fn list_reacher(rect: Rect, reacher: Reacher, ids: &mut Ids) -> Result<(), NoMem
     if !reacher.rect.meets(rect) {
         return Ok(());
     }
-    if ids.as_slice().contains(&reacher.id) {
-        return Ok(());
-    }
     ids.push(reacher.id)?;
     Ok(())
 }
 
-/// Appends the numbers whose cells meet the rectangle, each once.
+/// Appends the numbers whose cells meet the rectangle. A number that stands once among the reachers is appended once.
 fn list_reachers(rect: Rect, reachers: &[Reacher], ids: &mut Ids) -> Result<(), NoMemory>
     ensures kept { OnOk result ((n : ℕ) → Contains ids.old n → Contains ids.new n) }
     ensures listed { OnOk result ((id : ℕ) (cell : Cell) → IsReachNoted reachers.now id cell
@@ -93,19 +90,40 @@ fn reachers_in(alloc: Global, reachers: &[Reacher], rect: Rect) -> Result<Ids, N
     Ok(ids)
 }
 
-/// Appends the number, if it is not among the changed ones.
+/// Whether the number is among the others, which rise. It is only where the answer says so.
+fn is_among(id: u32, rising: &[u32]) -> bool
+    ensures { IsTrue result → Contains rising.now id }
+{
+    match rising.binary_search(&id) {
+        Ok(place) => rising[place] == id,
+        Err(_) => false,
+    }
+}
+
+/// The numbers in rising order, each once, so that one of them is found soon.
+fn rising_ids(alloc: Global, ids: &[u32]) -> Result<Vec<u32>, NoMemory>
+    ensures { IfOk result (λ rising. (id : ℕ) → Contains ids.now id → Contains rising.items id) }
+{
+    let mut rising = Vec::with_capacity(alloc, ids.len())?;
+    rising.extend_from_slice(ids)?;
+    rising.sort_unstable();
+    rising.dedup();
+    Ok(rising)
+}
+
+/// Appends the number, if it is not among the changed ones, which rise.
 fn keep_id(id: u32, changed: &[u32], kept: &mut Ids) -> Result<(), NoMemory>
     ensures kept { OnOk result ((n : ℕ) → Contains kept.old n → Contains kept.new n) }
     ensures either { OnOk result (Contains changed.now id ⊎ Contains kept.new id) }
 {
-    if changed.contains(&id) {
+    if is_among(id, changed) {
         return Ok(());
     }
     kept.push(id)?;
     Ok(())
 }
 
-/// The numbers of a list that are not among the changed ones.
+/// The numbers of a list that are not among the changed ones, which rise.
 fn unchanged_ids(alloc: Global, ids: &[u32], changed: &[u32]) -> Result<Ids, NoMemory>
     ensures { IfOk result (λ kept. (id : ℕ) → Contains ids.now id
         → Contains changed.now id ⊎ Contains kept id) }
@@ -187,11 +205,16 @@ pub fn next_reachers(
     ensures { IfOk result (AreReachers site.now.map.now site.now.shapes.now) }
 {
     let size = site.map.size();
-    let changed = reachers_of(alloc, site, changes.ids)?;
+    let rising = rising_ids(alloc, changes.ids)?;
+    let named = Changes {
+        reaches: changes.reaches,
+        ids: &rising,
+    };
+    let changed = reachers_of(alloc, site, named.ids)?;
     let count = chunks::count(size);
     let mut all = SharedList::with_capacity(alloc, count as usize)?;
     for place in 0..count {
-        let made = reachers_at(alloc, size, before, changes, &changed, place)?;
+        let made = reachers_at(alloc, size, before, &named, &changed, place)?;
         all.push_shared(alloc, made)?;
     }
     Ok(all)

@@ -1,6 +1,7 @@
 use Rattle.std.proofs.Common.{◌≡◌, ◌+◌, ◌∙◌, ℕ, List, inl, inr, ap, sym, subst}
 use Rattle.std.proofs.Common.{arith}
 use Rattle.std.specs.Arc.{arc_value}
+use Rattle.std.specs.List.{Contains}
 use Rattle.nav_types.specs.declared.cells.Size.{Size}
 use Rattle.grid_versions.specs.declared.reachers.Reacher.{Reacher}
 use Rattle.grid_versions.specs.Chunks.{chunk_count}
@@ -19,14 +20,19 @@ loop-place-preserved c =
     let place = c.loop-place.place in
     let made = arc_value c.in_ok-made.made in
     let before = c.requires.before in
-    let since : AreReachersSince map now c.args.before.now c.args.changes.now.reaches.now c.args.changes.now.ids.now c.deref.result.now =
-    subst (λ (changed : List Reacher). AreReachersSince map now c.args.before.now c.args.changes.now.reaches.now c.args.changes.now.ids.now changed)
-    (sym c.deref.ensures.value) (record {
+    let rising = c.deref.result.now in
+    let since : AreReachersSince map now c.args.before.now c.args.changes.now.reaches.now rising c.deref-in-loop-place.result.now =
+    subst (λ (changed : List Reacher). AreReachersSince map now c.args.before.now c.args.changes.now.reaches.now rising changed)
+    (sym c.deref-in-loop-place.ensures.value) (record {
       earlier = before.earlier;
       lists = before.lists;
       each = λ id. elim (before.named.each id) [
         | inl same ↦ inl same
-        | inr was ↦ inr (c.in_ok-changed.ensures id was.0, was.1)
+        | inr was ↦ inr (
+          c.in_ok-changed.ensures id (subst (λ (ids : List ℕ). Contains ids id) (sym c.deref.ensures.value)
+              (c.in_ok-rising.ensures id was.0)),
+          was.1,
+        )
       ];
       named = c.in_ok-changed.ensures;
     }) in
