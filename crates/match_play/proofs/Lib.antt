@@ -2,3 +2,4 @@ pub mod Walked
 pub mod Playing
 pub mod Fits
 pub mod Notes
+pub mod Posting

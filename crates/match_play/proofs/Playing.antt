@@ -23,7 +23,7 @@ use Rattle.match_play.specs.declared.states.Course.{Course}
 use Rattle.match_play.specs.declared.faults.MatchFault.{MatchFault}
 use Rattle.match_play.specs.declared.faults.MatchFault.TheVariants as fault
 use Rattle.match_play.specs.Texts.{Said, unsaid, Says, Gives, IsText, stop_text, ends_text, IsOut}
-use Rattle.match_play.specs.Playing.{said_of, stop_of, HasRead, told_stop, HasPlayed, IsLinesText, IsStopText, FeedTold, Plays, FeedPlays}
+use Rattle.match_play.specs.Playing.{said_of, stop_of, HasRead, told_stop, HasPlayed, IsLinesText, IsStopText, FeedTold, Plays, FeedPlays, HasTaken}
 use Rattle.match_play.specs.inner.Fitting.{IsStopped, Tells, fault_of, stop_in}
 
 -- ---- texts
@@ -363,4 +363,12 @@ feed_then a b c x y z result p f = record {
       subst (λ (r : Report). FeedTold r result (fed ++ (p.taken ++ f.plays.taken)) (told ++ (p.text ++ f.plays.text))) p.report
       (subst (λ (l : List ℕ). FeedTold b.report result l (told ++ (p.text ++ f.plays.text))) (append_assoc fed p.taken f.plays.taken)
       (subst (λ (l : List ℕ). FeedTold b.report result ((fed ++ p.taken) ++ f.plays.taken) l) (append_assoc told p.text f.plays.text) here));
+}
+
+-- the text that waits was taken
+pub taken_away : (a : Course) → HasTaken a (record a { waiting = [] })
+taken_away a = record {
+  waits = refl;
+  report = refl;
+  played = λ fed told h. record { items = h.items; text = h.text; read = h.read; gives = h.gives; all = h.all };
 }

@@ -1,3 +1,4 @@
 pub mod Texts
 pub mod Playing
+pub mod Posted
 pub mod inner

@@ -1,7 +1,7 @@
 -- What a match has been fed with, what it has told, and how the one goes with the other.
 use Rattle.std.specs.Prelude.{ℕ, ◌≡◌, List, [], ◌∷◌, ◌++◌, Option, Some, None, Result, Ok, Err, ⊤}
 use Rattle.posts.specs.declared.notes.Report.{Report}
-use Rattle.turn_core.specs.Words.{bare}
+use Rattle.turn_core.specs.Words.{MapState, bare}
 use Rattle.input_lines.specs.Lines.{full_lines}
 use Rattle.script_text.specs.Script.{Item, Place, beginning, Stop, too_long, bad_line, stuck_by, arrived, walk, reading}
 use Rattle.script_text.specs.Reader.{Held, unread, UsesLines, stuck_after}
@@ -92,3 +92,14 @@ TakesAll left (Ok done) = left ≡ []
 TakesAll left (Err (fault.BadLine n)) = left ≡ []
 TakesAll left (Err fault.TooLong) = left ≡ []
 TakesAll left (Err fault.NoMemory) = ⊤
+
+-- Nothing waits, and else the match is as it was.
+pub record HasTaken (old new : Course) : Type 0 where
+  pub waits : new.waiting ≡ []
+  pub report : new.report ≡ old.report
+  pub played : (fed told : List ℕ) → HasPlayed old fed told → HasPlayed new fed told
+
+-- a version of the map with what stands on it; there is none where the map has not come
+abbrev pub IsView : Said → Option MapState → Type 0
+IsView s None = s.map ≡ None
+IsView s (Some version) = (s.map ≡ Some version.map) × (version.standing ≡ s.standing)

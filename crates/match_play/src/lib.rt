@@ -5,9 +5,12 @@ mod courses;
 mod faults;
 mod grounds;
 mod matches;
+mod posted;
 mod states;
 mod turn_texts;
+mod views;
 
 pub use faults::MatchFault;
 pub use matches::Match;
+pub use posted::{EndedTurn, PostedMatch};
 pub use posts::Report;

@@ -1,16 +1,18 @@
 //! Matches.
-ghost use Rattle.std.specs.Prelude.{◌≡◌, ◌++◌, [], take, drop, length, min};
-ghost use Rattle.match_play.specs.Playing.{FeedPlays, TakesAll, HasPlayed};
+ghost use Rattle.std.specs.Prelude.{◌≡◌, [], IfOk};
+ghost use Rattle.match_play.specs.Playing.{FeedPlays, HasPlayed, HasTaken, IsView, TakesAll, said_of};
 
 use crate::courses;
 use crate::faults::MatchFault;
 use crate::states::{Ahead, Course, Ground};
+use crate::views::view_of;
 use grid_versions::Version;
-use nav_types::Bytes;
+use nav_types::{Bytes, NoMemory};
 use posts::Report;
 use script_text::PushedScript;
 use std::alloc::Global;
 use std::marker::Model;
+use std::mem;
 
 /// A match that a game plays by the text of a script.
 ///
@@ -77,5 +79,29 @@ impl Match {
         ensures { result.now ≡ self.now.waiting }
     {
         self.course.waiting.as_slice()
+    }
+
+    /// Gives the text that waits. None waits then.
+    pub fn take(&mut self, alloc: Global) -> Bytes
+        ensures text { result ≡ self.old.waiting }
+        ensures taken { HasTaken self.old self.new }
+    {
+        mem::replace(&mut self.course.waiting, Bytes::new(alloc))
+    }
+
+    /// Lets go of the text that waits, and keeps its memory for what is told next.
+    pub fn clear(&mut self)
+        ensures { HasTaken self.old self.new }
+    {
+        self.course.waiting.clear();
+    }
+
+    /// What stands after the turns that were told, as a version of its own, to be asked beside the match: which cells are
+    /// passable, regions and areas, and by `solve` and `flow_of` of `turn_core` paths and fields. It shares all that it has
+    /// with the match's, which goes on meanwhile. None exactly where the map has not come.
+    pub fn view(&self, alloc: Global) -> Result<Option<Version>, NoMemory>
+        ensures { IfOk result (IsView (said_of self.now.ground)) }
+    {
+        view_of(alloc, &self.course.ground)
     }
 }

@@ -24,9 +24,9 @@ pub(crate) struct TurnText {
 
 /// The answers to the jobs of a turn, and their notes, each in the place of its job.
 #[derive(Drop)]
-struct NotedAnswers {
-    answers: Answers,
-    notes: Notes,
+pub(crate) struct NotedAnswers {
+    pub answers: Answers,
+    pub notes: Notes,
 }
 
 /// Answers the turn of a number on the version before it, and tells the answers. It refuses for want of memory alone, and
@@ -77,7 +77,7 @@ fn text_of_ready(
 }
 
 /// The answer to each job on a version, with its note.
-fn noted_answers(
+pub(crate) fn noted_answers(
     alloc: Global,
     version: &Version,
     jobs: &Jobs,

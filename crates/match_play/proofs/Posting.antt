@@ -1,0 +1,54 @@
+-- One turn more of a match whose turns are posts.
+use Rattle.std.proofs.Common.{◌≡◌, ℕ, ◌+◌, ◌<◌, List, [], ◌∷◌, ◌++◌, All, length, take, get_or, refl, sym, ap, subst, ◌∙◌, append_assoc, append-nil, arith}
+use Rattle.std.proofs.lemmas.List.{take_more, length-take-le}
+use Rattle.std.proofs.lemmas.List.Elements.{All-nil, All-cons, All-append}
+use Rattle.posts.specs.declared.posts.Post.{Post}
+use Rattle.posts.specs.Maps.{Map}
+use Rattle.script_text.specs.Canon.{HaveLines, canon_journal}
+use Rattle.script_text.specs.ReadsBack.{canon_turns}
+use Rattle.turn_core.specs.ReadyTurns.{Ready, after_edits_of}
+use Rattle.turn_core.specs.Turns.{after_turn, standing}
+use Rattle.turn_core.specs.Words.{Standing, bare}
+use Rattle.turn_core.proofs.Threads.{standing_more}
+
+pub one_more : (m : Map) (s : Standing) (journal : List (List (List Post))) (posts item : List (List Post)) (ready : Ready) (now : Map) (stands : Standing)
+    (pushed : List (List (List Post))) → s ≡ standing m bare journal → All (HaveLines m.version) journal → HaveLines m.version posts
+    → ready ≡ record { map = m; before = s; turn = posts } → now ≡ ready.map → stands ≡ after_edits_of ready → item ≡ ready.turn → pushed ≡ journal ++ item ∷ []
+    → (stands ≡ standing now bare pushed) × All (HaveLines now.version) pushed
+one_more m s journal posts item ready now stands pushed before lines line is map after turn push =
+    let on : now ≡ m = map ∙ ap (λ (r : Ready). r.map) is in
+    let last : item ≡ posts = turn ∙ ap (λ (r : Ready). r.turn) is in
+    let all : pushed ≡ journal ++ posts ∷ [] = push ∙ ap (λ (p : List (List Post)). journal ++ p ∷ []) last in
+    let here : stands ≡ standing m bare (journal ++ posts ∷ []) =
+    after ∙ (ap after_edits_of is ∙ (ap (λ (t : Standing). after_turn m t posts) before ∙ sym (standing_more m bare journal posts))) in
+    let more : All (HaveLines m.version) (journal ++ posts ∷ []) =
+    All-append (HaveLines m.version) journal (posts ∷ []) lines (All-cons (HaveLines m.version) posts [] line (All-nil (HaveLines m.version))) in
+    (
+      here ∙ (λ i. standing (sym on i) bare (sym all i)),
+      subst (λ (x : Map). All (HaveLines x.version) pushed) (sym on) (subst (All (HaveLines m.version)) (sym all) more),
+    )
+
+-- ---- the turns as text
+
+turns_end : (m : Map) (n : ℕ) (turns : List (List (List Post))) (turn : List (List Post))
+    → canon_turns m n (turns ++ turn ∷ []) ≡ canon_turns m n turns ++ canon_journal m (length turns + n) turn
+turns_end m n [] turn =
+    let number : n ≡ length {A = List (List Post)} [] + n = omega arith in
+    append-nil (canon_journal m n turn) ∙ ap (λ (k : ℕ). canon_journal m k turn) number
+turns_end m n (first ∷ turns) turn =
+    let number : length turns + (n + 1) ≡ length (first ∷ turns) + n = omega arith in
+    ap (λ (l : List ℕ). canon_journal m n first ++ l) (turns_end m (n + 1) turns turn)
+    ∙ sym (append_assoc (canon_journal m n first) (canon_turns m (n + 1) turns) (canon_journal m (length turns + (n + 1)) turn))
+    ∙ ap (λ (k : ℕ). (canon_journal m n first ++ canon_turns m (n + 1) turns) ++ canon_journal m k turn) number
+
+-- the text of the first turns, and of one more
+pub turns_next : (m : Map) (turns : List (List (List Post))) (i : ℕ) (turn : List (List Post)) (before now : List ℕ) → i < length turns
+    → now ≡ before ++ canon_journal m (i + 1) (get_or turns i turn) → (start : List ℕ) → before ≡ start ++ canon_turns m 1 (take i turns)
+    → now ≡ start ++ canon_turns m 1 (take (i + 1) turns)
+turns_next m turns i turn before now lt is start was =
+    let count : length (take i turns) ≡ i = length-take-le i turns (omega (arith, lt)) in
+    let job = get_or turns i turn in
+    let grown : canon_turns m 1 (take (i + 1) turns) ≡ canon_turns m 1 (take i turns) ++ canon_journal m (i + 1) job =
+    ap (canon_turns m 1) (take_more turns i turn lt) ∙ (turns_end m 1 (take i turns) job ∙ ap (λ (k : ℕ). canon_turns m 1 (take i turns) ++ canon_journal m (k + 1) job) count) in
+    is ∙ (ap (λ (l : List ℕ). l ++ canon_journal m (i + 1) job) was
+    ∙ (append_assoc start (canon_turns m 1 (take i turns)) (canon_journal m (i + 1) job) ∙ ap (λ (l : List ℕ). start ++ l) (sym grown)))
