@@ -2,11 +2,10 @@
 use Rattle.std.proofs.Common.{◌≡◌, ℕ, ◌+◌, ◌≤◌, ◌<◌, ◌^◌, List, [], ◌∷◌, length, IsFalse, Option, Some, None, Result, Ok, Err, OnOk, refl, sym, ap, subst, ◌∙◌, ◌++◌, append-nil, length-append, arith}
 use Rattle.nav_types.specs.declared.limits.TheConstants.{MAX_INPUT_BYTES}
 use Rattle.nav_types.specs.declared.cells.Rect.{Rect}
-use Rattle.nav_types.specs.Cells.{IsRectInside}
 use Rattle.posts.specs.declared.posts.Post.{Post}
 use Rattle.posts.specs.declared.notes.Report.{Report}
 use Rattle.posts.specs.Maps.{Map, with_base}
-use Rattle.turn_core.specs.Words.{MapState, Standing, bare}
+use Rattle.turn_core.specs.Words.{MapState, bare}
 use Rattle.turn_core.specs.Turns.{after_turn}
 use Rattle.script_text.specs.declared.faults.ScriptFault.{ScriptFault}
 use Rattle.script_text.specs.declared.faults.ScriptFault.TheVariants as met
@@ -15,15 +14,15 @@ use Rattle.script_text.specs.declared.items.ScriptItem.TheVariants as item
 use Rattle.script_text.specs.declared.parts.Rules.{Rules}
 use Rattle.script_text.specs.declared.parts.Part.{Part}
 use Rattle.script_text.specs.declared.parts.Part.TheVariants.{BeforeMap, InBase, InTurns}
-use Rattle.script_text.specs.Script.{Item, adds_base, ends_turn, rules_of, arrived, walk}
-use Rattle.script_text.specs.Reader.{Held, UsesLines, GoesOn, rules_at}
+use Rattle.script_text.specs.Script.{Item, adds_base, ends_turn, rules_of}
+use Rattle.script_text.specs.Reader.{Held, GoesOn, rules_at}
 use Rattle.script_text.specs.Pushed.{item_of, EndsLine, PushTold, KeepsRules, is_refused}
 use Rattle.script_text.specs.inner.Judging.{IsInTurns}
 use Rattle.match_play.specs.declared.states.Ahead.TheVariants as ahead
 use Rattle.match_play.specs.declared.states.Course.{Course}
 use Rattle.match_play.specs.declared.states.Ground.{Ground}
 use Rattle.match_play.specs.declared.states.Ground.TheVariants as ground
-use Rattle.match_play.specs.Texts.{Said, Says, IsTurnText, with_turn}
+use Rattle.match_play.specs.Texts.{Said, IsTurnText, with_turn}
 use Rattle.match_play.specs.Playing.{said_of}
 use Rattle.match_play.specs.inner.Fitting.{AddsBase, FitsAhead, IsFit, FitsItem, FitsTurn, FitsPart, WillFitPart, turns_in, IsOpen, Begins, HasTold, StaysFit, Tells, TellsText, stop_in}
 use Rattle.match_play.proofs.Walked.{Led, led}
@@ -91,8 +90,7 @@ fits_item g old new piece left i opens fits told keeps going more limit =
     let l = led_by old new (piece ++ []) (left ++ []) (item_of i ∷ []) (told []) more in
     let few = opens.few in
     let bytes = l.bytes in
-    let turns : turns_in g + 1 ≤ new.place.bytes = omega (arith, few, bytes) in
-    (
+    let turns : turns_in g + 1 ≤ new.place.bytes = omega (arith, few, bytes) in (
       record { going = going; more = more; few = turns; limit = limit },
       fits_by g old new i l fits keeps (omega (arith, turns, limit)),
     )
@@ -110,8 +108,7 @@ fits_on : (g : Ground) (old new : Held) (piece left : List ℕ) → IsOpen old (
 fits_on g old new piece left opens fits goes same going more limit =
     let l = led_by old new piece left [] goes more in
     let few = opens.few in
-    let bytes = l.bytes in
-    (
+    let bytes = l.bytes in (
       record { going = going; more = more; few = omega (arith, few, bytes); limit = limit },
       still_fits g old new l fits same,
     )

@@ -1,13 +1,13 @@
 -- How a match goes from what it was fed with to what it tells.
-use Rattle.std.proofs.Common.{◌≡◌, ℕ, ◌+◌, List, [], ◌∷◌, ◌++◌, length, true, false, All, IsFalse, Option, Some, None, Result, Ok, Err, refl, sym, ap, subst, ◌∙◌, append_assoc, append-nil}
+use Rattle.std.proofs.Common.{◌≡◌, ℕ, ◌+◌, List, [], ◌∷◌, ◌++◌, length, All, IsFalse, Some, None, Result, Ok, Err, refl, sym, ap, subst, ◌∙◌, append_assoc, append-nil}
 use Rattle.std.proofs.lemmas.List.Elements.{All-nil, All-head, All-tail}
 use Rattle.posts.specs.declared.notes.Report.{Report}
-use Rattle.input_lines.specs.Lines.{full_lines, tail_of, unlines, IsPlain}
+use Rattle.input_lines.specs.Lines.{full_lines, unlines, IsPlain}
 use Rattle.input_lines.proofs.LineLists.{unlines-line, full_lines-behind}
 use Rattle.script_text.specs.declared.faults.ScriptFault.{ScriptFault}
 use Rattle.script_text.specs.declared.faults.ScriptFault.TheVariants as met
 use Rattle.script_text.specs.declared.items.ScriptItem.{ScriptItem}
-use Rattle.script_text.specs.Script.{Item, Place, beginning, Stop, too_long, bad_line, Ends, stuck_by, Walk, arrived, stuck, chain, accept, walk, reading}
+use Rattle.script_text.specs.Script.{Item, Place, beginning, Stop, Walk, arrived, chain, accept, walk, reading}
 use Rattle.script_text.specs.Reader.{Held, unread, UsesLines, GoesOn, stuck_after}
 use Rattle.script_text.specs.Pushed.{item_of, PushTold}
 use Rattle.script_text.proofs.ReadCalls.{uses_then}
@@ -22,7 +22,7 @@ use Rattle.match_play.specs.declared.states.Ground.TheVariants as ground
 use Rattle.match_play.specs.declared.states.Course.{Course}
 use Rattle.match_play.specs.declared.faults.MatchFault.{MatchFault}
 use Rattle.match_play.specs.declared.faults.MatchFault.TheVariants as fault
-use Rattle.match_play.specs.Texts.{Said, unsaid, Says, Gives, IsText, stop_text, ends_text, IsOut}
+use Rattle.match_play.specs.Texts.{Said, unsaid, Says, Gives, IsText, stop_text, ends_text}
 use Rattle.match_play.specs.Playing.{said_of, stop_of, HasRead, told_stop, HasPlayed, IsLinesText, IsStopText, FeedTold, Plays, FeedPlays, HasTaken}
 use Rattle.match_play.specs.inner.Fitting.{IsStopped, Tells, fault_of, stop_in}
 

@@ -1,5 +1,5 @@
 -- One turn more of a match whose turns are posts.
-use Rattle.std.proofs.Common.{◌≡◌, ℕ, ◌+◌, ◌<◌, List, [], ◌∷◌, ◌++◌, All, length, take, get_or, refl, sym, ap, subst, ◌∙◌, append_assoc, append-nil, arith}
+use Rattle.std.proofs.Common.{◌≡◌, ℕ, ◌+◌, ◌<◌, List, [], ◌∷◌, ◌++◌, All, length, take, get_or, sym, ap, subst, ◌∙◌, append_assoc, append-nil, arith}
 use Rattle.std.proofs.lemmas.List.{take_more, length-take-le}
 use Rattle.std.proofs.lemmas.List.Elements.{All-nil, All-cons, All-append}
 use Rattle.posts.specs.declared.posts.Post.{Post}
@@ -22,8 +22,7 @@ one_more m s journal posts item ready now stands pushed before lines line is map
     let here : stands ≡ standing m bare (journal ++ posts ∷ []) =
     after ∙ (ap after_edits_of is ∙ (ap (λ (t : Standing). after_turn m t posts) before ∙ sym (standing_more m bare journal posts))) in
     let more : All (HaveLines m.version) (journal ++ posts ∷ []) =
-    All-append (HaveLines m.version) journal (posts ∷ []) lines (All-cons (HaveLines m.version) posts [] line (All-nil (HaveLines m.version))) in
-    (
+    All-append (HaveLines m.version) journal (posts ∷ []) lines (All-cons (HaveLines m.version) posts [] line (All-nil (HaveLines m.version))) in (
       here ∙ (λ i. standing (sym on i) bare (sym all i)),
       subst (λ (x : Map). All (HaveLines x.version) pushed) (sym on) (subst (All (HaveLines m.version)) (sym all) more),
     )

@@ -1,5 +1,5 @@
 -- What lines make of the place, whatever they give.
-use Rattle.std.proofs.Common.{◌≡◌, ℕ, ◌+◌, ◌≤◌, List, [], ◌∷◌, ◌++◌, length, Bool, true, false, Option, Some, None, refl, sym, ap, subst, ◌∙◌, arith, length-append}
+use Rattle.std.proofs.Common.{◌≡◌, ℕ, ◌+◌, ◌≤◌, List, [], ◌∷◌, ◌++◌, length, Bool, true, false, Option, Some, None, refl, sym, ap, subst, arith, length-append}
 use Rattle.std.specs.Prelude.{⊤, ◌==◌, if◌then◌else◌, option_and_then}
 use Rattle.serde_json.specs.Data.{Data}
 use Rattle.nav_types.specs.declared.cells.Rect.{Rect}
@@ -10,9 +10,8 @@ use Rattle.script_text.specs.declared.parts.Rules.{Rules}
 use Rattle.script_text.specs.declared.parts.Part.{Part}
 use Rattle.script_text.specs.declared.parts.Part.TheVariants.{BeforeMap, InBase, InTurns}
 use Rattle.script_text.specs.Forms.{map_of, base_of, post_of, end_of}
-use Rattle.script_text.specs.Script.{Item, begins, adds_base, ends_turn, Place, Stop, too_long, Ends, at_place, stuck_by, Walk, arrived, stuck, chain_from, chain, map_line, bad, no_posts, with_post, rules_of, end_line, turn_line, placed_in_turn, base_line, placed_in, placed, is_long, counted, accept, reading_of, walk}
+use Rattle.script_text.specs.Script.{Item, begins, adds_base, ends_turn, Place, Stop, too_long, Ends, at_place, stuck_by, Walk, arrived, stuck, chain_from, map_line, bad, no_posts, with_post, rules_of, end_line, turn_line, base_line, placed_in, placed, is_long, counted, accept, reading_of, walk}
 use Rattle.script_text.specs.inner.Judging.{IsInTurns}
-
 
 -- each of the items is a turn
 abbrev pub AreTurns : List Item → Type 0
@@ -48,7 +47,6 @@ pub record Led (p : Place) (items : List Item) (q : Place) : Type 0 where
   pub turns : IsInTurns p.part → IsInTurns q.part × AreTurns items
   pub begun : HasTurn items → IsInTurns q.part
   pub bytes : length items + p.bytes ≤ q.bytes
-
 
 place_in : Place → Ends → Place
 place_in default (at_place p) = p

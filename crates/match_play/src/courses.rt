@@ -15,11 +15,7 @@ use std::alloc::Global;
 use std::mem;
 
 /// Plays the next bytes of the script. At a stop it takes them all.
-pub(crate) fn feed(
-    alloc: Global,
-    course: &mut Course,
-    bytes: &mut &[u8],
-) -> Result<(), MatchFault>
+pub(crate) fn feed(alloc: Global, course: &mut Course, bytes: &mut &[u8]) -> Result<(), MatchFault>
     requires fit { IsFit course.old }
     ensures plays { FeedPlays course.old course.new bytes.old.now bytes.new.now result }
     ensures all { TakesAll bytes.new.now result }

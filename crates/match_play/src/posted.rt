@@ -113,7 +113,12 @@ impl PostedMatch {
         ensures { IfOk result (λ text. text ≡ canon_script self.now.map self.now.journal) }
     {
         let mut text = write_map(alloc, self.version.map())?;
-        push_turns(alloc, &mut text, self.version.map(), self.journal.as_slice())?;
+        push_turns(
+            alloc,
+            &mut text,
+            self.version.map(),
+            self.journal.as_slice(),
+        )?;
         Ok(text)
     }
 }

@@ -47,6 +47,10 @@ fn shared_counted<L: Ledger>(
     ensures map { IfOk result (λ same. same.map ≡ version.now.map) }
     ensures standing { IfOk result (λ same. same.standing ≡ version.now.standing) }
 {
-    let Next { version, .. } = version.next(alloc, &Edits::new(alloc), &mut Ticks::<L>::new(blank))?;
+    let Next { version, .. } = version.next(
+        alloc,
+        &Edits::new(alloc),
+        &mut Ticks::<L>::new(blank),
+    )?;
     Ok(version)
 }

@@ -1,8 +1,11 @@
 //! Matches tell what the examples are answered, however their bytes are cut.
 ghost use Rattle.std.specs.Prelude.{◌<◌};
 
-use match_play::{Match, MatchFault, Report};
+use answer_text::turn_text;
+use io_edges::MemorySource;
+use match_play::{EndedTurn, Match, MatchFault, PostedMatch, Report};
 use nav_types::{Bytes, NoMemory};
+use script_text::{ScriptFault, ScriptReader, have_lines};
 use std::alloc::Global;
 use std::test::*;
 
@@ -71,4 +74,55 @@ fn a_bad_line_stops_a_match(rt: HostRuntime) {
         let ends = Err(MatchFault::BadLine(2));
         assert!(rt; is_answered(rt.alloc(), &script, size, ends, &["bad line 2\n"]) == Ok(true));
     }
+}
+
+/// The text of a match whose turns are the posts of a script, and the match as a script.
+fn played(alloc: Global, script: &[&str]) -> Result<(Bytes, Bytes), ScriptFault> {
+    let script = joined(alloc, script)?;
+    let mut source = MemorySource::new(alloc, script.as_slice(), 4096, &[])?;
+    let mut reader = ScriptReader::new(alloc)?;
+    let map = reader.read_map(alloc, &mut source)?;
+    let mut game = PostedMatch::open(alloc, &map)?;
+    let mut text = Bytes::new(alloc);
+    let mut turn = 0;
+    while let Some(posts) = reader.next_turn(alloc, &mut source)? {
+        turn += 1;
+        if !have_lines(&map, &posts) {
+            return Err(ScriptFault::NoMemory);
+        }
+        let EndedTurn { replies, .. } = game.end_turn(alloc, Report::Answers, posts)?;
+        text.extend(turn_text(alloc, turn, &replies)?.as_slice())?;
+    }
+    Ok((text, game.script(alloc)?))
+}
+
+/// Whether a match by posts tells the same, and its script is answered alike by a match that is fed.
+fn is_played(alloc: Global, script: &[&str], answers: &[&str]) -> Result<bool, ScriptFault> {
+    let (text, again) = played(alloc, script)?;
+    let answers = joined(alloc, answers)?;
+    let mut game = Match::open(alloc, Report::Answers);
+    let ended = feed_by(alloc, &mut game, again.as_slice(), 7);
+    let same = text.as_slice() == answers.as_slice();
+    Ok(same && ended == Ok(()) && game.take(alloc).as_slice() == answers.as_slice())
+}
+
+#[test]
+fn posts_are_answered_as_their_script(rt: HostRuntime) {
+    assert!(rt; is_played(rt.alloc(), FIRST, FIRST_ANSWERS) == Ok(true));
+    assert!(rt; is_played(rt.alloc(), SKIRMISH, SKIRMISH_ANSWERS) == Ok(true));
+}
+
+/// How many turns stand in a view: whether a match has one before its map, and behind it.
+fn has_views(alloc: Global) -> Result<bool, NoMemory> {
+    let map = joined(alloc, &[MAP_LINE])?;
+    let mut game = Match::open(alloc, Report::Answers);
+    let before = game.view(alloc)?.is_none();
+    let ended = feed_by(alloc, &mut game, map.as_slice(), 3);
+    let behind = game.view(alloc)?.is_some();
+    Ok(before && ended == Ok(()) && behind)
+}
+
+#[test]
+fn a_view_comes_with_the_map(rt: HostRuntime) {
+    assert!(rt; has_views(rt.alloc()) == Ok(true));
 }

@@ -3,13 +3,12 @@ use Rattle.std.specs.Prelude.{ℕ, ◌≡◌, ◌≤◌, ◌<◌, ◌+◌, ◌^�
 use Rattle.nav_types.specs.declared.cells.Rect.{Rect}
 use Rattle.nav_types.specs.Cells.{IsRectInside}
 use Rattle.nav_types.specs.declared.limits.TheConstants.{MAX_INPUT_BYTES}
-use Rattle.posts.specs.declared.posts.Post.{Post}
 use Rattle.posts.specs.declared.notes.Report.{Report}
-use Rattle.posts.specs.Maps.{Map, with_base}
+use Rattle.posts.specs.Maps.{with_base}
 use Rattle.script_text.specs.declared.items.ScriptItem.{ScriptItem}
 use Rattle.script_text.specs.declared.items.ScriptItem.TheVariants as item
 use Rattle.script_text.specs.declared.parts.Part.{Part}
-use Rattle.script_text.specs.declared.parts.Part.TheVariants.{BeforeMap, InBase, InTurns}
+use Rattle.script_text.specs.declared.parts.Part.TheVariants.{BeforeMap, InTurns}
 use Rattle.turn_core.specs.Words.{MapState, bare}
 use Rattle.script_text.specs.Script.{Item, rules_of}
 use Rattle.script_text.specs.Reader.{Held, rules_at}

@@ -1,4 +1,4 @@
-use Rattle.std.proofs.Common.{◌≡◌, ◌+◌, ◌<◌, [], length, sym, subst, ◌∙◌}
+use Rattle.std.proofs.Common.{◌+◌, ◌<◌, [], length, sym, subst, ◌∙◌}
 use Rattle.script_text.specs.Reader.{Held}
 use Rattle.match_play.specs.declared.states.Ahead.TheVariants as ahead
 use Rattle.match_play.proofs.Playing.{with_script, with_ahead, plays_none, plays_then, plays_item, plays_lines, plays_fault, plays_stop, feed_lines, feed_nothing, feed_then}

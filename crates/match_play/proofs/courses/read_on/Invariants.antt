@@ -1,4 +1,4 @@
-use Rattle.std.proofs.Common.{◌≡◌, ◌+◌, length}
+use Rattle.std.proofs.Common.{◌+◌, length}
 use Rattle.match_play.specs.Playing.{Plays}
 use Rattle.match_play.specs.inner.Fitting.{IsFit, IsGoing}
 use Rattle.match_play.proofs.courses.read_on.Given as goal

@@ -1,4 +1,4 @@
-use Rattle.std.proofs.Common.{◌≡◌, ◌++◌, List, [], Err, Result, sym, subst, refl, ℕ}
+use Rattle.std.proofs.Common.{List, [], Err, sym, subst, refl, ℕ}
 use Rattle.match_play.specs.declared.states.Course.{Course}
 use Rattle.match_play.specs.declared.states.Ahead.TheVariants as ahead
 use Rattle.match_play.specs.declared.faults.MatchFault.{MatchFault}

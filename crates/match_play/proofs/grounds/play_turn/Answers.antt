@@ -1,4 +1,3 @@
-use Rattle.std.proofs.Common.{refl, sym, subst}
 use Rattle.match_play.proofs.Fits.{all_ok, stood, turn_told}
 use Rattle.match_play.proofs.grounds.play_turn.Goals as goal
 

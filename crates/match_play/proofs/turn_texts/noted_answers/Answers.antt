@@ -1,4 +1,4 @@
-use Rattle.std.proofs.Common.{◌≡◌, ◌+◌, ◌++◌, ◌∷◌, [], take, get_or, sym, subst, ◌∙◌}
+use Rattle.std.proofs.Common.{◌+◌, take, get_or, sym, subst, ◌∙◌}
 use Rattle.posts.specs.declared.posts.Request.{Request}
 use Rattle.turn_core.specs.Solving.{AreAnswersTo}
 use Rattle.turn_core.specs.Solvers.{SolverState}
