@@ -12,7 +12,7 @@ use Rattle.turn_core.specs.Words.{bare}
 use Rattle.turn_core.specs.Turns.{standing, replies_in, IsOneThread}
 use Rattle.turn_core.specs.States.{opening}
 use Rattle.turn_core.specs.Facts.{Facts}
-use Rattle.turn_core.proofs.Keeping.{opened}
+use Rattle.turn_core.proofs.Keeping.{facts_at_opening}
 use Rattle.turn_core.proofs.CallerLists.{none_at}
 use Rattle.path_service.specs.declared.ports.Port.{Port}
 use Rattle.path_service.specs.declared.runs.AnsweredRun.{AnsweredRun}
@@ -111,7 +111,7 @@ driver_holds a made =
     let n : ℕ = a.map.callers in
     let sent : sent_in a.ports.items ≡ replicate n no_replies = new_sent a.ports.items made.ports ∙ ap (λ (k : ℕ). replicate k no_replies) made.count in
     record {
-      facts = subst Facts (sym (machine_is a made)) (opened a.map);
+      facts = subst Facts (sym (machine_is a made)) (facts_at_opening a.map);
       map = made.map;
       standing = made.standing ∙ ap (λ (j : List (List (List Post))). standing a.map bare j) (sym made.journal);
       answered = subst (λ (j : List (List (List Post))). IsOneThread a.map j a.replies.items) (sym made.journal)

@@ -13,7 +13,7 @@ use Rattle.turn_core.specs.States.{State, opening}
 use Rattle.turn_core.specs.Facts.{Facts, HaveLists, running_turns, staged_turns, all_turns}
 use Rattle.turn_core.specs.Arrival.{arrival}
 use Rattle.turn_core.proofs.CallerLists.{of_caller-append}
-use Rattle.turn_core.proofs.Keeping.{opened, kept_run_of}
+use Rattle.turn_core.proofs.Keeping.{facts_at_opening, kept_run_of}
 use Rattle.turn_core.proofs.Settling.{all_done, as_many}
 use Rattle.request_lanes.specs.Ends.{Closing}
 use Rattle.path_service.specs.declared.closing.ClosedCaller.{ClosedCaller}
@@ -62,7 +62,7 @@ journal_first : (ended : List EndedState) (closed : ClosedState) (c : ℕ) → I
 journal_first ended closed c k =
     let new : State = k.1.0 in
     let arrived = k.1.1.1 in
-    let facts : Facts new = kept_run_of (opening closed.map) (arrival closed.journal (map posted_by ended) (map count_by ended)) k.0 new (opened closed.map) k.1.1.0 in
+    let facts : Facts new = kept_run_of (opening closed.map) (arrival closed.journal (map posted_by ended) (map count_by ended)) k.0 new (facts_at_opening closed.map) k.1.1.0 in
     let lists : List (List Post) = map posted_by ended in
     let n = slice_index new.taken c in
     let taken : of_caller c closed.journal ≡ take n (list_of lists c) =

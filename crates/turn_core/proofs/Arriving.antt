@@ -22,7 +22,7 @@ use Rattle.turn_core.specs.Facts.{HaveLists, Facts}
 use Rattle.turn_core.specs.Arrival.{post_events, answering, whole_turn, turn_events, collect_events, arrival, CanStage, answered_run, in_stage, in_run, at_end, CanArrive, HasArrived}
 use Rattle.turn_core.proofs.CallerLists.{of_caller_push}
 use Rattle.turn_core.proofs.Threads.{one_thread_lem, standing_more}
-use Rattle.turn_core.proofs.Keeping.{opened, kept_run_of}
+use Rattle.turn_core.proofs.Keeping.{facts_at_opening, kept_run_of}
 use Rattle.turn_core.proofs.OneRun.{one_state}
 use Rattle.turn_core.proofs.Settling.{as_many, taken_done, all_done}
 use Rattle.turn_core.proofs.Reaching.{reach-append, reach_none, reach_step, none_or, none_unless, all_post, stage_step, turn_answered, deliver_step}
@@ -180,7 +180,7 @@ arrives m journal pss counts all can x =
     let posts : Reaches (opening m) (post_events 0 pss) at_post =
     subst (λ (l : List (List Post)). Reaches (opening m) (post_events 0 pss) (record (opening m) { posted = l })) (joined_none m.callers pss can.lists)
     (all_post (opening m) pss (length-replicate m.callers []) can.lists) in
-    let facts : Facts at_post = kept_run_of (opening m) (post_events 0 pss) posts.0 at_post (opened m) posts.1 in
+    let facts : Facts at_post = kept_run_of (opening m) (post_events 0 pss) posts.0 at_post (facts_at_opening m) posts.1 in
     let done = journal_runs at_post journal all facts refl refl can.turns x can.first in
     let t : State = done.0 in
     let rests : Rests at_post ([] ++ journal) t = done.1.1 in

@@ -263,8 +263,8 @@ kept old (Collect c) handed new f step =
     (ltb-true (slice_index old.collected c) (length (list_of old.replies c)) (unless_none (nat_lt (slice_index old.collected c) (length (list_of old.replies c))) _ (second_none (why_no_caller old.map.callers c) _ step.enabled))) f)
 
 -- the facts hold at the opening
-pub opened : (m : Map) → Facts (opening m)
-opened m = record {
+pub facts_at_opening : (m : Map) → Facts (opening m)
+facts_at_opening m = record {
   wide = record {
     posted = length-replicate m.callers [];
     taken = length-replicate m.callers 0;

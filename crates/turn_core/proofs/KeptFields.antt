@@ -1,5 +1,5 @@
 -- Fields that are kept for the next request.
-use Rattle.std.proofs.Common.{◌≡◌, ℕ, Bool, IsTrue, subst, sym, refl}
+use Rattle.std.proofs.Common.{◌≡◌, ℕ, IsTrue, subst, sym, refl}
 use Rattle.nav_types.specs.declared.cells.Cell.{Cell}
 use Rattle.nav_types.specs.Regions.{HasArea}
 use Rattle.nav_types.specs.Walks.{Joined}

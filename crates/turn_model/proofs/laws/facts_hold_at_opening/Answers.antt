@@ -1,5 +1,5 @@
-use Rattle.turn_core.proofs.Keeping.{opened}
+use Rattle.turn_core.proofs.Keeping.{facts_at_opening}
 use Rattle.turn_model.proofs.laws.facts_hold_at_opening.Goals as goal
 
 pub returns : goal.returns
-returns c = opened
+returns c = facts_at_opening

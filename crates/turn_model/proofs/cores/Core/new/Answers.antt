@@ -1,7 +1,7 @@
 use Rattle.std.proofs.Common.{sym, subst}
 use Rattle.turn_core.specs.Facts.{Facts}
-use Rattle.turn_core.proofs.Keeping.{opened}
+use Rattle.turn_core.proofs.Keeping.{facts_at_opening}
 use Rattle.turn_model.proofs.cores.Core.new.Goals as goal
 
 pub invariant_of-result : goal.invariant_of-result
-invariant_of-result c = subst Facts (sym c.in_ok-machine.ensures) (opened c.args.map.now)
+invariant_of-result c = subst Facts (sym c.in_ok-machine.ensures) (facts_at_opening c.args.map.now)
