@@ -18,3 +18,4 @@ mod StepLemmas
 mod StopTableLemmas
 mod TightLemmas
 mod FreePlaces
+mod BesideLemmas

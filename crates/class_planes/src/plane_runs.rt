@@ -6,10 +6,10 @@ ghost use Rattle.jump_scan.specs.Stops.{IsStraightStop, IsDiagonalStop};
 ghost use Rattle.class_planes.specs.Planes.{is_passable};
 
 use crate::class_plane::ClassPlane;
-use crate::plane_scans;
 use crate::plane_sets::Planes;
+use crate::{beside_cells, plane_scans};
 use jump_scan::Runs;
-use nav_types::{Aim, Cell, Class, Dir, Heading, Size, View};
+use nav_types::{Aim, Cell, Class, Dir, DirSet, Heading, Size, View};
 use std::marker::Model;
 
 /// A view with planes of it, whose runs are scanned 64 cells at a time. A class without a plane is scanned cell by
@@ -18,28 +18,51 @@ use std::marker::Model;
 pub struct PlaneRuns<'a, V: View> {
     view: &'a V,
     planes: &'a Planes,
+    class: Class,
+    plane: Option<&'a ClassPlane>,
 }
 
 impl<'a, V: View> Model for PlaneRuns<'a, V> {
-    ghost use Rattle.class_planes.specs.Planes.{AreOf};
+    ghost use Rattle.std.specs.Prelude.{IfSome};
+    ghost use Rattle.class_planes.specs.Planes.{AreOf, IsPlaneOf};
 
     ghost Value = { V };
 
     ghost view = { λ r. r.view.now };
 
-    ghost invariant = { λ r. AreOf (V.extent r.view.now) (V.passes r.view.now) r.planes.now };
+    ghost invariant = { λ r. AreOf (V.extent r.view.now) (V.passes r.view.now) r.planes.now
+        × IfSome r.plane (λ plane. IsPlaneOf (V.extent r.view.now) (V.passes r.view.now r.class) plane.now) };
 }
 
 impl<'a, V: View> PlaneRuns<'a, V> {
-    ghost use Rattle.std.specs.Prelude.{◌≡◌};
-    ghost use Rattle.class_planes.specs.Planes.{AreOf};
+    ghost use Rattle.std.specs.Prelude.{◌≡◌, IfSome};
+    ghost use Rattle.class_planes.specs.Planes.{AreOf, IsPlaneOf};
 
     /// The runs over the view by these planes, which must be planes of it.
-    pub fn new(view: &'a V, planes: &'a Planes) -> PlaneRuns<'a, V>
+    ///
+    /// The plane of the class is looked up once, so that runs of that class cost less.
+    pub fn new(view: &'a V, planes: &'a Planes, class: Class) -> PlaneRuns<'a, V>
         requires { AreOf (V.extent view.now) (V.passes view.now) planes.now }
         ensures { result ≡ view.now }
     {
-        PlaneRuns { view, planes }
+        PlaneRuns {
+            view,
+            planes,
+            class,
+            plane: planes.plane(class),
+        }
+    }
+
+    /// The plane of a class.
+    #[inline(always)]
+    fn plane(&self, class: Class) -> Option<&ClassPlane>
+        ensures { IfSome result (λ plane. IsPlaneOf (V.extent self.now) (V.passes self.now class) plane.now) }
+    {
+        if class.number() == self.class.number() {
+            self.plane
+        } else {
+            self.planes.plane(class)
+        }
     }
 }
 
@@ -59,7 +82,7 @@ impl<'a, V: View> View for PlaneRuns<'a, V> {
     }
 
     fn passable(&self, class: Class, cell: Cell) -> bool {
-        match self.planes.plane(class) {
+        match self.plane(class) {
             Some(plane) => plane.passable(cell),
             None => self.view.passable(class, cell),
         }
@@ -69,15 +92,25 @@ impl<'a, V: View> View for PlaneRuns<'a, V> {
 }
 
 impl<'a, V: View> Runs for PlaneRuns<'a, V> {
+    #[inline(always)]
+    fn beside(&self, class: Class, cell: Cell) -> DirSet {
+        match self.plane(class) {
+            Some(plane) => beside_cells::beside(plane, cell),
+            None => jump_scan::beside(self.view, class, cell),
+        }
+    }
+
+    #[inline(always)]
     fn straight<A: Aim>(&self, class: Class, from: Cell, dir: Dir, aim: &A) -> Option<Cell> {
-        match self.planes.plane(class) {
+        match self.plane(class) {
             Some(plane) => straight_stop(plane, from, dir, aim),
             None => jump_scan::straight(self.view, class, from, dir, aim),
         }
     }
 
+    #[inline(always)]
     fn diagonal<A: Aim>(&self, class: Class, from: Cell, dir: Dir, aim: &A) -> Option<Cell> {
-        match self.planes.plane(class) {
+        match self.plane(class) {
             Some(plane) => diagonal_stop(plane, from, dir, aim),
             None => jump_scan::diagonal(self.view, class, from, dir, aim),
         }

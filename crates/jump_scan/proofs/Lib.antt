@@ -2,3 +2,4 @@ pub mod Turning
 pub mod Keeping
 pub mod Running
 pub mod Pruned
+pub mod Gathering

@@ -1,8 +1,10 @@
 -- The directions in which a search goes on from a cell that a step came to, after Harabor and Grastien, "Online Graph
 -- Pruning for Pathfinding on Grid Maps", AAAI 2011, for legal steps, which cut no corner.
-use Rattle.std.specs.Prelude.{Bool, ◌⊎◌, IsTrue, Option, Some, None}
+use Rattle.std.specs.Prelude.{Bool, ◌⊎◌, ◌↔◌, IsTrue, Option, Some, None}
 use Rattle.nav_types.specs.declared.cells.Cell.{Cell}
 use Rattle.nav_types.specs.declared.directions.Dir.{Dir}
+use Rattle.nav_types.specs.declared.directions.DirSet.{DirSet}
+use Rattle.nav_types.specs.DirSets.{holds}
 use Rattle.nav_types.specs.Beside.{IsFreeBeside, IsLegalFrom}
 use Rattle.nav_types.specs.Directions.{is_straight, Leads}
 use Rattle.jump_scan.specs.declared.turns.Side.{Side}
@@ -31,3 +33,12 @@ IsSuccessor passes cell (Some arrived) dir = IsLegalFrom passes cell dir
 -- some forced step is legal
 abbrev pub HasForced : (Cell → Bool) → Cell → Dir → Type 0
 HasForced passes cell arrived = (dir : Dir) × (IsLegalFrom passes cell dir × IsForced passes cell arrived dir)
+
+-- the set is the directions in which the cell beside is passable
+abbrev pub AreFreeBeside : (Cell → Bool) → Cell → DirSet → Type 0
+AreFreeBeside passes cell free = (dir : Dir) → IsTrue (holds free dir) ↔ IsFreeBeside passes cell dir
+
+-- the directions in which a search goes on from any passable cell beside which these are free, to which a step came
+abbrev pub AreSuccessors : DirSet → Dir → DirSet → Type 0
+AreSuccessors free arrived dirs = (passes : Cell → Bool) (cell : Cell) → IsTrue (passes cell) → AreFreeBeside passes cell free
+    → (dir : Dir) → IsTrue (holds dirs dir) ↔ IsSuccessor passes cell (Some arrived) dir

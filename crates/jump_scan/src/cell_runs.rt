@@ -2,8 +2,8 @@
 ghost use Rattle.std.specs.Prelude.{◌≡◌};
 
 use crate::run_views::Runs;
-use crate::scans;
-use nav_types::{Aim, Cell, Class, Dir, Size, View};
+use crate::{pruning, scans};
+use nav_types::{Aim, Cell, Class, Dir, DirSet, Size, View};
 
 /// A view whose runs are scanned cell by cell.
 #[derive(Drop)]
@@ -43,6 +43,10 @@ impl<'a, V: View> View for CellRuns<'a, V> {
 }
 
 impl<'a, V: View> Runs for CellRuns<'a, V> {
+    fn beside(&self, class: Class, cell: Cell) -> DirSet {
+        pruning::beside(self.view, class, cell)
+    }
+
     fn straight<A: Aim>(&self, class: Class, from: Cell, dir: Dir, aim: &A) -> Option<Cell> {
         scans::straight(self.view, class, from, dir, aim)
     }

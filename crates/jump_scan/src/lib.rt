@@ -19,6 +19,6 @@ mod turns;
 
 pub use cell_runs::CellRuns;
 pub use laws::{forced_where_a_side_opens, one_stop};
-pub use pruning::successors;
+pub use pruning::{beside, successors, successors_among};
 pub use run_views::Runs;
 pub use scans::{diagonal, straight};

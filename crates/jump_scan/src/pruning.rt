@@ -1,13 +1,14 @@
 //! The directions in which a search goes on from a cell.
-ghost use Rattle.std.specs.Prelude.{◌≡◌, ◌<◌, ◌↔◌, ◌⊎◌, Some, IsTrue, IsFalse};
+ghost use Rattle.std.specs.Prelude.{◌≡◌, ◌<◌, ◌↔◌, ◌⊎◌, Bool, Some, IsTrue, IsFalse};
+ghost use Rattle.nav_types.specs.declared.cells.Cell.{Cell};
 ghost use Rattle.nav_types.specs.declared.directions.Dir.{Dir};
 ghost use Rattle.nav_types.specs.Cells.{IsInside};
 ghost use Rattle.nav_types.specs.Beside.{IsFreeBeside, IsLegalFrom};
 ghost use Rattle.nav_types.specs.Directions.{is_straight, row_part, column_part};
 ghost use Rattle.nav_types.specs.DirSets.{holds};
 ghost use Rattle.jump_scan.specs.Turns.{aside_to};
-ghost use Rattle.jump_scan.specs.Successors.{IsForcing, IsSuccessor, HasForced};
-ghost use Rattle.jump_scan.specs.inner.Turning.{IsLegalTurn};
+ghost use Rattle.jump_scan.specs.Successors.{IsForcing, IsSuccessor, HasForced, AreFreeBeside, AreSuccessors};
+ghost use Rattle.jump_scan.specs.inner.Turning.{IsLegalTurn, AddsFree};
 
 use crate::turns::{Side, ahead_to, aside_to};
 use nav_types::{Cell, Class, Dir, DirSet, View, is_free_beside, legal_steps};
@@ -183,5 +184,119 @@ pub fn successors<V: View>(view: &V, class: Class, cell: Cell, arrived: Option<D
             }
         }
         None => legal_steps(view, class, cell),
+    }
+}
+
+/// The set, with the direction too where the cell beside is passable.
+#[inline(always)]
+fn with_free<V: View>(view: &V, class: Class, cell: Cell, dir: Dir, set: DirSet) -> DirSet
+    requires class { class < V.class_count view.now }
+    requires inside { IsInside (V.extent view.now) cell }
+    ensures { AddsFree (V.passes view.now class) cell dir set result }
+{
+    with_where(set, dir, is_free_beside(view, class, cell, dir))
+}
+
+/// The directions in which the cell beside is passable. Off the map no cell is.
+pub fn beside<V: View>(view: &V, class: Class, cell: Cell) -> DirSet
+    requires class { class < V.class_count view.now }
+    requires inside { IsInside (V.extent view.now) cell }
+    ensures { AreFreeBeside (V.passes view.now class) cell result }
+{
+    let none = DirSet::new();
+    let n = with_free(view, class, cell, Dir::N, none);
+    let e = with_free(view, class, cell, Dir::E, n);
+    let s = with_free(view, class, cell, Dir::S, e);
+    let w = with_free(view, class, cell, Dir::W, s);
+    let ne = with_free(view, class, cell, Dir::NE, w);
+    let se = with_free(view, class, cell, Dir::SE, ne);
+    let sw = with_free(view, class, cell, Dir::SW, se);
+    with_free(view, class, cell, Dir::NW, sw)
+}
+
+/// Whether the step from a passable cell is legal, where these are the directions in which the cell beside is passable.
+#[inline(always)]
+fn is_legal_among(free: DirSet, dir: Dir) -> bool
+    ensures { (passes : Cell → Bool) (cell : Cell) → IsTrue (passes cell) → AreFreeBeside passes cell free
+        → IsTrue result ↔ IsLegalFrom passes cell dir }
+{
+    free.has(dir) && free.has(dir.row_part()) && free.has(dir.column_part())
+}
+
+/// Whether the steps to that side are forced, and one of them is legal.
+#[inline(always)]
+fn is_forced_among(free: DirSet, arrived: Dir, side: Side) -> bool
+    requires straight { IsTrue (is_straight arrived) }
+    ensures { (passes : Cell → Bool) (cell : Cell) → AreFreeBeside passes cell free
+        → IsTrue result ↔ (IsForcing passes cell arrived side × IsFreeBeside passes cell (aside_to side arrived)) }
+{
+    let aside = aside_to(side, arrived);
+    let behind = ahead_to(side, aside);
+    let is_behind = free.has(behind);
+    let is_aside = free.has(aside);
+    !is_behind & is_aside
+}
+
+/// The set, with the legal turns to the side where they are forced.
+#[inline(always)]
+fn with_turns_among(free: DirSet, arrived: Dir, side: Side, set: DirSet) -> DirSet
+    requires straight { IsTrue (is_straight arrived) }
+    ensures { (passes : Cell → Bool) (cell : Cell) → IsTrue (passes cell) → AreFreeBeside passes cell free
+        → (dir : Dir) → IsTrue (holds result dir)
+        ↔ (IsTrue (holds set dir) ⊎ IsLegalTurn passes cell arrived side dir) }
+{
+    let ahead = ahead_to(side, arrived);
+    let aside = aside_to(side, arrived);
+    let forced = is_forced_among(free, arrived, side);
+    let legal = is_legal_among(free, ahead);
+    let turned = with_where(set, aside, forced);
+    with_where(turned, ahead, forced & legal)
+}
+
+/// The successors after a straight step.
+#[inline(always)]
+fn straight_among(free: DirSet, arrived: Dir) -> DirSet
+    requires straight { IsTrue (is_straight arrived) }
+    ensures { AreSuccessors free arrived result }
+{
+    let onward = free.has(arrived);
+    let none = DirSet::new();
+    let ahead = with_where(none, arrived, onward);
+    let left = with_turns_among(free, arrived, Side::Left, ahead);
+    with_turns_among(free, arrived, Side::Right, left)
+}
+
+/// The successors after a diagonal step.
+#[inline(always)]
+fn diagonal_among(free: DirSet, arrived: Dir) -> DirSet
+    requires diagonal { IsFalse (is_straight arrived) }
+    ensures { AreSuccessors free arrived result }
+{
+    let row = arrived.row_part();
+    let column = arrived.column_part();
+    let is_row = free.has(row);
+    let is_column = free.has(column);
+    let is_onward = is_legal_among(free, arrived);
+    let none = DirSet::new();
+    let along_row = with_where(none, row, is_row);
+    let along_both = with_where(along_row, column, is_column);
+    with_where(along_both, arrived, is_onward)
+}
+
+/// The successors of a passable cell after a step, as [`successors`] gives them, where `free` is the directions in which
+/// the cell beside is passable. After several steps to one cell those are read once.
+#[inline(never)]
+pub fn successors_among(free: DirSet, arrived: Dir) -> DirSet
+    ensures { AreSuccessors free arrived result }
+{
+    match arrived {
+        Dir::N => straight_among(free, Dir::N),
+        Dir::E => straight_among(free, Dir::E),
+        Dir::S => straight_among(free, Dir::S),
+        Dir::W => straight_among(free, Dir::W),
+        Dir::NE => diagonal_among(free, Dir::NE),
+        Dir::SE => diagonal_among(free, Dir::SE),
+        Dir::SW => diagonal_among(free, Dir::SW),
+        Dir::NW => diagonal_among(free, Dir::NW),
     }
 }

@@ -1,6 +1,6 @@
 //! Maps that answer runs.
 
-use nav_types::{Aim, Cell, Class, Dir, View};
+use nav_types::{Aim, Cell, Class, Dir, DirSet, View};
 
 /// A map that answers the stops of runs. A search asks it alone, so a map that keeps rows of bits can scan many cells
 /// at once.
@@ -9,6 +9,13 @@ pub trait Runs: View {
     ghost use Rattle.nav_types.specs.declared.cells.Cell.{Cell};
     ghost use Rattle.nav_types.specs.Directions.{is_straight};
     ghost use Rattle.jump_scan.specs.Stops.{IsStraightStop, IsDiagonalStop};
+    ghost use Rattle.jump_scan.specs.Successors.{AreFreeBeside};
+
+    /// The directions in which the cell beside is passable. Off the map no cell is.
+    fn beside(&self, class: Class, cell: Cell) -> DirSet
+        requires class { class < Self.class_count self.now }
+        requires passable { IsTrue (Self.passes self.now class cell) }
+        ensures { AreFreeBeside (Self.passes self.now class) cell result };
 
     /// The stop of the straight run from the cell, as the function `straight` gives it.
     fn straight<A: Aim>(&self, class: Class, from: Cell, dir: Dir, aim: &A) -> Option<Cell>

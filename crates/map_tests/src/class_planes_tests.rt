@@ -120,7 +120,7 @@ fn unlike_from(version: &Version, from: Cell, goal: &Goal) -> Option<Dir>
     requires goal { IsSoundGoal version.now.map.size goal.now }
 {
     let class = Class::new(0);
-    let by_words = PlaneRuns::new(version, version.planes());
+    let by_words = PlaneRuns::new(version, version.planes(), Class::new(0));
     let by_cells = CellRuns::new(version);
     for dir in Dir::ALL {
         if stop_of(&by_words, class, from, dir, goal)

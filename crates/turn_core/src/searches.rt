@@ -43,7 +43,7 @@ impl<'a> Search<'a> {
         requires search { CanFind self.now.version.now self.now.class self.now.start self.now.target.now }
         ensures { IfOk result (IsFoundTo self.now.version.now self.now.class self.now.start self.now.target.now) }
     {
-        let runs = PlaneRuns::new(self.version, self.version.planes());
+        let runs = PlaneRuns::new(self.version, self.version.planes(), self.class);
         let mut ticks = Ticks::<L>::new(blank);
         jump_find_in(
             pool,

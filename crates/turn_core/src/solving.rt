@@ -315,7 +315,7 @@ impl<'a> Search<'a> {
     {
         // The rectangle that the jump states are counted by.
         let _box = self.target.bounds(self.version.size());
-        let runs = PlaneRuns::new(self.version, self.version.planes());
+        let runs = PlaneRuns::new(self.version, self.version.planes(), self.class);
         let mut ticks = Ticks::<L>::new(blank);
         jump_search_in(
             pool,

@@ -7,18 +7,15 @@ use Rattle.class_planes.proofs.plane_runs.PlaneRunsRuns.straight.Goals as goal
 pub returns-in-Some-clause-none : goal.returns-in-Some-clause-none
 returns-in-Some-clause-none g c =
     let plane = c.in-Some.plane.now in
-    let view = c.self.inside.view.now in
+    let view = c.args.self.now in
     let hit = λ (size : Size). g.A.Aim.hit c.args.aim.now size in
-    let is = c.self.invariant c.args.class plane c.in-Some.ensures.some in
-    subst (λ v. IfNone c.straight_stop.result
-    ((stop : Cell) → IsStraightStop (g.V.View.passes v c.args.class) (hit (g.V.View.extent v)) c.args.dir
-    c.args.from stop → ⊥)) c.self.view_is
-    (subst (λ (size : Size). IfNone c.straight_stop.result
+    let is = c.in-Some.ensures in
+    subst (λ (size : Size). IfNone c.straight_stop.result
     ((stop : Cell) → IsStraightStop (g.V.View.passes view c.args.class) (hit size) c.args.dir c.args.from stop → ⊥))
     is.extent
     (subst (λ (passes : Cell → Bool). IfNone c.straight_stop.result
     ((stop : Cell) → IsStraightStop passes (hit plane.size) c.args.dir c.args.from stop → ⊥)) is.cells
-    c.straight_stop.ensures.none))
+    c.straight_stop.ensures.none)
 
 pub returns-in-None-clause-none : goal.returns-in-None-clause-none
 returns-in-None-clause-none g c =
