@@ -135,7 +135,7 @@ same_state a b cells arrivals =
     one ∙ ap (λ (d : Option Dir). record { cell = b.cell; arrived = d }) arrivals
 
 -- each jump in the direction leads to the landed node's state
-along_landed : (all : Bool) (passes hit : Cell → Bool) (nodes : List Node) (from : JumpState) (cost : ℕ) (dir : Dir) (stop : Cell)
+pub along_landed : (all : Bool) (passes hit : Cell → Bool) (nodes : List Node) (from : JumpState) (cost : ℕ) (dir : Dir) (stop : Cell)
     (node : Node)
     → IsStopOf passes hit dir from.cell stop → HasLanded from cost dir stop node
     → IsNoted all nodes node.state node.cost node.run → IsFollowedAlong all passes hit nodes from cost dir

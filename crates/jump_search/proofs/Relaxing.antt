@@ -23,7 +23,7 @@ use Rattle.jump_search.proofs.Queueing.{inserted_here, inserted_apart, len_added
 use Rattle.jump_search.proofs.Lasting.{kept_self, later_self, gains_none, dearer_later, parent_as, IsFrom, met_later}
 
 -- one for an opened node
-pub one_if_opened : Node → ℕ
+unfoldable pub one_if_opened : Node → ℕ
 one_if_opened node = cond node.opened 1 0
 
 pub unopened_none : (node : Node) → IsFalse node.opened → one_if_opened node ≡ 0
@@ -65,7 +65,7 @@ count_kept nodes number a b found same =
 
 -- a node is added
 
-later_added : (nodes : List Node) (node : Node) → IsFalse node.opened → AreLater nodes (nodes ++ node ∷ [])
+pub later_added : (nodes : List Node) (node : Node) → IsFalse node.opened → AreLater nodes (nodes ++ node ∷ [])
 later_added nodes node not = record {
   each = λ number a found. (a, (slice_get-append_left nodes (node ∷ []) number a found, later_self a));
   back = λ number b found opened. elim (slice_get-push_cases nodes node number b found) [

@@ -27,4 +27,5 @@ pub use search::{
     Pool, Traced, jump_find, jump_find_in, jump_find_with, jump_search, jump_search_in,
     jump_search_with,
 };
+pub use searching::Best;
 pub use states::JumpState;

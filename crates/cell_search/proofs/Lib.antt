@@ -1,0 +1,15 @@
+pub mod Places
+pub mod Slots
+pub mod Putting
+pub mod Noting
+pub mod Meeting
+pub mod Following
+pub mod WalkedBack
+pub mod Flagging
+pub mod Opening
+pub mod Opened
+pub mod Ends
+pub mod Begun
+pub mod Low
+pub mod OpeningAfter
+pub mod Counted

@@ -1,0 +1,18 @@
+use Rattle.cell_search.proofs.Following.{follows_both}
+use Rattle.jump_search.proofs.Landing.{each_of_eight}
+use Rattle.cell_search.proofs.front.Front.follow.Goals as goal
+
+pub returns-clause-follows : goal.returns-clause-follows
+returns-clause-follows g c =
+    let from_sw = follows_both c.in_ok-follow_along-7.ensures.follows c.in_ok-follow_along-8.ensures.follows in
+    let from_se = follows_both c.in_ok-follow_along-6.ensures.follows from_sw in
+    let from_ne = follows_both c.in_ok-follow_along-5.ensures.follows from_se in
+    let from_w = follows_both c.in_ok-follow_along-4.ensures.follows from_ne in
+    let from_s = follows_both c.in_ok-follow_along-3.ensures.follows from_w in
+    let from_e = follows_both c.in_ok-follow_along-2.ensures.follows from_s in
+    let all = follows_both c.in_ok-follow_along.ensures.follows from_e in
+    record {
+      on = λ start floor states going has early.
+          (let went = all.on start floor states going has early in
+          (went.0, (went.1.0, λ dir within. went.1.1 dir (each_of_eight dir))));
+    }

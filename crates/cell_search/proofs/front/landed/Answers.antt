@@ -1,0 +1,18 @@
+use Rattle.std.proofs.Common.{ℕ, ◌≡◌, ◌+◌, ◌*◌, refl, sym, ap, ap₂, ◌∙◌}
+use Rattle.jump_search.proofs.Landing.{steps_moved}
+use Rattle.jump_search.proofs.Measuring.{octile_moves}
+use Rattle.cell_search.proofs.front.landed.Goals as goal
+
+pub returns : goal.returns
+returns c =
+    let from = c.args.at.state.cell in
+    let moves = c.requires.moves in
+    let steps : c.steps_along-run.result ≡ moves.0 =
+    c.steps_along-run.ensures ∙ sym (steps_moved c.args.dir moves.0 from c.args.stop moves.1) in
+    record {
+      cell = refl;
+      costs = ap (λ (far : ℕ). c.args.at.cost + far)
+          (ap₂ (λ (m n : ℕ). m * n) steps c.cost.ensures.value
+          ∙ sym (octile_moves c.args.dir moves.0 from c.args.stop moves.1));
+      run = c.steps_along-run.ensures;
+    }
