@@ -1,4 +1,4 @@
-//! The jump search over small maps that are drawn as text, and over a wide open one.
+//! The jump searches over small maps that are drawn as text, and over a wide open one.
 
 ghost use Rattle.std.specs.Prelude.{◌≡◌, ◌<◌};
 
@@ -6,6 +6,7 @@ use crate::fixtures::counted::Counted;
 use crate::fixtures::maps::drawn;
 use crate::fixtures::searches::{Search, is_fit, is_found, search_of};
 use crate::fixtures::texts::fields_of;
+use cell_search::cell_find;
 use jump_scan::CellRuns;
 use jump_search::{Pool, jump_find, jump_find_in, jump_find_with, jump_search, jump_search_with};
 use nav_types::{Class, NoMemory, Size, Ticks, View};
@@ -116,6 +117,30 @@ fn answers_in_pool<L: Ledger>(
     Ok(is_found(search, &found))
 }
 
+/// Whether the search with one node for each cell answers as it should, in a pool that has served other maps, where its cells
+/// are counted in a ledger.
+fn answers_by_cells<L: Ledger>(
+    pool: &mut cell_search::Pool,
+    alloc: Global,
+    map: &Grid,
+    search: &Search<'_>,
+    blank: Blank,
+) -> Result<bool, NoMemory>
+    requires name { blank.name ≡ L.name }
+    requires parts { blank.parts ≡ L.parts }
+    requires some { 0 < L.parts }
+{
+    let class = Class::new(0);
+    let (start, aim) = (search.start, &search.targets);
+    let runs = CellRuns::new(map);
+    if !aim.rect.is_inside(runs.size()) || !is_fit(&runs, class, start, search.points, aim) {
+        return Ok(false);
+    }
+    let mut ticks = Ticks::<L>::new(blank);
+    let found = cell_find(pool, alloc, &runs, class, start, aim, &mut ticks)?;
+    Ok(is_found(search, &found))
+}
+
 /// Whether both searches answer as they should, and so many jump states are opened, where they are counted in a ledger.
 fn answers_counted<L: Ledger>(
     alloc: Global,
@@ -143,22 +168,29 @@ fn answers_counted<L: Ledger>(
 }
 
 /// Whether a line of `TABLE` says what the answer is. None where it is not in the form of the table.
-fn answers_as_the_line_says(alloc: Global, pool: &mut Pool, line: &str) -> Option<bool> {
+fn answers_as_the_line_says(
+    alloc: Global,
+    pool: &mut Pool,
+    cells: &mut cell_search::Pool,
+    line: &str,
+) -> Option<bool> {
     let [map, start, targets, end, cost, points, opened] = fields_of(line);
     let opened = opened.parse().ok()?;
     let search = search_of(alloc, [start, targets, end, cost, points])?;
     let map = drawn(alloc, map)?;
     let again = answers_in_pool::<Brand>(pool, alloc, &map, &search, Blank::new(1)).ok()?;
+    let by_cells = answers_by_cells::<Brand>(cells, alloc, &map, &search, Blank::new(1)).ok()?;
     let anew = answers_counted::<Brand>(alloc, &map, &search, opened, Blank::new(1)).ok()?;
-    Some(again && anew)
+    Some(again && by_cells && anew)
 }
 
 #[test]
 fn answers_as_the_table_says(rt: HostRuntime) -> Result<(), Fail> {
     let mut pool = Pool::new(rt.alloc())?;
+    let mut cells = cell_search::Pool::new(rt.alloc())?;
     for line in TABLE.lines() {
         assert!(rt;
-            answers_as_the_line_says(rt.alloc(), &mut pool, line) == Some(true),
+            answers_as_the_line_says(rt.alloc(), &mut pool, &mut cells, line) == Some(true),
             "{line}"
         );
     }
