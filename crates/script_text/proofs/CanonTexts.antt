@@ -173,6 +173,19 @@ opened_pieces t a d k b r = two_pieces t (a ++ (d ++ k)) b r ∙ ap (λ x. t ++ 
 pub pair_pieces : (x z r : List ℕ) → x ++ 44 ∷ (z ++ 93 ∷ r) ≡ (x ++ 44 ∷ (z ++ 93 ∷ [])) ++ r
 pair_pieces x z r = sym (append_assoc x (44 ∷ (z ++ 93 ∷ [])) r ∙ ap (λ y. x ++ 44 ∷ y) (append_assoc z (93 ∷ []) r))
 
+-- a line that asks, up to its point
+pub asking_pieces : (t a c k n p d : List ℕ) → (((t ++ (a ++ (c ++ (k ++ [])))) ++ n) ++ p) ++ d ≡ t ++ (a ++ (c ++ (k ++ (n ++ (p ++ d)))))
+asking_pieces t a c k n p d =
+    ap (λ (x : List ℕ). (((t ++ (a ++ (c ++ x))) ++ n) ++ p) ++ d) (append-nil k) ∙ two_pieces (t ++ (a ++ (c ++ k))) n p d
+    ∙ append_assoc t (a ++ (c ++ k)) (n ++ (p ++ d)) ∙ ap (λ (x : List ℕ). t ++ x) (append_assoc a (c ++ k) (n ++ (p ++ d)) ∙ ap (λ (x : List ℕ). a ++ x) (append_assoc c k (n ++ (p ++ d))))
+
+-- and what follows it
+pub asked_pieces : (t a c k n p d z : List ℕ) → (t ++ (a ++ (c ++ (k ++ (n ++ (p ++ d)))))) ++ z ≡ t ++ (a ++ (c ++ (k ++ (n ++ (p ++ (d ++ z))))))
+asked_pieces t a c k n p d z =
+    append_assoc t (a ++ (c ++ (k ++ (n ++ (p ++ d))))) z ∙ ap (λ (x : List ℕ). t ++ x) (append_assoc a (c ++ (k ++ (n ++ (p ++ d)))) z
+    ∙ ap (λ (x : List ℕ). a ++ x) (append_assoc c (k ++ (n ++ (p ++ d))) z ∙ ap (λ (x : List ℕ). c ++ x) (append_assoc k (n ++ (p ++ d)) z
+    ∙ ap (λ (x : List ℕ). k ++ x) (append_assoc n (p ++ d) z ∙ ap (λ (x : List ℕ). n ++ x) (append_assoc p d z)))))
+
 -- a member after others, and what follows it
 pub member_piece : (key value rest : List ℕ) → (44 ∷ (key ++ 58 ∷ value)) ++ rest ≡ 44 ∷ (key ++ 58 ∷ (value ++ rest))
 member_piece key value rest = ap (λ t. 44 ∷ t) (append_assoc key (58 ∷ value) rest)

@@ -1,5 +1,5 @@
 //! The canonical lines of posts. Each call appends a text; where there is no memory, what stands is a beginning of it.
-ghost use Rattle.std.specs.Prelude.{◌≡◌, ◌++◌, ◌∷◌, true, OnOk, IsTrue};
+ghost use Rattle.std.specs.Prelude.{◌≡◌, ◌++◌, ◌∷◌, [], true, OnOk, IsTrue, codes, decimal};
 ghost use Rattle.serde_json.specs.Data.{string};
 ghost use Rattle.serde_json.specs.Written.{compact_text, members_text};
 ghost use Rattle.class_config.specs.Forms.{is_class_name};
@@ -195,21 +195,8 @@ fn push_path(
         ++ compact_text (canon.post_json version caller (kind.Ask (request.Path class.now from.0 from.1 goal)))) }
     ensures values { OnOk result (IsPostValue (kind.Ask (request.Path class.now from.0 from.1 goal))) }
 {
-    let pieces = [
-        Piece::Bytes(b"{\"caller\":"),
-        Piece::Whole(caller),
-        Piece::Bytes(b",\"path\":"),
-    ];
-    push_pieces(text, &pieces)?;
-    push_name(text, class)?;
-    let pieces = [
-        Piece::Bytes(b",\"from\":["),
-        Piece::Decimal(from.0),
-        Piece::Bytes(b","),
-        Piece::Decimal(from.1),
-        Piece::Bytes(b"],\"goal\":"),
-    ];
-    push_pieces(text, &pieces)?;
+    push_asking(text, caller, b",\"path\":", class, b",\"from\":", from)?;
+    text.extend(b",\"goal\":")?;
     push_goal(text, goal)?;
     text.push(b'}')?;
     Ok(())
@@ -227,21 +214,35 @@ fn push_region(
         ++ compact_text (canon.post_json version caller (kind.Ask (request.Region class.now place.0 place.1)))) }
     ensures values { OnOk result (IsPostValue (kind.Ask (request.Region class.now place.0 place.1))) }
 {
+    push_asking(text, caller, b",\"region\":", class, b",\"at\":", place)?;
+    text.push(b'}')?;
+    Ok(())
+}
+
+/// Appends what a line that asks begins with: the caller, the class under the first key and the point under the second.
+fn push_asking(
+    text: &mut Bytes,
+    caller: u64,
+    class_key: &[u8],
+    class: &ClassName,
+    point_key: &[u8],
+    point: (Fixed, Fixed),
+) -> Result<(), NoMemory>
+    ensures text { OnOk result (text.new ≡ text.old
+        ++ (codes "{\"caller\":" ++ (decimal caller ++ (class_key.now ++ (compact_text (string class.now)
+        ++ (point_key.now ++ compact_text (canon.decimals_json (point.0 ∷ point.1 ∷ [])))))))) }
+    ensures name { OnOk result (IsTrue (is_class_name class.now)) }
+    ensures values { OnOk result (AreFixed (point.0 ∷ point.1 ∷ [])) }
+{
     let pieces = [
         Piece::Bytes(b"{\"caller\":"),
         Piece::Whole(caller),
-        Piece::Bytes(b",\"region\":"),
+        Piece::Bytes(class_key),
     ];
     push_pieces(text, &pieces)?;
     push_name(text, class)?;
-    let pieces = [
-        Piece::Bytes(b",\"at\":["),
-        Piece::Decimal(place.0),
-        Piece::Bytes(b","),
-        Piece::Decimal(place.1),
-        Piece::Bytes(b"]}"),
-    ];
-    push_pieces(text, &pieces)?;
+    text.extend(point_key)?;
+    push_decimals(text, &[point.0, point.1])?;
     Ok(())
 }
 
