@@ -12,12 +12,13 @@ ghost use Rattle.grid_versions.specs.inner.Tables.{AreTables};
 
 use crate::class_views::ClassView;
 use crate::layers::Layers;
+use crate::painted_map::PaintedMap;
 use crate::planes::plane_of;
 use crate::sites::Site;
 use crate::standing_edits::{Changes, Edited, edited_copy};
 use crate::tables::ClassTables;
 use class_planes::{ClassPlane, Planes};
-use nav_types::{Areas, Axis, Cell, Class, FreeCells, NoMemory, Size, Ticks, View};
+use nav_types::{Areas, Axis, Cell, Class, FreeCells, NoMemory, Rows, Size, Ticks, View};
 use obstruction_store::Store;
 use posts::{EditReplies, Edits, MapSpec, Tallies};
 use reach_sets::RegionId;
@@ -359,6 +360,20 @@ impl View for Version {
     /// it for the class.
     fn passable(&self, class: Class, cell: Cell) -> bool {
         self.plane(class).passable(cell)
+    }
+}
+
+impl Rows for Version {
+    /// Writes one number for each cell of row `j`: bit k is set exactly where the cell is impassable for class k
+    /// (`AreRowBits`).
+    fn row_bits(&self, j: u16, out: &mut [u16]) {
+        let parts = self.kept();
+        let site = Site {
+            map: self.map(),
+            shapes: self.shapes(),
+        };
+        let painted = PaintedMap::new(&site, &parts.layers.ground.cells);
+        painted.row_bits(j, out);
     }
 }
 
