@@ -1,0 +1,2 @@
+pub mod SavedMatches
+pub mod ToldJournals

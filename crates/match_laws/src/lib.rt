@@ -1,0 +1,19 @@
+//! Laws of whole matches: what an output under `serve` tells, how a match goes on from what stands, and what turns to a
+//! side are.
+//!
+//! ```text
+//!    out = canonical script of the journal ++ answers        both are found in `out`, and replaying the first
+//!                                                            gives the second
+//!    map + standing obstructions --one turn of adds--> a match that answers further turns alike
+//! ```
+//!
+//! Nothing here runs: each function is a theorem of the crates below.
+#![tactic(auto)]
+
+mod matches;
+mod served;
+mod turns;
+
+pub use matches::{further_turns, saved_matches_go_on, saved_standing, saved_turns_can_be_written};
+pub use served::{journal_is_told, one_journal, served_answers_are_replayed, served_values};
+pub use turns::{eighths, quarters};
