@@ -1,5 +1,6 @@
 //! The passable cells beside a cell, read off a plane.
 ghost use Rattle.std.specs.Prelude.{◌≡◌, ◌<◌, ◌≤◌, ◌+◌, ◌-◌, ◌/◌, ◌==◌, ◌&&◌, ◌↔◌, ◌⊎◌, nat_lt, length, IsTrue};
+ghost use Rattle.std.specs.Int.{bit_at};
 ghost use Rattle.nav_types.specs.declared.directions.Dir.{Dir};
 ghost use Rattle.nav_types.specs.DirSets.{holds};
 ghost use Rattle.jump_scan.specs.Successors.{AreFreeBeside};
@@ -30,9 +31,17 @@ fn is_set_before(line: &[u64], i: u16) -> bool
     is_set(line, i - 1)
 }
 
-/// Whether the places about `i` of the line are set.
+/// Whether the bit of a word is set.
 #[inline(always)]
-fn three_about(line: &[u64], i: u16) -> Three
+fn is_bit(word: u64, k: u16) -> bool
+    requires { k < 64 }
+    ensures { result ≡ (bit_at word k == 1) }
+{
+    (word >> k) & 1 == 1
+}
+
+/// Whether the places about `i` of the line are set, wherever it lies in its word.
+fn three_anywhere(line: &[u64], i: u16) -> Three
     requires within { (i + 1) / 64 < length line.now }
     requires few { length line.now ≤ 33 }
     ensures before { result.before ≡ (nat_lt 0 i && (bit_in line.now (i - 1) == 1)) }
@@ -43,6 +52,30 @@ fn three_about(line: &[u64], i: u16) -> Three
         before: is_set_before(line, i),
         here: is_set(line, i),
         after: is_set(line, i + 1),
+    }
+}
+
+/// Whether the places about `i` of the line are set. Mostly they lie in one word.
+#[inline(always)]
+fn three_about(line: &[u64], i: u16) -> Three
+    requires within { (i + 1) / 64 < length line.now }
+    requires few { length line.now ≤ 33 }
+    ensures before { result.before ≡ (nat_lt 0 i && (bit_in line.now (i - 1) == 1)) }
+    ensures here { result.here ≡ (bit_in line.now i == 1) }
+    ensures after { result.after ≡ (bit_in line.now (i + 1) == 1) }
+{
+    let k = i % 64;
+    if k == 0 || k == 63 {
+        return three_anywhere(line, i);
+    }
+    let word = line[usize::from(i) / 64];
+    let before = is_bit(word, k - 1);
+    let here = is_bit(word, k);
+    let after = is_bit(word, k + 1);
+    Three {
+        before,
+        here,
+        after,
     }
 }
 
