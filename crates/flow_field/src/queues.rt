@@ -37,6 +37,7 @@ impl Queue {
     }
 
     /// Puts a place behind the others.
+    #[inline(always)]
     pub fn push(&mut self, place: u32) -> Result<(), NoMemory>
         ensures { OnOk result (self.new ≡ self.old ++ place ∷ []) }
     {
@@ -45,6 +46,7 @@ impl Queue {
     }
 
     /// The place that comes first. None exactly where none waits.
+    #[inline(always)]
     pub fn first(&self) -> Option<u32>
         ensures some { IfSome result (λ place. 0 < length self.now) }
         ensures first { IfSome result (λ place. place ≡ slice_index self.now 0) }
@@ -54,6 +56,7 @@ impl Queue {
     }
 
     /// Takes out the place that comes first.
+    #[inline(always)]
     pub fn take_first(&mut self) -> u32
         requires { 0 < length self.old }
         ensures { self.old ≡ result ∷ self.new }

@@ -25,6 +25,7 @@ pub struct Spread {
 
 impl Spread {
     /// Lowers a mark to one that is less, as a straight step does.
+    #[inline(always)]
     pub fn lower_straight(&mut self, at: usize, mark: u64) -> Result<(), NoMemory>
         requires within { at < length self.old.marks.items }
         requires few { length self.old.marks.items < 2 ^ 32 }
@@ -38,6 +39,7 @@ impl Spread {
     }
 
     /// Lowers a mark to one that is less, as a diagonal step does where both cells beside it are passable.
+    #[inline(always)]
     fn lower_diagonal(
         &mut self,
         at: usize,
