@@ -1,5 +1,6 @@
 //! Matches tell what the examples are answered, however their bytes are cut.
-ghost use Rattle.std.specs.Prelude.{◌<◌};
+ghost use Rattle.std.specs.Prelude.{◌<◌, IsFalse, IsSome, OnOk};
+ghost use Rattle.script_text.specs.Reader.{rules_at};
 
 use answer_text::turn_text;
 use io_edges::MemorySource;
@@ -27,12 +28,7 @@ fn joined(alloc: Global, parts: &[&str]) -> Result<Bytes, NoMemory> {
 }
 
 /// Feeds a match with a script by pieces of so many bytes.
-fn feed_by(
-    alloc: Global,
-    game: &mut Match,
-    script: &[u8],
-    size: usize,
-) -> Result<(), MatchFault>
+fn feed_by(alloc: Global, game: &mut Match, script: &[u8], size: usize) -> Result<(), MatchFault>
     requires { 0 < size }
 {
     for piece in script.chunks(size) {
@@ -76,29 +72,54 @@ fn a_bad_line_stops_a_match(rt: HostRuntime) {
     }
 }
 
-/// The text of a match whose turns are the posts of a script, and the match as a script.
-fn played(alloc: Global, script: &[&str]) -> Result<(Bytes, Bytes), ScriptFault> {
+/// Ends the next turn of a script in a match by posts, and gives its text.
+fn end_next(
+    alloc: Global,
+    reader: &mut ScriptReader,
+    source: &mut MemorySource,
+    game: &mut PostedMatch,
+    turn: u64,
+) -> Result<Bytes, ScriptFault>
+    requires map { IsSome (rules_at reader.old.place.part) }
+    requires going { IsFalse reader.old.over }
+    ensures map { OnOk result (IsSome (rules_at reader.new.place.part)) }
+    ensures going { OnOk result (IsFalse reader.new.over) }
+{
+    let Some(posts) = reader.next_turn(alloc, source)? else {
+        return Err(ScriptFault::ReadFault);
+    };
+    if !have_lines(game.version().map(), &posts) {
+        return Err(ScriptFault::ReadFault);
+    }
+    match game.end_turn(alloc, Report::Answers, posts) {
+        Ok(EndedTurn { replies, .. }) => Ok(turn_text(alloc, turn, &replies)?),
+        Err(_) => Err(ScriptFault::NoMemory),
+    }
+}
+
+/// The text of a match whose turns are the posts of a script, one or two, and the match as a script.
+fn played(alloc: Global, script: &[&str], two: bool) -> Result<(Bytes, Bytes), ScriptFault> {
     let script = joined(alloc, script)?;
     let mut source = MemorySource::new(alloc, script.as_slice(), 4096, &[])?;
     let mut reader = ScriptReader::new(alloc)?;
     let map = reader.read_map(alloc, &mut source)?;
     let mut game = PostedMatch::open(alloc, &map)?;
-    let mut text = Bytes::new(alloc);
-    let mut turn = 0;
-    while let Some(posts) = reader.next_turn(alloc, &mut source)? {
-        turn += 1;
-        if !have_lines(&map, &posts) {
-            return Err(ScriptFault::NoMemory);
-        }
-        let EndedTurn { replies, .. } = game.end_turn(alloc, Report::Answers, posts)?;
-        text.extend(turn_text(alloc, turn, &replies)?.as_slice())?;
+    let mut text = end_next(alloc, &mut reader, &mut source, &mut game, 1)?;
+    if two {
+        let second = end_next(alloc, &mut reader, &mut source, &mut game, 2)?;
+        text.extend(second.as_slice())?;
     }
     Ok((text, game.script(alloc)?))
 }
 
 /// Whether a match by posts tells the same, and its script is answered alike by a match that is fed.
-fn is_played(alloc: Global, script: &[&str], answers: &[&str]) -> Result<bool, ScriptFault> {
-    let (text, again) = played(alloc, script)?;
+fn is_played(
+    alloc: Global,
+    script: &[&str],
+    two: bool,
+    answers: &[&str],
+) -> Result<bool, ScriptFault> {
+    let (text, again) = played(alloc, script, two)?;
     let answers = joined(alloc, answers)?;
     let mut game = Match::open(alloc, Report::Answers);
     let ended = feed_by(alloc, &mut game, again.as_slice(), 7);
@@ -108,8 +129,8 @@ fn is_played(alloc: Global, script: &[&str], answers: &[&str]) -> Result<bool, S
 
 #[test]
 fn posts_are_answered_as_their_script(rt: HostRuntime) {
-    assert!(rt; is_played(rt.alloc(), FIRST, FIRST_ANSWERS) == Ok(true));
-    assert!(rt; is_played(rt.alloc(), SKIRMISH, SKIRMISH_ANSWERS) == Ok(true));
+    assert!(rt; is_played(rt.alloc(), FIRST, false, FIRST_ANSWERS) == Ok(true));
+    assert!(rt; is_played(rt.alloc(), SKIRMISH, true, SKIRMISH_ANSWERS) == Ok(true));
 }
 
 /// How many turns stand in a view: whether a match has one before its map, and behind it.
