@@ -6,3 +6,4 @@ pub mod ToldLines
 pub mod ReadValues
 pub mod ServedJournals
 pub mod ReplayedAnswers
+pub mod SavedReplies

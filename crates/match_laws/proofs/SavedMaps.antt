@@ -21,7 +21,7 @@ use Rattle.match_laws.specs.SavedMatches.{add_of, adds_of, turn_by_first}
 
 -- ---- entries in rising order
 
-abbrev Entry : Type 0
+abbrev pub Entry : Type 0
 Entry = ℕ × Obstruction
 
 left : (a b : Bool) → T (a && b) → T a
@@ -79,34 +79,50 @@ add_made id old new true false true p q r = absurd (cc)
 add_made id old new true false false p q r = refl
 add_made id old new false known full p q r = absurd (cc)
 
+pub record GoesThrough (m : Map) (s : Standing) (e : Entry) : Type 0 where
+  pub fit : fits m.size e.1.shape ≡ true
+  pub free : fin_map.contains_key s e.0 ≡ false
+  pub room : (fin_map.len s == 65536) ≡ false
+
 module _ (m : Map) (whole : Standing) (all : AllFit m.size whole) (few : fin_map.len whole ≤ 65536) where
+  -- an add of the next entry goes through
+  pub next_goes : (front : List Entry) (e : Entry) (back : List Entry) (s : Standing)
+      → fin_map.entries whole ≡ front ++ e ∷ back → fin_map.entries s ≡ front → GoesThrough m s e
+  next_goes front e back s w is =
+      let sorted : T (is_sorted nat_cmp (front ++ e ∷ back)) = subst (λ (es : List Entry). T (is_sorted nat_cmp es)) w (fin_map.entries_sorted whole) in
+      let there : fin_map.get whole e.0 ≡ Some e.1 = fin_map.get-entries whole e.0 ∙ ap (find nat_cmp e.0) w ∙ found_there front e back sorted in
+      let size : fin_map.len whole ≡ length front + length (e ∷ back) =
+      fin_map.len-entries whole ∙ ap length w ∙ length-append front (e ∷ back) in
+      let now : fin_map.len s ≡ length front = fin_map.len-entries s ∙ ap length is in
+      let more : length (e ∷ back) ≡ length back + 1 = omega arith in record {
+        fit = (fits_decides m.size e.1.shape).1 (all.each e.0 e.1 there);
+        free = ap is_some (fin_map.get-entries s e.0 ∙ ap (find nat_cmp e.0) is ∙ none_before front e back sorted);
+        room = ne_eqb (fin_map.len s) 65536 (λ full. omega (arith, size, now, more, few, full));
+      }
+
   -- the next entry is added
-  entry_added : (front : List Entry) (e : Entry) (back : List Entry) (s : Standing)
+  pub entry_added : (front : List Entry) (e : Entry) (back : List Entry) (s : Standing)
       → fin_map.entries whole ≡ front ++ e ∷ back → fin_map.entries s ≡ front
       → edited m s (add_of e) ≡ fin_map.insert s e.0 e.1
   unfolding edited
   entry_added front e back s w is =
+      let goes = next_goes front e back s w is in
+      add_made e.0 s (fin_map.insert s e.0 e.1) (fits m.size e.1.shape) (fin_map.contains_key s e.0) (fin_map.len s == 65536) goes.fit goes.free goes.room
+
+  -- the entries so far, with one more
+  pub entries_next : (front : List Entry) (e : Entry) (back : List Entry) (s : Standing)
+      → fin_map.entries whole ≡ front ++ e ∷ back → fin_map.entries s ≡ front
+      → fin_map.entries (fin_map.insert s e.0 e.1) ≡ front ++ e ∷ []
+  entries_next front e back s w is =
       let sorted : T (is_sorted nat_cmp (front ++ e ∷ back)) = subst (λ (es : List Entry). T (is_sorted nat_cmp es)) w (fin_map.entries_sorted whole) in
-      let there : fin_map.get whole e.0 ≡ Some e.1 = fin_map.get-entries whole e.0 ∙ ap (find nat_cmp e.0) w ∙ found_there front e back sorted in
-      let fit : fits m.size e.1.shape ≡ true = (fits_decides m.size e.1.shape).1 (all.each e.0 e.1 there) in
-      let free : fin_map.contains_key s e.0 ≡ false =
-      ap is_some (fin_map.get-entries s e.0 ∙ ap (find nat_cmp e.0) is ∙ none_before front e back sorted) in
-      let size : fin_map.len whole ≡ length front + length (e ∷ back) =
-      fin_map.len-entries whole ∙ ap length w ∙ length-append front (e ∷ back) in
-      let now : fin_map.len s ≡ length front = fin_map.len-entries s ∙ ap length is in
-      let more : length (e ∷ back) ≡ length back + 1 = omega arith in
-      let room : (fin_map.len s == 65536) ≡ false = ne_eqb (fin_map.len s) 65536 (λ full. omega (arith, size, now, more, few, full)) in
-      add_made e.0 s (fin_map.insert s e.0 e.1) (fits m.size e.1.shape) (fin_map.contains_key s e.0) (fin_map.len s == 65536) fit free room
+      fin_map.entries-insert nat_cmp_total s e.0 e.1 ∙ ap (put nat_cmp e.0 e.1) is ∙ put_last front e back sorted
 
   entries_added : (front back : List Entry) (s : Standing) → fin_map.entries whole ≡ front ++ back
       → fin_map.entries s ≡ front → after m s (map add_of back) ≡ whole
   entries_added front [] s w is = fin_map.same_entries_map s whole (is ∙ sym (append-nil front) ∙ sym w)
   entries_added front (e ∷ back) s w is =
-      let sorted : T (is_sorted nat_cmp (front ++ e ∷ back)) = subst (λ (es : List Entry). T (is_sorted nat_cmp es)) w (fin_map.entries_sorted whole) in
-      let next : Standing = fin_map.insert s e.0 e.1 in
       ap (λ (t : Standing). after m t (map add_of back)) (entry_added front e back s w is)
-      ∙ entries_added (front ++ e ∷ []) back next (w ∙ sym (append_assoc front (e ∷ []) back))
-      (fin_map.entries-insert nat_cmp_total s e.0 e.1 ∙ ap (put nat_cmp e.0 e.1) is ∙ put_last front e back sorted)
+      ∙ entries_added (front ++ e ∷ []) back (fin_map.insert s e.0 e.1) (w ∙ sym (append_assoc front (e ∷ []) back)) (entries_next front e back s w is)
 
 -- nobody posts
 after_nobody : (m : Map) (s : Standing) (callers : ℕ) → after_turn m s (replicate callers []) ≡ s
@@ -118,7 +134,7 @@ pub after_first : (m : Map) (s : Standing) (callers : ℕ) (posts : List Post) �
 after_first m s zero posts some = absurd (omega (arith, some))
 after_first m s (suc others) posts some = after_nobody m (after m s posts) others
 
-no_entries : fin_map.entries (fin_map.empty {X = Obstruction} {R = nat_cmp}) ≡ []
+pub no_entries : fin_map.entries (fin_map.empty {X = Obstruction} {R = nat_cmp}) ≡ []
 no_entries = nothing (fin_map.entries (fin_map.empty {X = Obstruction} {R = nat_cmp})) (sym (fin_map.len-entries (fin_map.empty {X = Obstruction} {R = nat_cmp})) ∙ fin_map.len-empty nat_cmp Obstruction)
   where
     nothing : (es : List Entry) → length es ≡ 0 → es ≡ []

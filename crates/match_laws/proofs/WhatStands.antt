@@ -82,11 +82,11 @@ module _ (P : Standing → Type 0) (m : Map) (keeps : (s : Standing) (edit : Edi
   journal_keeps s [] is = is
   journal_keeps s (turn ∷ journal) is = journal_keeps (after_turn m s turn) journal (turn_keeps s turn is)
 
-all_fit : (m : Map) (journal : List (List (List Post))) → AllFit m.size (standing m bare journal)
+pub all_fit : (m : Map) (journal : List (List (List Post))) → AllFit m.size (standing m bare journal)
 unfolding bare
 all_fit m journal = journal_keeps (AllFit m.size) m (λ s edit is. AllFit-after_edit m s edit is) fin_map.empty journal (AllFit-empty m.size)
 
-few_stand : (m : Map) (journal : List (List (List Post))) → fin_map.len (standing m bare journal) ≤ 65536
+pub few_stand : (m : Map) (journal : List (List (List Post))) → fin_map.len (standing m bare journal) ≤ 65536
 unfolding bare
 few_stand m journal =
     let none = fin_map.len-empty nat_cmp Obstruction in

@@ -6,6 +6,9 @@ use Rattle.obstruction_store.specs.Standing.{Standing}
 use Rattle.posts.specs.declared.edits.Edit.TheVariants.{Add}
 use Rattle.posts.specs.declared.posts.Post.{Post}
 use Rattle.posts.specs.declared.posts.Post.TheVariants.{Edit as Edits}
+use Rattle.posts.specs.declared.edits.EditReply.TheVariants.{Added}
+use Rattle.posts.specs.declared.replies.Reply.{Reply}
+use Rattle.posts.specs.declared.replies.Reply.TheVariants.{Edit as Edited}
 use Rattle.posts.specs.Maps.{Map}
 use Rattle.script_text.specs.Script.{no_posts}
 
@@ -25,3 +28,7 @@ turn_by_first (suc others) posts = posts ∷ no_posts others
 -- the journal that brings a map to what stands: one turn of adds
 abbrev pub saved : Map → Standing → List (List (List Post))
 saved m standing = turn_by_first m.callers (adds_of standing) ∷ []
+
+-- the reply to the add of an obstruction that was added
+abbrev pub added_to : ℕ × Obstruction → Reply
+added_to entry = Edited (Added entry.0)

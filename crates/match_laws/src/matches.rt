@@ -1,12 +1,14 @@
 //! Laws of matches that go on.
-ghost use Rattle.std.specs.Prelude.{◌≡◌, ◌≤◌, ◌++◌, ◌∷◌, [], List, drop, length};
+ghost use Rattle.std.specs.Prelude.{◌≡◌, ◌≤◌, ◌++◌, List, drop, length, map};
+ghost use Rattle.std.specs.FinMap as fin_map;
 ghost use Rattle.posts.specs.declared.posts.Post.{Post};
 ghost use Rattle.posts.specs.declared.replies.TurnReplies.{TurnReplies};
 ghost use Rattle.posts.specs.Maps.{Map};
+ghost use Rattle.posts.specs.Callers.{of_caller};
 ghost use Rattle.turn_core.specs.Words.{bare};
-ghost use Rattle.turn_core.specs.Turns.{standing, IsOneThread};
+ghost use Rattle.turn_core.specs.Turns.{standing, replies_in, IsOneThread};
 ghost use Rattle.script_text.specs.ReadsBack.{AreTurns};
-ghost use Rattle.match_laws.specs.SavedMatches.{saved};
+ghost use Rattle.match_laws.specs.SavedMatches.{added_to, saved};
 
 /// A law: the replies to further turns depend on the map and what stands alone. Where two journals leave the same
 /// standing obstructions, the same turns after them are answered alike, numbers of relabelled regions included.
@@ -38,4 +40,11 @@ pub fn saved_matches_go_on()
 pub fn saved_turns_can_be_written()
     ensures { (m : Map) (journal : List (List (List Post))) → 1 ≤ m.callers → AreTurns m journal
         → AreTurns m (saved m (standing m bare journal)) }
+{}
+
+/// A law: each add of that turn is answered `Added`.
+pub fn saved_obstructions_are_added()
+    ensures { (m : Map) (journal : List (List (List Post))) (again : List TurnReplies) → 1 ≤ m.callers
+        → IsOneThread m (saved m (standing m bare journal)) again
+        → of_caller 0 (replies_in again) ≡ map added_to (fin_map.entries (standing m bare journal)) }
 {}
