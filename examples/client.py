@@ -1,5 +1,5 @@
 #!/usr/bin/env python3
-"""A game that asks the service turn by turn, over a pipe: client.py ./pathserve (or the built program)."""
+"""A game that asks the service turn by turn, over a pipe: client.py out/pathserve (or out/pathserve-unproved)."""
 import json
 import math
 import subprocess
@@ -23,7 +23,10 @@ def play(turn, posts):
         send(line)
     service.stdin.flush()
     # (read before the next turn is sent: where nobody reads, the pipe fills and the service waits)
-    return [service.stdout.readline().rstrip() for _ in range(1 + len(posts))]
+    answers = [service.stdout.readline().rstrip() for _ in range(1 + len(posts))]
+    if not answers[0].startswith("turn "):
+        raise RuntimeError(answers[0] or "the service has ended: look at its exit status")
+    return answers
 
 
 send({"version": 3, "size": [12, 8], "callers": 1, "classes": [{"name": "infantry", "clearance": decimal(0.5)}]})
