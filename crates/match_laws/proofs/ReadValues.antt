@@ -26,7 +26,8 @@ use Rattle.posts.specs.declared.posts.Request.TheVariants.{Path, Region}
 use Rattle.posts.specs.Maps.{Map}
 use Rattle.script_text.specs.Grammar.{IsDecimal, IsArray, SayEach, IsPlainGoal, IsGoal, HasAddKeys, IsPostLine, IsMapLine, IsBaseLine, IsEntry, shape_key, shape_decimals, rectangle_decimals}
 use Rattle.script_text.specs.Canon.{is_post_of, is_goal_of}
-use Rattle.script_text.specs.ReadsBack.{AreFixed, goal_decimals, IsGoalValue, IsPostValue, IsMapValue}
+use Rattle.script_text.specs.Goals.{goal_decimals}
+use Rattle.script_text.specs.ReadsBack.{AreFixed, IsGoalValue, IsPostValue, IsMapValue}
 use Rattle.script_text.proofs.GrammarValues.{some_if-some}
 
 -- ---- decimals
