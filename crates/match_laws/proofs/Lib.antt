@@ -7,3 +7,5 @@ pub mod ReadValues
 pub mod ServedJournals
 pub mod ReplayedAnswers
 pub mod SavedReplies
+pub mod ScriptLines
+pub mod ScriptReads

@@ -1,5 +1,5 @@
-//! Laws of whole matches: what an output under `serve` tells, how a match goes on from what stands, and what turns to a
-//! side are.
+//! Laws of whole matches: what scripts are in the grammar's words, what an output under `serve` tells, how a match goes on
+//! from what stands, and what turns to a side are.
 //!
 //! ```text
 //!    out = canonical script of the journal ++ answers        both are found in `out`, and replaying the first
@@ -11,6 +11,7 @@
 #![tactic(auto)]
 
 mod matches;
+mod scripts;
 mod served;
 mod turns;
 
@@ -18,5 +19,6 @@ pub use matches::{
     further_turns, saved_matches_go_on, saved_obstructions_are_added, saved_standing,
     saved_turns_can_be_written,
 };
+pub use scripts::scripts_are_read;
 pub use served::{journal_is_told, one_journal, served_answers_are_replayed, served_values};
 pub use turns::{eighths, quarters};
