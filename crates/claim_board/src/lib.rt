@@ -4,8 +4,9 @@
 //!    next: 5 of 12        fetch-add gives a worker 5, the next one 6, ..; from 12 on there is nothing more
 //! ```
 //!
-//! [`Claims`] is the word, and a [`Seat`] the right to draw from it. What a seat has drawn its [`Drawings`] say, and when
-//! all seats are back, all jobs were drawn. What a job is, is unknown here; nothing waits.
+//! [`Claims`] is the word, and a [`Seat`] the right to draw from it. A seat that draws past the last job has ended. Once
+//! all seats are joined and one has ended, all jobs were drawn, and [`Drawings`] has them. What a job is, is unknown here;
+//! nothing waits.
 #![tactic(auto)]
 
 mod claims;

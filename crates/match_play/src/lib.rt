@@ -1,8 +1,8 @@
 //! A match for a game to link: fed with the bytes of a script, cut anywhere, or with posts as data.
 //!
 //! ```text
-//!    bytes --feed--> Match        --> text: what `replay` writes for the same bytes
-//!    posts --end_turn--> PostedMatch --> replies, text, the match as a script
+//!    bytes --feed--> Match           --> text: what `replay` writes for the same whole lines
+//!    posts --end_turn--> PostedMatch --> replies and notes, the match as a script
 //! ```
 //!
 //! What a [`Match`] has told in all is the text of what its whole lines give, by the definitions of the program itself

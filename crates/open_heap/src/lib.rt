@@ -1,13 +1,14 @@
 //! The open list of a search: keys with estimates, of which one of the least estimate is taken out.
 //!
 //! ```text
-//!    estimate / 2^15:   0   1   2   3   ..        a bucket for each part of the estimates;
-//!                           ^-- current            only the current one is sorted
+//!    (estimate - start) / 2^15:   0   1   2   3   ..        a bucket for each part of the estimates;
+//!                                     ^-- current            only the current one is sorted
 //! ```
 //!
-//! Contracts see a finite map from key to estimate ([`OpenHeap`]). To lower an estimate is to push it again; the older
-//! entry is passed over when it is met. Room is kept between searches. Which of equal estimates comes first is left
-//! open: a search must not depend on it.
+//! It is a bucket queue, whatever its name says. Contracts see a finite map from key to estimate ([`OpenHeap`]). To lower
+//! an estimate is to push it again; the older entry is passed over when it is met. Memory grows with the greatest key and
+//! with how far estimates lie apart, and is kept between searches. Which of equal estimates comes first is left open: a
+//! search must not depend on it.
 #![tactic(auto)]
 
 mod buckets;
