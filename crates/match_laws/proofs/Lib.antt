@@ -9,3 +9,4 @@ pub mod ReplayedAnswers
 pub mod SavedReplies
 pub mod ScriptLines
 pub mod ScriptReads
+pub mod BadLines

@@ -132,7 +132,7 @@ with_post-full posts said h = set_full posts said.caller (list_of posts said.cal
 with_post-length : (posts : List (List Post)) (said : CallerPost) → length (with_post posts said) ≡ length posts
 with_post-length posts said = length-set posts said.caller (list_of posts said.caller ++ said.post ∷ [])
 
-empty-no_posts : (callers : ℕ) → list_all is_empty (no_posts callers) ≡ true
+pub empty-no_posts : (callers : ℕ) → list_all is_empty (no_posts callers) ≡ true
 empty-no_posts zero = refl
 empty-no_posts (suc callers) = empty-no_posts callers
 

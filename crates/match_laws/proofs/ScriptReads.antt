@@ -24,7 +24,7 @@ use Rattle.match_laws.proofs.ScriptLines.{sized, texts, total, passes, texts-lin
 
 -- ---- a value is a line of one form
 
-not_base-post : (version callers : ℕ) (size : Size) (d : Data) (said : CallerPost)
+pub not_base-post : (version callers : ℕ) (size : Size) (d : Data) (said : CallerPost)
     → post_of version callers d ≡ Some said → base_of size d ≡ None
 not_base-post version callers size d said e = by_base (base_of size d) refl
   where
@@ -36,7 +36,7 @@ not_base-post version callers size d said e = by_base (base_of size d) refl
         (post-is version callers d said e) in
         absurd (cc)
 
-not_base-end : (size : Size) (d : Data) (turn : ℕ) → end_of d ≡ Some turn → base_of size d ≡ None
+pub not_base-end : (size : Size) (d : Data) (turn : ℕ) → end_of d ≡ Some turn → base_of size d ≡ None
 not_base-end size d turn e = by_base (base_of size d) refl
   where
     by_base : (o : Option (List (Rect × ℕ))) → base_of size d ≡ o → base_of size d ≡ None
@@ -195,18 +195,14 @@ record Tells (m : Map) (number : ℕ) (posts : List (List Post)) (lines : List (
   rest : Rest m number posts (turns_of items) values
   map : map_after (Some m) items ≡ Some m
 
-abbrev place : ℕ → ℕ → Part → ℕ → List (List Post) → Place
+abbrev pub place : ℕ → ℕ → Part → ℕ → List (List Post) → Place
 place b l part n posts = record { bytes = b; lines = l; part = part; turns = n; posts = posts }
 
-abbrev place_in : ℕ → ℕ → Map → ℕ → List (List Post) → Place
+abbrev pub place_in : ℕ → ℕ → Map → ℕ → List (List Post) → Place
 place_in b l m n posts = place b l (InTurns (rules_of m)) n posts
 
-abbrev go_on : List (ℕ × List ℕ) → Place → Walk
+abbrev pub go_on : List (ℕ × List ℕ) → Place → Walk
 go_on lines q = passes lines q
-
--- a line whose value is told goes on to its value
-none_in_turn : {A : Type 0} (p : Place) (rules : Rules) (g : Place → Walk) → (chain (placed_in_turn p rules None) g).ends ≡ stuck_by whole_input → A
-none_in_turn p rules g is = bad_stops p.lines is
 
 abbrev TellsAll : Map → List (ℕ × List ℕ) → Type 0
 TellsAll m lines = (b l n : ℕ) (posts : List (List Post)) → (passes lines (place_in b l m n posts)).ends ≡ stuck_by whole_input
@@ -282,16 +278,16 @@ record TellsBase (m : Map) (lines : List (List ℕ)) (items : List Item) : Type 
   rest : BaseRest m whole (turns_of items) values
   map : map_after (Some m) items ≡ Some whole
 
-abbrev place_base : ℕ → ℕ → Map → Place
+abbrev pub place_base : ℕ → ℕ → Map → Place
 place_base b l m = place b l (InBase (rules_of m)) 0 (no_posts m.callers)
 
 abbrev TellsAllBase : List (ℕ × List ℕ) → Type 0
 TellsAllBase lines = (m : Map) (b l : ℕ) → (passes lines (place_base b l m)).ends ≡ stuck_by whole_input
     → TellsBase m (texts lines) (passes lines (place_base b l m)).items
 
-turn_first : (m : Map) (line : List ℕ) (lines : List (List ℕ)) (items : List Item) (values : List Data) → Tells m 1 (no_posts m.callers) (line ∷ lines) items
+turn_first : (m : Map) (line : List ℕ) (lines : List (List ℕ)) (items : List Item) → Tells m 1 (no_posts m.callers) (line ∷ lines) items
     → TellsBase m (line ∷ lines) items
-turn_first m line lines items unused tells = by_values tells.values tells.are tells.rest
+turn_first m line lines items tells = by_values tells.values tells.are tells.rest
   where
     by_values : (values : List Data) → AreValues (line ∷ lines) values → Rest m 1 (no_posts m.callers) (turns_of items) values → TellsBase m (line ∷ lines) items
     by_values [] are rest = absurd are
@@ -310,7 +306,7 @@ told_base m b l line lines d (Some rects) reads e more is =
       map = rest.map;
     }
 told_base m b l line lines d None reads e more is =
-    turn_first m line (texts lines) (chain (placed_in_turn (place_base b l m) (rules_of m) (Some d)) (go_on lines)).items []
+    turn_first m line (texts lines) (chain (placed_in_turn (place_base b l m) (rules_of m) (Some d)) (go_on lines)).items
     (told_in_turn m b l 0 (InBase (rules_of m)) (no_posts m.callers) line lines (Some d) reads (turns_told m lines) is)
 
 told_in_base : (m : Map) (b l : ℕ) (line : List ℕ) (lines : List (ℕ × List ℕ)) (d : Option Data)
@@ -396,14 +392,15 @@ read_is_script m turns bytes reads =
     let maps : told.whole ≡ m = some_same told.whole m (sym told.map ∙ ap (λ (all : List Item). map_after None all) items ∙ reads.says_map) in
     let said : turns_of (passes (sized bytes) beginning).items ≡ turns = ap turns_of items ∙ reads.says_turns in
     let few = limits.whole (omega arith) in
-    let size = total-length bytes in
-    (record {
-      lines = subst (λ (all : List (List ℕ)). All (λ (line : List ℕ). length line ≤ 8388608) all) (texts-lines bytes) limits.short;
-      whole = omega (arith, few, size);
-    },
-    subst (λ (t : List (List (List Post))). IsScriptText m t (lines_of bytes)) said
-    (subst (λ (now : Map). IsScriptText now (turns_of (passes (sized bytes) beginning).items) (lines_of bytes)) maps
-    (subst (λ (all : List (List ℕ)). IsScriptText told.whole (turns_of (passes (sized bytes) beginning).items) all) (texts-lines bytes) told.says)))
+    let size = total-length bytes in (
+      record {
+        lines = subst (λ (all : List (List ℕ)). All (λ (line : List ℕ). length line ≤ 8388608) all) (texts-lines bytes) limits.short;
+        whole = omega (arith, few, size);
+      },
+      subst (λ (t : List (List (List Post))). IsScriptText m t (lines_of bytes)) said
+          (subst (λ (now : Map). IsScriptText now (turns_of (passes (sized bytes) beginning).items) (lines_of bytes)) maps
+          (subst (λ (all : List (List ℕ)). IsScriptText told.whole (turns_of (passes (sized bytes) beginning).items) all) (texts-lines bytes) told.says)),
+    )
 
 -- ---- the way back
 
@@ -414,9 +411,9 @@ record Reads (from to : Map) (turns : List (List (List Post))) (w : Walk) : Type
   says_map : map_after (Some from) items ≡ Some to
   says_turns : turns_of items ≡ turns
 
-line_fits : (size : ℕ) (line : List ℕ) (lines : List (ℕ × List ℕ)) (p : Place) (d : Data) → length line ≤ 8388608 → p.bytes + size ≤ 4294967296
+line_fits : (size : ℕ) (line : List ℕ) (p : Place) (d : Data) → length line ≤ 8388608 → p.bytes + size ≤ 4294967296
     → reading_of line ≡ Some d → accept size line p ≡ placed (counted p size) (Some d)
-line_fits size line lines p d short few reads =
+line_fits size line p d short few reads =
     let e : is_long p size line ≡ false =
     or_from (nat_lt 8388608 (length line)) (nat_lt 4294967296 (p.bytes + size))
     (le-ltb 8388608 (length line) short) (le-ltb 4294967296 (p.bytes + size) few) in
@@ -428,13 +425,13 @@ chain_is : (w : Walk) (items : List Item) (q : Place) (g : Place → Walk) (more
 chain_is w items q g more here rest =
     ap (λ (v : Walk). chain v g) here ∙ ap (λ (v : Walk). record { items = items ++ v.items; ends = v.ends }) rest
 
-post_gives : (m : Map) (b l n : ℕ) (posts : List (List Post)) (part : Part) (said : CallerPost) (d : Data)
+pub post_gives : (m : Map) (b l n : ℕ) (posts : List (List Post)) (part : Part) (said : CallerPost) (d : Data)
     → IsPostLine m.version m.callers said.caller said.post d
     → placed_in_turn (place b l part n posts) (rules_of m) (Some d) ≡ arrived [] (place_in b l m n (with_post posts said))
 post_gives m b l n posts part said d is =
     ap (λ (o : Option CallerPost). turn_line (place b l part n posts) (rules_of m) o (end_of d)) (post-from m.version m.callers d said is)
 
-end_gives : (m : Map) (b l n : ℕ) (posts : List (List Post)) (part : Part) (d : Data) → IsEndLine (n + 1) d
+pub end_gives : (m : Map) (b l n : ℕ) (posts : List (List Post)) (part : Part) (d : Data) → IsEndLine (n + 1) d
     → placed_in_turn (place b l part n posts) (rules_of m) (Some d) ≡ arrived (ends_turn posts ∷ []) (place_in b l m (n + 1) (no_posts m.callers))
 end_gives m b l n posts part d is =
     let p = place b l part n posts in
@@ -496,7 +493,7 @@ turns_read m [] (d ∷ ds) b l n posts turns fits are rest = absurd are
 turns_read m ((size, line) ∷ lines) [] b l n posts turns fits are rest = absurd are
 turns_read m ((size, line) ∷ lines) (d ∷ ds) b l n posts turns fits (reads, are) rest =
     let first = fits_first b size line lines fits in
-    subst (λ (w : Walk). Reads m m turns (chain w (go_on lines))) (sym (line_fits size line lines (place_in b l m n posts) d first.0 first.1 reads))
+    subst (λ (w : Walk). Reads m m turns (chain w (go_on lines))) (sym (line_fits size line (place_in b l m n posts) d first.0 first.1 reads))
     (turn_reads m (b + size) (l + 1) n (InTurns (rules_of m)) posts turns lines d ds (turns_read m lines ds) (fits_rest b size line lines fits) are rest)
 
 base_reads : (lines : List (ℕ × List ℕ)) (ds : List Data) (m whole : Map) (b l : ℕ) (turns : List (List (List Post))) → Fits b lines → AreValues (texts lines) ds
@@ -512,7 +509,7 @@ base_reads ((size, line) ∷ lines) (d ∷ ds) m whole b l turns fits (reads, ar
     record {
       items = adds_base rects ∷ more.items;
       is = chain_is (accept size line (place_base b l m)) (adds_base rects ∷ []) p (go_on lines) more.items
-          (line_fits size line lines (place_base b l m) d first.0 first.1 reads
+          (line_fits size line (place_base b l m) d first.0 first.1 reads
           ∙ ap (λ (o : Option (List (Rect × ℕ))). base_line p (rules_of m) (Some d) o) (base-from m.size d rects is)) more.is;
       says_map = more.says_map;
       says_turns = more.says_turns;
@@ -521,7 +518,7 @@ base_reads ((size, line) ∷ lines) (d ∷ ds) m whole b l turns fits (reads, ar
     let first = fits_first b size line lines fits in
     let p = place_base (b + size) (l + 1) m in
     subst (λ (w : Walk). Reads m whole turns (chain w (go_on lines)))
-    (sym (line_fits size line lines (place_base b l m) d first.0 first.1 reads
+    (sym (line_fits size line (place_base b l m) d first.0 first.1 reads
     ∙ ap (λ (o : Option (List (Rect × ℕ))). base_line p (rules_of m) (Some d) o) (no_base rest)))
     (subst (λ (to : Map). Reads m to turns (chain (placed_in_turn p (rules_of m) (Some d)) (go_on lines))) (sym same)
     (turn_reads m (b + size) (l + 1) 0 (InBase (rules_of m)) (no_posts m.callers) turns lines d ds (turns_read m lines ds)
@@ -541,11 +538,15 @@ script_reads ((size, line) ∷ lines) m turns (d ∷ ds) first base rest bare fi
     let heads : d ≡ first = cc in
     let tails : ds ≡ base ++ rest = cc in
     let all = base_reads lines ds bare m (0 + size) 1 turns (fits_rest 0 size line lines fits) are (subst (λ (l : List Data). BaseRest bare m turns l) (sym tails) more) in
-    let limit = fits_first 0 size line lines fits in
-    (begins bare ∷ all.items, (chain_is (accept size line beginning) (begins bare ∷ []) (place_base (0 + size) 1 bare) (go_on lines) all.items
-      (line_fits size line lines beginning d limit.0 limit.1 reads
-      ∙ ap (λ (o : Option Map). map_line (place (0 + size) 1 BeforeMap 0 []) o) (map-from d bare (subst (λ (v : Data). IsMapLine bare v) (sym heads) is))) all.is,
-    (all.says_map, all.says_turns)))
+    let limit = fits_first 0 size line lines fits in (
+      begins bare ∷ all.items,
+      (
+        chain_is (accept size line beginning) (begins bare ∷ []) (place_base (0 + size) 1 bare) (go_on lines) all.items
+            (line_fits size line beginning d limit.0 limit.1 reads
+            ∙ ap (λ (o : Option Map). map_line (place (0 + size) 1 BeforeMap 0 []) o) (map-from d bare (subst (λ (v : Data). IsMapLine bare v) (sym heads) is))) all.is,
+        (all.says_map, all.says_turns),
+      ),
+    )
 
 pub script_is_read : (m : Map) (turns : List (List (List Post))) (bytes : List ℕ) → AreShort bytes × IsScriptText m turns (lines_of bytes)
     → ReadsAs m turns bytes

@@ -19,6 +19,6 @@ pub use matches::{
     further_turns, saved_matches_go_on, saved_obstructions_are_added, saved_standing,
     saved_turns_can_be_written,
 };
-pub use scripts::scripts_are_read;
+pub use scripts::{bad_lines, scripts_are_read};
 pub use served::{journal_is_told, one_journal, served_answers_are_replayed, served_values};
 pub use turns::{eighths, quarters};
