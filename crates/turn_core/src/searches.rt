@@ -2,10 +2,10 @@
 ghost use Rattle.std.specs.Prelude.{◌≡◌, ◌<◌, IfOk};
 ghost use Rattle.turn_core.specs.inner.Searching.{CanFind, IsFoundTo};
 
-use cell_search::{Pool, cell_find};
 use class_planes::PlaneRuns;
 use goal_reach::Target;
 use grid_versions::Version;
+use jump_search::{Pool, jump_find_in};
 use nav_types::{Cell, Class, NoMemory, Ticks};
 use std::alloc::Global;
 use std::marker::Brand;
@@ -45,7 +45,7 @@ impl<'a> Search<'a> {
     {
         let runs = PlaneRuns::new(self.version, self.version.planes(), self.class);
         let mut ticks = Ticks::<L>::new(blank);
-        cell_find(
+        jump_find_in(
             pool,
             alloc,
             &runs,

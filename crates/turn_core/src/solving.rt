@@ -21,14 +21,13 @@ ghost use Rattle.turn_core.specs.inner.Searching.{CanFind, IsFoundTo, IsNotedPat
 use crate::last_fields::{LastField, field_for};
 use crate::named_goals::goal_of;
 use crate::searches::Search;
-use cell_search::Pool;
 use class_config::ClassName;
 use class_planes::PlaneRuns;
 use fixed_point::Fixed;
 use goal_reach::{Target, made_reachable, nearest_passable};
 use goal_shapes::{Goal, GoalSpec, cell_of_point};
 use grid_versions::{Refusal, Version};
-use jump_search::{Pool as StatePool, Traced, jump_search_in};
+use jump_search::{Pool, Traced, jump_search_in};
 use line_smooth::smooth;
 use nav_types::{Aim, Areas, Cell, Class, NoMemory, Ticks, View};
 use posts::{Answer, FlowLine, Note, Noted, PathAnswer, RegionAnswer, Report, Request};
@@ -99,7 +98,6 @@ pub struct Solver<'a> {
     report: Report,
     kept: Option<LastField>,
     pool: Pool,
-    states: Option<StatePool>,
 }
 
 impl<'a> Model for Solver<'a> {
@@ -128,7 +126,6 @@ impl<'a> Solver<'a> {
             report,
             kept: None,
             pool: Pool::new(alloc)?,
-            states: None,
         })
     }
 
@@ -240,7 +237,7 @@ impl<'a> Solver<'a> {
                 })
             }
             Report::OpenedNumbers => {
-                let Traced { found, opened } = self.traced(alloc, class, start, target)?;
+                let Traced { found, opened } = search.trace(alloc, &mut self.pool)?;
                 let path = path_of(&search, found);
                 Ok(NotedPath {
                     path,
@@ -266,35 +263,6 @@ impl<'a> Solver<'a> {
         }
     }
 
-    /// The walk from the start to the target, and the opened number of its path. The room of the search is kept.
-    fn traced(
-        &mut self,
-        alloc: Global,
-        class: Class,
-        start: Cell,
-        target: &Target,
-    ) -> Result<Traced, NoMemory>
-        requires { CanFind self.old.state class start target.now }
-        ensures found { IfOk result (λ traced. IsFoundTo self.old.state class start target.now traced.found) }
-        ensures opened { IfOk result (λ traced. IsOpenedNumber (passes_of self.old.state class) self.old.state.map.size
-            target.now (path_by start target.now traced.found) traced.opened) }
-        ensures same { self.new ≡ self.old }
-    {
-        let mut states = match self.states.take() {
-            Some(states) => states,
-            None => StatePool::new(alloc)?,
-        };
-        let search = Search {
-            version: self.version,
-            class,
-            start,
-            target,
-        };
-        let traced = search.trace(alloc, &mut states)?;
-        self.states = Some(states);
-        Ok(traced)
-    }
-
     /// What the flow field of the target's cells in the start's area tells of the start. The field is kept.
     fn flow_line(
         &mut self,
@@ -317,7 +285,7 @@ impl<'a> Solver<'a> {
 
 impl<'a> Search<'a> {
     /// The walk of a search, by the room of the pool, and the opened number of its path.
-    fn trace(&self, alloc: Global, pool: &mut StatePool) -> Result<Traced, NoMemory>
+    fn trace(&self, alloc: Global, pool: &mut Pool) -> Result<Traced, NoMemory>
         requires { CanFind self.now.version.now self.now.class self.now.start self.now.target.now }
         ensures found { IfOk result (λ traced.
             IsFoundTo self.now.version.now self.now.class self.now.start self.now.target.now traced.found) }
@@ -332,7 +300,7 @@ impl<'a> Search<'a> {
     fn trace_counted<L: Ledger>(
         &self,
         alloc: Global,
-        pool: &mut StatePool,
+        pool: &mut Pool,
         blank: Blank,
     ) -> Result<Traced, NoMemory>
         requires name { blank.name ≡ L.name }
