@@ -1,7 +1,7 @@
 #!/usr/bin/env python3
 """beside_0ad.py PROGRAM [MAP ..]: what a long path costs beside 0 A.D. 0.0.26, in millions of instructions.
 
-The maps are blobs_512, rooms_512, maze4_512, random20_512 and rooms_2048; all of them where none is named. Each has a
+The maps are blobs_512, rooms_512, forest_512, maze4_512, random20_512 and rooms_2048; all of them where none is named. Each has a
 blocked rim and 200 queries, whose two cells straight steps join, and one class without clearance. A path is the count
 of `replay --workers 1` for the map with its queries in one turn, less that for the map alone, by 200 (valgrind).
 
@@ -52,6 +52,20 @@ def blobs(side, draw):
         i, j = draw.randrange(1, side - 1 - wide), draw.randrange(1, side - 1 - high)
         for row in blocked[j : j + high]:
             row[i : i + wide] = b"\1" * wide
+    return blocked
+
+
+def forest(side, draw):
+    """60 clumps of 70 trees, each a round lump of some 13 navcells; there are gaps between trees."""
+    blocked = open_map(side)
+    for _ in range(60):
+        x, z = draw.uniform(0, side), draw.uniform(0, side)
+        for _ in range(70):
+            a, b = draw.gauss(x, 14.0), draw.gauss(z, 14.0)
+            for j in range(int(b) - 3, int(b) + 4):
+                for i in range(int(a) - 3, int(a) + 4):
+                    if 0 < i < side - 1 and 0 < j < side - 1 and (i + 0.5 - a) ** 2 + (j + 0.5 - b) ** 2 <= 4.2:
+                        blocked[j][i] = 1
     return blocked
 
 
@@ -120,6 +134,7 @@ def queries(blocked, draw):
 MAPS = {
     "blobs_512": (blobs, 0.37),
     "rooms_512": (rooms, 0.65),
+    "forest_512": (forest, 1.01),
     "maze4_512": (maze4, 3.82),
     "random20_512": (random20, 9.26),
     "rooms_2048": (rooms, 10.6),

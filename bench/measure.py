@@ -1,12 +1,10 @@
 #!/usr/bin/env python3
 """measure.py PROGRAM [PART ..]: what the program costs, in instructions counted by valgrind (Debian's package `valgrind`).
 
-The parts are basics, near, growth, classes, paths, profile, fields, smoothing, edits, crowd and workers; all of them where
-none is named.
-A count is the difference of two scripts that differ by the work that is counted, so starting up, reading the map and
-building it are not in it unless it says so. Counts are in thousands of instructions with one worker; only the part
-workers is by the clock, and wants four processors that do nothing else. The maps and queries are drawn from fixed
-seeds, so that each run counts the same.
+The parts are basics, near, growth, classes, paths, profile, fields, smoothing, edits and crowd; all of them where none is
+named. A count is the difference of two scripts that differ by the work that is counted, so starting up, reading the map
+and building it are not in it unless it says so. Counts are in thousands of instructions with one worker. The maps and
+queries are drawn from fixed seeds, so that each run counts the same. `times.py` has milliseconds and memory.
 """
 
 import collections
@@ -15,7 +13,6 @@ import re
 import subprocess
 import sys
 import tempfile
-import time
 
 
 class Bench:
@@ -37,16 +34,6 @@ class Bench:
                 sys.exit(f"the program ended with status {ran.returncode}: {ran.stderr[-300:]}")
             self.known[key] = int(re.search(rb"Collected : (\d+)", ran.stderr)[1])
         return self.known[key]
-
-    def seconds(self, lines, workers):
-        """The least of three times that the program takes for a script with so many workers."""
-        text = "".join(line + "\n" for line in lines).encode()
-        best = float("inf")
-        for _ in range(3):
-            start = time.monotonic()
-            subprocess.run([self.program, "replay", "--workers", str(workers)], input=text, capture_output=True, check=True)
-            best = min(best, time.monotonic() - start)
-        return best
 
 
 def map_line(side, clearances=("0",)):
@@ -146,8 +133,8 @@ def scattered(side, draw):
     return [bytearray(draw.random() < 0.2 for _ in range(side)) for _ in range(side)]
 
 
-def far_pairs(blocked, many, draw):
-    """Pairs of cells of the largest area that lie at least half a side apart."""
+def largest_area(blocked):
+    """The cells of the largest area, in the order in which they are found."""
     side = len(blocked)
     seen, largest = [bytearray(row) for row in blocked], []
     for j in range(side):
@@ -163,7 +150,12 @@ def far_pairs(blocked, many, draw):
                         area.append((u, v))
                         left.append((u, v))
             largest = max(largest, area, key=len)
-    pairs = []
+    return largest
+
+
+def far_pairs(blocked, many, draw):
+    """Pairs of cells of the largest area that lie at least half a side apart."""
+    side, largest, pairs = len(blocked), largest_area(blocked), []
     while len(pairs) < many:
         a, b = draw.choice(largest), draw.choice(largest)
         if max(abs(a[0] - b[0]), abs(a[1] - b[1])) * 2 >= side:
@@ -282,15 +274,7 @@ def crowd(bench):
         told(f"{many}", bench.count([map_line(2048, ["0"] * 8), *lines, end(1)]))
 
 
-def workers(bench):
-    print("workers: seconds of a turn of 64 long paths on a scattered map of 1024 by 1024, without the set-up")
-    script, queries = drawn("scattered", 1024, 64)
-    bare = bench.seconds([*script, end(1)], 1)
-    for many in (1, 2, 4):
-        print(f"  {many:<58}{bench.seconds([*script, *queries, end(1)], many) - bare:13.2f}", flush=True)
-
-
-PARTS = [basics, near, growth, classes, paths, profile, fields, smoothing, edits, crowd, workers]
+PARTS = [basics, near, growth, classes, paths, profile, fields, smoothing, edits, crowd]
 
 
 def main(words):

@@ -1,0 +1,242 @@
+#!/usr/bin/env python3
+"""times.py PROGRAM [PART ..]: milliseconds and memory of the program, as a game sees them over its pipes.
+
+The parts are maps, steps, turns, workers, dearest and memory; all of them where none is named. Each is of one match or a
+few: a turn is timed from its first post, or its end line, to its last answer. What else runs on the machine is in these
+times, which is why most parts say the least of several turns; `measure.py` counts what does not vary. The maps and posts
+are drawn from fixed seeds.
+"""
+
+import random
+import subprocess
+import sys
+import time
+
+import beside_0ad
+from measure import add, bases, blobs, drawn, end, largest_area, map_line, path, remove, scattered
+
+
+class Match:
+    """The program as a child, to which turns are sent one after another."""
+
+    def __init__(self, program, workers=1, word="replay"):
+        command = [program, word, "--workers", str(workers)]
+        self.child = subprocess.Popen(command, stdin=subprocess.PIPE, stdout=subprocess.PIPE)
+        self.turns = 0
+        self.more = word != "replay"
+
+    def play(self, posts, before=()):
+        """The milliseconds of a turn, to its last answer. Lines `before` it are not timed, but where they wait in the pipe."""
+        self.turns += 1
+        self.child.stdin.write("".join(line + "\n" for line in before).encode())
+        text = "".join(line + "\n" for line in [*posts, end(self.turns)]).encode()
+        answers = 1 + len(posts) + (sum('"path"' in post for post in posts) if self.more else 0)
+        start = time.perf_counter()
+        self.child.stdin.write(text)
+        self.child.stdin.flush()
+        for _ in range(answers):
+            line = self.child.stdout.readline()
+        took = time.perf_counter() - start
+        if not line:
+            sys.exit("the program has ended before its last answer")
+        return 1000 * took
+
+    def memory(self):
+        """The most memory that the program had at once, in MB."""
+        with open(f"/proc/{self.child.pid}/status", encoding="ascii") as it:
+            return next(int(line.split()[1]) / 1024 for line in it if line.startswith("VmHWM"))
+
+    def close(self):
+        self.child.stdin.close()
+        self.child.stdout.close()
+        self.child.wait()
+
+
+def opened(program, lines, workers=1, word="replay"):
+    """A match whose map has been set up."""
+    match = Match(program, workers, word)
+    match.play([], lines)
+    return match
+
+
+def least(match, turns):
+    """The least time of turns with these posts."""
+    return min(match.play(posts) for posts in turns)
+
+
+def told(name, *figures, unit="10.3f"):
+    print(f"  {name:62}" + "".join(f"{figure:{unit}}" for figure in figures), flush=True)
+
+
+def maps(program):
+    print("maps: a path of 200 of one turn, on the maps of beside_0ad.py, the least of 9 turns")
+    for name in beside_0ad.MAPS:
+        lines, paths = beside_0ad.script(name)
+        match = opened(program, lines)
+        told(name, least(match, [paths] * 9) / len(paths))
+        match.close()
+
+
+def setups(program, name, lines):
+    """The least of seven times from the start of the program to the answer of a first turn with nothing in it."""
+    times = []
+    for _ in range(7):
+        start = time.perf_counter()
+        match = opened(program, lines)
+        times.append(1000 * (time.perf_counter() - start))
+        match.close()
+    told(name, min(times))
+
+
+def edit_turns(many):
+    return [[add(99999, 257, 253, 3) if turn % 2 else remove(99999)] for turn in range(1, many + 1)]
+
+
+def crowded(side, others):
+    """A map of 8 classes with buildings of 4 by 4, as the part `edits` of measure.py has them."""
+    step = int(side / others**0.5)
+    places = [(x, z) for z in range(step, side - 4, step) for x in range(step, side - 4, step)][: others - 1]
+    return [map_line(side, [f"{k / 2}" for k in range(8)]), *(add(k, x, z, 2) for k, (x, z) in enumerate(places))]
+
+
+def steps(program):
+    print("steps: the least of 200 turns of a kind on 512 by 512, of 40 fields, of 7 set-ups from the start of the program")
+    match = opened(program, [map_line(512)])
+    told("a turn without posts", least(match, [[]] * 200))
+    told("an edit of one 6 by 6 building, one class", least(match, edit_turns(200)))
+    match.close()
+    lines = crowded(512, 1600)
+    match = Match(program)
+    match.play(lines[1:], lines[:1])
+    told("the same with 8 classes among 1,599 others", least(match, edit_turns(200)))
+    match.close()
+    for name in ("blobs_512", "rooms_512", "maze4_512", "random20_512"):
+        lines, paths = beside_0ad.script(name)
+        with_field, without = opened(program, lines, word="flow"), opened(program, lines)
+        one, other = ([least(match, [[it]] * 5) for it in paths[:8]] for match in (with_field, without))
+        told(f"a field, {name}", sum(a - b for a, b in zip(one, other)) / len(one))
+        with_field.close(), without.close()
+    setups(program, "set-up of an open map, one class", [map_line(512)])
+    setups(program, "set-up of an open map, 4 classes", [map_line(512, ["0", "0.5", "1", "2"])])
+    setups(program, "set-up of an open map of 2048 by 2048, one class", [map_line(2048)])
+
+
+def near_pairs(area, inside, many, draw):
+    """Pairs of cells of an area that lie at most 32 navcells apart along each side."""
+    pairs = []
+    while len(pairs) < many:
+        (i, j), x, z = draw.choice(area), draw.randint(-32, 32), draw.randint(-32, 32)
+        if 0 <= i + x < len(inside) and 0 <= j + z < len(inside) and inside[j + z][i + x]:
+            pairs.append(((i, j), (i + x, j + z)))
+    return pairs
+
+
+def turns(program):
+    print("turns: median and 99th of 100 turns of so many short paths among blobs, by the side and by 1 and 4 workers")
+    for side in (256, 512, 2048):
+        draw = random.Random(f"turns {side}")
+        blocked = blobs(side, draw)
+        lines, area, inside = [map_line(side), *bases(blocked)], largest_area(blocked), [bytearray(side) for _ in blocked]
+        for i, j in area:
+            inside[j][i] = 1
+        for many in (1, 8, 50, 200):
+            figures, posts = [], [[path(*pair) for pair in near_pairs(area, inside, many, draw)] for _ in range(100)]
+            for workers in (1, 4):
+                match = opened(program, lines, workers)
+                match.play(posts[0])
+                times = sorted(map(match.play, posts))
+                figures += [times[49], times[98]]
+                match.close()
+            told(f"{side} by {side}, {many} paths", *figures)
+
+
+def workers(program):
+    print("workers: a turn of 64 long paths where each fifth navcell is blocked, by 1, 2 and 4 workers, the least of 9 turns")
+    for side in (512, 1024):
+        lines, paths = drawn("scattered", side, 64)
+        figures = []
+        for many in (1, 2, 4):
+            match = opened(program, lines, many)
+            figures.append(least(match, [paths] * 9))
+            match.close()
+        told(f"{side} by {side}", *figures)
+
+
+def dearest(program):
+    print("dearest: of 300 paths, each alone in its turn, on 2048 by 2048 where each fifth navcell is blocked: mean, 99th, most")
+    draw = random.Random("dearest")
+    blocked = scattered(2048, draw)
+    area = largest_area(blocked)
+    pairs = [(draw.choice(area), draw.choice(area)) for _ in range(300)]
+    match = opened(program, [map_line(2048), *bases(blocked)])
+    times = sorted((match.play([path(*pair)]), pair) for pair in pairs)
+    again = [least(match, [[path(*pair)]] * 3) for _, pair in times[-6:]]
+    told("milliseconds", sum(took for took, _ in times) / len(times), times[-4][0], max(again), unit="10.1f")
+    worst = max(zip(again, [pair for _, pair in times[-6:]]))
+    told(f"the dearest, from {worst[1][0]} to {worst[1][1]}, the least of 3", worst[0], unit="10.1f")
+    told("MB at the most", match.memory(), unit="10.1f")
+    match.close()
+
+
+def walls(draw):
+    """200 walls of 512 by 1 navcells at an angle of 30 degrees."""
+    place = lambda: f'"{draw.randrange(256, 1792)}","{draw.randrange(256, 1792)}"'
+    return [f'{{"caller":0,"add":{k},"square":[{place()},"0.8660254","0.5","256","0.5"]}}' for k in range(200)]
+
+
+def memory(program):
+    print("memory: MB at the most with 1 and 4 workers after the set-up, and after a turn of 64 long paths")
+    for name, line, word in (
+        ("an open map of 512 by 512, 4 classes", map_line(512, ["0", "0.5", "1", "2"]), "replay"),
+        ("an open map of 512 by 512, one class, profile", map_line(512), "profile"),
+        ("an open map of 2048 by 2048, one class", map_line(2048), "replay"),
+        ("an open map of 2048 by 2048, 16 classes", map_line(2048, [f"{k / 2}" for k in range(16)]), "replay"),
+    ):
+        side = 512 if "[512" in line else 2048
+        draw = random.Random("memory")
+        cell = lambda low: (draw.randrange(low, low + side // 4), draw.randrange(side))
+        paths = [path(cell(0), cell(3 * side // 4)) for _ in range(64)]
+        figures = []
+        for posts in ([], paths):
+            for many in (1, 4):
+                match = opened(program, [line], many, word)
+                match.play(posts)
+                figures.append(match.memory())
+                match.close()
+        told(f"{name} (and with paths)", *figures, unit="10.1f")
+    print("  after a turn that adds obstructions to an open map of 2048 by 2048, and the seconds from the start of the program")
+    turned = walls(random.Random("walls"))
+    for name, clearances, posts in (
+        ("16 classes, 200 walls at an angle", ["0"] * 16, turned),
+        ("16 classes from 0 on in steps of a half, the same walls", [f"{k / 2}" for k in range(16)], turned),
+        ("8 classes, 65,535 squares of 2 by 2 on 8 by 8 each", ["0"] * 8, [add(k, k % 256 * 8 + 4, k // 256 * 8 + 4, 1) for k in range(65535)]),
+    ):
+        start = time.perf_counter()
+        match = opened(program, [map_line(2048, clearances)])
+        match.play(posts)
+        told(name, match.memory(), time.perf_counter() - start, unit="10.2f")
+        match.close()
+    lines, paths = beside_0ad.script("rooms_2048")
+    figures = []
+    for word in ("replay", "flow"):
+        for many in (1, 4):
+            match = opened(program, lines, many, word)
+            match.play(paths[:3])
+            figures.append(match.memory())
+            match.close()
+    told("three paths in rooms of 2048 by 2048 (and with fields)", *figures, unit="10.1f")
+
+
+PARTS = [maps, steps, turns, workers, dearest, memory]
+
+
+def main(words):
+    names = {part.__name__: part for part in PARTS}
+    if not words or any(word not in names for word in words[1:]):
+        sys.exit(__doc__)
+    for part in [names[word] for word in words[1:]] or PARTS:
+        part(words[0])
+
+
+if __name__ == "__main__":
+    main(sys.argv[1:])
