@@ -5,10 +5,9 @@
 //! ```
 //!
 //! [`jump_search_in`] gives the very walk of `walks::plain_search`, counts all jump states within its cost, and keeps its
-//! memory in a [`Pool`]; [`jump_find_in`] gives the walk alone, for less, and `cell_search` the same walk for less still.
-//! A walk is traced back from the end by costs, so it does not depend on the order of equal estimates. The rules are
-//! those of Harabor and Grastien, "Online Graph Pruning for Pathfinding on Grid Maps", AAAI 2011, for legal steps, which
-//! cut no corner.
+//! memory in a [`Pool`]; [`jump_find_in`] gives the walk alone, for less. A walk is traced back from the end by costs, so
+//! it does not depend on the order of equal estimates. The rules are those of Harabor and Grastien, "Online Graph Pruning
+//! for Pathfinding on Grid Maps", AAAI 2011, for legal steps, which cut no corner.
 #![tactic(auto)]
 
 mod framed;
