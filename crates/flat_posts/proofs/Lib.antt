@@ -1,0 +1,4 @@
+pub mod FlatForms
+pub mod ClassNumbers
+pub mod Filled
+pub mod Told

@@ -1,0 +1,5 @@
+pub mod Cells
+pub mod Posts
+pub mod Replies
+pub mod Pages
+pub mod inner

@@ -1,0 +1,34 @@
+//! Posts and replies as flat structs: numbers alone, in the layout of C, for programs in other languages.
+//!
+//! ```text
+//!    FlatPost  <--of, read-->  a caller and its Post
+//!    TurnReplies  --of, write_replies, write_waypoints-->  FlatTurn, FlatReply, FlatCell
+//! ```
+//!
+//! Which kind a post, a goal or a reply is of stands in a number, whose names are in [`post_kinds`], [`goal_kinds`],
+//! [`reply_kinds`] and [`refusals`]. A field that a kind has no use for is 0. So each post has one flat form, and a flat post
+//! that is none is refused. A class is a number here, and a name in a request. Lengths and coordinates are raw
+//! fixed-point numbers: 65536 is the side of a navcell. Nothing here keeps anything or takes memory.
+#![tactic(auto)]
+
+mod asked;
+mod cells;
+mod edits;
+pub mod goal_kinds;
+mod goals;
+mod laws;
+mod pages;
+pub mod post_kinds;
+mod posted;
+pub mod refusals;
+mod replied;
+pub mod reply_kinds;
+#[cfg(test)]
+mod tests;
+mod turns;
+
+pub use cells::FlatCell;
+pub use laws::{one_flat_post, one_post};
+pub use posted::{FlatFault, FlatPost};
+pub use replied::FlatReply;
+pub use turns::{FlatTurn, write_replies, write_waypoints};
