@@ -2,3 +2,4 @@ pub mod FlatForms
 pub mod ClassNumbers
 pub mod Filled
 pub mod Told
+pub mod ClassBytes

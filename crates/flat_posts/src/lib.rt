@@ -1,6 +1,7 @@
-//! Posts and replies as flat structs: numbers alone, in the layout of C, for programs in other languages.
+//! Posts, replies and parts of maps as flat structs: numbers alone, in the layout of C, for programs in other languages.
 //!
 //! ```text
+//!    FlatClass, FlatRect  --read-->  PassabilityClass, Rect with its mask
 //!    FlatPost  <--of, read-->  a caller and its Post
 //!    TurnReplies  --of, write_replies, write_waypoints-->  FlatTurn, FlatReply, FlatCell
 //! ```
@@ -17,6 +18,7 @@ mod edits;
 pub mod goal_kinds;
 mod goals;
 mod laws;
+mod map_parts;
 mod pages;
 pub mod post_kinds;
 mod posted;
@@ -29,6 +31,7 @@ mod turns;
 
 pub use cells::FlatCell;
 pub use laws::{one_flat_post, one_post};
+pub use map_parts::{FlatClass, FlatRect};
 pub use posted::{FlatFault, FlatPost};
 pub use replied::FlatReply;
 pub use turns::{FlatTurn, write_replies, write_waypoints};
