@@ -121,8 +121,10 @@ pub fn read_row<V: Rows>(view: &V, j: u16, row: &mut [u16])
     ensures bits { (class i : ℕ) → class < V.class_count view.now → class < 16 → i < length row.new
         → bit_at (slice_index row.new i) class ≡ bit_of (V.passes view.now class (cell_at i j)) }
 {
-    row.fill(u16::MAX);
-    view.row_bits(j, &mut row[..usize::from(view.size().w)]);
+    let wide = usize::from(view.size().w);
+    // the view writes the rest
+    row[wide..].fill(u16::MAX);
+    view.row_bits(j, &mut row[..wide]);
 }
 
 /// Writes the bits of the places that are free of the class.

@@ -1,5 +1,5 @@
-use Rattle.std.proofs.Common.{◌≡◌, ◌<◌, ◌≤◌, ℕ, length, get_or, replicate, ap, ◌∙◌, arith}
-use Rattle.std.proofs.lemmas.List.{get_or-replicate}
+use Rattle.std.proofs.Common.{◌≡◌, ◌<◌, ◌≤◌, ◌-◌, ◌++◌, ℕ, List, length, length-append, take, drop, get_or, replicate, ap, ◌∙◌, arith}
+use Rattle.std.proofs.lemmas.List.{get_or-append_right, get_or_append_left, get_or-replicate, length-drop, length-take-le}
 use Rattle.nav_types.specs.declared.cells.Size.{Size}
 use Rattle.nav_types.specs.Cells.{cell_at}
 use Rattle.class_planes.proofs.BitLemmas.{padded_bit, joined_long}
@@ -9,19 +9,34 @@ use Rattle.class_planes.proofs.rows.read_row.Goals as goal
 pub returns-clause-bits : goal.returns-clause-bits
 returns-clause-bits g c class i known small within =
     let view = c.args.view.now in
-    let n : ℕ = c.from.result in
+    let n : ℕ = c.from-wide.result in
     let w : ℕ = (g.V.View.extent view).w in
     let room : w ≤ length c.args.row.now = c.requires.room in
-    let wide : n ≡ w = c.from.ensures ∙ ap (λ (s : Size). s.w) c.size.ensures in
-    let filled : c.fill.new.self ≡ replicate (length c.args.row.now) 65535 = c.fill.ensures.after (λ y same. same) in
+    let wide : n ≡ w = c.from-wide.ensures ∙ ap (λ (s : Size). s.w) c.size.ensures in
+    let count : ℕ = length c.args.row.now - n in
+    let dropped : List ℕ = drop n c.args.row.now in
+    let past : List ℕ = take count dropped in
+    let after : List ℕ = drop count dropped in
+    let filled : c.fill.new.self ≡ replicate (length past) 65535 = c.fill.ensures.after (λ y same. same) in
+    let rest : List ℕ = take n c.args.row.now ++ (c.fill.new.self ++ after) in
+    let front : length (take n c.args.row.now) ≡ n = length-take-le n c.args.row.now (omega arith) in
+    let left : length dropped ≡ count = length-drop n c.args.row.now in
+    let back : length past ≡ count = length-take-le count dropped (omega (arith, left)) in
+    let none : length after ≡ 0 = length-drop count dropped ∙ omega (arith, left) in
     let long : length c.row_bits.new.out ≡ w = c.row_bits.ensures.long in
-    let whole : length c.fill.new.self ≡ length c.args.row.now = c.fill.ensures.len in
+    let all : length c.fill.new.self ≡ length past = c.fill.ensures.len in
+    let whole : length rest ≡ length c.args.row.now =
+    omega (arith, length-append (take n c.args.row.now) (c.fill.new.self ++ after), length-append c.fill.new.self after, front, all, back, none, wide, room) in
     let below : i < length c.args.row.now =
-    let all : i < length c.fill.new.self = joined_long c.row_bits.new.out c.fill.new.self n i (omega arith)
+    let inside : i < length rest = joined_long c.row_bits.new.out rest n i (omega arith)
     (omega arith) within in omega arith in
-    padded_bit (g.V.View.passes view class (cell_at i c.args.j)) c.row_bits.new.out c.fill.new.self n class i small
+    padded_bit (g.V.View.passes view class (cell_at i c.args.j)) c.row_bits.new.out rest n class i small
     (omega arith)
     (λ left. c.row_bits.ensures.each class i known (omega arith))
     (λ past. east_of (g.V.View.extent view) (g.V.View.passes view class) i c.args.j (g.met.V.View.within view class)
     (omega arith))
-    (λ past. ap (λ xs. get_or xs i 0) filled ∙ get_or-replicate (length c.args.row.now) i 65535 0 below)
+    (λ beyond.
+    get_or-append_right (take n c.args.row.now) (c.fill.new.self ++ after) n i 0 front beyond
+    ∙ get_or_append_left c.fill.new.self after 0 (i - n) (omega (arith, all, back, below, beyond))
+    ∙ ap (λ xs. get_or xs (i - n) 0) filled
+    ∙ get_or-replicate (length past) (i - n) 65535 0 (omega (arith, back, below, beyond)))
