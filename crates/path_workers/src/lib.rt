@@ -6,12 +6,15 @@
 //! ```
 //!
 //! The answers are those of one thread, whatever the number and the speed of workers. Where a thread can't be started,
-//! the caller does that share of the work. Threads are started for each turn.
+//! the caller does that share of the work. Threads are started for each turn, so a small one is not worth them:
+//! [`worth_workers`] says how many are, by the turn alone.
 #![tactic(auto)]
 
 mod drawing;
 mod placing;
+mod sharing;
 mod turns;
 
 pub use placing::NotedAnswers;
+pub use sharing::{LEAST_WORK, WORK_OF_A_WORKER, worth_workers};
 pub use turns::{Workers, run_turn};

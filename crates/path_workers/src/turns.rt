@@ -2,9 +2,11 @@
 ghost use Rattle.std.specs.Prelude.{◌≡◌, ◌^◌, ◌<◌, ◌≤◌, IfOk, length};
 ghost use Rattle.turn_core.specs.Solving.{AreAnswersTo};
 ghost use Rattle.turn_core.specs.Notes.{AreNotes};
+ghost use Rattle.path_workers.specs.Sharing.{worth_workers};
 
 use crate::drawing::{Turn, Worked, draw_by};
 use crate::placing::{NotedAnswers, in_order};
+use crate::sharing::worth_workers;
 use claim_board::Claims;
 use grid_versions::Version;
 use io_edges::Gate;
@@ -109,6 +111,17 @@ impl<'a, G: Gate + Sync> Workers<'a, G> {
         // Of the jobs that were drawn, each was answered: so all of them have their answer, and none has two.
         let _drawings = claims.close(seat);
         in_order(alloc, count, answered)
+    }
+
+    /// As many of the workers, at their gate, as the jobs are worth ([`worth_workers`]).
+    pub fn sized_for(&self, version: &Version, jobs: &Jobs, report: Report) -> Workers<'a, G>
+        requires { length jobs.now < 2 ^ 32 }
+        ensures { result ≡ worth_workers version.now.map version.now.standing report jobs.now self.now }
+    {
+        Workers {
+            count: worth_workers(version, jobs, report, self.count),
+            gate: self.gate,
+        }
     }
 
     /// Tells the gate that a turn with so many posts is staged.
