@@ -1,5 +1,5 @@
 -- What a match stands on goes with how far its script was read.
-use Rattle.std.proofs.Common.{◌≡◌, ℕ, ◌+◌, ◌≤◌, ◌<◌, ◌^◌, List, [], ◌∷◌, length, IsFalse, Option, Some, None, Result, Ok, Err, OnOk, refl, sym, ap, subst, ◌∙◌, ◌++◌, append-nil, length-append, arith}
+use Rattle.std.proofs.Common.{◌≡◌, ℕ, ◌+◌, ◌≤◌, ◌<◌, ◌^◌, List, [], ◌∷◌, length, Bool, IsFalse, Option, Some, None, Result, Ok, Err, OnOk, refl, sym, ap, subst, ◌∙◌, ◌++◌, append-nil, length-append, arith}
 use Rattle.nav_types.specs.declared.limits.TheConstants.{MAX_INPUT_BYTES}
 use Rattle.nav_types.specs.declared.cells.Rect.{Rect}
 use Rattle.posts.specs.declared.posts.Post.{Post}
@@ -132,11 +132,20 @@ fits_fault g old new piece left met.NoMemory opens fits none told keeps going mo
     fits_on g old new (piece ++ []) (left ++ []) opens fits (told []) keeps going more limit
 
 -- what fits where lines come next
-pub fit_lines : (m : Course) → m.ahead ≡ ahead.Lines → IsFit m → IsOpen m.script (turns_in m.ground) × FitsPart m.ground m.script.place.part
-fit_lines m at fit = subst (FitsAhead m.ground m.script) at fit
+pub fit_lines : (m : Course) → IsFalse m.ended → m.ahead ≡ ahead.Lines → IsFit m → IsOpen m.script (turns_in m.ground) × FitsPart m.ground m.script.place.part
+fit_lines m unended at fit =
+    let lines : FitsAhead m.ended m.ground m.script ahead.Lines = subst (FitsAhead m.ended m.ground m.script) at fit in
+    subst (λ (e : Bool). FitsAhead e m.ground m.script ahead.Lines) unended lines
 
-pub lines_fit : (m : Course) (new : Held) → m.ahead ≡ ahead.Lines → IsOpen new (turns_in m.ground) × FitsPart m.ground new.place.part → IsFit (record m { script = new })
-lines_fit m new at fit = subst (FitsAhead m.ground new) (sym at) fit
+pub lines_fit : (m : Course) (new : Held) → IsFalse m.ended → m.ahead ≡ ahead.Lines → IsOpen new (turns_in m.ground) × FitsPart m.ground new.place.part
+    → IsFit (record m { script = new })
+lines_fit m new unended at fit =
+    subst (FitsAhead m.ended m.ground new) (sym at) (subst (λ (e : Bool). FitsAhead e m.ground new ahead.Lines) (sym unended) fit)
+
+-- what fits where an item waits
+pub item_fits : (m : Course) (new : Held) (i : ScriptItem) → IsFalse m.ended → IsOpen new (turns_in m.ground + 1) × (FitsItem m.ground i × WillFitPart m.ground i new.place.part)
+    → IsFit (record m { script = new; ahead = ahead.Item i })
+item_fits m new i unended (opens, (fits, will)) = subst (λ (e : Bool). FitsAhead e m.ground new (ahead.Item i)) (sym unended) ((opens, will), fits)
 
 -- a line was used up
 pub shorter : (old new : Held) (piece left : List ℕ) → EndsLine old new piece left → length new.bytes + length left < length old.bytes + length piece

@@ -1,5 +1,7 @@
 pub mod Walked
 pub mod Playing
+pub mod Finishing
+pub mod LastItems
 pub mod Fits
 pub mod Notes
 pub mod Posting

@@ -1,5 +1,5 @@
 -- How a match goes from what it was fed with to what it tells.
-use Rattle.std.proofs.Common.{◌≡◌, ℕ, ◌+◌, List, [], ◌∷◌, ◌++◌, length, All, IsFalse, Some, None, Result, Ok, Err, refl, sym, ap, subst, ◌∙◌, append_assoc, append-nil}
+use Rattle.std.proofs.Common.{◌≡◌, ℕ, ◌+◌, ◌↔◌, List, [], ◌∷◌, ◌++◌, length, All, Bool, true, false, IsFalse, IsTrue, Some, None, Result, Ok, Err, inl, inr, refl, sym, ap, subst, ◌∙◌, append_assoc, append-nil}
 use Rattle.std.proofs.lemmas.List.Elements.{All-nil, All-head, All-tail}
 use Rattle.posts.specs.declared.notes.Report.{Report}
 use Rattle.input_lines.specs.Lines.{full_lines, unlines, IsPlain}
@@ -23,8 +23,8 @@ use Rattle.match_play.specs.declared.states.Course.{Course}
 use Rattle.match_play.specs.declared.faults.MatchFault.{MatchFault}
 use Rattle.match_play.specs.declared.faults.MatchFault.TheVariants as fault
 use Rattle.match_play.specs.Texts.{Said, unsaid, Says, Gives, IsText, stop_text, ends_text}
-use Rattle.match_play.specs.Playing.{said_of, stop_of, HasRead, told_stop, HasPlayed, IsLinesText, IsStopText, FeedTold, Plays, FeedPlays, HasTaken}
-use Rattle.match_play.specs.inner.Fitting.{IsStopped, Tells, fault_of, stop_in}
+use Rattle.match_play.specs.Playing.{said_of, stop_of, ReadsItems, StopsBehind, HasRead, told_stop, IsOver, HasPlayed, IsLinesText, IsStopText, FeedTold, Plays, FeedPlays, HasTaken}
+use Rattle.match_play.specs.inner.Fitting.{IsStopped, Tells, TellsStop, fault_of, stop_in}
 
 -- ---- texts
 
@@ -67,7 +67,7 @@ reading_lines (line ∷ lines) rest p plain =
     ∙ sym (chain-assoc w (λ q. walk lines q) (λ r. reading rest r))
 
 -- the reading goes on behind lines that were used
-reading_used : (fed rest : List ℕ) (held : Held) (items : List Item) → UsesLines unread held fed items
+pub reading_used : (fed rest : List ℕ) (held : Held) (items : List Item) → UsesLines unread held fed items
     → reading (fed ++ rest) beginning ≡ chain (arrived items held.place) (λ q. reading (held.bytes ++ rest) q)
 reading_used fed rest held items u =
     ap (λ (bytes : List ℕ). reading bytes beginning) (ap (λ (l : List ℕ). l ++ rest) u.bytes ∙ append_assoc (unlines u.lines) held.bytes rest)
@@ -110,43 +110,61 @@ with_script a new = record a { script = new }
 abbrev pub with_ahead : Course → Held → Ahead → Course
 with_ahead a new next = record a { script = new; ahead = next }
 
+-- ---- a script that goes on
+
+-- the lines that were used before a call
+used_before : (a : Course) (fed : List ℕ) (items : List Item) → IsFalse a.ended → a.ahead ≡ ahead.Lines → HasRead a.ended a.script fed items a.ahead
+    → UsesLines unread a.script fed items
+used_before a fed items unended at read =
+    let lines : ReadsItems a.ended a.script fed items = subst (HasRead a.ended a.script fed items) at read in
+    subst (λ (e : Bool). ReadsItems e a.script fed items) unended lines
+
+-- and those that were used after it
+used_after : (a : Course) (held : Held) (fed : List ℕ) (items : List Item) → IsFalse a.ended → a.ahead ≡ ahead.Lines → UsesLines unread held fed items
+    → HasRead a.ended held fed items a.ahead
+used_after a held fed items unended at used =
+    subst (HasRead a.ended held fed items) (sym at) (reads_items a.ended held fed items unended used)
+  where
+    reads_items : (ended : Bool) (held : Held) (fed : List ℕ) (items : List Item) → IsFalse ended → UsesLines unread held fed items → ReadsItems ended held fed items
+    reads_items ended held fed items unended used = subst (λ (e : Bool). ReadsItems e held fed items) (sym unended) used
+
 -- lines were used that give nothing
-plays_on : (a : Course) (new : Held) (piece left : List ℕ) → a.ahead ≡ ahead.Lines → GoesOn a.script new (piece ++ []) (left ++ []) [] → IsFalse new.ended
+plays_on : (a : Course) (new : Held) (piece left : List ℕ) → IsFalse a.ended → a.ahead ≡ ahead.Lines → GoesOn a.script new (piece ++ []) (left ++ []) [] → IsFalse new.ended
     → Plays a (with_script a new) piece left
-plays_on a new piece left at g going = record {
+plays_on a new piece left unended at g going = record {
   taken = g.taken;
   took = took_here piece left g.taken g.took;
   text = [];
   waits = sym (append-nil a.waiting);
   report = refl;
   played = λ fed told h.
-      let read : UsesLines unread a.script fed h.items = subst (HasRead a.script fed h.items) at h.read in
+      let read = used_before a fed h.items unended at h.read in
       let used = uses_then unread a.script new fed g.taken h.items [] read (g.used going) in
       record {
         items = h.items;
         text = h.text;
-        read = subst (HasRead new (fed ++ g.taken) h.items) (sym at) (subst (UsesLines unread new (fed ++ g.taken)) (append-nil h.items) used);
+        read = used_after a new (fed ++ g.taken) h.items unended at (subst (UsesLines unread new (fed ++ g.taken)) (append-nil h.items) used);
         gives = h.gives;
         all = append-nil told ∙ h.all;
       };
 }
 
-pub plays_lines : (a : Course) (new : Held) (piece left : List ℕ) → a.ahead ≡ ahead.Lines → PushTold a.script new piece left (Ok None) → IsFalse new.ended
+pub plays_lines : (a : Course) (new : Held) (piece left : List ℕ) → IsFalse a.ended → a.ahead ≡ ahead.Lines → PushTold a.script new piece left (Ok None) → IsFalse new.ended
     → Plays a (with_script a new) piece left
-plays_lines a new piece left at told going = plays_on a new piece left at (told []) going
+plays_lines a new piece left unended at told going = plays_on a new piece left unended at (told []) going
 
 -- there was no memory
-pub plays_fault : (a : Course) (new : Held) (piece left : List ℕ) (fault : ScriptFault) → a.ahead ≡ ahead.Lines → PushTold a.script new piece left (Err fault)
+pub plays_fault : (a : Course) (new : Held) (piece left : List ℕ) (fault : ScriptFault) → IsFalse a.ended → a.ahead ≡ ahead.Lines → PushTold a.script new piece left (Err fault)
     → IsFalse new.ended → stop_in fault ≡ None → Plays a (with_script a new) piece left
-plays_fault a new piece left (met.BadLine n) at told going none = absurd (cc)
-plays_fault a new piece left met.TooLong at told going none = absurd (cc)
-plays_fault a new piece left met.ReadFault at told going none = absurd (told [])
-plays_fault a new piece left met.NoMemory at told going none = plays_on a new piece left at (told []) going
+plays_fault a new piece left (met.BadLine n) unended at told going none = absurd (cc)
+plays_fault a new piece left met.TooLong unended at told going none = absurd (cc)
+plays_fault a new piece left met.ReadFault unended at told going none = absurd (told [])
+plays_fault a new piece left met.NoMemory unended at told going none = plays_on a new piece left unended at (told []) going
 
 -- an item was read
-pub plays_item : (a : Course) (new : Held) (item : ScriptItem) (piece left : List ℕ) → a.ahead ≡ ahead.Lines
+pub plays_item : (a : Course) (new : Held) (item : ScriptItem) (piece left : List ℕ) → IsFalse a.ended → a.ahead ≡ ahead.Lines
     → PushTold a.script new piece left (Ok (Some item)) → IsFalse new.ended → Plays a (with_ahead a new (ahead.Item item)) piece left
-plays_item a new item piece left at told going =
+plays_item a new item piece left unended at told going =
     let g = told [] in
     record {
       taken = g.taken;
@@ -155,11 +173,12 @@ plays_item a new item piece left at told going =
       waits = sym (append-nil a.waiting);
       report = refl;
       played = λ fed told h.
-          let read : UsesLines unread a.script fed h.items = subst (HasRead a.script fed h.items) at h.read in
+          let read = used_before a fed h.items unended at h.read in
+          let used = uses_then unread a.script new fed g.taken h.items (item_of item ∷ []) read (g.used going) in
           record {
             items = h.items;
             text = h.text;
-            read = uses_then unread a.script new fed g.taken h.items (item_of item ∷ []) read (g.used going);
+            read = subst (λ (e : Bool). ReadsItems e new (fed ++ g.taken) (h.items ++ item_of item ∷ [])) (sym unended) used;
             gives = h.gives;
             all = append-nil told ∙ (h.all ∙ ap (λ (next : Ahead). h.text ++ told_stop next) at);
           };
@@ -188,20 +207,22 @@ stuck_behind fed piece more held items stop u is =
     ∙ ap (λ (w : Walk). chain (arrived items held.place) (λ q. w)) is
     ∙ ap (λ (l : List Item). stuck_after l stop) (append-nil items)
 
-pub plays_stop : (a : Course) (new : Held) (piece left : List ℕ) (fault : ScriptFault) (stop : ScriptStop) → a.ahead ≡ ahead.Lines
+pub plays_stop : (a : Course) (new : Held) (piece left : List ℕ) (fault : ScriptFault) (stop : ScriptStop) → IsFalse a.ended → a.ahead ≡ ahead.Lines
     → PushTold a.script new piece left (Err fault) → stop_in fault ≡ Some stop → Plays a (with_ahead a new (ahead.Stop stop)) piece []
-plays_stop a new piece left fault stop at told is = record {
+plays_stop a new piece left fault stop unended at told is = record {
   taken = piece;
   took = sym (append-nil piece);
   text = [];
   waits = sym (append-nil a.waiting);
   report = refl;
   played = λ fed said h.
-      let read : UsesLines unread a.script fed h.items = subst (HasRead a.script fed h.items) at h.read in
+      let read = used_before a fed h.items unended at h.read in
+      let stuck : (more : List ℕ) → reading ((fed ++ piece) ++ more) beginning ≡ stuck_after h.items (stop_of stop) =
+      λ more. stuck_behind fed piece more a.script h.items (stop_of stop) read (stopped a.script new piece left fault stop told is more) in
       record {
         items = h.items;
         text = h.text;
-        read = λ more. stuck_behind fed piece more a.script h.items (stop_of stop) read (stopped a.script new piece left fault stop told is more);
+        read = subst (λ (e : Bool). StopsBehind e (fed ++ piece) h.items (stop_of stop)) (sym unended) stuck;
         gives = h.gives;
         all = append-nil said ∙ (h.all ∙ ap (λ (next : Ahead). h.text ++ told_stop next) at);
       };
@@ -218,12 +239,12 @@ plays_told a item next waits left at (piece, (says, is)) = record {
   waits = is;
   report = refl;
   played = λ fed told h.
-      let read : UsesLines unread a.script fed (h.items ++ item_of item ∷ []) = subst (HasRead a.script fed h.items) at h.read in
+      let read : ReadsItems a.ended a.script fed (h.items ++ item_of item ∷ []) = subst (HasRead a.ended a.script fed h.items) at h.read in
       let said : told ≡ h.text = h.all ∙ (ap (λ (n : Ahead). h.text ++ told_stop n) at ∙ append-nil h.text) in
       record {
         items = h.items ++ item_of item ∷ [];
         text = h.text ++ piece;
-        read = subst (λ (l : List ℕ). UsesLines unread a.script l (h.items ++ item_of item ∷ [])) (sym (append-nil fed)) read;
+        read = subst (λ (l : List ℕ). ReadsItems a.ended a.script l (h.items ++ item_of item ∷ [])) (sym (append-nil fed)) read;
         gives = gives_on a.report unsaid (said_of a.ground) (said_of next) h.items (item_of item ∷ []) h.text piece h.gives
             (gives_one a.report (said_of a.ground) (said_of next) (item_of item) piece says);
         all = ap (λ (l : List ℕ). l ++ piece) said ∙ sym (append-nil (h.text ++ piece));
@@ -241,7 +262,7 @@ plays_kept a next left same = record {
   played = λ fed told h. record {
     items = h.items;
     text = h.text;
-    read = subst (λ (l : List ℕ). HasRead a.script l h.items a.ahead) (sym (append-nil fed)) h.read;
+    read = subst (λ (l : List ℕ). HasRead a.ended a.script l h.items a.ahead) (sym (append-nil fed)) h.read;
     gives = subst (Gives a.report unsaid h.items h.text) (sym same) h.gives;
     all = append-nil told ∙ h.all;
   };
@@ -257,28 +278,33 @@ plays_end a stop waits left at is = record {
   waits = is;
   report = refl;
   played = λ fed told h.
-      let read : (more : List ℕ) → reading (fed ++ more) beginning ≡ stuck_after h.items (stop_of stop) = subst (HasRead a.script fed h.items) at h.read in
+      let read : StopsBehind a.ended fed h.items (stop_of stop) = subst (HasRead a.ended a.script fed h.items) at h.read in
       let said : told ≡ h.text = h.all ∙ (ap (λ (n : Ahead). h.text ++ told_stop n) at ∙ append-nil h.text) in
       record {
         items = h.items;
         text = h.text;
-        read = subst (λ (l : List ℕ). (more : List ℕ) → reading (l ++ more) beginning ≡ stuck_after h.items (stop_of stop)) (sym (append-nil fed)) read;
+        read = subst (λ (l : List ℕ). StopsBehind a.ended l h.items (stop_of stop)) (sym (append-nil fed)) read;
         gives = h.gives;
         all = ap (λ (l : List ℕ). l ++ stop_text (stop_of stop)) said;
       };
 }
 
 -- a stopped match takes what comes
-more_read : (held : Held) (fed more : List ℕ) (items : List Item) (next : Ahead) → IsStopped next → HasRead held fed items next → HasRead held (fed ++ more) items next
-more_read held fed more items ahead.Lines stopped read = absurd stopped
-more_read held fed more items (ahead.Item item) stopped read = absurd stopped
-more_read held fed more items (ahead.Stop stop) stopped read = λ rest.
-    ap (λ (bytes : List ℕ). reading bytes beginning) (append_assoc fed more rest) ∙ read (more ++ rest)
-more_read held fed more items (ahead.Nothing stop) stopped read = λ rest.
+more_bytes : (ended : Bool) (fed more : List ℕ) (items : List Item) (stop : Stop) → IsFalse ended → StopsBehind ended fed items stop → StopsBehind ended (fed ++ more) items stop
+more_bytes true fed more items stop unended read = absurd (cc)
+more_bytes false fed more items stop unended read = λ rest.
     ap (λ (bytes : List ℕ). reading bytes beginning) (append_assoc fed more rest) ∙ read (more ++ rest)
 
-pub plays_stopped : (a : Course) (piece : List ℕ) → IsStopped a.ahead → Plays a a piece []
-plays_stopped a piece stopped = record {
+more_read : (ended : Bool) (held : Held) (fed more : List ℕ) (items : List Item) (next : Ahead) → IsFalse ended → IsStopped next → HasRead ended held fed items next
+    → HasRead ended held (fed ++ more) items next
+more_read ended held fed more items ahead.Lines unended stopped read = absurd stopped
+more_read ended held fed more items (ahead.Item item) unended stopped read = absurd stopped
+more_read ended held fed more items (ahead.Stop stop) unended stopped read = more_bytes ended fed more items (stop_of stop) unended read
+more_read ended held fed more items (ahead.Nothing stop) unended stopped read = more_bytes ended fed more items (stop_of stop) unended read
+more_read ended held fed more items ahead.Whole unended stopped read = absurd stopped
+
+pub plays_stopped : (a : Course) (piece : List ℕ) → IsFalse a.ended → IsStopped a.ahead → Plays a a piece []
+plays_stopped a piece unended stopped = record {
   taken = piece;
   took = sym (append-nil piece);
   text = [];
@@ -287,7 +313,7 @@ plays_stopped a piece stopped = record {
   played = λ fed told h. record {
     items = h.items;
     text = h.text;
-    read = more_read a.script fed piece h.items a.ahead stopped h.read;
+    read = more_read a.ended a.script fed piece h.items a.ahead unended stopped h.read;
     gives = h.gives;
     all = append-nil told ∙ h.all;
   };
@@ -295,7 +321,7 @@ plays_stopped a piece stopped = record {
 
 -- ---- answers
 
-pub opened : (report : Report) → HasPlayed (record { report = report; script = unread; ahead = ahead.Lines; ground = ground.Nothing; waiting = [] }) [] []
+pub opened : (report : Report) → HasPlayed (record { report = report; script = unread; ended = false; ahead = ahead.Lines; ground = ground.Nothing; waiting = [] }) [] []
 opened report = record {
   items = [];
   text = [];
@@ -305,9 +331,9 @@ opened report = record {
 }
 
 -- all whole lines were played
-lines_text : (b : Course) (fed told : List ℕ) → b.ahead ≡ ahead.Lines → full_lines b.script.bytes ≡ [] → HasPlayed b fed told → IsLinesText b.report fed told
-lines_text b fed told at none h =
-    let u : UsesLines unread b.script fed h.items = subst (HasRead b.script fed h.items) at h.read in
+lines_text : (b : Course) (fed told : List ℕ) → IsFalse b.ended → b.ahead ≡ ahead.Lines → full_lines b.script.bytes ≡ [] → HasPlayed b fed told → IsLinesText b.report fed told
+lines_text b fed told unended at none h =
+    let u = used_before b fed h.items unended at h.read in
     let lines : full_lines fed ≡ u.lines =
     ap full_lines u.bytes ∙ (full_lines-behind u.lines b.script.bytes u.plain ∙ (ap (λ (ls : List (List ℕ)). u.lines ++ ls) none ∙ append-nil u.lines)) in
     let said : told ≡ h.text = h.all ∙ (ap (λ (n : Ahead). h.text ++ told_stop n) at ∙ append-nil h.text) in
@@ -318,20 +344,22 @@ lines_text b fed told at none h =
       text = (said_of b.ground, subst (λ (l : List ℕ). Gives b.report unsaid h.items l (said_of b.ground)) (sym said) h.gives);
     }
 
-pub feed_lines : (a b : Course) (piece left : List ℕ) → Plays a b piece left → b.ahead ≡ ahead.Lines → full_lines b.script.bytes ≡ [] → FeedPlays a b piece left (Ok tt)
-feed_lines a b piece left p at none = record {
+pub feed_lines : (a b : Course) (piece left : List ℕ) → Plays a b piece left → IsFalse b.ended → b.ahead ≡ ahead.Lines → full_lines b.script.bytes ≡ [] → FeedPlays a b piece left (Ok tt)
+feed_lines a b piece left p unended at none = record {
   plays = p;
   told = λ fed told h. subst (λ (r : Report). IsLinesText r (fed ++ p.taken) (told ++ p.text)) p.report
-      (lines_text b (fed ++ p.taken) (told ++ p.text) at none (p.played fed told h));
+      (lines_text b (fed ++ p.taken) (told ++ p.text) unended at none (p.played fed told h));
 }
 
 pub feed_nothing : (a b : Course) (piece left : List ℕ) → Plays a b piece left → FeedPlays a b piece left (Err fault.NoMemory)
 feed_nothing a b piece left p = record { plays = p; told = λ fed told h. tt }
 
 -- the match has stopped
-stop_told : (b : Course) (stop : ScriptStop) (fed told : List ℕ) → b.ahead ≡ ahead.Nothing stop → HasPlayed b fed told → IsStopText b.report (stop_of stop) fed told
-stop_told b stop fed told at h =
-    let read : (more : List ℕ) → reading (fed ++ more) beginning ≡ stuck_after h.items (stop_of stop) = subst (HasRead b.script fed h.items) at h.read in
+stop_told : (b : Course) (stop : ScriptStop) (fed told : List ℕ) → IsFalse b.ended → b.ahead ≡ ahead.Nothing stop → HasPlayed b fed told → IsStopText b.report (stop_of stop) fed told
+stop_told b stop fed told unended at h =
+    let stops : StopsBehind b.ended fed h.items (stop_of stop) = subst (HasRead b.ended b.script fed h.items) at h.read in
+    let read : (more : List ℕ) → reading (fed ++ more) beginning ≡ stuck_after h.items (stop_of stop) =
+    subst (λ (e : Bool). StopsBehind e fed h.items (stop_of stop)) unended stops in
     let said : told ≡ h.text ++ stop_text (stop_of stop) = h.all ∙ ap (λ (n : Ahead). h.text ++ told_stop n) at in
     record {
       stuck = λ more. ap (λ (w : Walk). w.ends) (read more);
@@ -344,30 +372,44 @@ told_by : (report : Report) (stop : ScriptStop) (fed told : List ℕ) → IsStop
 told_by report (BadLine n) fed told is = is
 told_by report TooLong fed told is = is
 
-pub feed_stopped : (a b : Course) (stop : ScriptStop) (piece left : List ℕ) → Plays a b piece left → b.ahead ≡ ahead.Nothing stop
+feed_stopped : (a b : Course) (stop : ScriptStop) (piece left : List ℕ) → Plays a b piece left → IsFalse b.ended → b.ahead ≡ ahead.Nothing stop
     → FeedPlays a b piece left (Err (fault_of stop))
-feed_stopped a b stop piece left p at = record {
+feed_stopped a b stop piece left p unended at = record {
   plays = p;
   told = λ fed told h. told_by a.report stop (fed ++ p.taken) (told ++ p.text)
       (subst (λ (r : Report). IsStopText r (stop_of stop) (fed ++ p.taken) (told ++ p.text)) p.report
-      (stop_told b stop (fed ++ p.taken) (told ++ p.text) at (p.played fed told h)));
+      (stop_told b stop (fed ++ p.taken) (told ++ p.text) unended at (p.played fed told h)));
 }
 
--- a step, and then a call
-pub feed_then : (a b c : Course) (x y z : List ℕ) (result : Result (Unit {0}) MatchFault) → Plays a b x y → FeedPlays b c y z result → FeedPlays a c x z result
-unfolding plays_then
-feed_then a b c x y z result p f = record {
-  plays = plays_then a b c x y z p f.plays;
-  told = λ fed told h.
-      let here = f.told (fed ++ p.taken) (told ++ p.text) (p.played fed told h) in
-      subst (λ (r : Report). FeedTold r result (fed ++ (p.taken ++ f.plays.taken)) (told ++ (p.text ++ f.plays.text))) p.report
-      (subst (λ (l : List ℕ). FeedTold b.report result l (told ++ (p.text ++ f.plays.text))) (append_assoc fed p.taken f.plays.taken)
-      (subst (λ (l : List ℕ). FeedTold b.report result ((fed ++ p.taken) ++ f.plays.taken) l) (append_assoc told p.text f.plays.text) here));
-}
+-- the stop was told, or there was no memory
+pub feed_told : (a b : Course) (piece left : List ℕ) (result : Result (Unit {0}) MatchFault) → Plays a b piece left → IsFalse b.ended → TellsStop b.ahead result
+    → FeedPlays a b piece left result
+feed_told a b piece left result p unended (inl none) = subst (FeedPlays a b piece left) (sym none) (feed_nothing a b piece left p)
+feed_told a b piece left result p unended (inr (stop, (at, is))) = subst (FeedPlays a b piece left) (sym is) (feed_stopped a b stop piece left p unended at)
+
+-- the script had ended
+pub feed_ended : (a : Course) (piece : List ℕ) → FeedPlays a a piece piece (Err fault.Ended)
+feed_ended a piece = record { plays = plays_none a piece; told = λ fed told h. tt }
+
+-- a stop is no end
+pub stop_answer : (next : Ahead) (result : Result (Unit {0}) MatchFault) → TellsStop next result → result ≡ Err fault.Ended → ⊥
+stop_answer next result (inl none) is = absurd (cc)
+stop_answer next result (inr (BadLine n, (at, met))) is = absurd (cc)
+stop_answer next result (inr (TooLong, (at, met))) is = absurd (cc)
+
+-- an answer that only a script gives that has ended
+pub only_ended : (result : Result (Unit {0}) MatchFault) (ended : Bool) → IsFalse ended → (result ≡ Err fault.Ended → ⊥) → (result ≡ Err fault.Ended) ↔ IsTrue ended
+only_ended result ended unended answer = (λ is. absurd (answer is), λ end. absurd (cc))
+
+-- and only one of which all was told
+pub only_over : (a : Course) (result : Result (Unit {0}) MatchFault) (over : Bool) → (IsOver a → IsTrue over) → IsFalse over → (result ≡ Err fault.Ended → ⊥)
+    → (result ≡ Err fault.Ended) ↔ IsOver a
+only_over a result over says none answer = (λ is. absurd (answer is), λ end. let is = says end in absurd (cc))
 
 -- the text that waits was taken
 pub taken_away : (a : Course) → HasTaken a (record a { waiting = [] })
 taken_away a = record {
+  same = refl;
   waits = refl;
   report = refl;
   played = λ fed told h. record { items = h.items; text = h.text; read = h.read; gives = h.gives; all = h.all };

@@ -27,7 +27,7 @@ HasTurn (begins m ∷ items) = HasTurn items
 HasTurn (adds_base rects ∷ items) = HasTurn items
 HasTurn (ends_turn posts ∷ items) = ⊤
 
-turns_both : (xs ys : List Item) → AreTurns xs → AreTurns ys → AreTurns (xs ++ ys)
+pub turns_both : (xs ys : List Item) → AreTurns xs → AreTurns ys → AreTurns (xs ++ ys)
 turns_both [] ys x y = y
 turns_both (begins m ∷ xs) ys x y = absurd x
 turns_both (adds_base rects ∷ xs) ys x y = absurd x

@@ -1,9 +1,9 @@
 -- What a match has been fed with, what it has told, and how the one goes with the other.
-use Rattle.std.specs.Prelude.{ℕ, ◌≡◌, List, [], ◌∷◌, ◌++◌, Option, Some, None, Result, Ok, Err, ⊤}
+use Rattle.std.specs.Prelude.{ℕ, ◌≡◌, List, [], ◌∷◌, ◌++◌, Bool, true, false, IsTrue, Option, Some, None, Result, Ok, Err, ⊤}
 use Rattle.posts.specs.declared.notes.Report.{Report}
 use Rattle.turn_core.specs.Words.{MapState, bare}
 use Rattle.input_lines.specs.Lines.{full_lines}
-use Rattle.script_text.specs.Script.{Item, Place, beginning, Stop, too_long, bad_line, stuck_by, arrived, walk, reading}
+use Rattle.script_text.specs.Script.{Item, Place, beginning, Stop, whole_input, too_long, bad_line, stuck_by, arrived, chain, walk, reading}
 use Rattle.script_text.specs.Reader.{Held, unread, UsesLines, stuck_after}
 use Rattle.script_text.specs.Pushed.{item_of}
 use Rattle.match_play.specs.declared.states.ScriptStop.{ScriptStop}
@@ -28,13 +28,24 @@ abbrev pub stop_of : ScriptStop → Stop
 stop_of (BadLine n) = bad_line n
 stop_of TooLong = too_long
 
--- What was read, where these items were told: lines that give the items, and one item more where one waits; or a script that
--- stops behind the items, whatever follows.
-abbrev pub HasRead : Held → List ℕ → List Item → Ahead → Type 0
-HasRead held fed items ahead.Lines = UsesLines unread held fed items
-HasRead held fed items (ahead.Item item) = UsesLines unread held fed (items ++ item_of item ∷ [])
-HasRead held fed items (ahead.Stop stop) = (more : List ℕ) → reading (fed ++ more) beginning ≡ stuck_after items (stop_of stop)
-HasRead held fed items (ahead.Nothing stop) = (more : List ℕ) → reading (fed ++ more) beginning ≡ stuck_after items (stop_of stop)
+-- These items were read. While the script may go on they are those of lines that were used; of a script that has ended, its
+-- reading goes on behind them with what is held.
+abbrev pub ReadsItems : Bool → Held → List ℕ → List Item → Type 0
+ReadsItems false held fed items = UsesLines unread held fed items
+ReadsItems true held fed items = reading fed beginning ≡ chain (arrived items held.place) (λ q. reading held.bytes q)
+
+-- Behind these items the script stops so: whatever follows, or where it has ended, with these bytes.
+abbrev pub StopsBehind : Bool → List ℕ → List Item → Stop → Type 0
+StopsBehind false fed items stop = (more : List ℕ) → reading (fed ++ more) beginning ≡ stuck_after items stop
+StopsBehind true fed items stop = reading fed beginning ≡ stuck_after items stop
+
+-- What was read, where these items were told: the items, and one more where one waits; or a script that stops behind them.
+abbrev pub HasRead : Bool → Held → List ℕ → List Item → Ahead → Type 0
+HasRead ended held fed items ahead.Lines = ReadsItems ended held fed items
+HasRead ended held fed items (ahead.Item item) = ReadsItems ended held fed (items ++ item_of item ∷ [])
+HasRead ended held fed items (ahead.Stop stop) = StopsBehind ended fed items (stop_of stop)
+HasRead ended held fed items (ahead.Nothing stop) = StopsBehind ended fed items (stop_of stop)
+HasRead ended held fed items ahead.Whole = StopsBehind ended fed items whole_input
 
 -- what was told of a stop
 abbrev pub told_stop : Ahead → List ℕ
@@ -42,12 +53,25 @@ told_stop ahead.Lines = []
 told_stop (ahead.Item item) = []
 told_stop (ahead.Stop stop) = []
 told_stop (ahead.Nothing stop) = stop_text (stop_of stop)
+told_stop ahead.Whole = stop_text whole_input
+
+-- all was told that the script gives
+abbrev pub IsTold : Ahead → Type 0
+IsTold ahead.Lines = ⊥
+IsTold (ahead.Item item) = ⊥
+IsTold (ahead.Stop stop) = ⊥
+IsTold (ahead.Nothing stop) = ⊤
+IsTold ahead.Whole = ⊤
+
+-- the script has ended, and all was told
+abbrev pub IsOver : Course → Type 0
+IsOver m = IsTrue m.ended × IsTold m.ahead
 
 -- The match was fed with these bytes since it was opened, and has told this text in all.
 pub record HasPlayed (m : Course) (fed told : List ℕ) : Type 0 where
   pub items : List Item
   pub text : List ℕ
-  pub read : HasRead m.script fed items m.ahead
+  pub read : HasRead m.ended m.script fed items m.ahead
   pub gives : Gives m.report unsaid items text (said_of m.ground)
   pub all : told ≡ text ++ told_stop m.ahead
 
@@ -70,7 +94,21 @@ abbrev pub FeedTold : Report → Result (Unit {0}) MatchFault → List ℕ → L
 FeedTold report (Ok done) fed told = IsLinesText report fed told
 FeedTold report (Err (fault.BadLine n)) fed told = IsStopText report (bad_line n) fed told
 FeedTold report (Err fault.TooLong) fed told = IsStopText report too_long fed told
+FeedTold report (Err fault.Ended) fed told = ⊤
 FeedTold report (Err fault.NoMemory) fed told = ⊤
+
+-- The script of exactly these bytes stops so, and the text is its output text.
+pub record IsWholeText (report : Report) (stop : Stop) (fed told : List ℕ) : Type 0 where
+  pub ends : (reading fed beginning).ends ≡ stuck_by stop
+  pub out : IsOut report fed told
+
+-- the same of a script that has ended
+abbrev pub FinishTold : Report → Result (Unit {0}) MatchFault → List ℕ → List ℕ → Type 0
+FinishTold report (Ok done) fed told = IsWholeText report whole_input fed told
+FinishTold report (Err (fault.BadLine n)) fed told = IsWholeText report (bad_line n) fed told
+FinishTold report (Err fault.TooLong) fed told = IsWholeText report too_long fed told
+FinishTold report (Err fault.Ended) fed told = IsOut report fed told
+FinishTold report (Err fault.NoMemory) fed told = ⊤
 
 -- Of a piece, from which what is left was not taken: its bytes were fed, and text was told, which waits.
 pub record Plays (old new : Course) (piece left : List ℕ) : Type 0 where
@@ -86,15 +124,25 @@ pub record FeedPlays (old new : Course) (piece left : List ℕ) (result : Result
   pub plays : Plays old new piece left
   pub told : (fed told : List ℕ) → HasPlayed old fed told → FeedTold old.report result (fed ++ plays.taken) (told ++ plays.text)
 
--- nothing is left of a piece, unless there was no memory
+-- Of the end of a script: text was told, which waits.
+pub record FinishPlays (old new : Course) (result : Result (Unit {0}) MatchFault) : Type 0 where
+  pub text : List ℕ
+  pub waits : new.waiting ≡ old.waiting ++ text
+  pub report : new.report ≡ old.report
+  pub played : (fed told : List ℕ) → HasPlayed old fed told → HasPlayed new fed (told ++ text)
+  pub told : (fed told : List ℕ) → HasPlayed old fed told → FinishTold old.report result fed (told ++ text)
+
+-- nothing is left of a piece, unless there was no memory or the script has ended
 abbrev pub TakesAll : List ℕ → Result (Unit {0}) MatchFault → Type 0
 TakesAll left (Ok done) = left ≡ []
 TakesAll left (Err (fault.BadLine n)) = left ≡ []
 TakesAll left (Err fault.TooLong) = left ≡ []
+TakesAll left (Err fault.Ended) = ⊤
 TakesAll left (Err fault.NoMemory) = ⊤
 
 -- Nothing waits, and else the match is as it was.
 pub record HasTaken (old new : Course) : Type 0 where
+  pub same : new ≡ record old { waiting = [] }
   pub waits : new.waiting ≡ []
   pub report : new.report ≡ old.report
   pub played : (fed told : List ℕ) → HasPlayed old fed told → HasPlayed new fed told

@@ -10,6 +10,8 @@ pub enum MatchFault {
     BadLine(u64),
     /// A line or the script is past its limit. The match has stopped.
     TooLong,
+    /// `finish` was called: the script has no more bytes. Nothing was taken or told.
+    Ended,
     /// There was no memory. Nothing is lost: the call may come again.
     NoMemory,
 }

@@ -1,6 +1,7 @@
 //! Matches.
-ghost use Rattle.std.specs.Prelude.{◌≡◌, [], IfOk};
-ghost use Rattle.match_play.specs.Playing.{FeedPlays, HasPlayed, HasTaken, IsView, TakesAll, said_of};
+ghost use Rattle.std.specs.Prelude.{◌≡◌, ◌≢◌, ◌↔◌, [], Err, IfOk, IsFalse, IsTrue};
+ghost use Rattle.match_play.specs.declared.faults.MatchFault.TheVariants.{Ended, NoMemory as no_memory};
+ghost use Rattle.match_play.specs.Playing.{FeedPlays, FinishPlays, HasPlayed, HasTaken, IsOver, IsView, TakesAll, said_of};
 
 use crate::courses;
 use crate::faults::MatchFault;
@@ -46,6 +47,7 @@ impl Match {
     /// A match of whose script no byte has come, and what it tells beside the answers.
     pub fn open(alloc: Global, report: Report) -> Match
         ensures played { HasPlayed result [] [] }
+        ensures unended { IsFalse result.ended }
         ensures report { result.report ≡ report }
         ensures waiting { result.waiting ≡ [] }
     {
@@ -53,6 +55,7 @@ impl Match {
             course: Course {
                 report,
                 script: PushedScript::new(alloc),
+                ended: false,
                 ahead: Ahead::Lines,
                 ground: Ground::Nothing,
                 waiting: Bytes::new(alloc),
@@ -66,12 +69,32 @@ impl Match {
     /// With no refusal, what the match has told is the text of what the whole lines give (`IsLinesText`). At a bad line, or
     /// one that is too long, the match stops: what it has told is the output text of the script, whatever comes behind
     /// (`IsStopText`), and each later call answers the same. Where there was no memory nothing is lost: the call may come
-    /// again with the bytes that are left.
+    /// again with the bytes that are left. Behind a call of `finish` it answers that the script has ended, and nothing is
+    /// taken or told.
     pub fn feed(&mut self, alloc: Global, bytes: &mut &[u8]) -> Result<(), MatchFault>
         ensures plays { FeedPlays self.old self.new bytes.old.now bytes.new.now result }
         ensures all { TakesAll bytes.new.now result }
+        ensures ended { (result ≡ Err Ended) ↔ IsTrue self.old.ended }
+        ensures kept { result ≡ Err Ended → (self.new ≡ self.old) × (bytes.new.now ≡ bytes.old.now) }
+        ensures stays { self.new.ended ≡ self.old.ended }
     {
         courses::feed(alloc, &mut self.course, bytes)
+    }
+
+    /// Ends the script: it has no more bytes, as the end of its input tells `replay`. What stands behind the last newline
+    /// is then a line, and a turn that has begun lacks its end line, which is bad.
+    ///
+    /// What the match has told is then the output text of exactly the bytes that it was fed with, and the answer says how
+    /// they stop: with no refusal they are a whole script (`FinishTold`). Each later call of `feed` and `finish` answers
+    /// that the script has ended. Where there was no memory nothing is lost: this call may come again, and none of `feed`.
+    pub fn finish(&mut self, alloc: Global) -> Result<(), MatchFault>
+        ensures plays { FinishPlays self.old self.new result }
+        ensures ended { IsTrue self.new.ended }
+        ensures over { result ≢ Err no_memory → IsOver self.new }
+        ensures again { (result ≡ Err Ended) ↔ IsOver self.old }
+        ensures kept { result ≡ Err Ended → self.new ≡ self.old }
+    {
+        courses::finish(alloc, &mut self.course)
     }
 
     /// The text that was told and not taken yet.

@@ -24,6 +24,8 @@ pub enum Ahead {
     Stop(ScriptStop),
     /// Nothing: a stop was told.
     Nothing(ScriptStop),
+    /// Nothing: the script has ended, and is whole.
+    Whole,
 }
 
 /// What the next answers rest on.
@@ -44,6 +46,8 @@ pub struct Course {
     pub report: Report,
     /// How far the script was read.
     pub script: PushedScript,
+    /// Whether the script has no more bytes than it was fed with.
+    pub ended: bool,
     /// What comes next.
     pub ahead: Ahead,
     /// What the next answers rest on.

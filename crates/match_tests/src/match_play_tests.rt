@@ -72,6 +72,37 @@ fn a_bad_line_stops_a_match(rt: HostRuntime) {
     }
 }
 
+/// Whether a script without its last newline ends so, and is answered so; and whether nothing is taken behind its end.
+fn is_ended(
+    alloc: Global,
+    script: &[&str],
+    ends: Result<(), MatchFault>,
+    answers: &[&str],
+) -> Result<bool, NoMemory> {
+    let script = joined(alloc, script)?;
+    let answers = joined(alloc, answers)?;
+    let mut game = Match::open(alloc, Report::Answers);
+    let fed = match script.as_slice().split_last() {
+        Some((_, whole)) => feed_by(alloc, &mut game, whole, 7),
+        None => Ok(()),
+    };
+    let ended = game.finish(alloc);
+    let mut more = script.as_slice();
+    let behind = game.feed(alloc, &mut more);
+    let left = more == script.as_slice();
+    let told = game.waiting() == answers.as_slice();
+    Ok(fed == Ok(()) && ended == ends && behind == Err(MatchFault::Ended) && left && told)
+}
+
+#[test]
+fn a_script_may_end_without_a_newline(rt: HostRuntime) {
+    assert!(rt; is_ended(rt.alloc(), FIRST, Ok(()), FIRST_ANSWERS) == Ok(true));
+    assert!(rt; is_ended(rt.alloc(), &[MAP_LINE], Ok(()), &[]) == Ok(true));
+    let begun = [MAP_LINE, "{\"caller\":0,\"remove\":1}\n"];
+    let ends = Err(MatchFault::BadLine(3));
+    assert!(rt; is_ended(rt.alloc(), &begun, ends, &["bad line 3\n"]) == Ok(true));
+}
+
 /// Ends the next turn of a script in a match by posts, and gives its text.
 fn end_next(
     alloc: Global,

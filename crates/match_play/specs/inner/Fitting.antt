@@ -1,5 +1,5 @@
 -- How what a match stands on fits how far its script was read.
-use Rattle.std.specs.Prelude.{ℕ, ◌≡◌, ◌≤◌, ◌<◌, ◌+◌, ◌^◌, List, All, ◌++◌, Option, Some, None, IsFalse, ⊤}
+use Rattle.std.specs.Prelude.{ℕ, ◌≡◌, ◌≢◌, ◌⊎◌, ◌≤◌, ◌<◌, ◌+◌, ◌^◌, List, [], All, ◌++◌, Bool, true, false, Option, Some, None, Result, Err, IsFalse, IsTrue, ⊤}
 use Rattle.nav_types.specs.declared.cells.Rect.{Rect}
 use Rattle.nav_types.specs.Cells.{IsRectInside}
 use Rattle.nav_types.specs.declared.limits.TheConstants.{MAX_INPUT_BYTES}
@@ -113,14 +113,26 @@ pub record IsOpen (held : Held) (turns : ℕ) : Type 0 where
   pub few : turns ≤ held.place.bytes
   pub limit : held.place.bytes ≤ MAX_INPUT_BYTES
 
-abbrev pub FitsAhead : Ground → Held → Ahead → Type 0
-FitsAhead g held ahead.Lines = IsOpen held (turns_in g) × FitsPart g held.place.part
-FitsAhead g held (ahead.Item i) = IsOpen held (turns_in g + 1) × (FitsItem g i × WillFitPart g i held.place.part)
-FitsAhead g held (ahead.Stop stop) = ⊤
-FitsAhead g held (ahead.Nothing stop) = ⊤
+-- The script has ended. Where bytes are held they may give one item more, which then fits.
+pub record IsLast (held : Held) (turns : ℕ) (Fits : Type 0) : Type 0 where
+  pub going : IsFalse held.failed
+  pub few : held.bytes ≢ [] → turns ≤ held.place.bytes
+  pub fits : held.bytes ≢ [] → Fits
+
+-- what comes of the script next will fit
+abbrev pub MayGoOn : Bool → Held → ℕ → Type 0 → Type 0
+MayGoOn false held turns Fits = IsOpen held turns × Fits
+MayGoOn true held turns Fits = IsLast held turns Fits
+
+abbrev pub FitsAhead : Bool → Ground → Held → Ahead → Type 0
+FitsAhead ended g held ahead.Lines = MayGoOn ended held (turns_in g) (FitsPart g held.place.part)
+FitsAhead ended g held (ahead.Item i) = MayGoOn ended held (turns_in g + 1) (WillFitPart g i held.place.part) × FitsItem g i
+FitsAhead ended g held (ahead.Stop stop) = ⊤
+FitsAhead ended g held (ahead.Nothing stop) = ⊤
+FitsAhead ended g held ahead.Whole = IsTrue ended
 
 abbrev pub IsFit : Course → Type 0
-IsFit c = FitsAhead c.ground c.script c.ahead
+IsFit c = FitsAhead c.ended c.ground c.script c.ahead
 
 -- no stop was met
 abbrev pub IsGoing : Ahead → Type 0
@@ -128,6 +140,7 @@ IsGoing ahead.Lines = ⊤
 IsGoing (ahead.Item item) = ⊤
 IsGoing (ahead.Stop stop) = ⊥
 IsGoing (ahead.Nothing stop) = ⊥
+IsGoing ahead.Whole = ⊥
 
 -- a stop was met
 abbrev pub IsStopped : Ahead → Type 0
@@ -135,11 +148,16 @@ IsStopped ahead.Lines = ⊥
 IsStopped (ahead.Item item) = ⊥
 IsStopped (ahead.Stop stop) = ⊤
 IsStopped (ahead.Nothing stop) = ⊤
+IsStopped ahead.Whole = ⊥
 
 -- the refusal of a match that has stopped
 abbrev pub fault_of : ScriptStop → MatchFault
 fault_of (BadLine n) = fault.BadLine n
 fault_of TooLong = fault.TooLong
+
+-- the stop was told, and is the refusal; or there was no memory
+abbrev pub TellsStop : Ahead → Result (Unit {0}) MatchFault → Type 0
+TellsStop next result = (result ≡ Err fault.NoMemory) ⊎ ((stop : ScriptStop) × ((next ≡ ahead.Nothing stop) × (result ≡ Err (fault_of stop))))
 
 -- the stop that a refusal of the script is, if it is one
 abbrev pub stop_in : ScriptFault → Option ScriptStop

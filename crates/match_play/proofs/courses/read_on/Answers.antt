@@ -1,12 +1,12 @@
 use Rattle.std.proofs.Common.{◌+◌, ◌<◌, [], length, sym, subst, ◌∙◌}
 use Rattle.script_text.specs.Reader.{Held}
 use Rattle.match_play.specs.declared.states.Ahead.TheVariants as ahead
-use Rattle.match_play.proofs.Playing.{with_script, with_ahead, plays_none, plays_then, plays_item, plays_lines, plays_fault, plays_stop, feed_lines, feed_nothing, feed_then}
-use Rattle.match_play.proofs.Fits.{fit_lines, lines_fit, fits_item, fits_lines, fits_fault, shorter}
+use Rattle.match_play.proofs.Playing.{with_script, with_ahead, plays_none, plays_then, plays_item, plays_lines, plays_fault, plays_stop, feed_lines, feed_nothing, feed_told, stop_answer}
+use Rattle.match_play.proofs.Fits.{fit_lines, lines_fit, item_fits, fits_item, fits_lines, fits_fault, shorter}
 use Rattle.match_play.proofs.courses.read_on.Goals as goal
 
 pub items-init : goal.items-init
-items-init c = record { plays = plays_none c.args.course.now c.args.bytes.now.now; fit = c.requires.fit; going = c.requires.going }
+items-init c = record { plays = plays_none c.args.course.now c.args.bytes.now.now; fit = c.requires.fit; going = c.requires.going; unended = c.requires.unended }
 
 pub returns-in-Err-clause-plays : goal.returns-in-Err-clause-plays
 returns-in-Err-clause-plays c =
@@ -38,11 +38,13 @@ items-preserved c =
     let told = rw c.in-Ok-Some.field-0-is at c.in-Ok-Some.ensures.told in
     let rules = rw c.in-Ok-Some.field-0-is at c.in-Ok-Some.ensures.rules in
     let here = plays_then a c.items.course m x y y c.items.invariant.plays (c.tell_item.ensures.plays y) in
-    let fit = fit_lines m at c.tell_item.ensures.fit in
+    let unended = c.tell_item.ensures.ended ∙ c.items.invariant.unended in
+    let fit = fit_lines m unended at c.tell_item.ensures.fit in
     record {
-      plays = plays_then a m (with_ahead m new (ahead.Item i)) x y z here (plays_item m new i y z at told c.next.ensures.more);
-      fit = fits_item m.ground m.script new y z i fit.0 fit.1 told rules c.in-Ok-Some.ensures.failed c.next.ensures.more c.next.ensures.limit;
+      plays = plays_then a m (with_ahead m new (ahead.Item i)) x y z here (plays_item m new i y z unended at told c.next.ensures.more);
+      fit = item_fits m new i unended (fits_item m.ground m.script new y z i fit.0 fit.1 told rules c.in-Ok-Some.ensures.failed c.next.ensures.more c.next.ensures.limit);
       going = tt;
+      unended = unended;
     }
 
 pub returns-in-Ok-None-clause-plays : goal.returns-in-Ok-None-clause-plays
@@ -57,7 +59,8 @@ returns-in-Ok-None-clause-plays c =
     let told = rw c.in-Ok-None.field-0-is at c.in-Ok-None.ensures.told in
     let taken = rw c.in-Ok-None.field-0-is at c.in-Ok-None.ensures.taken in
     let here = plays_then a c.items.course m x y y c.items.invariant.plays (c.tell_item.ensures.plays y) in
-    feed_lines a (with_script m new) x z (plays_then a m (with_script m new) x y z here (plays_lines m new y z at told c.next.ensures.more)) at taken.1
+    let unended = c.tell_item.ensures.ended ∙ c.items.invariant.unended in
+    feed_lines a (with_script m new) x z (plays_then a m (with_script m new) x y z here (plays_lines m new y z unended at told c.next.ensures.more)) unended at taken.1
 
 pub returns-in-Ok-None-clause-fit : goal.returns-in-Ok-None-clause-fit
 returns-in-Ok-None-clause-fit c =
@@ -66,8 +69,9 @@ returns-in-Ok-None-clause-fit c =
     let at = c.in-Ok.ensures.told in
     let told = rw c.in-Ok-None.field-0-is at c.in-Ok-None.ensures.told in
     let rules = rw c.in-Ok-None.field-0-is at c.in-Ok-None.ensures.rules in
-    let fit = fit_lines m at c.tell_item.ensures.fit in
-    lines_fit m new at (fits_lines m.ground m.script new c.items.bytes.now c.next.new.bytes.now fit.0 fit.1 told rules c.in-Ok-None.ensures.failed
+    let unended = c.tell_item.ensures.ended ∙ c.items.invariant.unended in
+    let fit = fit_lines m unended at c.tell_item.ensures.fit in
+    lines_fit m new unended at (fits_lines m.ground m.script new c.items.bytes.now c.next.new.bytes.now fit.0 fit.1 told rules c.in-Ok-None.ensures.failed
     c.next.ensures.more c.next.ensures.limit)
 
 pub returns-in-Some-clause-plays : goal.returns-in-Some-clause-plays
@@ -82,9 +86,13 @@ returns-in-Some-clause-plays c =
     let at = c.in-Ok.ensures.told in
     let here = plays_then a c.items.course m x y y c.items.invariant.plays (c.tell_item.ensures.plays y) in
     let b = with_ahead m new (ahead.Stop stop) in
-    feed_then a b c.tell_stop.new.course x [] [] c.tell_stop.result
-    (plays_then a m b x y [] here (plays_stop m new y z c.in-Err-next.fault stop at c.in-Err-next.ensures.told (sym c.stop_in.ensures ∙ c.in-Some.is)))
-    c.tell_stop.ensures.plays
+    let t = c.tell_stop.new.course in
+    let unended = c.tell_item.ensures.ended ∙ c.items.invariant.unended in
+    let stops = plays_then a m b x y [] here (plays_stop m new y z c.in-Err-next.fault stop unended at c.in-Err-next.ensures.told (sym c.stop_in.ensures ∙ c.in-Some.is)) in
+    feed_told a t x [] c.tell_stop.result (plays_then a b t x [] [] stops (c.tell_stop.ensures.plays [])) (c.tell_stop.ensures.ended ∙ unended) c.tell_stop.ensures.stop
+
+pub returns-in-Some-clause-answer : goal.returns-in-Some-clause-answer
+returns-in-Some-clause-answer c = λ is. stop_answer c.tell_stop.new.course.ahead c.tell_stop.result c.tell_stop.ensures.stop is
 
 pub returns-in-None-clause-plays : goal.returns-in-None-clause-plays
 returns-in-None-clause-plays c =
@@ -98,13 +106,24 @@ returns-in-None-clause-plays c =
     let here = plays_then a c.items.course m x y y c.items.invariant.plays (c.tell_item.ensures.plays y) in
     feed_nothing a (with_script m new) x z
     (plays_then a m (with_script m new) x y z here
-    (plays_fault m new y z c.in-Err-next.fault at c.in-Err-next.ensures.told c.next.ensures.more (sym c.stop_in.ensures ∙ c.in-None.is)))
+    (plays_fault m new y z c.in-Err-next.fault (c.tell_item.ensures.ended ∙ c.items.invariant.unended) at c.in-Err-next.ensures.told c.next.ensures.more (sym c.stop_in.ensures ∙ c.in-None.is)))
 
 pub returns-in-None-clause-fit : goal.returns-in-None-clause-fit
 returns-in-None-clause-fit c =
     let m = c.tell_item.new.course in
     let new = c.next.new.self in
     let at = c.in-Ok.ensures.told in
-    let fit = fit_lines m at c.tell_item.ensures.fit in
-    lines_fit m new at (fits_fault m.ground m.script new c.items.bytes.now c.next.new.bytes.now c.in-Err-next.fault fit.0 fit.1 (sym c.stop_in.ensures ∙ c.in-None.is)
+    let unended = c.tell_item.ensures.ended ∙ c.items.invariant.unended in
+    let fit = fit_lines m unended at c.tell_item.ensures.fit in
+    lines_fit m new unended at (fits_fault m.ground m.script new c.items.bytes.now c.next.new.bytes.now c.in-Err-next.fault fit.0 fit.1 (sym c.stop_in.ensures ∙ c.in-None.is)
     c.in-Err-next.ensures.told c.in-Err-next.ensures.rules c.in-Err-next.ensures.failed c.next.ensures.more c.next.ensures.limit)
+
+pub next-requires-clause-going : goal.next-requires-clause-going
+next-requires-clause-going c =
+    let m = c.tell_item.new.course in
+    (fit_lines m (c.tell_item.ensures.ended ∙ c.items.invariant.unended) c.in-Ok.ensures.told c.tell_item.ensures.fit).0.going
+
+pub next-requires-clause-more : goal.next-requires-clause-more
+next-requires-clause-more c =
+    let m = c.tell_item.new.course in
+    (fit_lines m (c.tell_item.ensures.ended ∙ c.items.invariant.unended) c.in-Ok.ensures.told c.tell_item.ensures.fit).0.more

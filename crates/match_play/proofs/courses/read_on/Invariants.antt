@@ -1,4 +1,4 @@
-use Rattle.std.proofs.Common.{◌+◌, length}
+use Rattle.std.proofs.Common.{◌+◌, IsFalse, length}
 use Rattle.match_play.specs.Playing.{Plays}
 use Rattle.match_play.specs.inner.Fitting.{IsFit, IsGoing}
 use Rattle.match_play.proofs.courses.read_on.Given as goal
@@ -8,6 +8,7 @@ invariant-items l = record {
   plays : Plays l.fn.course l.course l.fn.bytes.now l.bytes.now;
   fit : IsFit l.course;
   going : IsGoing l.course.ahead;
+  unended : IsFalse l.course.ended;
 }
 
 abbrev pub decreases-items : goal.decreases-items
