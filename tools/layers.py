@@ -23,7 +23,7 @@ def layers():
             found.append((line[1:].strip(), [], set()))
         elif line.strip():
             name, _, used = line.partition(":")
-            found[-1][1].append(name.strip())
+            found[-1][1].append(name.split()[0])
             found[-1][2].update(used.split())
     return found
 

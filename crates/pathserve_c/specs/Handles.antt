@@ -1,0 +1,27 @@
+-- What C holds.
+use Rattle.std.specs.Prelude.{ℕ, Bool, false, ◌≡◌, ◌≢◌, List, [], Option, Some, None, IsSome}
+use Rattle.nav_types.specs.declared.cells.Cell.{Cell}
+use Rattle.grid_versions.specs.Versions.{passes_of}
+use Rattle.pathserve_c.specs.declared.states.State.{State}
+use Rattle.pathserve_c.specs.declared.states.State.TheVariants.{Text, View}
+use Rattle.pathserve_c.specs.declared.handles.Handle.{Handle}
+
+-- A handle is closed and holds nothing, or it is open and holds a state.
+abbrev pub IsHandle : Handle → Type 0
+IsHandle h = (h.live ≡ 0 → h.held.value ≡ None) × (h.live ≢ 0 → IsSome h.held.value)
+
+-- what it holds
+abbrev pub state_of : Handle → Option State
+state_of h = h.held.value
+
+-- what waits to be taken: nothing where there is no match by text
+abbrev pub waiting_in : Option State → List ℕ
+waiting_in None = []
+waiting_in (Some (Text text)) = text.waiting
+waiting_in (Some (View version)) = []
+
+-- which cells are passable for class k in what a handle shows: none where it shows nothing
+abbrev pub passes_seen : Option State → ℕ → Cell → Bool
+passes_seen None k = λ _. false
+passes_seen (Some (Text text)) k = λ _. false
+passes_seen (Some (View version)) k = passes_of version k

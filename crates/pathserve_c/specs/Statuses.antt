@@ -1,0 +1,18 @@
+-- The status that each answer is told by.
+use Rattle.std.specs.Prelude.{ℕ, Result, Ok, Err, Option, Some, None}
+use Rattle.match_play.specs.declared.faults.MatchFault.{MatchFault}
+use Rattle.match_play.specs.declared.faults.MatchFault.TheVariants as fault
+use Rattle.pathserve_c.specs.declared.statuses.TheConstants.{DONE, BAD_LINE, NO_MEMORY, TOO_LONG, CLOSED, OTHER}
+use Rattle.pathserve_c.specs.declared.states.State.{State}
+
+-- how far a match came
+abbrev pub status_of : Result (Unit {0}) MatchFault → ℕ
+status_of (Ok done) = DONE
+status_of (Err (fault.BadLine n)) = BAD_LINE
+status_of (Err fault.TooLong) = TOO_LONG
+status_of (Err fault.NoMemory) = NO_MEMORY
+
+-- why a handle refuses that does not hold what the call is for
+abbrev pub refusal : Option State → ℕ
+refusal None = CLOSED
+refusal (Some state) = OTHER

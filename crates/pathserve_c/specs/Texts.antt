@@ -1,0 +1,36 @@
+-- Matches by text, whose text is taken piece by piece.
+use Rattle.std.specs.Prelude.{ℕ, ◌≡◌, List, [], ◌++◌, drop, Result, refl}
+use Rattle.std.specs.Coded.{Coded, code_by, coded×, coded_list, coded_ℕ}
+use Rattle.posts.specs.declared.notes.Report.{Report}
+use Rattle.match_play.specs.declared.states.Course.{Course}
+use Rattle.match_play.specs.declared.faults.MatchFault.{MatchFault}
+use Rattle.match_play.specs.Playing.{FeedPlays, HasPlayed, TakesAll}
+
+-- the match, and the text that was told and not taken yet
+pub record TextState : Type 0 where
+  pub game : Course
+  pub waiting : List ℕ
+
+-- such a match is stored as the pair of its parts
+abbrev pub text_code : Coded Course → Coded TextState
+text_code course_code =
+    code_by (Course × List ℕ) (coded× course_code (coded_list coded_ℕ)) (λ s. (s.game, s.waiting))
+    (λ p. record { game = p.0; waiting = p.1 }) (λ _. refl)
+
+-- no byte has come, and nothing waits
+pub record IsUnread (asked : Report) (state : TextState) : Type 0 where
+  pub played : HasPlayed state.game [] []
+  pub report : state.game.report ≡ asked
+  pub waiting : state.waiting ≡ []
+
+-- Of a piece, what is left of it was not fed. What was told waits behind what waited.
+pub record Feeds (old new : TextState) (piece left : List ℕ) (answer : Result (Unit {0}) MatchFault) : Type 0 where
+  pub plays : FeedPlays old.game new.game piece left answer
+  pub all : TakesAll left answer
+  pub waits : new.waiting ≡ old.waiting ++ plays.plays.text
+
+-- So many bytes that waited wait no longer, and else the match is as it was.
+pub record Takes (old new : TextState) (count : ℕ) : Type 0 where
+  pub waits : new.waiting ≡ drop count old.waiting
+  pub report : new.game.report ≡ old.game.report
+  pub played : (fed told : List ℕ) → HasPlayed old.game fed told → HasPlayed new.game fed told

@@ -1,0 +1,37 @@
+//! The library that games link: what crosses to C.
+//!
+//! ```text
+//!    C: pathserve_match, pathserve_view --> Handle --> a match by text | what stands
+//! ```
+//!
+//! `include/pathserve.h` says what each call owes and gives. A [`Handle`] lies in C's memory and owns a box of a state. Each
+//! call takes the state out, works on it, and puts it back. Nothing here starts threads, and no state is global.
+#![tactic(auto)]
+
+mod handles;
+mod held;
+mod raw_box;
+mod shared_versions;
+mod states;
+mod statuses;
+mod text_matches;
+mod texts;
+mod versions;
+mod views;
+
+pub use handles::{Handle, handles_may_cross};
+pub use held::Held;
+pub use raw_box::RawBox;
+pub use states::State;
+pub use statuses::{
+    BAD_LINE, BAD_VALUE, CLOSED, DONE, NO_MAP, NO_MEMORY, OPEN, OTHER, TOO_LONG, status_of,
+};
+pub use text_matches::TextMatch;
+pub use texts::{
+    pathserve_close, pathserve_feed, pathserve_open, pathserve_take, pathserve_waiting,
+};
+pub use versions::{ANSWERS, VERSION, pathserve_answers, pathserve_size_of, pathserve_version};
+pub use views::{
+    pathserve_area, pathserve_passable, pathserve_region, pathserve_view_again,
+    pathserve_view_close, pathserve_view_of,
+};
