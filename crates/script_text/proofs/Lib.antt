@@ -17,6 +17,7 @@ pub mod GrammarLines
 pub mod GoalTable
 pub mod GrammarPosts
 pub mod PostVersions
+mod TurnItems
 pub mod CanonTexts
 pub mod BackForms
 pub mod BackTexts

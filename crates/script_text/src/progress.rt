@@ -6,6 +6,7 @@ ghost use Rattle.serde_json.specs.View.{view};
 ghost use Rattle.nav_types.specs.Cells.{IsRectInside};
 ghost use Rattle.script_text.specs.Forms.{map_of, base_of};
 ghost use Rattle.script_text.specs.Script.{is_empty, reading_of};
+ghost use Rattle.script_text.specs.inner.Judging.{turn_item};
 
 use crate::causes::{self, Cause};
 use crate::faults::ScriptFault;
@@ -49,7 +50,8 @@ impl Progress {
     ghost use Rattle.script_text.specs.Script.{arrived, begins, map_line, no_posts, placed_in_turn, with_post};
     ghost use Rattle.script_text.specs.Reader.{HaveLinesAt, callers_of, rules_at};
     ghost use Rattle.script_text.specs.Pushed.{KeepsRules};
-    ghost use Rattle.script_text.specs.Causes.{cause, end_cause};
+    ghost use Rattle.script_text.specs.Causes.{end_cause};
+    ghost use Rattle.script_text.specs.inner.Judging.{cause_of_held};
     ghost use Rattle.script_text.specs.inner.Judging.{AddsBase, BeginsMap, CountsPosts, GivesItem, GivesTurn, IsBadAt, IsBase};
     ghost use Rattle.script_text.specs.inner.Judging.{IsInTurns, IsInsideAt, IsNoBaseAt, IsObject, Stops};
 
@@ -186,6 +188,7 @@ impl Progress {
 
     /// Takes the next line, of so many bytes with its newline where it has one, and answers what it gives. Where there is
     /// no memory, nothing changes, and the line may come again.
+    #[tactic(auto, using(crate::proofs::TurnItems::turn_gives, crate::proofs::TurnItems::turn_ok, crate::proofs::TurnItems::turn_bad, crate::proofs::TurnItems::turn_kept, crate::proofs::TurnItems::turn_rules, crate::proofs::TurnItems::turn_have))]
     pub fn take_line(
         &mut self,
         alloc: Global,
@@ -209,36 +212,10 @@ impl Progress {
             },
             Part::InBase(_) => match self.base_line(alloc, line, size) {
                 Ok(Some(rects)) => Ok(Some(ScriptItem::Base(rects))),
-                Ok(None) => self.turn_line(alloc, line, size),
+                Ok(None) => turn_item(self.accept(alloc, line, size)),
                 Err(fault) => Err(fault),
             },
-            Part::InTurns(_) => self.turn_line(alloc, line, size),
-        }
-    }
-
-    /// Takes the next line of a turn.
-    fn turn_line(
-        &mut self,
-        alloc: Global,
-        line: &[u8],
-        size: u64,
-    ) -> Result<Option<ScriptItem>, ScriptFault>
-        requires begun { IsSome (rules_at self.old.part) }
-        requires no_base { IsNoBaseAt self.old.part line.now }
-        requires some_byte { 1 ≤ size }
-        requires have { HaveLinesAt self.old.part self.old.posts }
-        ensures gives { GivesItem (accept size line.now self.old) self.new result }
-        ensures used { OnOk result (self.new.bytes ≡ self.old.bytes + size) }
-        ensures rules { KeepsRules (rules_at self.old.part) (rules_at self.new.part) result }
-        ensures have { OnOk result (HaveLinesAt self.new.part self.new.posts) }
-        ensures limit { self.new.bytes ≤ MAX_INPUT_BYTES }
-        ensures bad { IfErr result (IsBadAt self.new (counted self.old size)) }
-        ensures memory { IsErrOf result ScriptFault.NoMemory → self.new ≡ self.old }
-    {
-        match self.accept(alloc, line, size) {
-            Ok(Some(turn)) => Ok(Some(ScriptItem::Turn(turn))),
-            Ok(None) => Ok(None),
-            Err(fault) => Err(fault),
+            Part::InTurns(_) => turn_item(self.accept(alloc, line, size)),
         }
     }
 
@@ -268,15 +245,35 @@ impl Progress {
         }
     }
 
-    /// Why the line is not in the grammar here. The place may have counted it.
-    pub fn line_cause(&self, alloc: Global, line: &[u8]) -> Result<Option<Cause>, NoMemory>
-        ensures { IfOk result (λ found. found ≡ cause self.now.part (self.now.turns + 1) line.now) }
+    /// Why what is held is refused here: the first line of so many bytes that are held, which the place may have counted,
+    /// or the end of the input, where none is held.
+    pub fn cause(&self, alloc: Global, held: usize, line: &[u8]) -> Result<Cause, NoMemory>
+        requires bad { IsSome (cause_of_held self.now held line.now) }
+        ensures cause { IfOk result (λ found. Some found ≡ cause_of_held self.now held line.now) }
     {
+        match self.found_cause(alloc, held, line)? {
+            Some(found) => Ok(found),
+            None => unreachable!(),
+        }
+    }
+
+    /// The same, where there is a cause.
+    fn found_cause(
+        &self,
+        alloc: Global,
+        held: usize,
+        line: &[u8],
+    ) -> Result<Option<Cause>, NoMemory>
+        ensures { IfOk result (λ found. found ≡ cause_of_held self.now held line.now) }
+    {
+        if held == 0 {
+            return Ok(self.end_cause());
+        }
         causes::cause_of(alloc, self.part, self.turns + 1, line)
     }
 
     /// Why an input may not end here.
-    pub fn end_cause(&self) -> Option<Cause>
+    fn end_cause(&self) -> Option<Cause>
         ensures { result ≡ end_cause self.now.part self.now.posts }
     {
         match self.part {
@@ -414,6 +411,19 @@ impl Progress {
         self.part = Part::InTurns(rules);
         let posts = mem::replace(&mut self.posts, empty);
         Ok(Some(TurnPosts::from(posts)))
+    }
+}
+
+/// What a line of a turn gives: the turn, where the line ends it.
+fn turn_item(
+    answer: Result<Option<TurnPosts>, ScriptFault>,
+) -> Result<Option<ScriptItem>, ScriptFault>
+    ensures { result ≡ turn_item answer }
+{
+    match answer {
+        Ok(Some(turn)) => Ok(Some(ScriptItem::Turn(turn))),
+        Ok(None) => Ok(None),
+        Err(fault) => Err(fault),
     }
 }
 

@@ -127,26 +127,12 @@ impl PushedScript {
         self.line.held()
     }
 
-    /// Why the line that a call refused as bad is not in the grammar in its place, or why the script may not end where
-    /// it does (`held_cause`). After such a refusal there is a cause (`HoldsBad`). The only refusal is want of memory.
+    /// Why the line that a call refused as bad is not in the grammar in its place, as [`crate::ScriptReader::cause`] tells it.
     pub fn cause(&self, alloc: Global) -> Result<Cause, NoMemory>
         requires bad { IsSome (held_cause self.now) }
         ensures cause { IfOk result (λ found. Some found ≡ held_cause self.now) }
     {
-        match self.next_cause(alloc)? {
-            Some(found) => Ok(found),
-            None => unreachable!(),
-        }
-    }
-
-    /// Why the line that is held, or the end of the script where nothing is held, is not in the grammar.
-    fn next_cause(&self, alloc: Global) -> Result<Option<Cause>, NoMemory>
-        ensures { IfOk result (λ found. found ≡ held_cause self.now) }
-    {
-        if self.held() == 0 {
-            return Ok(self.progress.end_cause());
-        }
-        self.progress.line_cause(alloc, self.line.line())
+        self.progress.cause(alloc, self.held(), self.line.line())
     }
 }
 

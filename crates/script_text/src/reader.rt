@@ -162,21 +162,8 @@ impl ScriptReader {
         requires bad { IsSome (held_cause self.now) }
         ensures cause { IfOk result (λ found. Some found ≡ held_cause self.now) }
     {
-        match self.next_cause(alloc)? {
-            Some(found) => Ok(found),
-            None => unreachable!(),
-        }
-    }
-
-    /// Why the first line that is held, or the end of the script where nothing is held, is not in the grammar.
-    fn next_cause(&self, alloc: Global) -> Result<Option<Cause>, NoMemory>
-        ensures { IfOk result (λ found. found ≡ held_cause self.now) }
-    {
-        if self.held() == 0 {
-            return Ok(self.progress.end_cause());
-        }
         let line = self.lines.first_line(alloc)?;
-        self.progress.line_cause(alloc, line.as_slice())
+        self.progress.cause(alloc, self.held(), line.as_slice())
     }
 
     /// Whether a call was refused.
@@ -219,38 +206,13 @@ fn read_lines_of_map<S: Source>(
     ensures stays { IsTrue lines.old.rest.ended → IsTrue lines.new.rest.ended }
     ensures bad { IfErr result (HoldsRefused (held_at progress.new lines.new)) }
 {
-    let mut map = read_first_line(alloc, source, lines, progress)?;
+    let room = progress.room();
+    let Some(size) = lines.next_line(source, room)? else {
+        return Err(ScriptFault::BadLine(1));
+    };
+    let mut map = take_map_line(alloc, lines, progress, size)?;
     read_base_lines(alloc, source, lines, progress, &mut map)?;
     Ok(map)
-}
-
-/// Reads line 1, which is the map line.
-fn read_first_line<S: Source>(
-    alloc: Global,
-    source: &mut S,
-    lines: &mut HeldLines,
-    progress: &mut Progress,
-) -> Result<MapSpec, ScriptFault>
-    requires first { progress.old ≡ beginning }
-    requires between { lines.old.line_end ≡ None → lines.old.line ≡ [] }
-    ensures told { MapTold (held_at progress.old lines.old) (held_at progress.new lines.new) (S.left source.old)
-        (S.left source.new) result }
-    ensures given { HasGiven (S.left source.old) (S.left source.new) }
-    ensures later { S.faults source.old ≤ S.faults source.new }
-    ensures fault { IsErrOf result ScriptFault.ReadFault → Rose (S.faults source.old) (S.faults source.new) }
-    ensures bad_line { IfErr result (λ fault. (n : ℕ) → fault ≡ ScriptFault.BadLine n → n ≡ 1) }
-    ensures rules { IfOk result (λ map. progress.new.part ≡ InBase (rules_of map)) }
-    ensures posts { OnOk result (post_count progress.new.posts ≡ 0) }
-    ensures empty { OnOk result (lines.new.line ≡ []) }
-    ensures limit { progress.new.bytes ≤ MAX_INPUT_BYTES }
-    ensures stays { IsTrue lines.old.rest.ended → IsTrue lines.new.rest.ended }
-    ensures bad { IfErr result (HoldsRefused (held_at progress.new lines.new)) }
-{
-    let room = progress.room();
-    match lines.next_line(source, room)? {
-        Some(size) => take_map_line(alloc, lines, progress, size),
-        None => Err(ScriptFault::BadLine(1)),
-    }
 }
 
 /// Takes the line that is held as the map line.

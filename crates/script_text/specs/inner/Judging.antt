@@ -1,5 +1,5 @@
 -- What a line gives in its place, as the answers to it say.
-use Rattle.std.specs.Prelude.{ℕ, ◌≡◌, ◌+◌, ◌≤◌, List, [], ◌∷◌, length, Bool, true, false, All, IsFalse, IsTrue, Option, Some, None, option_and_then, Result, Ok, Err, ⊤}
+use Rattle.std.specs.Prelude.{ℕ, ◌≡◌, ◌+◌, ◌≤◌, ◌==◌, if◌then◌else◌, List, [], ◌∷◌, length, Bool, true, false, All, IsFalse, IsTrue, Option, Some, None, option_and_then, Result, Ok, Err, ⊤}
 use Rattle.posts.specs.declared.posts.Post.{Post}
 use Rattle.posts.specs.Maps.{Map, with_base}
 use Rattle.posts.specs.Posts.{post_count}
@@ -15,6 +15,9 @@ use Rattle.script_text.specs.declared.parts.Part.{Part}
 use Rattle.script_text.specs.declared.parts.Part.TheVariants.{BeforeMap, InBase, InTurns}
 use Rattle.script_text.specs.Script.{Place, Item, Walk, begins, adds_base, ends_turn, whole_input, too_long, bad_line, arrived, stuck, map_after, turns_of, reading_of, is_long, accept}
 use Rattle.script_text.specs.declared.items.ScriptItem.{ScriptItem}
+use Rattle.script_text.specs.declared.items.ScriptItem.TheVariants.{Turn}
+use Rattle.script_text.specs.declared.causes.Cause.{Cause}
+use Rattle.script_text.specs.Causes.{cause, end_cause}
 use Rattle.script_text.specs.Pushed.{item_of}
 use Rattle.script_text.specs.Reader.{Held, GoesOn, HaveLinesAt, RefusesMap, callers_of}
 use Rattle.input_lines.specs.Held.{WhereTold, HeldLine, HasEnd, bytes_of, after_line}
@@ -182,6 +185,16 @@ abbrev pub GivesItem : Walk → Place → Result (Option ScriptItem) ScriptFault
 GivesItem w place (Ok (Some item)) = w ≡ arrived (item_of item ∷ []) place
 GivesItem w place (Ok None) = w ≡ arrived [] place
 GivesItem w place (Err fault) = IsStuckBy w fault
+
+-- what a line of a turn gives as an item
+abbrev pub turn_item : Result (Option (List (List Post))) ScriptFault → Result (Option ScriptItem) ScriptFault
+turn_item (Ok (Some posts)) = Ok (Some (Turn posts))
+turn_item (Ok None) = Ok None
+turn_item (Err fault) = Err fault
+
+-- why what is held is refused, by how many bytes are held and their first line
+abbrev pub cause_of_held : Place → ℕ → List ℕ → Option Cause
+cause_of_held p held line = if held == 0 then end_cause p.part p.posts else cause p.part (p.turns + 1) line
 
 -- nothing is held behind the line, and while the script was not refused, each post so far has a line in its version
 pub record IsPushedTo (p : Place) (h : HeldLine) (failed : Bool) : Type 0 where
