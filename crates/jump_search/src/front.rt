@@ -18,7 +18,7 @@ use crate::nodes::{Node, Nodes, Standing};
 use crate::octile::octile_to;
 use crate::problems::Problem;
 use crate::states::JumpState;
-use jump_scan::{Runs, successors};
+use jump_scan::{Runs, successors, successors_among};
 use nav_types::{Aim, Cell, Class, Dir, DirSet, NoMemory, Rect};
 use open_heap::OpenHeap;
 use std::alloc::Global;
@@ -102,6 +102,21 @@ fn stop_of<R: Runs, A: Aim>(runs: &R, class: Class, from: Cell, dir: Dir, aim: &
         return runs.straight(class, from, dir, aim);
     }
     runs.diagonal(class, from, dir, aim)
+}
+
+/// The directions in which the search goes on from the state. The cells beside its cell are read once, by a few words of
+/// the map.
+#[inline(always)]
+fn successors_of<R: Runs>(runs: &R, class: Class, state: JumpState) -> DirSet
+    requires class { class < R.class_count runs.now }
+    requires cell { IsTrue (R.passes runs.now class state.cell) }
+    ensures { (dir : Dir) → IsTrue (holds result dir) ↔ IsSuccessor (R.passes runs.now class) state.cell state.arrived
+        dir }
+{
+    match state.arrived {
+        Some(arrived) => successors_among(runs.beside(class, state.cell), arrived),
+        None => successors(runs, class, state.cell, None),
+    }
 }
 
 /// What jumps by the node to the rectangle cost at least: nodes of a lesser estimate are opened first.
@@ -275,12 +290,7 @@ impl Front {
             node.now.state node.now.cost
             (λ other. Unit {0}) self.old.nodes self.new.nodes self.old.waiting self.new.waiting) }
     {
-        let dirs = successors(
-            problem.runs,
-            problem.class,
-            node.state.cell,
-            node.state.arrived,
-        );
+        let dirs = successors_of(problem.runs, problem.class, node.state);
         self.follow_along(problem, rect, node, dirs, Dir::N)?;
         self.follow_along(problem, rect, node, dirs, Dir::E)?;
         self.follow_along(problem, rect, node, dirs, Dir::S)?;
