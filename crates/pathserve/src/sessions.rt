@@ -16,13 +16,13 @@ use grid_versions::{MapSpec, Version};
 use io_edges::Gate;
 use nav_types::NoMemory;
 use path_service::{Callers, Closed, Driver, EndedCallers, start_service};
-use path_workers::run_turn;
+use path_workers::{run_turn, worth_workers};
 use std::alloc::Global;
 use std::sync::Wait;
 use std::sync::atomic::{AtomicBool, Ordering};
 use std::thread;
 use std::thread::{Scope, Threads};
-use turn_core::{Answers, Jobs, RunBy, Runner, TurnPosts, count_posts};
+use turn_core::{Answers, Jobs, Report, RunBy, Runner, TurnPosts, count_posts};
 
 /// A service all of whose callers have ended.
 #[derive(Drop)]
@@ -184,7 +184,10 @@ fn drive<R: Threads + Wait + Sync, G: Gate + Sync>(
     let run = |version: &Version, jobs: &Jobs| -> Result<Answers, NoMemory>
         requires { (1 ≤ workers) × (workers ≤ MAX_WORKERS) × (length jobs.now < 2 ^ 32) }
         ensures { IfOk result (AreAnswersTo version.now.map version.now.standing jobs.now) }
-    { run_turn(rt, alloc, version, jobs, workers, gate) };
+    {
+        let workers = worth_workers(version, jobs, Report::Answers, workers);
+        run_turn(rt, alloc, version, jobs, workers, gate)
+    };
     let staged = |posts: u64| gate.staged(posts);
     let runner = RunBy {
         run: &run,

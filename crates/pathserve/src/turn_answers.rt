@@ -61,7 +61,10 @@ fn text_of_ready<R: Threads + Sync, G: Gate + Sync>(
     ensures map { IfOk result (λ told. told.after.map ≡ ready.map) }
     ensures standing { IfOk result (λ told. told.after.standing ≡ after_edits_of ready) }
 {
-    let NotedAnswers { answers, notes } = reporter.workers.run_noted(
+    let workers = reporter
+        .workers
+        .sized_for(ready.version(), ready.jobs(), reporter.report);
+    let NotedAnswers { answers, notes } = workers.run_noted(
         reporter.rt,
         alloc,
         ready.version(),
@@ -114,6 +117,7 @@ fn replies_to_ready<R: Threads + Sync, G: Gate + Sync>(
     ensures map { IfOk result (λ answered. answered.after.map ≡ ready.map) }
     ensures standing { IfOk result (λ answered. answered.after.standing ≡ after_edits_of ready) }
 {
+    let workers = workers.sized_for(ready.version(), ready.jobs(), Report::Answers);
     let answers = workers.run(rt, alloc, ready.version(), ready.jobs())?;
     Ok(ready.answered(answers).1)
 }

@@ -6,21 +6,21 @@ use std::sync::atomic::{AtomicBool, AtomicU64, Ordering};
 use std::test::*;
 use std::thread;
 
-/// A turn with four times the same path.
+/// A turn with four times the same path, which is long enough that a turn of four is shared.
 const FOUR_PATHS: &str =
-    "{\"version\":1,\"size\":[5,1],\"callers\":1,\"classes\":[{\"name\":\"default\",\"clearance\":\"0\"}]}\n\
-{\"caller\":0,\"path\":\"default\",\"from\":[\"0.5\",\"0.5\"],\"goal\":{\"point\":[\"4.5\",\"0.5\"]}}\n\
-{\"caller\":0,\"path\":\"default\",\"from\":[\"0.5\",\"0.5\"],\"goal\":{\"point\":[\"4.5\",\"0.5\"]}}\n\
-{\"caller\":0,\"path\":\"default\",\"from\":[\"0.5\",\"0.5\"],\"goal\":{\"point\":[\"4.5\",\"0.5\"]}}\n\
-{\"caller\":0,\"path\":\"default\",\"from\":[\"0.5\",\"0.5\"],\"goal\":{\"point\":[\"4.5\",\"0.5\"]}}\n\
+    "{\"version\":1,\"size\":[2048,1],\"callers\":1,\"classes\":[{\"name\":\"default\",\"clearance\":\"0\"}]}\n\
+{\"caller\":0,\"path\":\"default\",\"from\":[\"0.5\",\"0.5\"],\"goal\":{\"point\":[\"2047.5\",\"0.5\"]}}\n\
+{\"caller\":0,\"path\":\"default\",\"from\":[\"0.5\",\"0.5\"],\"goal\":{\"point\":[\"2047.5\",\"0.5\"]}}\n\
+{\"caller\":0,\"path\":\"default\",\"from\":[\"0.5\",\"0.5\"],\"goal\":{\"point\":[\"2047.5\",\"0.5\"]}}\n\
+{\"caller\":0,\"path\":\"default\",\"from\":[\"0.5\",\"0.5\"],\"goal\":{\"point\":[\"2047.5\",\"0.5\"]}}\n\
 {\"end\":1}\n";
 
 /// The answers to it.
-const FOUR_ANSWERS: &str = "turn 1 regions 1 edges 0 areas 1 relabelled 0\n\
-0 0 path 0 0 4 0 goal 262144 1 4.5,0.5\n\
-0 1 path 0 0 4 0 goal 262144 1 4.5,0.5\n\
-0 2 path 0 0 4 0 goal 262144 1 4.5,0.5\n\
-0 3 path 0 0 4 0 goal 262144 1 4.5,0.5\n";
+const FOUR_ANSWERS: &str = "turn 1 regions 22 edges 21 areas 1 relabelled 0\n\
+0 0 path 0 0 2047 0 goal 134152192 1 2047.5,0.5\n\
+0 1 path 0 0 2047 0 goal 134152192 1 2047.5,0.5\n\
+0 2 path 0 0 2047 0 goal 134152192 1 2047.5,0.5\n\
+0 3 path 0 0 2047 0 goal 134152192 1 2047.5,0.5\n";
 
 /// Counts passes, and holds the first one until three others have come.
 #[derive(Drop)]
