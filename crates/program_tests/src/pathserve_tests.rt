@@ -13,6 +13,7 @@ mod cuts;
 mod faults;
 mod limits;
 mod made_matches;
+mod saved_matches;
 mod scripts;
 mod serving;
 mod side_by_side;

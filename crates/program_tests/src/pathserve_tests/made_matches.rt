@@ -77,21 +77,29 @@ fn numbers_make_matches(rt: HostRuntime) {
     assert!(rt; is_of_size(&made));
 }
 
+/// What is told of the match that 7 makes.
+const SUMMARY: &str =
+    "summary turns 50 posts 1573 added 436 removed 163 refused 190 goal 743 near 41 nowhere 0 cost 1595806862 corners 2020\n\
+last regions 393 edges 570 areas 43\n";
+
 #[test]
 fn a_summary_ends_as_the_replay_of_its_match(rt: HostRuntime) {
-    assert!(rt;
-        runs_to(
-            &rt,
-            rt.alloc(),
-            &["make", "7"],
-            b"",
-            &[],
-            &[],
-            Status::Done,
-            "summary turns 50 posts 1573 added 436 removed 163 refused 190 goal 743 near 41 nowhere 0 cost 1595806862 corners 2020\n\
-last regions 393 edges 570 areas 43\n",
-        )
-    );
+    for workers in ["1", "64", "1"] {
+        let words = ["make", "7", "--workers", workers];
+        assert!(rt;
+            runs_to(
+                &rt,
+                rt.alloc(),
+                &words,
+                b"",
+                &[],
+                &[],
+                Status::Done,
+                SUMMARY
+            ),
+            "{workers} workers"
+        );
+    }
     let last = "\nturn 50 regions 393 edges 570 areas 43 relabelled ";
     assert!(rt; replay_tells(&rt, rt.alloc(), 7, last) == Ok(true));
 }

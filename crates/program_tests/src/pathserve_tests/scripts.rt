@@ -2,7 +2,7 @@
 use pathserve::Status;
 
 /// Scripts, each with the status in which a replay of it ends and what it writes.
-pub(crate) const SCRIPTS: [(&str, Status, &str); 13] = [
+pub(crate) const SCRIPTS: [(&str, Status, &str); 19] = [
     // the edits of a turn count for all its requests
     (
         "{\"version\":1,\"size\":[3,1],\"callers\":2,\"classes\":[{\"name\":\"default\",\"clearance\":\"0\"}]}\n\
@@ -127,6 +127,67 @@ turn 2 regions 1 edges 0 areas 1 relabelled 1\n\
 0 2 path 0 0 1 0 near 65536 1 1.5,0.5\n\
 0 3 refused unknown-id\n\
 0 4 refused bad-shape\n",
+    ),
+    // nowhere can be passed
+    (
+        "{\"version\":1,\"size\":[3,3],\"callers\":1,\"classes\":[{\"name\":\"default\",\"clearance\":\"0\"}]}\n\
+{\"base\":[[0,0,2,2,1]]}\n\
+{\"caller\":0,\"path\":\"default\",\"from\":[\"0.5\",\"0.5\"],\"goal\":{\"point\":[\"2.5\",\"2.5\"]}}\n\
+{\"end\":1}\n",
+        Status::Done,
+        "turn 1 regions 0 edges 0 areas 0 relabelled 0\n\
+0 0 nowhere\n",
+    ),
+    // a blocked start takes the first of two cells alike
+    (
+        "{\"version\":1,\"size\":[3,1],\"callers\":1,\"classes\":[{\"name\":\"default\",\"clearance\":\"0\"}]}\n\
+{\"caller\":0,\"add\":1,\"unit\":[\"1.5\",\"0.5\",\"0.25\"]}\n\
+{\"caller\":0,\"path\":\"default\",\"from\":[\"1.5\",\"0.5\"],\"goal\":{\"point\":[\"0.5\",\"0.5\"]}}\n\
+{\"end\":1}\n",
+        Status::Done,
+        "turn 1 regions 2 edges 0 areas 2 relabelled 1\n\
+0 0 added 1\n\
+0 1 path 0 0 0 0 goal 0 0\n",
+    ),
+    // a circle without a radius touches the four cells about a corner
+    (
+        "{\"version\":1,\"size\":[4,4],\"callers\":1,\"classes\":[{\"name\":\"default\",\"clearance\":\"0\"}]}\n\
+{\"caller\":0,\"path\":\"default\",\"from\":[\"0.5\",\"0.5\"],\"goal\":{\"circle\":[\"2\",\"2\",\"0\"]}}\n\
+{\"end\":1}\n",
+        Status::Done,
+        "turn 1 regions 1 edges 0 areas 1 relabelled 0\n\
+0 0 path 0 0 1 1 goal 92682 1 1.5,1.5\n",
+    ),
+    // outside of a circle, the first of four goal cells alike
+    (
+        "{\"version\":1,\"size\":[3,3],\"callers\":1,\"classes\":[{\"name\":\"default\",\"clearance\":\"0\"}]}\n\
+{\"caller\":0,\"path\":\"default\",\"from\":[\"1.5\",\"1.5\"],\"goal\":{\"not-circle\":[\"1.5\",\"1.5\",\"1\"]}}\n\
+{\"end\":1}\n",
+        Status::Done,
+        "turn 1 regions 1 edges 0 areas 1 relabelled 0\n\
+0 0 path 1 1 1 0 goal 65536 1 1.5,0.5\n",
+    ),
+    // outside of a square, whose goal's box is the whole map
+    (
+        "{\"version\":1,\"size\":[5,5],\"callers\":1,\"classes\":[{\"name\":\"default\",\"clearance\":\"0\"}]}\n\
+{\"caller\":0,\"path\":\"default\",\"from\":[\"2.5\",\"2.5\"],\"goal\":{\"not-square\":[\"2.5\",\"2.5\",\"1\",\"0\",\"1\",\"1\"]}}\n\
+{\"end\":1}\n",
+        Status::Done,
+        "turn 1 regions 1 edges 0 areas 1 relabelled 0\n\
+0 0 path 2 2 2 1 goal 65536 1 2.5,1.5\n",
+    ),
+    // a cell is blocked whose middle lies on the rim of an obstruction
+    (
+        "{\"version\":1,\"size\":[5,5],\"callers\":1,\"classes\":[{\"name\":\"default\",\"clearance\":\"1\"}]}\n\
+{\"caller\":0,\"add\":1,\"square\":[\"2.5\",\"2.5\",\"0\",\"1\",\"1\",\"0.5\"]}\n\
+{\"caller\":0,\"path\":\"default\",\"from\":[\"0.5\",\"0.5\"],\"goal\":{\"point\":[\"4.5\",\"0.5\"]}}\n\
+{\"caller\":0,\"region\":\"default\",\"at\":[\"2.5\",\"0.5\"]}\n\
+{\"end\":1}\n",
+        Status::Done,
+        "turn 1 regions 2 edges 0 areas 2 relabelled 1\n\
+0 0 added 1\n\
+0 1 path 0 0 1 0 near 65536 1 1.5,0.5\n\
+0 2 region 0 0 0 0\n",
     ),
     // what two obstructions cover stays blocked until both are removed
     (COVER, Status::Done, COVER_ANSWERS),

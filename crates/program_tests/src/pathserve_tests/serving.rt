@@ -1,5 +1,5 @@
 //! Callers that are served: their works, the driver and the workers beside each other.
-use super::run_over;
+use super::{run_over, runs_to};
 use io_edges::Gate;
 use pathserve::Status;
 use std::sync::atomic::{AtomicBool, AtomicU64, Ordering};
@@ -13,6 +13,18 @@ const THREE_CALLERS: &str =
 {\"caller\":1,\"path\":\"default\",\"from\":[\"0.5\",\"0.5\"],\"goal\":{\"point\":[\"2.5\",\"2.5\"]}}\n\
 {\"caller\":2,\"path\":\"default\",\"from\":[\"0.5\",\"0.5\"],\"goal\":{\"point\":[\"2.5\",\"2.5\"]}}\n\
 {\"end\":1}\n";
+
+/// A turn of one post, which is a turn by itself however its caller and the driver run, and what is written of it.
+const ONE_POST: (&str, &str) = (
+    "{\"version\":1,\"size\":[3,3],\"callers\":2,\"classes\":[{\"name\":\"default\",\"clearance\":\"0\"}]}\n\
+{\"caller\":1,\"path\":\"default\",\"from\":[\"0.5\",\"0.5\"],\"goal\":{\"point\":[\"2.5\",\"1.5\"]}}\n\
+{\"end\":1}\n",
+    "{\"version\":1,\"size\":[3,3],\"callers\":2,\"classes\":[{\"name\":\"default\",\"clearance\":\"0\"}]}\n\
+{\"caller\":1,\"path\":\"default\",\"from\":[\"0.5\",\"0.5\"],\"goal\":{\"point\":[\"2.5\",\"1.5\"]}}\n\
+{\"end\":1}\n\
+turn 1 regions 1 edges 0 areas 1 relabelled 0\n\
+1 0 path 0 0 2 1 goal 158218 2 1.5,1.5 2.5,1.5\n",
+);
 
 /// How many times a gate looks before it gives up.
 const LOOKS: u64 = 2_000_000_000;
@@ -71,6 +83,24 @@ impl Gate for BeginningGate {
         }
         self.gave_up.store(true, Ordering::SeqCst);
     }
+}
+
+#[test]
+fn the_journal_and_its_answers_are_written(rt: HostRuntime) {
+    let (script, written) = ONE_POST;
+    let bytes = script.as_bytes();
+    assert!(rt;
+        runs_to(
+            &rt,
+            rt.alloc(),
+            &["serve"],
+            bytes,
+            &[],
+            &[],
+            Status::Done,
+            written
+        )
+    );
 }
 
 #[test]
