@@ -17,30 +17,32 @@ fn numbers_of(version: &Version) -> [u64; 3] {
     [tallies.regions, tallies.edges, tallies.areas]
 }
 
-// The sides of a map of one class, its wall, and the numbers of regions, edges and areas.
-const WALLS: [([u16; 2], [u16; 4], [u64; 3]); 6] = [
+// The sides of a map of one class, its wall, the numbers of regions, edges and areas, and how many cells are passable.
+const WALLS: [([u16; 2], [u16; 4], [u64; 3], u32); 7] = [
+    // one cell of nine is blocked
+    ([3, 3], [1, 1, 0, 1], [1, 0, 1], 8),
     // two chunks that are joined along their border
-    ([100, 10], [0, 9, 9, 0], [2, 1, 1]),
+    ([100, 10], [0, 9, 9, 0], [2, 1, 1], 1000),
     // the wall stands along the border
-    ([100, 10], [95, 96, 9, 1], [2, 0, 2]),
+    ([100, 10], [95, 96, 9, 1], [2, 0, 2], 980),
     // the wall leaves a gap in the last row
-    ([100, 10], [95, 96, 8, 1], [2, 1, 1]),
+    ([100, 10], [95, 96, 8, 1], [2, 1, 1], 982),
     // the wall parts the first chunk
-    ([100, 10], [50, 50, 9, 1], [3, 1, 2]),
+    ([100, 10], [50, 50, 9, 1], [3, 1, 2], 990),
     // the wall parts the two chunks in the east, and leaves a gap in the last rows
-    ([100, 100], [97, 97, 96, 1], [5, 5, 1]),
+    ([100, 100], [97, 97, 96, 1], [5, 5, 1], 9903),
     // nothing is passable
-    ([100, 100], [0, 99, 99, 1], [0, 0, 0]),
+    ([100, 100], [0, 99, 99, 1], [0, 0, 0], 0),
 ];
 
 #[test]
 fn regions_edges_and_areas_are_counted(rt: HostRuntime) {
-    for (sides, wall, wanted) in WALLS {
+    for (sides, wall, wanted, passable) in WALLS {
         let Some(version) = version_of(rt.alloc(), sides, (1, "0"), &[wall_of(wall)]) else {
             panic!(rt; "no map");
         };
         assert!(rt;
-            numbers_of(shared(&version)) == wanted,
+            numbers_of(shared(&version)) == wanted && passable_in(&version, 0) == Some(passable),
             "in {sides:?} with {wall:?}"
         );
     }

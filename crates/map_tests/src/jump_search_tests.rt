@@ -1,12 +1,17 @@
 //! The jump searches over small maps that are drawn as text, and over a wide open one.
 
 ghost use Rattle.std.specs.Prelude.{◌≡◌, ◌<◌};
+ghost use Rattle.class_planes.specs.Planes.{AreOf};
+ghost use Rattle.grid_versions.specs.Versions.{passes_of};
 
 use crate::fixtures::counted::Counted;
 use crate::fixtures::maps::drawn;
 use crate::fixtures::searches::{Search, is_fit, is_found, search_of};
 use crate::fixtures::texts::fields_of;
+use crate::fixtures::versions::drawn_for;
 use cell_search::cell_find;
+use class_planes::{PlaneRuns, Planes};
+use grid_versions::Version;
 use jump_scan::CellRuns;
 use jump_search::{Pool, jump_find, jump_find_in, jump_find_with, jump_search, jump_search_with};
 use nav_types::{Class, NoMemory, Size, Ticks, View};
@@ -195,6 +200,70 @@ fn answers_as_the_table_says(rt: HostRuntime) -> Result<(), Fail> {
         );
     }
     Ok(())
+}
+
+/// Whether both searches for class 1 answer as they should over planes of some classes.
+fn answers_by_planes<L: Ledger>(
+    alloc: Global,
+    version: &Version,
+    planes: &Planes,
+    search: &Search<'_>,
+    blank: Blank,
+) -> Result<bool, NoMemory>
+    requires name { blank.name ≡ L.name }
+    requires parts { blank.parts ≡ L.parts }
+    requires some { 0 < L.parts }
+    requires planes { AreOf version.now.map.size (passes_of version.now) planes.now }
+{
+    let class = Class::new(1);
+    let (start, aim) = (search.start, &search.targets);
+    let runs = PlaneRuns::new(version, planes, class);
+    if runs.classes() < 2 {
+        return Ok(false);
+    }
+    if !aim.rect.is_inside(runs.size()) || !is_fit(&runs, class, start, search.points, aim) {
+        return Ok(false);
+    }
+    let mut ticks = Ticks::<L>::new(blank);
+    let found = jump_find_with(alloc, &runs, class, start, aim, &mut ticks)?;
+    if !is_found(search, &found) {
+        return Ok(false);
+    }
+    let mut pool = cell_search::Pool::new(alloc)?;
+    let by_cells = cell_find(&mut pool, alloc, &runs, class, start, aim, &mut ticks)?;
+    Ok(is_found(search, &by_cells))
+}
+
+/// Whether both searches over planes of the classes of the mask answer as a line of `TABLE` says, whose map is drawn for
+/// class 1 of two, and class 1 has a plane where the mask says so. None where the line is not in the form of the table.
+fn answers_with_some_planes(alloc: Global, line: &str, mask: u16) -> Option<bool> {
+    let [map, start, targets, end, cost, points, _] = fields_of(line);
+    let search = search_of(alloc, [start, targets, end, cost, points])?;
+    let version = drawn_for(alloc, map, (2, 2))?;
+    let Ok(planes) = Planes::build(alloc, &version, mask) else {
+        return None;
+    };
+    let is_wanted = planes.plane(Class::new(1)).is_some() == (mask & 2 == 2);
+    let answers = answers_by_planes::<Brand>(
+        alloc,
+        &version,
+        &planes,
+        &search,
+        Blank::new(1),
+    ).ok()?;
+    Some(is_wanted && answers)
+}
+
+#[test]
+fn a_class_without_a_plane_is_searched_too(rt: HostRuntime) {
+    for line in TABLE.lines() {
+        for mask in [1, 2] {
+            assert!(rt;
+                answers_with_some_planes(rt.alloc(), line, mask) == Some(true),
+                "{mask} {line}"
+            );
+        }
+    }
 }
 
 /// The same over runs that count what the searches alone ask.
