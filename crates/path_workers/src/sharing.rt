@@ -10,10 +10,10 @@ use nav_types::limits::MAX_WORKERS;
 use turn_core::{Jobs, Report, Request, goal_of};
 
 /// The work for which one worker more pays, in navcells.
-pub const WORK_OF_A_WORKER: u64 = 131_072;
+pub const WORK_OF_A_WORKER: u64 = 65_536;
 
 /// The work of a path beside that of its way, in navcells.
-pub const LEAST_WORK: u64 = 256;
+pub const LEAST_WORK: u64 = 64;
 
 /// How many of so many workers the jobs of a turn on a version are worth (`worth_workers`): one for each whole
 /// [`WORK_OF_A_WORKER`] of the turn's work, and one at least. No clock has a say in it, so a turn is shared alike on
