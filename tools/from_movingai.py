@@ -3,7 +3,8 @@
 
 Reads `.map` with `type octile` and `.scen` of version 1, as the benchmarks at movingai.com have them (Sturtevant,
 "Benchmarks for Grid-Based Pathfinding", 2012). The script has one class `walker` without a clearance. Cells `.`, `G` and
-`S` are passable, all others are not. A map's first row is its northernmost, so row y of the map is row height-1-y here.
+`S` are passable, all others are not, be it `@`, a small letter or a space. A map's first row is its northernmost, so row y
+of the map is row height-1-y here.
 
     from_movingai.py arena.map > arena.script                       # 20 random paths
     from_movingai.py arena.map arena.map.scen > arena.script        # the paths of the scenario
@@ -12,13 +13,14 @@ Reads `.map` with `type octile` and `.scen` of version 1, as the benchmarks at m
     from_movingai.py arena.map arena.map.scen --check arena.answers
 
 A line of a scenario has nine words: bucket, map, width and height of the map, column and row of the start, column and row
-of the goal, and the optimal length. Columns and rows are those of the map's text, from 0. In a scenario of your own the
-length may be left out; such a path is not compared.
+of the goal, and the optimal length. Columns and rows are those of the map's text, from 0. The map's name is not compared,
+its size is. In a scenario of your own the length may be left out; such a path is not compared.
 
 Both count steps that cut no corner. A diagonal step costs the square root of 2 there, and 92682/65536 here, which is more
 by 0.00011 percent. So a walk that is cheapest here is, measured as there, at most so much longer than the optimum, and no
-shorter: --check holds each walk to that, with 0.001 for the scenario's rounding. The status is 0 where all agree, 1 where
-some differ, and 2 where a file has another form.
+shorter: --check holds each walk to that, with 0.001 for the scenario's rounding. It counts the paths that have a length,
+and says so where some have none. The status is 0 where all of them agree, 1 where some differ, and 2 where no path has a
+length to compare, or a file is missing or has another form.
 """
 import argparse
 import json
@@ -49,7 +51,9 @@ def read_map(lines):
     if at == len(lines) or head.get("type") != "octile" or not all(head.get(it, "").isdecimal() for it in ("height", "width")):
         raise BadFile("a map has the lines 'type octile', 'height H', 'width W' and 'map', and then its rows")
     height, width = int(head["height"]), int(head["width"])
-    rows = [it.rstrip("\r\n") for it in lines[at + 1:at + 1 + height]]
+    rows = [it.rstrip("\r\n") for it in lines[at + 1:]]
+    while len(rows) > height and not rows[-1]:  # empty lines behind the last row
+        rows.pop()
     if len(rows) != height:
         raise BadFile(f"the map has {len(rows)} rows, and its line 'height' says {height}")
     for number, row in enumerate(rows):
@@ -71,7 +75,10 @@ def read_query(words, width, height):
     """The query of a scenario's line, and the size of its map."""
     w, h, a, b, c, d = map(int, words[2:8])
     if (w, h) != (width, height):
-        raise BadFile(f"is for a map of {w} by {h}")
+        raise BadFile(f"it is for a map of {w} by {h}")
+    for name, i, y in (("start", a, b), ("goal", c, d)):
+        if not (0 <= i < width and 0 <= y < height):
+            raise BadFile(f"{name} {i} {y} is off the map")
     return Query((a, b), (c, d), float(words[8]) if len(words) > 8 else None)
 
 
@@ -84,7 +91,7 @@ def read_scenario(lines, rows, most):
         try:
             found.append(read_query(words, len(rows[0]), len(rows)))
         except BadFile as it:
-            raise BadFile(f"line {number} of the scenario {it}") from None
+            raise BadFile(f"line {number} of the scenario: {it}") from None
         except ValueError:
             raise BadFile(f"line {number} of the scenario is not: bucket, map, width, height, start, goal, length") from None
         if len(found) == most:
@@ -129,7 +136,7 @@ def steps(path):
 
 
 def differs(query, said, height):
-    """Why the answer to a query does not fit its optimal length, or None."""
+    """Why the answer to a query does not fit its optimal length, which it has, or None."""
     if not said or not said[0].startswith("path "):
         return f"no path: {said[0] if said else 'no reply'}"
     try:
@@ -142,21 +149,25 @@ def differs(query, said, height):
     if straight * STRAIGHT + diagonal * DIAGONAL != path.cost:
         return f"the walk does not cost {path.cost}"
     length = straight + diagonal * math.sqrt(2)
-    if query.length is not None and not query.length - ROUNDING <= length <= query.length * (1 + MORE) + ROUNDING:
+    if not query.length - ROUNDING <= length <= query.length * (1 + MORE) + ROUNDING:
         return f"the walk is {length:.5f} long, and the optimum is {query.length}"
     return None
 
 
 def checked(rows, queries, answers):
-    """Tells each query that differs, and how many agree."""
+    """Tells each query that differs, and how many of those that have a length agree."""
     replies, wrong = answers.turns.get(1, ("", {}))[1], 0
-    for number, query in enumerate(queries):
+    known = [(number, it) for number, it in enumerate(queries) if it.length is not None]
+    for number, query in known:
         why = differs(query, replies.get((0, number), []), len(rows))
         if why:
             wrong += 1
             print(f"query {number + 1}: {why}")
-    print(f"{len(queries) - wrong} of {len(queries)} lengths agree")
-    return 1 if wrong else 0
+    if known:
+        print(f"{len(known) - wrong} of {len(known)} lengths agree")
+    if len(known) < len(queries) or not known:
+        print(f"{len(known)} of {len(queries)} paths have a length to compare")
+    return (1 if wrong else 0) if known else 2
 
 
 def words():
@@ -175,8 +186,7 @@ def words():
 
 
 def lines_of(name):
-    with open(name, encoding="latin-1") as file:
-        return file.read().splitlines()
+    return mapscript.bytes_of(name).decode("latin-1").splitlines()
 
 
 def main():
@@ -187,12 +197,12 @@ def main():
             queries = read_scenario(lines_of(said.scenario), rows, said.most)
         else:
             queries = drawn(rows, said.paths, said.seed)
-    except BadFile as it:
+        answers = contradictions.Answers(mapscript.bytes_of(said.check)) if said.check else None
+    except (BadFile, mapscript.Unreadable) as it:
         print(f"from_movingai.py: {it}", file=sys.stderr)
         return 2
-    if said.check:
-        with open(said.check, "rb") as file:
-            return checked(rows, queries, contradictions.Answers(file.read()))
+    if answers:
+        return checked(rows, queries, answers)
     for it in script(rows, queries):
         print(it)
     return 0

@@ -12,6 +12,20 @@ import check  # noqa: E402
 SIDE, CHUNK = check.SIDE, check.CHUNK
 
 
+class Unreadable(Exception):
+    """A file that cannot be read, in words."""
+
+
+def bytes_of(name):
+    try:
+        with open(name, "rb") as file:
+            return file.read()
+    except FileNotFoundError:
+        raise Unreadable(f"no such file: {name}") from None
+    except OSError as it:
+        raise Unreadable(f"{name} cannot be read: {it.strerror}") from None
+
+
 class Post:
     """A post line: its number in the script, its caller, its number among that caller's posts, and its values."""
 

@@ -91,7 +91,19 @@ class MovingAi(unittest.TestCase):
         answers = self.file("answers", check.predicted(self.script)[0])
         other = self.file("other.scen", "\n".join(it.rpartition("\t")[0] or it for it in SCENARIO.splitlines()))
         self.assertEqual(tool("tools/from_movingai.py", self.map, other)[0], self.script)
-        self.assertEqual(tool("tools/from_movingai.py", self.map, other, "--check", answers)[:2], (b"4 of 4 lengths agree\n", 0))
+        nothing = (b"0 of 4 paths have a length to compare\n", 2)
+        self.assertEqual(tool("tools/from_movingai.py", self.map, other, "--check", answers)[:2], nothing)
+
+    def test_only_paths_with_a_length_are_compared(self):
+        right = check.predicted(self.script)[0]
+        # the first has no length, and goes round by the column beside; the others are as they were
+        longer = re.sub(rb"0 0 path .*", b"0 0 path 0 4 0 0 goal 447508 3 1.5,3.5 1.5,1.5 0.5,0.5", right)
+        self.assertNotEqual(longer, right)
+        scenario = self.file("some.scen", SCENARIO.replace("\t4.0\n", "\n", 1))
+        told = (b"3 of 3 lengths agree\n3 of 4 paths have a length to compare\n", 0)
+        for answers in (right, longer):
+            self.assertEqual(tool("tools/from_movingai.py", self.map, scenario, "--check", self.file("answers", answers))[:2], told)
+        self.assertEqual(tool("tools/from_movingai.py", self.map, self.scenario, "--check", self.file("answers", longer))[1], 1)
 
     def test_what_the_page_of_maps_shows(self):
         blocks = [it.replace("\n    ", "\n").strip() + "\n" for it in re.findall(r"(?m)(?:^    .*\n)+", read("docs/MAPS.md").decode())]
@@ -106,14 +118,24 @@ class MovingAi(unittest.TestCase):
         maps = [
             (MAP.replace("octile", "tile"), "a map has the lines"), (MAP.replace("height 5", "height 6"), "the map has 5 rows, and its line 'height' says 6"),
             (MAP.replace(".S.W...", ".S.W.."), "line 6 of the map has 6 cells, and its line 'width' says 7"),
+            (MAP.replace("height 5", "height 4"), "the map has 5 rows, and its line 'height' says 4"),
         ]
-        scenarios = [("0 two.map 7 5 0 0 0", "line 1 of the scenario is not: bucket, map, width"), ("0 two.map 7 6 0 0 0 4 4.0", "line 1 of the scenario is for a map of 7 by 6")]
+        scenarios = [
+            ("0 two.map 7 5 0 0 0", "line 1 of the scenario is not: bucket, map, width"), ("0 two.map 7 6 0 0 0 4 4.0", "line 1 of the scenario: it is for a map of 7 by 6"),
+            (SCENARIO + "0 two.map 7 5 7 4 0 4", "line 6 of the scenario: start 7 4 is off the map"),
+            ("version 1\n0 two.map 7 5 0 0 6 5", "line 2 of the scenario: goal 6 5 is off the map"), ("0 two.map 7 5 0 0 -1 0", "line 1 of the scenario: goal -1 0 is off the map"),
+        ]
         cases = [([self.file(f"{n}.map", text)], told) for n, (text, told) in enumerate(maps)]
         cases += [([self.map, self.file(f"{n}.scen", text)], told) for n, (text, told) in enumerate(scenarios)]
+        cases += [(["no.map"], "no such file: no.map"), ([self.map, "no.scen"], "no such file: no.scen")]
+        cases += [([self.map, self.scenario, "--check", "no.answers"], "no such file: no.answers")]
         for words, told in cases:
             _, status, said = tool("tools/from_movingai.py", *words)
             self.assertEqual(status, 2)
-            self.assertIn(told, said)
+            self.assertIn(f"from_movingai.py: {told}", said)
+
+    def test_empty_lines_behind_the_last_row(self):
+        self.assertEqual(tool("tools/from_movingai.py", self.file("more.map", MAP + "\n\n"), self.scenario)[:2], (self.script, 0))
 
 
 if __name__ == "__main__":
