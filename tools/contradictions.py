@@ -12,7 +12,7 @@ BOX_CELLS = 20000  # of a larger goal it is not looked for a goal cell that coul
 
 
 class Contradiction:
-    """What is wrong, in which turn, at which line of the script (0 for none), and at which cell, if at one."""
+    """What is wrong, in which turn, at which post of the script, and at which cell (column and row from the south-west)."""
 
     def __init__(self, turn, text, post=None, cell=None):
         self.turn, self.text, self.post, self.cell = turn, text, post, cell
@@ -20,7 +20,7 @@ class Contradiction:
     def __str__(self):
         place = f"turn {self.turn}"
         if self.post:
-            place += f", line {self.post.line}, post {self.post.caller} {self.post.number}"
+            place += f", script line {self.post.line}, post {self.post.caller} {self.post.number}"
         return f"{place}: {self.text}" + (f" at {self.cell[0]} {self.cell[1]}" if self.cell else "")
 
 
@@ -38,18 +38,27 @@ def needs(holds, text, cell=None):
 
 
 class Answers:
-    """Answers by turn: the turn line, and the replies to each post as lists of texts without its two numbers."""
+    """Answers by turn: the turn line, and the replies to each post as lists of texts without its two numbers.
+
+    `order` has the numbers of the turn lines as they stand, and `late` for each turn the posts whose replies stand behind
+    those to later ones, each with the post that it is behind.
+    """
 
     def __init__(self, text):
-        self.turns, self.bad, self.odd, now = {}, 0, [], None
+        self.turns, self.order, self.late, self.bad, self.odd, now, last = {}, [], {}, 0, [], None, None
         for number, line in enumerate(text.decode("utf-8", "replace").splitlines(), 1):
             words = line.split(" ")
             if words[0] == "turn" and words[1:2] and words[1].isdecimal():
-                now = self.turns.setdefault(int(words[1]), (line, {}))
+                self.order.append(int(words[1]))
+                now, last = self.turns.setdefault(self.order[-1], (line, {})), (-1, -1)
             elif words[:2] == ["bad", "line"] and words[2:3] and words[2].isdecimal():
                 self.bad = int(words[2])
             elif now and len(words) > 2 and words[0].isdecimal() and words[1].isdecimal():
-                now[1].setdefault((int(words[0]), int(words[1])), []).append(line.split(" ", 2)[2])
+                key = int(words[0]), int(words[1])
+                now[1].setdefault(key, []).append(line.split(" ", 2)[2])
+                if key < last:
+                    self.late.setdefault(self.order[-1], {}).setdefault(key, last)
+                last = max(key, last)
             else:
                 self.odd.append((number, line))
 
@@ -234,10 +243,23 @@ class Match:
             known = {(it.caller, it.number) for it in turn.posts}
             for caller, number in sorted(set(replies) - known):
                 self.add(turn.number, f"a reply to no post: {caller} {number}")
+            late = self.answers.late.get(turn.number, {})
             for post in turn.in_order():
                 self.check_reply(turn, post, replies.get((post.caller, post.number), []))
+                behind = late.get((post.caller, post.number))
+                if behind:
+                    self.add(turn.number, f"its reply stands behind that to post {behind[0]} {behind[1]}", post)
             yield turn, line, replies
         self.check_end()
+
+    def answered(self):
+        """How many turns of the script have answers, from the first on."""
+        return next((n for n, it in enumerate(self.script.turns) if it.number not in self.answers.turns), len(self.script.turns))
+
+    def ends_early(self):
+        """What to tell of answers that end before their script, as those of a run that was stopped do, or an empty text."""
+        count, most = self.answered(), len(self.script.turns)
+        return f"answers end after turn {count} of {most}" if count < most else ""
 
     def go_through(self):
         for _ in self.turns():
@@ -273,6 +295,8 @@ class Match:
             self.add(turn.number, f"the turn line is to be '{wanted}', and not '{line}'")
 
     def check_reply(self, turn, post, said):
+        if len(said) > 1 and not said[0].startswith("path "):
+            self.add(turn.number, f"one line answers it, and behind it stands '{said[1]}'", post)
         if post.kind in check.EDITS:
             return
         try:
@@ -305,6 +329,12 @@ class Match:
 
     def check_end(self):
         last = max(self.answers.turns, default=0)
+        for place, number in enumerate(self.answers.order, 1):
+            if number != place:
+                self.add(number, f"its turn line stands where that of turn {place} is to stand")
+                break
+        if self.answers.bad and last < len(self.script.turns):
+            self.add(last, f"'bad line {self.answers.bad}' stands where turn {last + 1} is to stand")
         if last > len(self.script.turns):
             self.add(last, f"the script has {len(self.script.turns)} turns")
         if self.answers.bad != self.script.bad and (self.answers.bad or last == len(self.script.turns)):

@@ -11,8 +11,14 @@ and lines `flow` and `smooth` behind a path. That a path is a cheapest one is no
     view.py --png 1 --scale 4 first.script first.answers > picture.png
     view.py --check first.script first.answers
 
-Contradictions are told on standard error too, and --check writes nothing else. The status is 0 where there is none, 1
-where there are some, and 2 where the script has no map line or the words are others.
+Contradictions are told on standard error too, and --check writes nothing else: the turn, the line of the script, the post,
+and the cell by its column and row from the south-west. A run that was stopped leaves the answers to its first turns. That
+contradicts nothing, so it is told as `answers end after turn N of M`, and what was asked for is made. A turn of which only
+some replies are there contradicts.
+
+The status is 0 where the answers are whole and nothing contradicts, 1 where something does, 3 where nothing does and the
+answers end before their script, and 2 where a file is missing, the script has no map line, a picture is asked of a turn
+without answers, or the words are others. It is not noticed where a walk is longer than it need be, or another of equal cost.
 """
 import argparse
 import base64
@@ -27,7 +33,7 @@ import pictures
 
 
 class Unknown(Exception):
-    """A turn or a class that the script or its answers don't have."""
+    """A turn or a class that the script or its answers don't have, or a map that the script doesn't."""
 
 
 FOLDER = os.path.join(os.path.dirname(os.path.abspath(__file__)), "page")
@@ -86,7 +92,7 @@ def page_data(match, title):
         (turns[it.turn - 1]["wrong"] if fits else rest).append(wrong_data(it))
     classes = [{"name": name, "clearance": raw} for name, raw in map_.classes.items()]
     data = {"title": title, "w": map_.w, "h": map_.h, "callers": map_.callers, "classes": classes}
-    return {**data, "bad": match.script.bad, "turns": turns, "wrong": rest}
+    return {**data, "bad": match.script.bad, "early": match.ends_early(), "turns": turns, "wrong": rest}
 
 
 def part(name):
@@ -130,8 +136,8 @@ def words():
     parser.add_argument("script", help="the script, as it was given to the program")
     parser.add_argument("answers", help="what the program wrote for it")
     kind = parser.add_mutually_exclusive_group()
-    kind.add_argument("--svg", metavar="TURN[:CLASS],..", help="a picture of lines, of one turn or several beside each other")
-    kind.add_argument("--png", metavar="TURN[:CLASS]", help="a picture of points, for large maps")
+    kind.add_argument("--svg", metavar="TURN[:CLASS],..", help="a picture of lines, of one turn or several beside each other; without :CLASS the first class")
+    kind.add_argument("--png", metavar="TURN[:CLASS]", help="a picture of points, of one turn, for large maps")
     kind.add_argument("--check", action="store_true", help="only tell contradictions")
     parser.add_argument("--scale", type=int, help="points a navcell in a picture (as fits by itself)")
     parser.add_argument("--caller", type=int, help="only this caller's paths in a picture")
@@ -144,6 +150,8 @@ def made(said, match):
     if said.svg:
         return pictures.svg(panels(match, said.svg, said.caller), said.scale).encode()
     if said.png:
+        if "," in said.png:
+            raise Unknown(f"a picture of points has one turn, and not {said.png}")
         return pictures.png(panels(match, said.png, said.caller)[0], said.scale)
     if said.check:
         match.go_through()
@@ -153,23 +161,23 @@ def made(said, match):
 
 def main():
     said = words()
-    with open(said.script, "rb") as file:
-        script = mapscript.Script(file.read())
-    with open(said.answers, "rb") as file:
-        answers = contradictions.Answers(file.read())
-    if script.map is None:
-        print(f"view.py: {said.script} has no map line", file=sys.stderr)
-        return 2
-    match = contradictions.Match(script, answers)
     try:
+        script = mapscript.Script(mapscript.bytes_of(said.script))
+        answers = contradictions.Answers(mapscript.bytes_of(said.answers))
+        if script.map is None:
+            raise Unknown(f"{said.script} has no map line")
+        match = contradictions.Match(script, answers)
         out = made(said, match)
-    except Unknown as it:
+    except (Unknown, mapscript.Unreadable) as it:
         print(f"view.py: {it}", file=sys.stderr)
         return 2
     sys.stdout.buffer.write(out)
     for it in match.found:
         print(f"contradiction: {it}", file=sys.stderr)
-    return 1 if match.found else 0
+    early = match.ends_early()
+    if early:
+        print(early, file=sys.stderr)
+    return 1 if match.found else 3 if early else 0
 
 
 if __name__ == "__main__":

@@ -319,11 +319,11 @@ function panelled() {
   for (const [key, text] of KEYS) by("keys").append(made("dt", key), made("dd", text));
   const wrong = [...data.turns.flatMap((turn, at) => turn.wrong.map((it) => [at, it])), ...data.wrong.map((it) => [0, it])];
   by("wrong").hidden = !wrong.length;
-  by("alarm").hidden = !wrong.length && !data.bad;
-  by("alarm").textContent = [wrong.length ? `✕ ${count(wrong.length, "contradiction")}` : "", data.bad ? `the script ends at its bad line ${data.bad}` : ""].filter(Boolean).join("; ");
+  by("alarm").hidden = !wrong.length && !data.bad && !data.early;
+  by("alarm").textContent = [wrong.length ? `✕ ${count(wrong.length, "contradiction")}` : "", data.early, data.bad ? `the script ends at its bad line ${data.bad}` : ""].filter(Boolean).join("; ");
   by("alarm").onclick = wrongNext;
   by("wrong-list").replaceChildren(...wrong.slice(0, ROWS).map(([at, it]) => {
-    const row = made("li", `✕ turn ${it.t}${it.l ? `, line ${it.l}` : ""}: ${it.text}`);
+    const row = made("li", `✕ turn ${it.t}${it.l ? `, script line ${it.l}` : ""}: ${it.text}`);
     row.onclick = () => wrongShown(at, it);
     return row;
   }));

@@ -62,6 +62,7 @@ class Contradictions(unittest.TestCase):
             ("1 1 region 0 0 0 0\n", "", "there is no reply"),
             ("turn 2 regions", "1 2 region 0 0 0 0\nturn 2 regions", "a reply to no post: 1 2"),
             ("turn 2 regions", "hello\nturn 2 regions", "line 6 of the answers has no form"),
+            ("0 0 moved 1\n", "0 0 moved 1\n0 0 moved 1\n", "one line answers it, and behind it stands 'moved 1'"),
         ]
         for old, new, text in cases:
             self.assertEqual(right.count(old), 1, old)
@@ -91,7 +92,41 @@ class Contradictions(unittest.TestCase):
             file.flush()
             out, status, told = tool("tools/view.py", "--check", "examples/first.script", file.name)
         self.assertEqual((out, status), (b"", 1))
-        self.assertIn("contradiction: turn 1, line 2, post 0 0: the walk costs 343582, and not 343583", told)
+        self.assertIn("contradiction: turn 1, script line 2, post 0 0: the walk costs 343582, and not 343583", told)
+
+    def test_replies_and_turns_stand_in_their_order(self):
+        script = read("examples/skirmish.script")
+        lines = read("examples/skirmish.answers").decode().splitlines(True)
+        late = "turn 1, script line 4, post 0 1: its reply stands behind that to post 1 0"
+        self.assertEqual(wrong(script, "".join(lines[:2] + [lines[3], lines[2]] + lines[4:]).encode()), [late])
+        # a line that belongs behind the path of post 0 1, and stands behind the next
+        self.assertEqual(wrong(script, "".join(lines[:4] + ["0 1 opened 2\n"] + lines[4:]).encode()), [late])
+        cases = [
+            (lines[5:], "turn 2: its turn line stands where that of turn 1 is to stand"), (lines + lines, "turn 1: its turn line stands where that of turn 3 is to stand"),
+            (lines[:5] + ["bad line 8\n"], "turn 1: 'bad line 8' stands where turn 2 is to stand"),
+        ]
+        for answers, text in cases:
+            self.assertIn(text, wrong(script, "".join(answers).encode()))
+
+    def test_answers_that_end_early(self):
+        lines = read("examples/skirmish.answers").splitlines(True)
+        # what stopped runs leave, the whole text, and a turn that was cut
+        cases = [(0, 3, "answers end after turn 0 of 2\n"), (5, 3, "answers end after turn 1 of 2\n"), (9, 0, "")]
+        cases += [(8, 1, "contradiction: turn 2, script line 8, post 1 0: there is no reply\n")]
+        for count, wanted, text in cases:
+            with tempfile.NamedTemporaryFile() as file:
+                file.write(b"".join(lines[:count]))
+                file.flush()
+                files = "examples/skirmish.script", file.name
+                self.assertEqual(tool("tools/view.py", "--check", *files), (b"", wanted, text))
+                page, *said = tool("tools/view.py", *files)
+            self.assertEqual(said, [wanted, text])
+            self.assertEqual(json.loads(unpacked(page.decode(), "data"))["early"], text.strip() if wanted == 3 else "")
+
+    def test_a_missing_file(self):
+        for words in (["no.script", "examples/first.answers"], ["examples/first.script", "no.answers"]):
+            name = next(it for it in words if it.startswith("no."))
+            self.assertEqual(tool("tools/view.py", "--check", *words), (b"", 2, f"view.py: no such file: {name}\n"))
 
 
 def unpacked(page, name):
