@@ -1,4 +1,12 @@
-"""Pictures of one class after a turn, as SVG (lines) and as PNG (points)."""
+"""Pictures of one class after a turn, as SVG (lines) and as PNG (points). A start is hollow, an end is full.
+
+Those of docs/pictures are made so, at the top of the repository:
+
+    tools/from_movingai.py examples/valley.map examples/valley.map.scen > valley.script
+    ./pathserve replay < valley.script > valley.answers
+    tools/view.py --svg 1 valley.script valley.answers > docs/pictures/valley.svg
+    tools/view.py --svg 1:infantry,1:siege,2:siege examples/skirmish.script examples/skirmish.answers > docs/pictures/skirmish.svg
+"""
 import struct
 import zlib
 
@@ -105,7 +113,7 @@ class Drawing:
             shape = f'<rect x="{num(x - r)}" y="{num(y - r)}" width="{num(2 * r)}" height="{num(2 * r)}" fill="{ink}"'
         else:
             places = " ".join(f"{num(x + a * 1.4 * r)},{num(y + b * 1.4 * r)}" for a, b in ((0, -1), (1, 0), (0, 1), (-1, 0)))
-            shape = f'<polygon points="{places}" fill="{HALO}"'
+            shape = f'<polygon points="{places}" fill="{ink}"'
         self.out.append(f'{shape} stroke="{ink}" stroke-width="2"/>')
 
     def paths(self):
@@ -189,12 +197,13 @@ class Sheet:
                 self.dot(a + (c - a) * n // count, b + (d - b) * n // count, size, ink)
 
     def end(self, cell, ink, word, size):
-        x, y, r = int((cell[0] + 0.5) * self.scale), self.high - 1 - int((cell[1] + 0.5) * self.scale), 2 * size + 2
-        has, far = SHAPES[word], 3 * r // 2
+        x, y = int((cell[0] + 0.5) * self.scale), self.high - 1 - int((cell[1] + 0.5) * self.scale)
+        r = max(2 * size + 2, max(self.wide, self.high) // 140)  # larger in a larger picture, which is seen smaller
+        has, far, hole = SHAPES[word], 3 * r // 2, r - max(2, r // 3)
         for b in range(-far, far + 1):
             for a in range(-far, far + 1):
                 if has(a, b, r):
-                    self.dot(x + a, y + b, 0, HALO if word != "goal" and has(a, b, r - 2) else ink)
+                    self.dot(x + a, y + b, 0, HALO if word == "start" and has(a, b, hole) else ink)
 
     def bytes(self):
         def piece(kind, data):

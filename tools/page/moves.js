@@ -287,7 +287,7 @@ function legended() {
     if (name === "round") p.arc(28, 16, 9, 0, 7);
     else if (name === "square") p.rect(19, 7, 18, 18);
     else { p.moveTo(28, 3); p.lineTo(41, 16); p.lineTo(28, 29); p.lineTo(15, 16); p.closePath(); }
-    p.fillStyle = name === "square" ? colour(0) : inks.halo; p.fill(); p.stroke();
+    p.fillStyle = name === "round" ? inks.halo : colour(0); p.fill(); p.stroke();
   };
   rows.push(["outline of an obstruction of the class", stroke(inks.line, [], 3)], ["outline of one for other classes", stroke(inks.other, [8, 8], 3)]);
   for (let c = 0; c < Math.min(data.callers, 6); c++) rows.push([`path of caller ${c}` + (data.callers > 6 ? `, ${c + 6}, ..: its dash tells which` : ""), stroke(colour(c), [], 5)]);

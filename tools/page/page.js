@@ -273,7 +273,7 @@ function dot(x, z, size, ink, shape) {
   if (shape === "round") pen.arc(a, b, size, 0, 7);
   else if (shape === "square") pen.rect(a - size, b - size, 2 * size, 2 * size);
   else { pen.moveTo(a, b - 1.4 * size); pen.lineTo(a + 1.4 * size, b); pen.lineTo(a, b + 1.4 * size); pen.lineTo(a - 1.4 * size, b); pen.closePath(); }
-  pen.fillStyle = shape === "square" ? ink : INKS[state.theme].halo;
+  pen.fillStyle = shape === "round" ? INKS[state.theme].halo : ink;
   pen.fill();
   pen.lineWidth = 2 * dpr();
   pen.strokeStyle = ink;

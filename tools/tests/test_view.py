@@ -11,6 +11,7 @@ import zlib
 from places import TOP, needs_browser, read, shown, tool
 import contradictions
 import mapscript
+import pictures
 import view
 
 check = mapscript.check
@@ -226,6 +227,15 @@ def cells_page(scripts):
     return f"<body></body><script>{view.part('cells.js')}\n{code.replace('DATA', data)}</script>"
 
 
+def points_of(made, words, scale):
+    """The colours of a picture of points, row by row from the north, and its two sides."""
+    out = pictures.png(view.panels(made, words, None)[0], scale)
+    wide, high = struct.unpack_from(">II", out, 16)
+    data = zlib.decompress(out[41:41 + struct.unpack_from(">I", out, 33)[0]])
+    lines = [data[n * (3 * wide + 1) + 1:(n + 1) * (3 * wide + 1)].hex() for n in range(high)]
+    return [[line[k:k + 6] for k in range(0, len(line), 6)] for line in lines], (wide, high)
+
+
 class Pictures(unittest.TestCase):
     def test_svg(self):
         words = ["--svg", "1:infantry,1:siege,2:siege", "examples/skirmish.script", "examples/skirmish.answers"]
@@ -246,9 +256,29 @@ class Pictures(unittest.TestCase):
         self.assertEqual(rows[1:4].hex(), "4b535d")  # the north is blocked by the base map
         self.assertEqual(rows[16 * 145 + 1:16 * 145 + 4].hex(), "fbfaf7")  # the west in the middle is free
 
+    def test_a_start_is_hollow_and_an_end_is_full(self):
+        # caller 1 starts at 10 3, and ends near at 7 6; in turn 2 it ends at the goal, at 2 4
+        for words, (i, j) in (("1:siege", (7, 6)), ("2:siege", (2, 4))):
+            made = match(read("examples/skirmish.script"), read("examples/skirmish.answers"))
+            rows, side = points_of(made, words, 16)
+            self.assertEqual(side, (192, 128))
+            self.assertEqual((rows[119 - 16 * 3][168], rows[119 - 16 * j][16 * i + 8]), ("ffffff", "d55e00"))
+
+    def test_marks_grow_with_the_picture(self):
+        script = CORNER.replace(b"[3,3]", b"[512,512]").replace(b"[[1,1,1,1,1]]", b"[]")
+        script = script.replace(b'["0.5","0.5"]', b'["100.5","9.5"]').replace(b'["2.5","2.5"]', b'["400.5","9.5"]')
+        answers = b"turn 1 regions 36 edges 60 areas 1 relabelled 0\n0 0 path 100 9 400 9 goal 19660800 1 400.5,9.5\n"
+        rows, side = points_of(match(script, answers), "1", None)
+        self.assertEqual(side, (1024, 1024))
+        # across the line, at the middle of its end
+        self.assertEqual(sum(row[801] == "0072b2" for row in rows), 15)
+
     def test_an_unknown_turn(self):
-        _, status, told = tool("tools/view.py", "--svg", "9", "examples/skirmish.script", "examples/skirmish.answers")
-        self.assertEqual((status, told), (2, "view.py: there are no answers for turn 9\n"))
+        for kind in ("--svg", "--png"):
+            _, status, told = tool("tools/view.py", kind, "9", "examples/skirmish.script", "examples/skirmish.answers")
+            self.assertEqual((status, told), (2, "view.py: there are no answers for turn 9\n"))
+        _, status, told = tool("tools/view.py", "--png", "1,2", "examples/skirmish.script", "examples/skirmish.answers")
+        self.assertEqual((status, told), (2, "view.py: a picture of points has one turn, and not 1,2\n"))
 
 
 if __name__ == "__main__":
