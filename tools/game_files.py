@@ -24,7 +24,10 @@ class Mod:
 
     def __init__(self, path):
         packed = path if path.endswith(".zip") else os.path.join(path, "public.zip")
-        self.folder, self.zip = path, zipfile.ZipFile(packed) if os.path.isfile(packed) else None
+        try:
+            self.folder, self.zip = path, zipfile.ZipFile(packed) if os.path.isfile(packed) else None
+        except (OSError, zipfile.BadZipFile) as it:
+            raise NotThere(f"{packed} cannot be read: {it}") from None
         if not self.zip and not os.path.isdir(path):
             raise NotThere(f"there is no mod at {path}: give the folder mods/public or its public.zip")
 

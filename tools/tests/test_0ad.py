@@ -1,11 +1,12 @@
 """Maps of 0 A.D., from a mod that is made here, with cells counted by hand."""
 import math
 import os
+import re
 import struct
 import tempfile
 import unittest
 
-from places import tool
+from places import read, tool
 import contradictions
 import mapscript
 
@@ -142,6 +143,20 @@ class Oad(unittest.TestCase):
             _, status, said = tool("tools/from_0ad.py", "--mod", self.folder.name, *words)
             self.assertEqual(status, 2)
             self.assertIn(told, said)
+        with tempfile.TemporaryDirectory() as folder:
+            packed = os.path.join(folder, "public.zip")
+            with open(packed, "wb") as file:
+                file.write(b"no zip")
+            _, status, said = tool("tools/from_0ad.py", "--mod", folder, "--list")
+            self.assertEqual((status, said), (2, f"from_0ad.py: {packed} cannot be read: File is not a zip file\n"))
+
+    def test_the_path_that_the_page_of_maps_adds(self):
+        _, text = self.made("small", "--classes", "walk", "--paths", "0")
+        lines = text.splitlines()
+        self.assertEqual([it for it in lines if '"end"' in it], ['{"end":1}', '{"end":2}'])
+        path = re.search(r'(?m)^    (\{"caller".*"obstruction".*)$', read("docs/MAPS.md").decode())[1].replace('"default"', '"walk"')
+        script = mapscript.Script("\n".join([*lines[:-1], path, lines[-1]]).encode())
+        self.assertEqual((script.bad, [it.kind for it in script.turns[1].posts]), (0, ["path"]))
 
 
 if __name__ == "__main__":
