@@ -10,3 +10,4 @@ pub mod SavedReplies
 pub mod ScriptLines
 pub mod ScriptReads
 pub mod BadLines
+pub mod TextsGoOn

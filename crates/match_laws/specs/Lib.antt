@@ -1,3 +1,4 @@
 pub mod Scripts
 pub mod SavedMatches
 pub mod ToldJournals
+pub mod OpenedTexts

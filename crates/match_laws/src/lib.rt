@@ -13,6 +13,7 @@
 mod matches;
 mod scripts;
 mod served;
+mod texts;
 mod turns;
 
 pub use matches::{
@@ -21,4 +22,5 @@ pub use matches::{
 };
 pub use scripts::{bad_lines, scripts_are_read};
 pub use served::{journal_is_told, one_journal, served_answers_are_replayed, served_values};
+pub use texts::{further_texts, saved_texts_go_on};
 pub use turns::{eighths, quarters};
