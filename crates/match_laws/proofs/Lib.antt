@@ -11,3 +11,4 @@ pub mod ScriptLines
 pub mod ScriptReads
 pub mod BadLines
 pub mod TextsGoOn
+pub mod OutputsExist

@@ -2,3 +2,4 @@ pub mod Scripts
 pub mod SavedMatches
 pub mod ToldJournals
 pub mod OpenedTexts
+pub mod Outputs

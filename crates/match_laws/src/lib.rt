@@ -11,6 +11,7 @@
 #![tactic(auto)]
 
 mod matches;
+mod outputs;
 mod scripts;
 mod served;
 mod texts;
@@ -20,6 +21,7 @@ pub use matches::{
     further_turns, saved_matches_go_on, saved_obstructions_are_added, saved_standing,
     saved_turns_can_be_written,
 };
+pub use outputs::has_out;
 pub use scripts::{bad_lines, scripts_are_read};
 pub use served::{journal_is_told, one_journal, served_answers_are_replayed, served_values};
 pub use texts::{further_texts, saved_texts_go_on};
