@@ -2,6 +2,7 @@ pub mod SavedMaps
 pub mod GoingOn
 pub mod WhatStands
 pub mod SavedLines
+pub mod AnswerWords
 pub mod ToldLines
 pub mod ReadValues
 pub mod ServedJournals
@@ -12,3 +13,4 @@ pub mod ScriptReads
 pub mod BadLines
 pub mod TextsGoOn
 pub mod OutputsExist
+pub mod TurnLines

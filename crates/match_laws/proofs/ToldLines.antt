@@ -1,23 +1,14 @@
 -- The lines of an output that begin with `{` are the canonical script.
-use Rattle.std.proofs.Common.{◌≡◌, ◌≢◌, ℕ, zero, suc, ◌+◌, ◌/◌, ◌%◌, ◌<◌, ◌≤◌, ◌==◌, List, [], ◌∷◌, ◌++◌, length, map, flat_map, take, drop, Bool, true, false, not, cond, nat_lt, nat_le, ◌&&◌, decimal, All, IsTrue, refl, ap, sym, ◌∙◌, arith, append_assoc, append-nil, lt-ltb}
+use Rattle.std.proofs.Common.{◌≡◌, ℕ, zero, suc, ◌+◌, ◌<◌, ◌≤◌, ◌==◌, List, [], ◌∷◌, ◌++◌, length, flat_map, take, drop, Bool, true, false, not, cond, nat_lt, nat_le, ◌&&◌, decimal, All, IsTrue, refl, ap, sym, ◌∙◌, arith, append_assoc, append-nil}
 use Rattle.std.specs.Prelude.{codes}
-use Rattle.std.specs.Fmt.{digits, digits_onto, digit_glyph}
-use Rattle.std.specs.List.{list_all, join_with_byte}
-use Rattle.std.proofs.lemmas.Bool.{and_parts, and_from, ne_eqb, eqb-false, leb-true, not-true}
-use Rattle.std.proofs.lemmas.List.Elements.{All-nil, All-cons, All-head, All-tail, All-take, All-drop}
+use Rattle.std.specs.List.{list_all}
+use Rattle.std.proofs.lemmas.Bool.{and_parts, and_from, ne_eqb, leb-true, ltb-true}
+use Rattle.std.proofs.lemmas.List.Elements.{All-head, All-tail, All-take, All-drop}
 use Rattle.std.proofs.lemmas.List.Folds.{list_all-append}
-use Rattle.nav_types.specs.declared.cells.Cell.{Cell}
 use Rattle.nav_types.specs.declared.cells.Rect.{Rect}
 use Rattle.nav_types.specs.declared.cells.Size.{Size}
 use Rattle.nav_types.specs.Cells.{IsRectInside}
-use Rattle.posts.specs.declared.edits.EditReply.{EditReply}
-use Rattle.posts.specs.declared.edits.EditReply.TheVariants as edit
-use Rattle.posts.specs.declared.edits.Refusal.{Refusal}
-use Rattle.posts.specs.declared.edits.Refusal.TheVariants.{BadShape, DuplicateId, StoreFull, UnknownId, UnknownClass, StartOutside, GoalOutside}
-use Rattle.posts.specs.declared.replies.Answer.{Answer}
-use Rattle.posts.specs.declared.replies.Answer.TheVariants.{Refused, Nowhere, Path, Region}
 use Rattle.posts.specs.declared.replies.Reply.{Reply}
-use Rattle.posts.specs.declared.replies.Reply.TheVariants.{Edit as Edited, Answer as Answered}
 use Rattle.posts.specs.declared.replies.Tallies.{Tallies}
 use Rattle.posts.specs.declared.replies.TurnReplies.{TurnReplies}
 use Rattle.posts.specs.declared.edits.Edit.TheVariants.{Add, Remove, Move}
@@ -36,9 +27,10 @@ use Rattle.script_text.specs.inner.Plain.{is_plain}
 use Rattle.script_text.proofs.CanonTexts.{plain-decimal, quoted-plain}
 use Rattle.script_text.proofs.BackLines.{post_reads}
 use Rattle.script_text.proofs.BackMaps.{map_back, base_back}
-use Rattle.answer_text.specs.Answers.{line_of, waypoint_text, end_word, refused_words, edit_words, answer_words, reply_words, reply_line, reply_lines, caller_lines, turn_line, turn_text}
+use Rattle.answer_text.specs.Answers.{line_of, reply_words, reply_line, reply_lines, caller_lines, turn_line, turn_text}
 use Rattle.pathserve.specs.Output.{turn_texts}
 use Rattle.match_laws.specs.ToldJournals.{is_script_line, script_lines}
+use Rattle.match_laws.proofs.AnswerWords.{in_word, are_words, all_in_line, goes_on, is_plain_text, reply_line_words, turn_words, turn_line_words}
 
 -- ---- texts without `{`
 
@@ -96,101 +88,17 @@ no_script_lines text h = none_kept (full_lines text) (lines_have_none text h)
 
 -- ---- the texts of answers have none
 
-glyph_other : (d : ℕ) → d < 10 → other (digit_glyph false d) ≡ true
-glyph_other d small =
-    let e : nat_lt d 10 ≡ true = lt-ltb d 10 small in
-    let apart : (48 + d == 123) ≡ false = ne_eqb (48 + d) 123 (λ h. omega (arith, h, small)) in
-    ap (λ b. other (cond b (48 + d) (87 + d))) e ∙ ap not apart
+printed_other : (byte : ℕ) → in_word byte ≡ true → other byte ≡ true
+printed_other byte h =
+    let high : byte < 123 = ltb-true byte 123 (and_parts (nat_lt 32 byte) (nat_lt byte 123) h).1 in
+    ap not (ne_eqb byte 123 (λ e. omega (arith, e, high)))
 
-onto_none : (k n : ℕ) (acc : List ℕ) → has_none acc ≡ true → has_none (digits_onto k 10 false n acc) ≡ true
-onto_none zero n acc h = h
-onto_none (suc k) n acc h =
-    let d = digit_glyph false (n % 10) in
-    let more : has_none (d ∷ acc) ≡ true = and_from (other d) (has_none acc) (glyph_other (n % 10) (omega arith)) h in
-    by_last (n / 10 == 0) (d ∷ acc) (digits_onto k 10 false (n / 10) (d ∷ acc)) more (onto_none k (n / 10) (d ∷ acc) more)
-  where
-    by_last : (b : Bool) (xs ys : List ℕ) → has_none xs ≡ true → has_none ys ≡ true → has_none (cond b xs ys) ≡ true
-    by_last true xs ys h k = h
-    by_last false xs ys h k = k
-
-decimal_none : (n : ℕ) → has_none (decimal n) ≡ true
-unfolding digits
-decimal_none n = onto_none 64 n [] refl
-
-joined_none : (words : List (List ℕ)) → all_have_none words ≡ true → has_none (join_with_byte 32 words) ≡ true
-joined_none [] h = refl
-joined_none (word ∷ []) h = (and_parts (has_none word) true h).0
-joined_none (word ∷ next ∷ words) h =
-    let s = and_parts (has_none word) (all_have_none (next ∷ words)) h in
-    none_in_both word (32 ∷ join_with_byte 32 (next ∷ words)) s.0 (joined_none (next ∷ words) s.1)
-
-line_none : (words : List (List ℕ)) → all_have_none words ≡ true → has_none (line_of words) ≡ true
-line_none words h = none_in_both (join_with_byte 32 words) (10 ∷ []) (joined_none words h) refl
-
--- one word more in front
-word_none : (word : List ℕ) (words : List (List ℕ)) → has_none word ≡ true → all_have_none words ≡ true → all_have_none (word ∷ words) ≡ true
-word_none word words h k = and_from (has_none word) (all_have_none words) h k
-
-number_none : (n : ℕ) (words : List (List ℕ)) → all_have_none words ≡ true → all_have_none (decimal n ∷ words) ≡ true
-number_none n words k = word_none (decimal n) words (decimal_none n) k
-
-refused_none : (refusal : Refusal) → all_have_none (refused_words refusal) ≡ true
-refused_none BadShape = refl
-refused_none DuplicateId = refl
-refused_none StoreFull = refl
-refused_none UnknownId = refl
-refused_none UnknownClass = refl
-refused_none StartOutside = refl
-refused_none GoalOutside = refl
-
-edit_none : (reply : EditReply) → all_have_none (edit_words reply) ≡ true
-edit_none (edit.Added id) = number_none id [] refl
-edit_none (edit.Removed id) = number_none id [] refl
-edit_none (edit.Moved id) = number_none id [] refl
-edit_none (edit.Refused refusal) = refused_none refusal
-
-waypoint_none : (cell : Cell) → has_none (waypoint_text cell) ≡ true
-waypoint_none cell =
-    none_in_both (decimal cell.i) (codes ".5," ++ (decimal cell.j ++ codes ".5")) (decimal_none cell.i)
-    (none_in_both (codes ".5,") (decimal cell.j ++ codes ".5") refl
-    (none_in_both (decimal cell.j) (codes ".5") (decimal_none cell.j) refl))
-
-waypoints_none : (cells : List Cell) → all_have_none (map waypoint_text cells) ≡ true
-waypoints_none [] = refl
-waypoints_none (cell ∷ cells) = word_none (waypoint_text cell) (map waypoint_text cells) (waypoint_none cell) (waypoints_none cells)
-
-end_none : (near : Bool) → has_none (end_word near) ≡ true
-end_none true = refl
-end_none false = refl
-
-answer_none : (answer : Answer) → all_have_none (answer_words answer) ≡ true
-answer_none (Refused refusal) = refused_none refusal
-answer_none Nowhere = refl
-answer_none (Path path) =
-    let points = map waypoint_text path.waypoints in
-    let counted = decimal (length path.waypoints) ∷ points in
-    let costed = decimal path.cost.0 ∷ counted in
-    let ended = end_word path.near ∷ costed in
-    number_none path.start.i (decimal path.start.j ∷ decimal path.end.i ∷ decimal path.end.j ∷ ended)
-    (number_none path.start.j (decimal path.end.i ∷ decimal path.end.j ∷ ended)
-    (number_none path.end.i (decimal path.end.j ∷ ended)
-    (number_none path.end.j ended
-    (word_none (end_word path.near) costed (end_none path.near)
-    (number_none path.cost.0 counted (number_none (length path.waypoints) points (waypoints_none path.waypoints)))))))
-answer_none (Region found) =
-    number_none found.ci (decimal found.cj ∷ decimal found.region ∷ decimal found.area ∷ [])
-    (number_none found.cj (decimal found.region ∷ decimal found.area ∷ [])
-    (number_none found.region (decimal found.area ∷ []) (number_none found.area [] refl)))
-
-reply_none : (reply : Reply) → all_have_none (reply_words reply) ≡ true
-reply_none (Edited reply) = edit_none reply
-reply_none (Answered answer) = answer_none answer
+line_none : (words : List (List ℕ)) → are_words words ≡ true → has_none (line_of words) ≡ true
+line_none words h = all_in_line other refl printed_other refl words h
 
 reply_line_none : (caller post : ℕ) (reply : Reply) → has_none (reply_line caller post reply) ≡ true
 unfolding reply_line
-reply_line_none caller post reply =
-    line_none (decimal caller ∷ decimal post ∷ reply_words reply)
-    (number_none caller (decimal post ∷ reply_words reply) (number_none post (reply_words reply) (reply_none reply)))
+reply_line_none caller post reply = line_none (decimal caller ∷ decimal post ∷ reply_words reply) (reply_line_words caller post reply)
 
 reply_lines_none : (caller post : ℕ) (replies : List Reply) → has_none (reply_lines caller post replies) ≡ true
 reply_lines_none caller post [] = refl
@@ -204,13 +112,7 @@ caller_lines_none caller (replies ∷ lists) =
 
 turn_line_none : (turn : ℕ) (tallies : Tallies) (relabelled : ℕ) → has_none (turn_line turn tallies relabelled) ≡ true
 unfolding turn_line
-turn_line_none turn tallies relabelled =
-    line_none (codes "turn" ∷ decimal turn ∷ codes "regions" ∷ decimal tallies.regions ∷ codes "edges" ∷ decimal tallies.edges
-    ∷ codes "areas" ∷ decimal tallies.areas ∷ codes "relabelled" ∷ decimal relabelled ∷ [])
-    (number_none turn (codes "regions" ∷ decimal tallies.regions ∷ codes "edges" ∷ decimal tallies.edges ∷ codes "areas" ∷ decimal tallies.areas ∷ codes "relabelled" ∷ decimal relabelled ∷ [])
-    (number_none tallies.regions (codes "edges" ∷ decimal tallies.edges ∷ codes "areas" ∷ decimal tallies.areas ∷ codes "relabelled" ∷ decimal relabelled ∷ [])
-    (number_none tallies.edges (codes "areas" ∷ decimal tallies.areas ∷ codes "relabelled" ∷ decimal relabelled ∷ [])
-    (number_none tallies.areas (codes "relabelled" ∷ decimal relabelled ∷ []) (number_none relabelled [] refl)))))
+turn_line_none turn tallies relabelled = line_none (turn_words turn tallies relabelled) (turn_line_words turn tallies relabelled)
 
 turns_none : (number : ℕ) (all : List TurnReplies) → has_none (turn_texts number all) ≡ true
 turns_none number [] = refl
@@ -308,21 +210,12 @@ told_callers m caller (posts ∷ lists) is few values have =
 
 -- ---- end lines
 
-abbrev goes_on : ℕ → Bool
-goes_on byte = not (byte == 10)
-
 plain_goes_on : (cs : List ℕ) → list_all is_plain cs ≡ true → list_all goes_on cs ≡ true
 plain_goes_on [] h = refl
 plain_goes_on (c ∷ cs) h =
     let s = and_parts (is_plain c) (list_all is_plain cs) h in
     let low : 32 ≤ c = leb-true 32 c (and_parts (nat_le 32 c) (not (c == 34)) (and_parts (nat_le 32 c && not (c == 34)) (not (c == 92)) s.0).0).0 in
     and_from (goes_on c) (list_all goes_on cs) (ap not (ne_eqb c 10 (λ e. omega (arith, e, low)))) (plain_goes_on cs s.1)
-
-is_plain_text : (cs : List ℕ) → list_all goes_on cs ≡ true → IsPlain cs
-is_plain_text [] h = All-nil (λ (byte : ℕ). byte ≢ 10)
-is_plain_text (c ∷ cs) h =
-    let s = and_parts (goes_on c) (list_all goes_on cs) h in
-    All-cons (λ (byte : ℕ). byte ≢ 10) c cs (eqb-false c 10 (not-true (c == 10) s.0)) (is_plain_text cs s.1)
 
 told_end : (turn : ℕ) → IsTold (line (end_json turn))
 unfolding end_json

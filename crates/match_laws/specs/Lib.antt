@@ -3,3 +3,4 @@ pub mod SavedMatches
 pub mod ToldJournals
 pub mod OpenedTexts
 pub mod Outputs
+pub mod AnswerLines

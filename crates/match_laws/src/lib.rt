@@ -10,6 +10,7 @@
 //! Nothing here runs: each function is a theorem of the crates below.
 #![tactic(auto)]
 
+mod lines;
 mod matches;
 mod outputs;
 mod scripts;
@@ -17,6 +18,7 @@ mod served;
 mod texts;
 mod turns;
 
+pub use lines::{answer_lines, outputs_are_lines, turns_have_a_line_a_post};
 pub use matches::{
     further_turns, saved_matches_go_on, saved_obstructions_are_added, saved_standing,
     saved_turns_can_be_written,
