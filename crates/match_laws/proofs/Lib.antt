@@ -14,3 +14,4 @@ pub mod BadLines
 pub mod TextsGoOn
 pub mod OutputsExist
 pub mod TurnLines
+pub mod ShapePoints

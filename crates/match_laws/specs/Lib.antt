@@ -4,3 +4,4 @@ pub mod ToldJournals
 pub mod OpenedTexts
 pub mod Outputs
 pub mod AnswerLines
+pub mod CellPoints

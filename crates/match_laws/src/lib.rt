@@ -1,10 +1,11 @@
-//! Laws of whole matches: what scripts are in the grammar's words, what an output under `serve` tells, how a match goes on
-//! from what stands, and what turns to a side are.
+//! Laws of whole matches: what scripts are in the grammar's words, where there is an output text and what its lines are,
+//! what an output under `serve` tells, how a match goes on from what stands, and what shapes and turns to a side are.
 //!
 //! ```text
+//!    text of a turn = its line, then caller by caller and post by post a line, and one more for each note
 //!    out = canonical script of the journal ++ answers        both are found in `out`, and replaying the first
 //!                                                            gives the second
-//!    map + standing obstructions --one turn of adds--> a match that answers further turns alike
+//!    map + standing obstructions --one turn of adds--> a match whose further turns have the same text
 //! ```
 //!
 //! Nothing here runs: each function is a theorem of the crates below.
@@ -15,6 +16,7 @@ mod matches;
 mod outputs;
 mod scripts;
 mod served;
+mod shapes;
 mod texts;
 mod turns;
 
@@ -26,5 +28,6 @@ pub use matches::{
 pub use outputs::has_out;
 pub use scripts::{bad_lines, scripts_are_read};
 pub use served::{journal_is_told, one_journal, served_answers_are_replayed, served_values};
+pub use shapes::{blocked_cells, circle_cells, square_remoteness};
 pub use texts::{further_texts, saved_texts_go_on};
 pub use turns::{eighths, quarters};
