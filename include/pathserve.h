@@ -5,8 +5,8 @@
  * what they leave. No answer depends on floats, time, threads or addresses: machines that give a match the same posts get
  * the same answers, byte for byte. docs/FORMAT.md tells each of them.
  *
- *     by text    pathserve_open       feed, then waiting and take
- *     to look    pathserve_view_of    passable, region, area
+ *     by text    pathserve_open       feed, finish, then waiting and take
+ *     to look    pathserve_view_of    passable, region, area, row, find
  *
  * WHAT YOU PROMISE, for each call. The library's functions are proved to be safe and to do what is said here. That rests on
  * these promises, which nothing checks: a broken one is undefined behaviour.
@@ -56,7 +56,10 @@ size_t pathserve_size_of(uint32_t which);
 
 enum {
     PATHSERVE_SIZE_MATCH = 1, /* 16 */
-    PATHSERVE_SIZE_VIEW = 2   /* 16 */
+    PATHSERVE_SIZE_VIEW = 2,  /* 16 */
+    PATHSERVE_SIZE_POST = 6,  /* 48 */
+    PATHSERVE_SIZE_REPLY = 8, /* 56 */
+    PATHSERVE_SIZE_CELL = 9   /* 4 */
 };
 
 /* ---- statuses: those below 16 are the exit statuses of the program `pathserve` ---- */
@@ -70,8 +73,9 @@ enum {
     PATHSERVE_CLOSED = 16,    /* the handle is closed */
     PATHSERVE_OPEN = 17,      /* the handle is open already */
     PATHSERVE_OTHER = 18,     /* the handle holds something else than the call is for */
+    PATHSERVE_ENDED = 19,     /* pathserve_finish has ended the script */
     PATHSERVE_NO_MAP = 20,    /* the map line has not come */
-    PATHSERVE_BAD_VALUE = 21  /* a value is no such kind or number */
+    PATHSERVE_BAD_VALUE = 21  /* a value is no such kind or number, or a field that is not used is not 0 */
 };
 
 /* After every status but those of the script (BAD_LINE, TOO_LONG) a handle is as it was, unless the status is
@@ -105,8 +109,17 @@ pathserve_status pathserve_open(pathserve_match *match, uint32_t report);
  *   BAD_LINE, TOO_LONG    the match stops, and each later call answers the same. What was told is what the program writes for
  *                         the script, whatever follows. All bytes were taken.
  *   NO_MEMORY             only the first `taken` bytes were: feed the others again, or none.
- *   CLOSED, OTHER         no byte was taken. */
+ *   ENDED, CLOSED, OTHER  no byte was taken. */
 pathserve_status pathserve_feed(pathserve_match *match, const uint8_t *bytes, size_t length, size_t *taken);
+
+/* Tells that the script has no more bytes, as the end of the input tells the program: what stands behind the last newline
+ * is then a line, and a turn without its end line is bad. A game that ends its turns by end lines need not call it.
+ *   DONE                  the script is whole, and what was told is what the program writes for it.
+ *   BAD_LINE, TOO_LONG    what was told is what the program writes for the script.
+ *   NO_MEMORY             the script has ended. Call again for what was not told: pathserve_feed takes nothing more.
+ *   ENDED                 it was called before, and all was told.
+ *   CLOSED, OTHER */
+pathserve_status pathserve_finish(pathserve_match *match);
 
 /* How many bytes of text wait. 0 of a closed match. */
 size_t pathserve_waiting(pathserve_match *match);
@@ -115,6 +128,76 @@ size_t pathserve_waiting(pathserve_match *match);
  * Gives how many it moved; 0 of a closed match. Memory of text that was taken is used again once none
  * waits, so take all that waits now and then. */
 size_t pathserve_take(pathserve_match *match, uint8_t *buffer, size_t length);
+
+/* ======== requests and replies as structs ======== */
+
+/* A coordinate or a length: 65,536 is the side of a navcell. Decimals of a script are cut to such numbers. */
+typedef int32_t pathserve_fixed;
+#define PATHSERVE_NAVCELL 65536
+
+/* A navcell by its column from the west and its row from the south. */
+typedef struct pathserve_cell { uint16_t i, j; } pathserve_cell;
+
+enum { /* pathserve_post.kind */
+    PATHSERVE_PATH = 5,       /* ask for a path. class_number, x, z (where it starts), goal and what that uses */
+    PATHSERVE_REGION = 6      /* ask for the region and the area at a point. class_number, x, z */
+};
+enum { /* pathserve_post.goal of a path; 0 of other posts */
+    PATHSERVE_POINT = 1,      /* goal_x, goal_z */
+    PATHSERVE_CIRCLE = 2,     /* goal_x, goal_z, radius */
+    PATHSERVE_NOT_CIRCLE = 3, /* the cells outside it. goal_x, goal_z, radius */
+    PATHSERVE_SQUARE = 4,     /* a rectangle along a unit vector. goal_x, goal_z, ux, uz, hw, hh */
+    PATHSERVE_NOT_SQUARE = 5, /* the cells outside it. goal_x, goal_z, ux, uz, hw, hh */
+    PATHSERVE_OBSTRUCTION = 6 /* the cells about an obstruction. id, radius (how far about it) */
+};
+
+/* A post. Each kind uses `kind`, `caller` and the fields named at it; every other field is 0. */
+typedef struct pathserve_post {
+    uint8_t kind;
+    uint8_t caller;                 /* from 0 */
+    uint8_t class_number;           /* from 0 */
+    uint8_t goal;
+    uint16_t mask;                  /* the classes that an obstruction blocks: bit k is for class k */
+    uint16_t zero;
+    uint32_t id;                    /* an obstruction's number: all callers share them */
+    pathserve_fixed x, z;           /* a middle or a point */
+    pathserve_fixed goal_x, goal_z; /* the middle of a goal */
+    pathserve_fixed ux, uz;         /* the unit vector that a rectangle lies along */
+    pathserve_fixed hw, hh;         /* its half sides, along the vector and across it */
+    pathserve_fixed radius;         /* a radius, a half side or a distance: see the kinds */
+} pathserve_post;
+
+enum { /* pathserve_reply.kind */
+    PATHSERVE_REFUSED = 4,   /* why */
+    PATHSERVE_NOWHERE = 5,   /* no cell of the map is passable for the class */
+    PATHSERVE_AT_GOAL = 6,   /* a path that ends at the goal. start, end, cost, waypoints, first_waypoint */
+    PATHSERVE_NEAR_GOAL = 7, /* a path that ends as near to the goal as it can. The same */
+    PATHSERVE_IN_REGION = 8  /* chunk, region, area */
+};
+enum { /* pathserve_reply.why of a refusal; 0 of other replies */
+    PATHSERVE_BAD_SHAPE = 1,     /* a shape or a goal is not within its limits */
+    PATHSERVE_UNKNOWN_ID = 4,    /* no obstruction stands under the number */
+    PATHSERVE_START_OUTSIDE = 6, /* the start or the point does not lie on the map */
+    PATHSERVE_GOAL_OUTSIDE = 7   /* the middle of the goal does not lie on the map */
+};
+
+/* The reply to a post. Fields that its kind does not name are 0. */
+typedef struct pathserve_reply {
+    uint8_t kind;
+    uint8_t caller;
+    uint8_t why;
+    uint8_t zero;
+    uint32_t post;             /* the post's number among those of its caller, from 0 */
+    uint32_t id;               /* the obstruction's number */
+    pathserve_cell start, end; /* where a path starts and ends */
+    pathserve_cell chunk;      /* the column and the row of a chunk of 96 by 96 navcells */
+    uint16_t region;           /* the number of a region in its chunk, from 1; 0 of an impassable cell */
+    uint16_t zero_too;
+    uint32_t area;             /* the number of an area, from 1; 0 of an impassable cell */
+    uint64_t waypoints;        /* how many waypoints a path has */
+    uint64_t first_waypoint;   /* the place of the first of them among all waypoints */
+    uint64_t cost;             /* what a path costs: 65,536 a straight step, 92,682 a diagonal one */
+} pathserve_reply;
 
 /* ======== views: questions between turns, by any thread ======== */
 
@@ -135,6 +218,20 @@ void pathserve_view_close(pathserve_view *view);
 uint32_t pathserve_passable(pathserve_view *view, uint32_t class_number, uint32_t i, uint32_t j);
 uint32_t pathserve_region(pathserve_view *view, uint32_t class_number, uint32_t i, uint32_t j);
 uint32_t pathserve_area(pathserve_view *view, uint32_t class_number, uint32_t i, uint32_t j);
+
+/* Writes which cells of row j are passable for the class, as an overlay or a small map draws it: bit i % 64 of word i / 64 is
+ * 1 where cell (i, j) is passable, and 0 elsewhere, also behind the last column. A row has (width + 63) / 64 words. Gives how
+ * many it wrote: as many as the row has and as the buffer holds; 0 of a row that the map has not, of a class that there is
+ * not, and of a closed view. */
+size_t pathserve_row(pathserve_view *view, uint32_t class_number, uint32_t j, uint64_t *words, size_t count);
+
+/* Answers a post of the kind PATHSERVE_PATH or PATHSERVE_REGION at once, as a turn without edits would. The match knows
+ * nothing of it: ask for what is drawn, and post what is played. Writes the reply, and the first waypoints of a path, as many
+ * as the buffer holds; `reply->waypoints` is how many there are, and `first_waypoint` is 0.
+ * DONE. BAD_VALUE: another kind, a goal, a caller or a class that there is not, or a field that is not used and not 0. Other
+ * values that break a limit are refused by the reply. NO_MEMORY, CLOSED. With DONE alone something is written. */
+pathserve_status pathserve_find(pathserve_view *view, const pathserve_post *post, pathserve_reply *reply,
+                                pathserve_cell *waypoints, size_t count);
 
 /* ======== memory of your own ========
  *
@@ -158,5 +255,8 @@ uint32_t pathserve_area(pathserve_view *view, uint32_t class_number, uint32_t i,
 
 PATHSERVE_HAS_SIZE(pathserve_match, 16);
 PATHSERVE_HAS_SIZE(pathserve_view, 16);
+PATHSERVE_HAS_SIZE(pathserve_post, 48);
+PATHSERVE_HAS_SIZE(pathserve_reply, 56);
+PATHSERVE_HAS_SIZE(pathserve_cell, 4);
 
 #endif

@@ -1,3 +1,4 @@
 mod AsBox
+mod Asking
 mod Feeding
 mod Places

@@ -10,7 +10,7 @@ use Rattle.pathserve_c.specs.declared.states.State.{State}
 use Rattle.pathserve_c.specs.declared.states.State.TheVariants.{Text, View}
 use Rattle.pathserve_c.specs.declared.statuses.TheConstants.{DONE, NO_MEMORY, CLOSED, OPEN, NO_MAP, BAD_VALUE}
 use Rattle.pathserve_c.specs.Statuses.{refusal, status_of}
-use Rattle.pathserve_c.specs.Texts.{TextState, IsUnread, Feeds, Takes}
+use Rattle.pathserve_c.specs.Texts.{TextState, IsUnread, Feeds, Finishes, Takes}
 
 -- what is told beside the answers, by its number
 abbrev pub report_of : ℕ → Option Report
@@ -46,6 +46,13 @@ IsFed None new piece left status = IsRefused (refusal None) None new status × (
 IsFed (Some (View version)) new piece left status = IsRefused (refusal (Some (View version))) (Some (View version)) new status × (left ≡ piece)
 IsFed (Some (Text old)) new piece left status = (made : TextState) × ((answer : Result (Unit {0}) MatchFault)
     × ((new ≡ Some (Text made)) × ((status ≡ status_of answer) × Feeds old made piece left answer)))
+
+-- the script of a match by text has ended; anything else refuses
+abbrev pub IsFinished : Option State → Option State → ℕ → Type 0
+IsFinished None new status = IsRefused (refusal None) None new status
+IsFinished (Some (View version)) new status = IsRefused (refusal (Some (View version))) (Some (View version)) new status
+IsFinished (Some (Text old)) new status = (made : TextState) × ((answer : Result (Unit {0}) MatchFault)
+    × ((new ≡ Some (Text made)) × ((status ≡ status_of answer) × Finishes old made answer)))
 
 -- so many bytes of a match by text wait no longer; of anything else none waited
 abbrev pub IsTaken : Option State → Option State → ℕ → Type 0

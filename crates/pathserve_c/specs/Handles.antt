@@ -1,7 +1,8 @@
 -- What C holds.
-use Rattle.std.specs.Prelude.{ℕ, Bool, false, ◌≡◌, ◌≢◌, List, [], Option, Some, None, IsSome}
+use Rattle.std.specs.Prelude.{ℕ, ◌&&◌, if◌then◌else◌, nat_lt, length, Bool, false, ◌≡◌, ◌≢◌, List, [], Option, Some, None, IsSome}
+use Rattle.std.specs.Int.{div_ceil}
 use Rattle.nav_types.specs.declared.cells.Cell.{Cell}
-use Rattle.grid_versions.specs.Versions.{passes_of}
+use Rattle.grid_versions.specs.Versions.{MapState, passes_of}
 use Rattle.pathserve_c.specs.declared.states.State.{State}
 use Rattle.pathserve_c.specs.declared.states.State.TheVariants.{Text, View}
 use Rattle.pathserve_c.specs.declared.handles.Handle.{Handle}
@@ -25,3 +26,13 @@ abbrev pub passes_seen : Option State → ℕ → Cell → Bool
 passes_seen None k = λ _. false
 passes_seen (Some (Text text)) k = λ _. false
 passes_seen (Some (View version)) k = passes_of version k
+
+-- how many words of 64 cells a row has: 0 where the map has no such class or row
+abbrev pub words_of : MapState → ℕ → ℕ → ℕ
+words_of version k j =
+    if nat_lt k (length version.map.classes) && nat_lt j version.map.size.h then div_ceil version.map.size.w 64 else 0
+
+abbrev pub words_of_row : Option State → ℕ → ℕ → ℕ
+words_of_row None k j = 0
+words_of_row (Some (Text text)) k j = 0
+words_of_row (Some (View version)) k j = words_of version k j

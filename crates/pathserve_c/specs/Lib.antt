@@ -1,4 +1,5 @@
 pub mod Calls
+pub mod Finds
 pub mod Handles
 pub mod Owned
 pub mod Sizes

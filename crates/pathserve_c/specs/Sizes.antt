@@ -1,6 +1,10 @@
 -- The sizes of the structs of the header.
 use Rattle.std.specs.Prelude.{ℕ, ◌==◌, ◌||◌, if◌then◌else◌}
 
--- of a match and a view, by their numbers: a word and a pointer
+-- of a match and a view, a word and a pointer each; of a post, a reply and a cell; by their numbers
 abbrev pub size_named : ℕ → ℕ
-size_named which = if which == 1 || which == 2 then 16 else 0
+size_named which =
+    if which == 1 || which == 2 then 16 else (
+    if which == 6 then 48 else (
+    if which == 8 then 56 else (
+    if which == 9 then 4 else 0)))

@@ -1,10 +1,11 @@
 -- Matches by text, whose text is taken piece by piece.
-use Rattle.std.specs.Prelude.{ℕ, ◌≡◌, List, [], ◌++◌, drop, Result, refl}
+use Rattle.std.specs.Prelude.{ℕ, ◌≡◌, ◌≢◌, ◌↔◌, List, [], ◌++◌, drop, IsFalse, IsTrue, Result, Err, refl}
 use Rattle.std.specs.Coded.{Coded, code_by, coded×, coded_list, coded_ℕ}
 use Rattle.posts.specs.declared.notes.Report.{Report}
 use Rattle.match_play.specs.declared.states.Course.{Course}
 use Rattle.match_play.specs.declared.faults.MatchFault.{MatchFault}
-use Rattle.match_play.specs.Playing.{FeedPlays, HasPlayed, TakesAll}
+use Rattle.match_play.specs.declared.faults.MatchFault.TheVariants.{Ended, NoMemory}
+use Rattle.match_play.specs.Playing.{FeedPlays, FinishPlays, HasPlayed, IsOver, TakesAll}
 
 -- the match, and the text that was told and not taken yet
 pub record TextState : Type 0 where
@@ -20,17 +21,31 @@ text_code course_code =
 -- no byte has come, and nothing waits
 pub record IsUnread (asked : Report) (state : TextState) : Type 0 where
   pub played : HasPlayed state.game [] []
+  pub unended : IsFalse state.game.ended
   pub report : state.game.report ≡ asked
   pub waiting : state.waiting ≡ []
 
--- Of a piece, what is left of it was not fed. What was told waits behind what waited.
+-- Of a piece, what is left of it was not fed. What was told waits behind what waited. A script that has ended takes nothing.
 pub record Feeds (old new : TextState) (piece left : List ℕ) (answer : Result (Unit {0}) MatchFault) : Type 0 where
   pub plays : FeedPlays old.game new.game piece left answer
   pub all : TakesAll left answer
   pub waits : new.waiting ≡ old.waiting ++ plays.plays.text
+  pub ended : (answer ≡ Err Ended) ↔ IsTrue old.game.ended
+  pub kept : answer ≡ Err Ended → (new.game ≡ old.game) × (left ≡ piece)
+  pub stays : new.game.ended ≡ old.game.ended
+
+-- The script has ended. What was told of what was left waits behind what waited.
+pub record Finishes (old new : TextState) (answer : Result (Unit {0}) MatchFault) : Type 0 where
+  pub plays : FinishPlays old.game new.game answer
+  pub waits : new.waiting ≡ old.waiting ++ plays.text
+  pub ended : IsTrue new.game.ended
+  pub over : answer ≢ Err NoMemory → IsOver new.game
+  pub again : (answer ≡ Err Ended) ↔ IsOver old.game
+  pub kept : answer ≡ Err Ended → new.game ≡ old.game
 
 -- So many bytes that waited wait no longer, and else the match is as it was.
 pub record Takes (old new : TextState) (count : ℕ) : Type 0 where
   pub waits : new.waiting ≡ drop count old.waiting
   pub report : new.game.report ≡ old.game.report
+  pub ended : new.game.ended ≡ old.game.ended
   pub played : (fed told : List ℕ) → HasPlayed old.game fed told → HasPlayed new.game fed told

@@ -8,6 +8,7 @@
 //! call takes the state out, works on it, and puts it back. Nothing here starts threads, and no state is global.
 #![tactic(auto)]
 
+mod finds;
 mod handles;
 mod held;
 mod raw_box;
@@ -19,19 +20,22 @@ mod texts;
 mod versions;
 mod views;
 
+pub use finds::pathserve_find;
 pub use handles::{Handle, handles_may_cross};
 pub use held::Held;
 pub use raw_box::RawBox;
 pub use states::State;
 pub use statuses::{
-    BAD_LINE, BAD_VALUE, CLOSED, DONE, NO_MAP, NO_MEMORY, OPEN, OTHER, TOO_LONG, status_of,
+    BAD_LINE, BAD_VALUE, CLOSED, DONE, ENDED, NO_MAP, NO_MEMORY, OPEN, OTHER, PostFault, TOO_LONG,
+    status_of, status_of_posts,
 };
 pub use text_matches::TextMatch;
 pub use texts::{
-    pathserve_close, pathserve_feed, pathserve_open, pathserve_take, pathserve_waiting,
+    pathserve_close, pathserve_feed, pathserve_finish, pathserve_open, pathserve_take,
+    pathserve_waiting,
 };
 pub use versions::{ANSWERS, VERSION, pathserve_answers, pathserve_size_of, pathserve_version};
 pub use views::{
-    pathserve_area, pathserve_passable, pathserve_region, pathserve_view_again,
+    pathserve_area, pathserve_passable, pathserve_region, pathserve_row, pathserve_view_again,
     pathserve_view_close, pathserve_view_of,
 };

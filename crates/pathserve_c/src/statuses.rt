@@ -1,6 +1,6 @@
 //! What calls answer. Those below 16 are the exit statuses of the program.
 ghost use Rattle.std.specs.Prelude.{◌≡◌};
-ghost use Rattle.pathserve_c.specs.Statuses.{status_of};
+ghost use Rattle.pathserve_c.specs.Statuses.{status_of, status_of_posts};
 
 use match_play::MatchFault;
 
@@ -25,6 +25,9 @@ pub const OPEN: u32 = 17;
 /// The handle holds something else than the call is for.
 pub const OTHER: u32 = 18;
 
+/// The script has ended.
+pub const ENDED: u32 = 19;
+
 /// The map has not come.
 pub const NO_MAP: u32 = 20;
 
@@ -39,6 +42,27 @@ pub fn status_of(answer: Result<(), MatchFault>) -> u32
         Ok(()) => DONE,
         Err(MatchFault::BadLine(_)) => BAD_LINE,
         Err(MatchFault::TooLong) => TOO_LONG,
+        Err(MatchFault::Ended) => ENDED,
         Err(MatchFault::NoMemory) => NO_MEMORY,
+    }
+}
+
+/// Why posts were not taken or answered.
+#[derive(Clone, Copy, Debug, PartialEq, Eq)]
+pub enum PostFault {
+    /// One of them is not a post that the call is for.
+    BadValue,
+    /// There was no memory.
+    NoMemory,
+}
+
+/// The status that tells whether posts were taken or answered.
+pub fn status_of_posts(answer: Result<(), PostFault>) -> u32
+    ensures { result ≡ status_of_posts answer }
+{
+    match answer {
+        Ok(()) => DONE,
+        Err(PostFault::BadValue) => BAD_VALUE,
+        Err(PostFault::NoMemory) => NO_MEMORY,
     }
 }

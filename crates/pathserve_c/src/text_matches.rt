@@ -1,7 +1,7 @@
 //! Matches by text, whose text is taken piece by piece.
 ghost use Rattle.std.specs.Prelude.{◌≡◌, drop, length, min, take, IfOk};
 ghost use Rattle.match_play.specs.Playing.{IsView, said_of};
-ghost use Rattle.pathserve_c.specs.Texts.{Feeds, IsUnread, Takes};
+ghost use Rattle.pathserve_c.specs.Texts.{Feeds, Finishes, IsUnread, Takes};
 
 use grid_versions::Version;
 use match_play::{Match, MatchFault};
@@ -49,6 +49,13 @@ impl TextMatch {
         ensures { Feeds self.old self.new bytes.old.now bytes.new.now result }
     {
         self.game.feed(alloc, bytes)
+    }
+
+    /// Ends the script, as the match does.
+    pub fn finish(&mut self, alloc: Global) -> Result<(), MatchFault>
+        ensures { Finishes self.old self.new result }
+    {
+        self.game.finish(alloc)
     }
 
     /// What stands after the turns that were told, as a version of its own. None exactly where the map has not come.

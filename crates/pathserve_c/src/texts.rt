@@ -1,6 +1,6 @@
 //! Calls of matches by text.
 ghost use Rattle.std.specs.Prelude.{◌≡◌, ◌≤◌, Some, drop, length, min, take};
-ghost use Rattle.pathserve_c.specs.Calls.{IsFed, IsOpened, IsTaken, report_of};
+ghost use Rattle.pathserve_c.specs.Calls.{IsFed, IsFinished, IsOpened, IsTaken, report_of};
 ghost use Rattle.pathserve_c.specs.Handles.{IsHandle, state_of, waiting_in};
 
 use crate::handles::Handle;
@@ -59,6 +59,24 @@ pub extern "C" fn pathserve_feed(
     let mut left = bytes;
     let status = feed_state(alloc, &mut state, &mut left);
     *taken = bytes.len() - left.len();
+    game.put(state);
+    status
+}
+
+/// Tells that the script has no more bytes.
+#[unsafe(no_mangle)]
+pub extern "C" fn pathserve_finish(alloc: Global, game: &mut Handle) -> u32
+    requires handle { IsHandle game.old }
+    ensures handle { IsHandle game.new }
+    ensures finished { IsFinished (state_of game.old) (state_of game.new) result }
+{
+    let Some(mut state) = game.take(alloc) else {
+        return CLOSED;
+    };
+    let status = match &mut *state {
+        State::Text(text) => status_of(text.finish(alloc)),
+        State::View(_) => OTHER,
+    };
     game.put(state);
     status
 }

@@ -3,6 +3,7 @@ ghost use Rattle.std.specs.Prelude.{◌≡◌};
 ghost use Rattle.pathserve_c.specs.Sizes.{size_named};
 
 use crate::handles::Handle;
+use flat_posts::{FlatCell, FlatPost, FlatReply};
 use std::mem::size_of;
 
 /// The version of the interface: the major number times 65536, the minor one times 256, and the patch.
@@ -36,6 +37,9 @@ pub extern "C" fn pathserve_size_of(which: u32) -> usize
 {
     match which {
         1 | 2 => size_of::<Handle>(),
+        6 => size_of::<FlatPost>(),
+        8 => size_of::<FlatReply>(),
+        9 => size_of::<FlatCell>(),
         _ => 0,
     }
 }

@@ -1,11 +1,13 @@
 //! Calls of views: what stands, looked at beside a match.
-ghost use Rattle.std.specs.Prelude.{◌≡◌, ◌<◌, length, IfNone, IfOk, IfSome};
+ghost use Rattle.std.specs.Prelude.{ℕ, ◌≡◌, ◌<◌, ◌+◌, ◌/◌, ◌%◌, drop, length, min, slice_index, IfNone, IfOk, IfSome};
+ghost use Rattle.std.specs.Int.{bit_at};
 ghost use Rattle.lane_rows.specs.Rows.{one_if};
 ghost use Rattle.nav_types.specs.Cells.{IsInside, cell_at, chunk_of};
 ghost use Rattle.nav_types.specs.Regions.{HasArea, HasRegion};
+ghost use Rattle.class_planes.specs.Planes.{AreFreeBits};
 ghost use Rattle.grid_versions.specs.Versions.{passes_of};
 ghost use Rattle.pathserve_c.specs.Calls.{IsViewed, version_in};
-ghost use Rattle.pathserve_c.specs.Handles.{IsHandle, passes_seen, state_of};
+ghost use Rattle.pathserve_c.specs.Handles.{IsHandle, passes_seen, state_of, words_of, words_of_row};
 
 use crate::handles::Handle;
 use crate::shared_versions::shared;
@@ -126,6 +128,34 @@ pub extern "C" fn pathserve_area(
     area
 }
 
+/// Writes which cells of a row are passable for a class, 64 to a word.
+#[unsafe(no_mangle)]
+pub extern "C" fn pathserve_row(
+    alloc: Global,
+    view: &mut Handle,
+    class_number: u32,
+    j: u32,
+    words: &mut [u64],
+) -> usize
+    requires handle { IsHandle view.old }
+    ensures handle { IsHandle view.new }
+    ensures same { state_of view.new ≡ state_of view.old }
+    ensures count { result ≡ min (length words.old) (words_of_row (state_of view.old) class_number j) }
+    ensures bits { (i : ℕ) → i / 64 < result → bit_at (slice_index words.new (i / 64)) (i % 64)
+        ≡ one_if (passes_seen (state_of view.old) class_number (cell_at i j)) }
+    ensures behind { drop result words.new ≡ drop result words.old }
+{
+    let Some(state) = view.take(alloc) else {
+        return 0;
+    };
+    let count = match &*state {
+        State::View(version) => row(version, class_number, j, words),
+        State::Text(_) => 0,
+    };
+    view.put(state);
+    count
+}
+
 /// Opens a closed view of what a handle holds.
 fn open_view(alloc: Global, from: &mut Handle, view: &mut Handle) -> u32
     requires handle { IsHandle from.old }
@@ -213,5 +243,38 @@ fn area(version: &Version, class_number: u32, i: u32, j: u32) -> u32
     match place_on(version, class_number, i, j) {
         Some((class, cell)) => version.area(class, cell),
         None => 0,
+    }
+}
+
+/// Writes which cells of a row are passable for a class, 64 to a word, to the head of the buffer, and gives how many words:
+/// as many as the row has and as the buffer holds.
+#[tactic(auto, using(crate::proofs::Places::no_words, crate::proofs::Places::row_fits))]
+fn row(version: &Version, class_number: u32, j: u32, words: &mut [u64]) -> usize
+    ensures count { result ≡ min (length words.old) (words_of version.now class_number j) }
+    ensures bits { (i : ℕ) → i / 64 < result → bit_at (slice_index words.new (i / 64)) (i % 64)
+        ≡ one_if (passes_of version.now class_number (cell_at i j)) }
+    ensures behind { drop result words.new ≡ drop result words.old }
+{
+    let Some((class, _)) = place_on(version, class_number, 0, j) else {
+        return 0;
+    };
+    let row = row_of(version, class, j as u16);
+    let count = usize::from(version.map().size().w)
+        .div_ceil(64)
+        .min(words.len());
+    words[..count].copy_from_slice(&row[..count]);
+    count
+}
+
+/// The passable cells of a row of the map, 64 to a word.
+fn row_of(version: &Version, class: Class, j: u16) -> &[u64]
+    requires class { class < length version.now.map.classes }
+    requires row { j < version.now.map.size.h }
+    ensures words { length result.now ≡ version.now.map.size.w / 64 + 1 }
+    ensures bits { AreFreeBits (λ i. passes_of version.now class (cell_at i j)) result.now }
+{
+    match version.planes().plane(class) {
+        Some(plane) => plane.row_words(j),
+        None => unreachable!(),
     }
 }

@@ -12,4 +12,7 @@ returns c =
       plays = plays;
       all = c.feed.ensures.all;
       waits = waits_behind taken old new plays.plays.text c.self.invariant plays.plays.waits;
+      ended = c.feed.ensures.ended;
+      kept = c.feed.ensures.kept;
+      stays = c.feed.ensures.stays;
     })

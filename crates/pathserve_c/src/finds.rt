@@ -1,0 +1,115 @@
+//! Requests that are answered at once on what a view shows.
+ghost use Rattle.std.specs.Prelude.{◌≡◌, ℕ, [], ◌∷◌, Some, IfOk, IfSome, IsNone};
+ghost use Rattle.posts.specs.declared.posts.Post.TheVariants.{Ask};
+ghost use Rattle.posts.specs.declared.posts.Request.{Request};
+ghost use Rattle.posts.specs.declared.replies.Reply.TheVariants.{Answer as Answered};
+ghost use Rattle.flat_posts.specs.Posts.{IsPost};
+ghost use Rattle.pathserve_c.specs.Finds.{FindsAs, IsFound};
+ghost use Rattle.pathserve_c.specs.Handles.{IsHandle, state_of};
+
+use crate::handles::Handle;
+use crate::states::State;
+use crate::statuses::{CLOSED, OTHER, PostFault, status_of_posts};
+use flat_posts::{FlatCell, FlatPost, FlatReply, write_waypoints};
+use grid_versions::Version;
+use nav_types::{NoMemory, Sequence};
+use posts::{Answer, Post, Reply, Request, Tallies, TurnReplies};
+use std::alloc::Global;
+use turn_core::solve;
+
+/// Answers a post that asks for something at once, on what a view shows.
+#[unsafe(no_mangle)]
+pub extern "C" fn pathserve_find(
+    alloc: Global,
+    view: &mut Handle,
+    post: &FlatPost,
+    reply: &mut FlatReply,
+    waypoints: &mut [FlatCell],
+) -> u32
+    requires handle { IsHandle view.old }
+    ensures handle { IsHandle view.new }
+    ensures same { state_of view.new ≡ state_of view.old }
+    ensures found { IsFound (state_of view.old) post.now reply.old reply.new waypoints.old waypoints.new result }
+{
+    let Some(state) = view.take(alloc) else {
+        return CLOSED;
+    };
+    let status = find_in(alloc, &state, post, reply, waypoints);
+    view.put(state);
+    status
+}
+
+/// Answers a post on what a handle shows; anything else than a view refuses.
+fn find_in(
+    alloc: Global,
+    state: &State,
+    post: &FlatPost,
+    reply: &mut FlatReply,
+    waypoints: &mut [FlatCell],
+) -> u32
+    ensures { IsFound (Some state.now) post.now reply.old reply.new waypoints.old waypoints.new result }
+{
+    match state {
+        State::View(version) => status_of_posts(find(alloc, version, post, reply, waypoints)),
+        State::Text(_) => OTHER,
+    }
+}
+
+/// Answers a post on a version. Where it refuses nothing is written.
+fn find(
+    alloc: Global,
+    version: &Version,
+    post: &FlatPost,
+    reply: &mut FlatReply,
+    waypoints: &mut [FlatCell],
+) -> Result<(), PostFault>
+    ensures { FindsAs version.now post.now reply.old reply.new waypoints.old waypoints.new result }
+{
+    let Some((caller, request)) = asked(version, post) else {
+        return Err(PostFault::BadValue);
+    };
+    let Ok(answer) = solve(alloc, version, &request) else {
+        return Err(PostFault::NoMemory);
+    };
+    let told = Reply::Answer(answer);
+    let flat = FlatReply::of(usize::from(caller), 0, 0, &told);
+    let Ok(only) = one_reply(alloc, told) else {
+        return Err(PostFault::NoMemory);
+    };
+    *reply = flat;
+    write_waypoints(&only, 0, waypoints);
+    Ok(())
+}
+
+/// The request that a post is on the map of a version, with its caller. None exactly where it is none.
+#[tactic(auto, using(crate::proofs::Asking::edit_asks_nothing))]
+fn asked(version: &Version, post: &FlatPost) -> Option<(u8, Request)>
+    ensures some { IfSome result (λ asked. IsPost version.now.map post.now asked.0 (Ask asked.1)) }
+    ensures none { IsNone result → (caller : ℕ) (request : Request)
+        → IsPost version.now.map post.now caller (Ask request) → ⊥ }
+{
+    match post.read(version.map()) {
+        Ok((caller, Post::Ask(request))) => Some((caller, request)),
+        Ok((_, Post::Edit(_))) => None,
+        Err(_) => None,
+    }
+}
+
+/// The replies of a turn of one reply.
+fn one_reply(alloc: Global, reply: Reply) -> Result<TurnReplies, NoMemory>
+    ensures { IfOk result (λ told. told.replies ≡ (reply ∷ []) ∷ []) }
+{
+    let mut replies = Sequence::new(alloc);
+    replies.push(reply)?;
+    let mut lists = Sequence::new(alloc);
+    lists.push(replies)?;
+    Ok(TurnReplies {
+        tallies: Tallies {
+            regions: 0,
+            edges: 0,
+            areas: 0,
+        },
+        relabelled: 0,
+        replies: lists,
+    })
+}
