@@ -1,0 +1,123 @@
+"""The shared object: its structs and its calls, as pathserve.h declares them."""
+from __future__ import annotations
+
+import ctypes
+import enum
+import functools
+import os
+from ctypes import POINTER, c_int32, c_size_t, c_uint8, c_uint16, c_uint32, c_uint64, c_void_p
+
+VERSION_MAJOR, VERSION_MINOR, ANSWERS = 0, 1, 1
+
+
+class Status(enum.IntEnum):
+    DONE = 0
+    BAD_LINE = 3
+    NO_MEMORY = 6
+    TOO_LONG = 7
+    CLOSED = 16
+    OPEN = 17
+    OTHER = 18
+    ENDED = 19
+    NO_MAP = 20
+    BAD_VALUE = 21
+
+
+class Failed(Exception):
+    """A call that ended with another status than DONE."""
+
+    def __init__(self, status: int, text: str = "") -> None:
+        super().__init__(text or Status(status).name)
+        self.status = Status(status)
+
+
+class OutOfMemory(Failed, MemoryError):
+    """There was no memory. The match is as it was, so the call may come again."""
+
+
+class BadLine(Failed):
+    """A line of the script is not in the grammar. The text that waits ends with its number, as `bad line 3`."""
+
+
+class MatchHandle(ctypes.Structure):
+    _fields_ = [("live", c_uint64), ("at", c_void_p)]
+
+
+class ViewHandle(ctypes.Structure):
+    _fields_ = [("live", c_uint64), ("at", c_void_p)]
+
+
+class CellStruct(ctypes.Structure):
+    _fields_ = [("i", c_uint16), ("j", c_uint16)]
+
+
+class PostStruct(ctypes.Structure):
+    _fields_ = [
+        *[(name, c_uint8) for name in ("kind", "caller", "class_number", "goal")],
+        *[(name, c_uint16) for name in ("mask", "zero")],
+        ("id", c_uint32),
+        *[(name, c_int32) for name in ("x", "z", "goal_x", "goal_z", "ux", "uz", "hw", "hh", "radius")],
+    ]
+
+
+class ReplyStruct(ctypes.Structure):
+    _fields_ = [
+        *[(name, c_uint8) for name in ("kind", "caller", "why", "zero")],
+        *[(name, c_uint32) for name in ("post", "id")],
+        *[(name, CellStruct) for name in ("start", "end", "chunk")],
+        *[(name, c_uint16) for name in ("region", "zero_too")],
+        ("area", c_uint32),
+        *[(name, c_uint64) for name in ("waypoints", "first_waypoint", "cost")],
+    ]
+
+
+# by their PATHSERVE_SIZE_..
+STRUCTS = {1: MatchHandle, 2: ViewHandle, 6: PostStruct, 8: ReplyStruct, 9: CellStruct}
+
+MATCH, VIEW, SIZE = POINTER(MatchHandle), POINTER(ViewHandle), POINTER(c_size_t)
+CALLS = {
+    "version": (c_uint32, []),
+    "answers": (c_uint32, []),
+    "size_of": (c_size_t, [c_uint32]),
+    "close": (None, [MATCH]),
+    "open": (c_uint32, [MATCH, c_uint32]),
+    "feed": (c_uint32, [MATCH, c_void_p, c_size_t, SIZE]),
+    "finish": (c_uint32, [MATCH]),
+    "waiting": (c_size_t, [MATCH]),
+    "take": (c_size_t, [MATCH, c_void_p, c_size_t]),
+    "view_of": (c_uint32, [MATCH, VIEW]),
+    "view_again": (c_uint32, [VIEW, VIEW]),
+    "view_close": (None, [VIEW]),
+    "passable": (c_uint32, [VIEW, c_uint32, c_uint32, c_uint32]),
+    "region": (c_uint32, [VIEW, c_uint32, c_uint32, c_uint32]),
+    "area": (c_uint32, [VIEW, c_uint32, c_uint32, c_uint32]),
+    "row": (c_size_t, [VIEW, c_uint32, c_uint32, POINTER(c_uint64), c_size_t]),
+    "find": (c_uint32, [VIEW, POINTER(PostStruct), POINTER(ReplyStruct), POINTER(CellStruct), c_size_t]),
+}
+
+
+def must(status: int) -> None:
+    """Raises a status that is not DONE."""
+    if status == Status.NO_MEMORY:
+        raise OutOfMemory(status)
+    if status == Status.BAD_LINE:
+        raise BadLine(status)
+    if status != Status.DONE:
+        raise Failed(status)
+
+
+@functools.lru_cache(maxsize=None)
+def load(file: str | None = None) -> ctypes.CDLL:
+    """The library of this file, or of PATHSERVE_LIBRARY, or the one that the loader finds. It is loaded once, and refused
+    where its version or one of its structs is another one than this package is made for."""
+    library = ctypes.CDLL(file or os.environ.get("PATHSERVE_LIBRARY", "libpathserve.so.0"))
+    for name, (result, arguments) in CALLS.items():
+        call = getattr(library, "pathserve_" + name)
+        call.restype, call.argtypes = result, arguments
+    version, answers = library.pathserve_version(), library.pathserve_answers()
+    if (version >> 8, answers) != (VERSION_MAJOR << 8 | VERSION_MINOR, ANSWERS):
+        raise ImportError(f"libpathserve has the version {version >> 16}.{version >> 8 & 255} with answers {answers}")
+    for which, struct in STRUCTS.items():
+        if library.pathserve_size_of(which) != ctypes.sizeof(struct):
+            raise ImportError(f"{struct.__name__} has another size in libpathserve")
+    return library

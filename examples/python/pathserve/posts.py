@@ -1,0 +1,141 @@
+"""Requests and their replies. Coordinates and lengths are whole numbers, of which 65,536 are the side of a navcell."""
+from __future__ import annotations
+
+import enum
+import math
+from dataclasses import dataclass
+from typing import NamedTuple, Sequence
+
+from .native import CellStruct, PostStruct, ReplyStruct
+
+NAVCELL = 65536
+
+
+def fixed(navcells: float) -> int:
+    """A length in navcells as a whole number, rounded down."""
+    return math.floor(navcells * NAVCELL)
+
+
+class Post(NamedTuple):
+    """A post, by the fields of the C struct; those that its kind does not use are 0."""
+
+    kind: int
+    caller: int = 0
+    class_number: int = 0
+    goal: int = 0
+    mask: int = 0
+    id: int = 0
+    x: int = 0
+    z: int = 0
+    goal_x: int = 0
+    goal_z: int = 0
+    ux: int = 0
+    uz: int = 0
+    hw: int = 0
+    hh: int = 0
+    radius: int = 0
+
+    def struct(self) -> PostStruct:
+        return PostStruct(**self._asdict())
+
+
+class Goal(NamedTuple):
+    """Where a path shall lead."""
+
+    goal: int
+    goal_x: int = 0
+    goal_z: int = 0
+    ux: int = 0
+    uz: int = 0
+    hw: int = 0
+    hh: int = 0
+    radius: int = 0
+    id: int = 0
+
+    @staticmethod
+    def point(x: int, z: int) -> Goal:
+        return Goal(1, x, z)
+
+    @staticmethod
+    def circle(x: int, z: int, radius: int, outside: bool = False) -> Goal:
+        return Goal(3 if outside else 2, x, z, radius=radius)
+
+    @staticmethod
+    def square(x: int, z: int, ux: int, uz: int, hw: int, hh: int, outside: bool = False) -> Goal:
+        return Goal(5 if outside else 4, x, z, ux, uz, hw, hh)
+
+    @staticmethod
+    def obstruction(number: int, distance: int) -> Goal:
+        return Goal(6, id=number, radius=distance)
+
+
+def path(caller: int, class_number: int, x: int, z: int, goal: Goal) -> Post:
+    """Asks for a path of a class from the point (x, z) to a goal."""
+    return Post(5, caller, class_number, x=x, z=z, **goal._asdict())
+
+
+def region(caller: int, class_number: int, x: int, z: int) -> Post:
+    """Asks in which region and area of a class the point (x, z) lies."""
+    return Post(6, caller, class_number, x=x, z=z)
+
+
+class Kind(enum.IntEnum):
+    REFUSED = 4
+    NOWHERE = 5
+    AT_GOAL = 6
+    NEAR_GOAL = 7
+    IN_REGION = 8
+
+
+class Refusal(enum.IntEnum):
+    BAD_SHAPE = 1
+    UNKNOWN_ID = 4
+    START_OUTSIDE = 6
+    GOAL_OUTSIDE = 7
+
+
+class Cell(NamedTuple):
+    i: int
+    j: int
+
+
+@dataclass(frozen=True)
+class Path:
+    start: Cell
+    end: Cell
+    cost: int
+    waypoints: tuple[Cell, ...]
+
+
+@dataclass(frozen=True)
+class Region:
+    chunk: Cell
+    region: int
+    area: int
+
+
+@dataclass(frozen=True)
+class Reply:
+    """What a request is answered. One of the last three is there, or none (NOWHERE)."""
+
+    kind: Kind
+    why: Refusal | None = None
+    path: Path | None = None
+    region: Region | None = None
+
+
+def cell_of(struct: CellStruct) -> Cell:
+    return Cell(struct.i, struct.j)
+
+
+def reply_of(struct: ReplyStruct, waypoints: Sequence[Cell]) -> Reply:
+    """A reply, with the waypoints of its path."""
+    kind = Kind(struct.kind)
+    found: dict = {}
+    if kind == Kind.REFUSED:
+        found["why"] = Refusal(struct.why)
+    elif kind in (Kind.AT_GOAL, Kind.NEAR_GOAL):
+        found["path"] = Path(cell_of(struct.start), cell_of(struct.end), struct.cost, tuple(waypoints[: struct.waypoints]))
+    elif kind == Kind.IN_REGION:
+        found["region"] = Region(cell_of(struct.chunk), struct.region, struct.area)
+    return Reply(kind, **found)

@@ -1,0 +1,109 @@
+//! The structs and calls of `pathserve.h`, word for word. What each call owes and gives stands there.
+#![no_std]
+
+use core::ffi::c_void;
+
+pub const VERSION: u32 = 1 << 8;
+pub const ANSWERS: u32 = 1;
+
+pub const DONE: u32 = 0;
+pub const BAD_LINE: u32 = 3;
+pub const NO_MEMORY: u32 = 6;
+pub const TOO_LONG: u32 = 7;
+pub const CLOSED: u32 = 16;
+pub const OPEN: u32 = 17;
+pub const OTHER: u32 = 18;
+pub const ENDED: u32 = 19;
+pub const NO_MAP: u32 = 20;
+pub const BAD_VALUE: u32 = 21;
+
+/// A match: all zero before it is opened, written by the library alone, never copied.
+#[repr(C)]
+pub struct Match {
+    pub live: u64,
+    pub at: *mut c_void,
+}
+
+/// A view, as a match.
+#[repr(C)]
+pub struct View {
+    pub live: u64,
+    pub at: *mut c_void,
+}
+
+#[repr(C)]
+#[derive(Clone, Copy, Debug, Default, PartialEq, Eq)]
+pub struct Cell {
+    pub i: u16,
+    pub j: u16,
+}
+
+#[repr(C)]
+#[derive(Clone, Copy, Debug, Default)]
+pub struct Post {
+    pub kind: u8,
+    pub caller: u8,
+    pub class_number: u8,
+    pub goal: u8,
+    pub mask: u16,
+    pub zero: u16,
+    pub id: u32,
+    pub x: i32,
+    pub z: i32,
+    pub goal_x: i32,
+    pub goal_z: i32,
+    pub ux: i32,
+    pub uz: i32,
+    pub hw: i32,
+    pub hh: i32,
+    pub radius: i32,
+}
+
+#[repr(C)]
+#[derive(Clone, Copy, Debug, Default)]
+pub struct Reply {
+    pub kind: u8,
+    pub caller: u8,
+    pub why: u8,
+    pub zero: u8,
+    pub post: u32,
+    pub id: u32,
+    pub start: Cell,
+    pub end: Cell,
+    pub chunk: Cell,
+    pub region: u16,
+    pub zero_too: u16,
+    pub area: u32,
+    pub waypoints: u64,
+    pub first_waypoint: u64,
+    pub cost: u64,
+}
+
+extern "C" {
+    pub fn pathserve_version() -> u32;
+    pub fn pathserve_answers() -> u32;
+    pub fn pathserve_size_of(which: u32) -> usize;
+
+    pub fn pathserve_close(its: *mut Match);
+
+    pub fn pathserve_open(its: *mut Match, report: u32) -> u32;
+    pub fn pathserve_feed(its: *mut Match, bytes: *const u8, length: usize, taken: *mut usize) -> u32;
+    pub fn pathserve_finish(its: *mut Match) -> u32;
+    pub fn pathserve_waiting(its: *mut Match) -> usize;
+    pub fn pathserve_take(its: *mut Match, buffer: *mut u8, length: usize) -> usize;
+
+    pub fn pathserve_view_of(its: *mut Match, view: *mut View) -> u32;
+    pub fn pathserve_view_again(from: *mut View, view: *mut View) -> u32;
+    pub fn pathserve_view_close(view: *mut View);
+    pub fn pathserve_passable(view: *mut View, class_number: u32, i: u32, j: u32) -> u32;
+    pub fn pathserve_region(view: *mut View, class_number: u32, i: u32, j: u32) -> u32;
+    pub fn pathserve_area(view: *mut View, class_number: u32, i: u32, j: u32) -> u32;
+    pub fn pathserve_row(view: *mut View, class_number: u32, j: u32, words: *mut u64, count: usize) -> usize;
+    pub fn pathserve_find(
+        view: *mut View,
+        post: *const Post,
+        reply: *mut Reply,
+        waypoints: *mut Cell,
+        count: usize,
+    ) -> u32;
+}

@@ -1,0 +1,80 @@
+//! Matches and views of libpathserve as owners: what `pathserve.h` asks of its caller holds by their types.
+//!
+//! A [`TextMatch`] and a [`View`] are neither copied nor shared, each call borrows them for itself, they may
+//! move to another thread, and dropping one frees what it has.
+//!
+//! ```no_run
+//! let mut game = pathserve::TextMatch::open(pathserve::Report::Replay)?;
+//! game.feed(&std::fs::read("skirmish.script").unwrap())?;
+//! print!("{}", String::from_utf8_lossy(&game.take()));
+//! # Ok::<(), pathserve::Error>(())
+//! ```
+
+mod matches;
+mod posts;
+mod views;
+
+pub use matches::{Report, TextMatch};
+pub use pathserve_sys::Cell;
+pub use posts::{fixed, Goal, Outcome, Path, Refusal, Request, NAVCELL};
+pub use views::View;
+
+use pathserve_sys as sys;
+
+/// Why a call did not do what was asked. After each of them but the first two the match or the view is as it was.
+#[derive(Clone, Debug, PartialEq, Eq)]
+pub enum Error {
+    /// A line of the script is not in the grammar. The match has stopped, and its text ends with the line's number.
+    BadLine,
+    /// A line or the script is past its limit. The match has stopped.
+    TooLong,
+    /// There was no memory; so many of the bytes that were fed were taken.
+    OutOfMemory { taken: usize },
+    /// The script has been finished.
+    Ended,
+    /// The map line has not come.
+    NoMap,
+    /// A value is no such kind, number or size.
+    BadValue,
+    /// The library that was linked is of another version.
+    OtherVersion,
+}
+
+impl std::fmt::Display for Error {
+    fn fmt(&self, out: &mut std::fmt::Formatter<'_>) -> std::fmt::Result {
+        match self {
+            Error::BadLine => write!(out, "a line is bad"),
+            Error::TooLong => write!(out, "a line or the script is too long"),
+            Error::OutOfMemory { .. } => write!(out, "out of memory"),
+            Error::Ended => write!(out, "the script has been finished"),
+            Error::NoMap => write!(out, "the map line has not come"),
+            Error::BadValue => write!(out, "a value is past its limits"),
+            Error::OtherVersion => write!(out, "libpathserve is of another version"),
+        }
+    }
+}
+
+impl std::error::Error for Error {}
+
+fn must(status: u32) -> Result<(), Error> {
+    match status {
+        sys::DONE => Ok(()),
+        sys::BAD_LINE => Err(Error::BadLine),
+        sys::TOO_LONG => Err(Error::TooLong),
+        sys::NO_MEMORY => Err(Error::OutOfMemory { taken: 0 }),
+        sys::ENDED => Err(Error::Ended),
+        sys::NO_MAP => Err(Error::NoMap),
+        sys::BAD_VALUE => Err(Error::BadValue),
+        other => unreachable!("a handle that an owner has opened is answered {other}"),
+    }
+}
+
+fn same_version() -> Result<(), Error> {
+    // SAFETY: these take nothing.
+    let (version, answers) = unsafe { (sys::pathserve_version(), sys::pathserve_answers()) };
+    if (version >> 8, answers) == (sys::VERSION >> 8, sys::ANSWERS) {
+        Ok(())
+    } else {
+        Err(Error::OtherVersion)
+    }
+}

@@ -1,0 +1,72 @@
+//! Views of what stands.
+use crate::posts::{outcome_of, Outcome, Request};
+use crate::{must, Error};
+use pathserve_sys as sys;
+use std::ptr;
+
+/// What stood when it was made. It may move to another thread; [`View::again`] makes one for one more.
+pub struct View(sys::View);
+
+// SAFETY: a handle may pass to another thread where that is ordered, which a move is.
+unsafe impl Send for View {}
+
+impl View {
+    pub(crate) fn closed() -> View {
+        View(sys::View { live: 0, at: ptr::null_mut() })
+    }
+
+    pub(crate) fn handle(&mut self) -> *mut sys::View {
+        &mut self.0
+    }
+
+    /// Another view of the same.
+    pub fn again(&mut self) -> Result<View, Error> {
+        let mut view = View::closed();
+        // SAFETY: both are exclusive.
+        must(unsafe { sys::pathserve_view_again(&mut self.0, &mut view.0) })?;
+        Ok(view)
+    }
+
+    pub fn passable(&mut self, class_number: u32, i: u32, j: u32) -> bool {
+        // SAFETY: an exclusive handle, as below.
+        unsafe { sys::pathserve_passable(&mut self.0, class_number, i, j) != 0 }
+    }
+
+    /// The number of the cell's region in its chunk, or 0.
+    pub fn region(&mut self, class_number: u32, i: u32, j: u32) -> u32 {
+        unsafe { sys::pathserve_region(&mut self.0, class_number, i, j) }
+    }
+
+    /// The number of the cell's area, or 0: cells of one area can be reached from one another.
+    pub fn area(&mut self, class_number: u32, i: u32, j: u32) -> u32 {
+        unsafe { sys::pathserve_area(&mut self.0, class_number, i, j) }
+    }
+
+    /// Writes which cells of a row are passable, bit i % 64 of word i / 64 for column i, and gives how many words it wrote.
+    pub fn row(&mut self, class_number: u32, j: u32, words: &mut [u64]) -> usize {
+        // SAFETY: the buffer has its length.
+        unsafe { sys::pathserve_row(&mut self.0, class_number, j, words.as_mut_ptr(), words.len()) }
+    }
+
+    /// Answers a path or a region at once, as a turn without edits would. The match knows nothing of it.
+    pub fn find(&mut self, request: &Request) -> Result<Outcome, Error> {
+        let (post, mut reply, mut waypoints) = (request.raw(), sys::Reply::default(), vec![sys::Cell::default(); 64]);
+        loop {
+            // SAFETY: the buffer has its length.
+            must(unsafe {
+                sys::pathserve_find(&mut self.0, &post, &mut reply, waypoints.as_mut_ptr(), waypoints.len())
+            })?;
+            match reply.waypoints as usize {
+                count if count <= waypoints.len() => return Ok(outcome_of(&reply, &waypoints)),
+                count => waypoints.resize(count, sys::Cell::default()),
+            }
+        }
+    }
+}
+
+impl Drop for View {
+    fn drop(&mut self) {
+        // SAFETY: exclusive, and written by the library alone.
+        unsafe { sys::pathserve_view_close(&mut self.0) }
+    }
+}
