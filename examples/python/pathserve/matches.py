@@ -48,7 +48,8 @@ class TextMatch:
     def take(self) -> bytes:
         """The text that waits. None waits then."""
         buffer = ctypes.create_string_buffer(self._library.pathserve_waiting(self._handle))
-        return buffer.raw[: self._library.pathserve_take(self._handle, buffer, len(buffer))]
+        count = self._library.pathserve_take(self._handle, buffer, len(buffer))
+        return buffer.raw[:count]
 
     def view(self) -> View:
         """What stands after the turns that have ended."""
