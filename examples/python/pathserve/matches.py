@@ -2,44 +2,33 @@
 from __future__ import annotations
 
 import ctypes
+
 from . import native
-from .native import must
+from .native import OutOfMemory, Status, must
+from .owners import Owner
 from .views import View
 
 REPORTS = {"replay": 0, "profile": 1, "flow": 2, "smooth": 3}
 
 
-class TextMatch:
+class TextMatch(Owner):
     """A match by the text of its script, as the program plays it with the words `replay`, `profile`, `flow` or `smooth`."""
 
     def __init__(self, report: str = "replay") -> None:
-        self._library = native.load()
-        self._handle = native.MatchHandle()
-        must(self._library.pathserve_open(self._handle, REPORTS[report]))
-
-    def close(self) -> None:
-        """Frees what the match has. Closing twice is no harm."""
-        self._library.pathserve_close(self._handle)
-
-    def __enter__(self) -> TextMatch:
-        return self
-
-    def __exit__(self, *_) -> None:
-        self.close()
-
-    def __del__(self) -> None:
-        if getattr(self, "_handle", None) is not None:
-            self.close()
-
-    def __copy__(self):
-        raise TypeError("a match is not copied")
-
-    __deepcopy__ = __reduce__ = lambda self, *_: self.__copy__()
+        library = native.load()
+        super().__init__(library, native.MatchHandle(), library.pathserve_close)
+        must(library.pathserve_open(self._handle, REPORTS[report]))
 
     def feed(self, script: bytes) -> None:
-        """Feeds the next bytes, cut anywhere. What is told waits, also where this raises BadLine."""
+        """Feeds the next bytes, cut anywhere. What is told waits, also where this raises BadLine.
+
+        Where it raises OutOfMemory, only the first `taken` bytes were taken: feed the others again.
+        """
         taken = ctypes.c_size_t()
-        must(self._library.pathserve_feed(self._handle, script, len(script), taken))
+        status = self._library.pathserve_feed(self._handle, script, len(script), taken)
+        if status == Status.NO_MEMORY:
+            raise OutOfMemory(taken.value)
+        must(status)
 
     def finish(self) -> None:
         """Tells that no more bytes come."""

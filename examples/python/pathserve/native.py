@@ -32,7 +32,11 @@ class Failed(Exception):
 
 
 class OutOfMemory(Failed, MemoryError):
-    """There was no memory. The match is as it was, so the call may come again."""
+    """There was no memory. Nothing is lost: the call may come again, and after `feed` with the bytes behind the first `taken`."""
+
+    def __init__(self, taken: int = 0) -> None:
+        super().__init__(Status.NO_MEMORY)
+        self.taken = taken
 
 
 class BadLine(Failed):
@@ -99,7 +103,7 @@ CALLS = {
 def must(status: int) -> None:
     """Raises a status that is not DONE."""
     if status == Status.NO_MEMORY:
-        raise OutOfMemory(status)
+        raise OutOfMemory
     if status == Status.BAD_LINE:
         raise BadLine(status)
     if status != Status.DONE:

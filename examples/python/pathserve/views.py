@@ -5,33 +5,15 @@ import ctypes
 
 from . import native
 from .native import must
+from .owners import Owner
 from .posts import Post, Reply, cell_of, reply_of
 
 
-class View:
+class View(Owner):
     """What stood when it was made. One thread uses it at a time; `again` makes another one for another thread."""
 
     def __init__(self, library: ctypes.CDLL) -> None:
-        self._library = library
-        self._handle = native.ViewHandle()
-
-    def close(self) -> None:
-        self._library.pathserve_view_close(self._handle)
-
-    def __enter__(self) -> View:
-        return self
-
-    def __exit__(self, *_) -> None:
-        self.close()
-
-    def __del__(self) -> None:
-        if getattr(self, "_handle", None) is not None:
-            self.close()
-
-    def __copy__(self):
-        raise TypeError("a view is not copied: `again` makes another one")
-
-    __deepcopy__ = __reduce__ = lambda self, *_: self.__copy__()
+        super().__init__(library, native.ViewHandle(), library.pathserve_view_close)
 
     def again(self) -> View:
         """Another view of the same."""
