@@ -13,3 +13,4 @@ pub mod NewDrivers
 pub mod HeardPorts
 pub mod ReachedServices
 pub mod FreshCallers
+pub mod CallerSteps

@@ -22,5 +22,5 @@ mod services;
 pub use callers::{Caller, Callers, EndedCaller, EndedCallers};
 pub use closing::{Closed, ClosedCaller, ClosedCallers};
 pub use drivers::Driver;
-pub use laws::closed_services_are_reached;
+pub use laws::{closed_services_are_reached, collected_replies_are_steps, posts_are_steps};
 pub use services::start_service;

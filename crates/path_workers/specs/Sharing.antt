@@ -5,7 +5,7 @@ use Rattle.goal_shapes.specs.declared.goals.Goal.{Goal}
 use Rattle.goal_shapes.specs.Limits.{middle_x, middle_z}
 use Rattle.posts.specs.declared.edits.Refusal.{Refusal}
 use Rattle.posts.specs.declared.notes.Report.{Report}
-use Rattle.posts.specs.declared.notes.Report.TheVariants.{Answers, OpenedNumbers, Flows, Smoothed}
+use Rattle.posts.specs.declared.notes.Report.TheVariants.{Flows}
 use Rattle.posts.specs.declared.posts.Request.{Request}
 use Rattle.posts.specs.declared.posts.Request.TheVariants.{Path, Region}
 use Rattle.posts.specs.Maps.{Map}
@@ -23,10 +23,8 @@ distance_to x z goal = max (apart x (middle_x goal)) (apart z (middle_z goal))
 
 -- the work of a path whose goal lies so far away, in navcells; where a flow field is made for it, that of a worker
 abbrev pub path_work : Report → ℕ → ℕ
-path_work Answers distance = LEAST_WORK + square distance
-path_work OpenedNumbers distance = LEAST_WORK + square distance
-path_work Smoothed distance = LEAST_WORK + square distance
 path_work Flows distance = WORK_OF_A_WORKER
+path_work _ distance = LEAST_WORK + square distance
 
 -- the work of a path from a point to the goal that it names; none where that is refused
 abbrev pub work_to : Report → ℤ → ℤ → Result Goal Refusal → ℕ

@@ -67,8 +67,7 @@ fn path_work(report: Report, distance: u64) -> u64
 {
     match report {
         Report::Flows => WORK_OF_A_WORKER,
-        Report::Answers | Report::OpenedNumbers | Report::Smoothed => LEAST_WORK
-            + distance * distance,
+        _ => LEAST_WORK + distance * distance,
     }
 }
 

@@ -1,9 +1,9 @@
 //! The program as one call, [`run`]: words, a script in, answers out, a status.
 //!
 //! ```text
-//!    words --> Command --> replay, profile, flow, smooth    run_replay
-//!                          serve                            run_serve
-//!                          make                             run_make
+//!    words --> Command --> a report on a script     run_replay
+//!                          serve                    run_serve
+//!                          make                     run_make
 //! ```
 //!
 //! [`run`]'s contract is the program's promise. Under `replay` the answers to a turn are written before more is read;
