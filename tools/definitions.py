@@ -17,7 +17,7 @@ The definitions that the contracts of public functions name, crate by crate from
 
 Lengths and coordinates are raw numbers, 65536 to a navcell, unless a definition says otherwise. A straight step costs 65536 and a diagonal one 92682.
 """
-FUNCTION = re.compile(r"(?ms)^( *)(pub )?(?:const )?(?:unsafe )?fn \w+(.*?)^\1\{")
+FUNCTION = re.compile(r'(?ms)^( *)(pub )?(?:const )?(?:unsafe )?(?:extern "C" )?fn \w+(.*?)^\1\{')
 
 
 def sources(crate):

@@ -105,7 +105,7 @@ def words_in(text):
 
 def crate_names():
     """The crates from the bottom up, as `crates.txt` lists them."""
-    return re.findall(r"(?m)^(\w+):", read("crates.txt"))
+    return re.findall(r"(?m)^(\w+)[^#:\n]*:", read("crates.txt"))
 
 
 def all_modules():
