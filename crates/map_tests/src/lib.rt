@@ -35,6 +35,8 @@ mod line_smooth_tests;
 #[cfg(test)]
 mod nav_types_tests;
 #[cfg(test)]
+mod navcell_grid_tests;
+#[cfg(test)]
 mod obstruction_shapes_tests;
 #[cfg(test)]
 mod obstruction_store_tests;

@@ -53,6 +53,17 @@ fn area_in(table: &AreaTable, regions: &[u16], id: RegionId) -> Option<u32>
     }
 }
 
+/// Whether the two are regions of one area. None where one is no region.
+fn same_in(table: &AreaTable, regions: &[u16], one: RegionId, other: RegionId) -> Option<bool>
+    requires { table.now.regions ≡ regions.now }
+{
+    if exists(regions, one) && exists(regions, other) {
+        Some(table.same(one, other))
+    } else {
+        None
+    }
+}
+
 /// Whether these are the areas of all regions in order, and last the number of areas.
 fn has_areas(
     alloc: Global,
@@ -90,6 +101,17 @@ fn numbers_areas_by_their_first_regions(rt: HostRuntime) {
     ] {
         assert!(rt; has_areas(rt.alloc(), regions, joined, wanted) == Ok(true));
     }
+}
+
+#[test]
+fn joined_regions_are_of_one_area(rt: HostRuntime) -> Result<(), Fail> {
+    let regions = [2, 1, 3];
+    let pairs = [(id(2, 3), id(1, 1)), (id(1, 1), id(0, 1))];
+    let table = table_of(rt.alloc(), &regions, &pairs)?;
+    assert!(rt; same_in(&table, &regions, id(0, 1), id(2, 3)) == Some(true));
+    assert!(rt; same_in(&table, &regions, id(0, 1), id(0, 2)) == Some(false));
+    assert!(rt; same_in(&table, &regions, id(2, 2), id(2, 2)) == Some(true));
+    Ok(())
 }
 
 /// The regions of ten chunks of 10,000, in order.
