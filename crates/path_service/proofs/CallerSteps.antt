@@ -1,5 +1,5 @@
 -- A post and a collected reply are steps of the turn machine.
-use Rattle.std.proofs.Common.{◌≡◌, ℕ, ◌+◌, ◌<◌, List, [], ◌∷◌, ◌++◌, Option, None, Some, length, set, slice_index, refl, sym, ap, ◌∙◌, arith, append_assoc, length-append}
+use Rattle.std.proofs.Common.{◌≡◌, ℕ, ◌+◌, ◌<◌, List, [], ◌∷◌, ◌++◌, Some, length, slice_index, refl, sym, ap, ◌∙◌, arith, append_assoc, length-append}
 use Rattle.std.specs.Prelude.{nat_lt, slice_get}
 use Rattle.std.proofs.lemmas.Bool.{lt-ltb}
 use Rattle.std.proofs.lemmas.List.{length-set, get_or-set_same, get_or_at}
@@ -10,10 +10,9 @@ use Rattle.posts.specs.Callers.{list_of}
 use Rattle.turn_core.specs.declared.events.Why.TheVariants.{Callers, Collected}
 use Rattle.turn_core.specs.States.{State}
 use Rattle.turn_core.specs.Table.{why_no_caller, why_collected}
-use Rattle.turn_core.specs.Effects.{posted, collected}
 use Rattle.turn_core.proofs.Reaching.{none_or, none_unless}
 use Rattle.path_service.specs.Callers.{CallerState}
-use Rattle.path_service.specs.CallerSteps.{HasListsOf, PostsInStep, CollectsInStep, with_posted, with_collected}
+use Rattle.path_service.specs.CallerSteps.{HasListsOf, PostsInStep, CollectsInStep}
 
 pub posts_in_step : (s : State) (caller : CallerState) (post : Post) (next : List Reply) → HasListsOf s caller next → PostsInStep s caller post next
 posts_in_step s caller post next has =
@@ -39,12 +38,12 @@ collects_in_step s caller reply next has =
     let k : ℕ = length caller.collected in
     let replies : List Reply = list_of s.replies n in
     let low : n < length s.collected = let wide = has.wide.1 in let known = has.known in omega arith in
-    let long : length replies ≡ k + (1 + length next) = ap length has.replies ∙ length-append caller.collected (reply ∷ next) in
+    let long : length replies ≡ k + length (reply ∷ next) = ap length has.replies ∙ length-append caller.collected (reply ∷ next) in
     let few : slice_index s.collected n < length replies = let count = has.count in omega arith in
     let here : slice_get replies (slice_index s.collected n) ≡ Some reply =
     ap (slice_get replies) has.count ∙ ap (λ (l : List Reply). slice_get l k) has.replies
-      ∙ slice_get-get_or (caller.collected ++ reply ∷ next) k reply (let more = length-append caller.collected (reply ∷ next) in omega arith)
-      ∙ ap (λ (r : Reply). Some r) (get_or_at caller.collected reply next reply k refl) in
+    ∙ slice_get-get_or (caller.collected ++ reply ∷ next) k reply (let more = length-append caller.collected (reply ∷ next) in omega arith)
+    ∙ ap (λ (r : Reply). Some r) (get_or_at caller.collected reply next reply k refl) in
     record {
       step = record {
         enabled = none_or (why_no_caller s.map.callers n) (why_collected (slice_index s.collected n) (length replies))

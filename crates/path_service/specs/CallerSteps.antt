@@ -1,5 +1,5 @@
 -- What the calls of a caller are: steps of the turn machine.
-use Rattle.std.specs.Prelude.{ℕ, ◌≡◌, ◌<◌, None, Some, List, [], ◌∷◌, ◌++◌, length, slice_index}
+use Rattle.std.specs.Prelude.{◌≡◌, ◌<◌, None, Some, List, [], ◌∷◌, ◌++◌, length, slice_index}
 use Rattle.posts.specs.declared.posts.Post.{Post}
 use Rattle.posts.specs.declared.replies.Reply.{Reply}
 use Rattle.posts.specs.Callers.{list_of}
