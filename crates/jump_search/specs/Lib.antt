@@ -1,2 +1,3 @@
 pub mod JumpStates
+pub mod Questions
 pub mod inner

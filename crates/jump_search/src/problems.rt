@@ -2,6 +2,15 @@
 use jump_scan::Runs;
 use nav_types::{Aim, Cell, Class};
 
+/// What a search is asked: a map that answers runs, a class of it, the cell from which to go, and the cells to look for.
+#[derive(Drop)]
+pub struct Question<'q, R: Runs, A: Aim> {
+    pub runs: &'q R,
+    pub class: Class,
+    pub start: Cell,
+    pub aim: &'q A,
+}
+
 /// What is searched: a map that answers runs, a class of it, the cell from which the search goes, the cells that it looks
 /// for, and whether each jump state within the cost of the answer is opened.
 #[derive(Drop)]

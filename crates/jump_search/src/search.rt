@@ -2,10 +2,11 @@
 ghost use Rattle.std.specs.Prelude.{◌≡◌, ◌<◌, ◌+◌, IsTrue, IfOk};
 ghost use Rattle.walks.specs.Chosen.{IsAnswer};
 ghost use Rattle.jump_search.specs.JumpStates.{CanSearch, CountsOpened, IsWithinOpened};
+ghost use Rattle.jump_search.specs.Questions.{Traces};
 
 use crate::framed::Framed;
 use crate::front::Front;
-use crate::problems::Problem;
+use crate::problems::{Problem, Question};
 use crate::searching::searched;
 use crate::tracing::traced;
 use jump_scan::{CellRuns, Runs};
@@ -41,38 +42,39 @@ pub struct Traced {
 fn answered<R: Runs, A: Aim, L: Ledger>(
     front: &mut Front,
     alloc: Global,
-    problem: &Problem<'_, R, A>,
+    question: &Question<'_, R, A>,
+    all: bool,
     ticks: &mut Ticks<L>,
 ) -> Result<Traced, NoMemory>
-    requires class { problem.now.class < R.class_count problem.now.runs.now }
-    requires search { CanSearch (R.passes problem.now.runs.now problem.now.class)
-        (A.hit problem.now.aim.now (R.extent problem.now.runs.now))
-        (A.sound problem.now.aim.now (R.extent problem.now.runs.now)) problem.now.start }
-    ensures answer { IfOk result (λ traced. IsAnswer (R.passes problem.now.runs.now problem.now.class)
-        problem.now.start (A.hit problem.now.aim.now (R.extent problem.now.runs.now))
+    requires class { question.now.class < R.class_count question.now.runs.now }
+    requires search { CanSearch (R.passes question.now.runs.now question.now.class)
+        (A.hit question.now.aim.now (R.extent question.now.runs.now))
+        (A.sound question.now.aim.now (R.extent question.now.runs.now)) question.now.start }
+    ensures answer { IfOk result (λ traced. IsAnswer (R.passes question.now.runs.now question.now.class)
+        question.now.start (A.hit question.now.aim.now (R.extent question.now.runs.now))
         traced.found.end traced.found.cost.0 traced.found.waypoints) }
-    ensures opened { IfOk result (λ traced. IsTrue problem.now.all → CountsOpened
-        (R.passes problem.now.runs.now problem.now.class)
-        (A.hit problem.now.aim.now (R.extent problem.now.runs.now)) (A.framed problem.now.aim.now
-        (R.extent problem.now.runs.now)) (R.extent problem.now.runs.now) problem.now.start
+    ensures opened { IfOk result (λ traced. IsTrue all → CountsOpened
+        (R.passes question.now.runs.now question.now.class)
+        (A.hit question.now.aim.now (R.extent question.now.runs.now)) (A.framed question.now.aim.now
+        (R.extent question.now.runs.now)) (R.extent question.now.runs.now) question.now.start
         traced.found.cost.0 traced.opened) }
     ensures ticks { IfOk result (λ traced. ticks.new ≡ ticks.old + traced.opened) }
-    ensures most { IsWithinOpened (R.passes problem.now.runs.now problem.now.class) (A.hit problem.now.aim.now
-        (R.extent problem.now.runs.now))
-        (A.framed problem.now.aim.now (R.extent problem.now.runs.now)) (R.extent problem.now.runs.now)
-        problem.now.start ticks.old ticks.new }
+    ensures most { IsWithinOpened (R.passes question.now.runs.now question.now.class) (A.hit question.now.aim.now
+        (R.extent question.now.runs.now))
+        (A.framed question.now.aim.now (R.extent question.now.runs.now)) (R.extent question.now.runs.now)
+        question.now.start ticks.old ticks.new }
 {
     let framed = Framed {
-        aim: problem.aim,
-        rect: problem.aim.bounds(problem.runs.size()),
+        aim: question.aim,
+        rect: question.aim.bounds(question.runs.size()),
     };
-    let start = problem.start;
+    let start = question.start;
     let within = Problem {
-        runs: problem.runs,
-        class: problem.class,
+        runs: question.runs,
+        class: question.class,
         start,
         aim: &framed,
-        all: problem.all,
+        all,
     };
     let search = searched(front, &within, ticks)?;
     let Some(best) = search.best else {
@@ -90,68 +92,92 @@ fn answered<R: Runs, A: Aim, L: Ledger>(
     })
 }
 
-/// The chosen walk from the start to the first in cell order of the nearest cells that the aim hits, and the opened
-/// number: how many jump states have a least pruned cost that, with the octile distance to the rectangle of the aim, is
-/// within the cost of the answer. The start must be passable, and some hit cell must be joined to it.
+/// Jump searches for the answer to a question, which is the chosen walk from its start to the first in cell order of the
+/// nearest cells that its aim hits. The start must be passable, and some hit cell must be joined to it.
 ///
-/// Each opened jump state is one tick, so that the ticks are the opened number, and no more than it where memory runs out.
-/// It takes no memory but that of its answer where an earlier search in the pool has taken as much.
-pub fn jump_search_in<R: Runs, A: Aim, L: Ledger>(
-    pool: &mut Pool,
-    alloc: Global,
-    runs: &R,
-    class: Class,
-    start: Cell,
-    aim: &A,
-    ticks: &mut Ticks<L>,
-) -> Result<Traced, NoMemory>
-    requires class { class < R.class_count runs.now }
-    requires search { CanSearch (R.passes runs.now class) (A.hit aim.now (R.extent runs.now))
-        (A.sound aim.now (R.extent runs.now)) start }
-    ensures answer { IfOk result (λ traced. IsAnswer (R.passes runs.now class) start (A.hit aim.now
-        (R.extent runs.now))
-        traced.found.end traced.found.cost.0 traced.found.waypoints) }
-    ensures opened { IfOk result (λ traced. CountsOpened (R.passes runs.now class)
-        (A.hit aim.now (R.extent runs.now)) (A.framed aim.now (R.extent runs.now)) (R.extent runs.now) start
-        traced.found.cost.0 traced.opened) }
-    ensures ticks { IfOk result (λ traced. ticks.new ≡ ticks.old + traced.opened) }
-    ensures most { IsWithinOpened (R.passes runs.now class) (A.hit aim.now (R.extent runs.now))
-        (A.framed aim.now (R.extent runs.now)) (R.extent runs.now) start ticks.old ticks.new }
-{
-    let problem = Problem {
-        runs,
-        class,
-        start,
-        aim,
-        all: true,
-    };
-    answered(&mut pool.front, alloc, &problem, ticks)
+/// Contracts see the question in the terms of the field (`Asked`).
+pub trait JumpSearch {
+    ghost use Rattle.jump_search.specs.Questions.{Asked, Finds, Traces};
+
+    ghost can_search: { Self → Type 0 };
+
+    ghost asked: { Self → Asked };
+
+    /// The answer, and the opened number: how many jump states have a least pruned cost that, with the octile distance to
+    /// the rectangle of the aim, is within the cost of the answer.
+    ///
+    /// Each opened jump state is one tick, so that the ticks are the opened number, and no more than it where memory runs
+    /// out. It takes no memory but that of its answer where an earlier search in the pool has taken as much.
+    fn jump_search_in<L: Ledger>(
+        &self,
+        pool: &mut Pool,
+        alloc: Global,
+        ticks: &mut Ticks<L>,
+    ) -> Result<Traced, NoMemory>
+        requires { can_search self.now }
+        ensures { Traces (asked self.now) ticks.old ticks.new result };
+
+    /// The answer alone, for less: it opens no jump state that is costlier than another of its cell.
+    ///
+    /// Each that it opens is one tick, so there are no more than the opened number, also where memory runs out. It takes no
+    /// memory but that of its answer where an earlier search in the pool has taken as much.
+    fn jump_find_in<L: Ledger>(
+        &self,
+        pool: &mut Pool,
+        alloc: Global,
+        ticks: &mut Ticks<L>,
+    ) -> Result<Found, NoMemory>
+        requires { can_search self.now }
+        ensures { Finds (asked self.now) ticks.old ticks.new result };
 }
 
-/// As [`jump_search_in`], in a pool of its own.
-pub fn jump_search_with<R: Runs, A: Aim, L: Ledger>(
+impl<'q, R: Runs, A: Aim> JumpSearch for Question<'q, R, A> {
+    ghost use Rattle.std.specs.Prelude.{◌<◌};
+    ghost use Rattle.jump_search.specs.JumpStates.{CanSearch};
+
+    ghost can_search = { λ q. (q.class < R.class_count q.runs.now)
+        × CanSearch (R.passes q.runs.now q.class) (A.hit q.aim.now (R.extent q.runs.now))
+        (A.sound q.aim.now (R.extent q.runs.now)) q.start };
+
+    ghost asked = { λ q. record {
+      passes = R.passes q.runs.now q.class;
+      start = q.start;
+      hit = A.hit q.aim.now (R.extent q.runs.now);
+      framed = A.framed q.aim.now (R.extent q.runs.now);
+      size = R.extent q.runs.now;
+    } };
+
+    fn jump_search_in<L: Ledger>(
+        &self,
+        pool: &mut Pool,
+        alloc: Global,
+        ticks: &mut Ticks<L>,
+    ) -> Result<Traced, NoMemory> {
+        answered(&mut pool.front, alloc, self, true, ticks)
+    }
+
+    fn jump_find_in<L: Ledger>(
+        &self,
+        pool: &mut Pool,
+        alloc: Global,
+        ticks: &mut Ticks<L>,
+    ) -> Result<Found, NoMemory> {
+        let traced = answered(&mut pool.front, alloc, self, false, ticks)?;
+        Ok(traced.found)
+    }
+}
+
+/// As [`JumpSearch::jump_search_in`], in a pool of its own.
+pub fn jump_search_with<Q: JumpSearch, L: Ledger>(
     alloc: Global,
-    runs: &R,
-    class: Class,
-    start: Cell,
-    aim: &A,
+    question: &Q,
     ticks: &mut Ticks<L>,
 ) -> Result<Traced, NoMemory>
-    requires class { class < R.class_count runs.now }
-    requires search { CanSearch (R.passes runs.now class) (A.hit aim.now (R.extent runs.now))
-        (A.sound aim.now (R.extent runs.now)) start }
-    ensures answer { IfOk result (λ traced. IsAnswer (R.passes runs.now class) start (A.hit aim.now
-        (R.extent runs.now))
-        traced.found.end traced.found.cost.0 traced.found.waypoints) }
-    ensures opened { IfOk result (λ traced. CountsOpened (R.passes runs.now class)
-        (A.hit aim.now (R.extent runs.now)) (A.framed aim.now (R.extent runs.now)) (R.extent runs.now) start
-        traced.found.cost.0 traced.opened) }
-    ensures ticks { IfOk result (λ traced. ticks.new ≡ ticks.old + traced.opened) }
-    ensures most { IsWithinOpened (R.passes runs.now class) (A.hit aim.now (R.extent runs.now))
-        (A.framed aim.now (R.extent runs.now)) (R.extent runs.now) start ticks.old ticks.new }
+    requires { Q.can_search question.now }
+    ensures { Traces (Q.asked question.now) ticks.old ticks.new result }
 {
     let mut pool = Pool::new(alloc)?;
-    jump_search_in(&mut pool, alloc, runs, class, start, aim, ticks)
+    question.jump_search_in(&mut pool, alloc, ticks)
 }
 
 /// As [`jump_search_with`], over any view, cell by cell.
@@ -166,93 +192,19 @@ pub fn jump_search<V: View, A: Aim, L: Ledger>(
     requires class { class < V.class_count view.now }
     requires search { CanSearch (V.passes view.now class) (A.hit aim.now (V.extent view.now))
         (A.sound aim.now (V.extent view.now)) start }
-    ensures answer { IfOk result (λ traced. IsAnswer (V.passes view.now class) start (A.hit aim.now
-        (V.extent view.now))
-        traced.found.end traced.found.cost.0 traced.found.waypoints) }
-    ensures opened { IfOk result (λ traced. CountsOpened (V.passes view.now class)
-        (A.hit aim.now (V.extent view.now)) (A.framed aim.now (V.extent view.now)) (V.extent view.now) start
-        traced.found.cost.0 traced.opened) }
-    ensures ticks { IfOk result (λ traced. ticks.new ≡ ticks.old + traced.opened) }
-    ensures most { IsWithinOpened (V.passes view.now class) (A.hit aim.now (V.extent view.now))
-        (A.framed aim.now (V.extent view.now)) (V.extent view.now) start ticks.old ticks.new }
+    ensures { Traces (record {
+      passes = V.passes view.now class;
+      start = start;
+      hit = A.hit aim.now (V.extent view.now);
+      framed = A.framed aim.now (V.extent view.now);
+      size = V.extent view.now;
+    }) ticks.old ticks.new result }
 {
-    jump_search_with(alloc, &CellRuns::new(view), class, start, aim, ticks)
-}
-
-/// The chosen walk from the start to the first in cell order of the nearest cells that the aim hits. The start must be
-/// passable, and some hit cell must be joined to it.
-///
-/// It opens no jump state that is dearer than another of its cell. Each that it opens is one tick, so there are no more
-/// than the opened number of [`jump_search_in`], also where memory runs out. It takes no memory but that of its answer
-/// where an earlier search in the pool has taken as much.
-pub fn jump_find_in<R: Runs, A: Aim, L: Ledger>(
-    pool: &mut Pool,
-    alloc: Global,
-    runs: &R,
-    class: Class,
-    start: Cell,
-    aim: &A,
-    ticks: &mut Ticks<L>,
-) -> Result<Found, NoMemory>
-    requires class { class < R.class_count runs.now }
-    requires search { CanSearch (R.passes runs.now class) (A.hit aim.now (R.extent runs.now))
-        (A.sound aim.now (R.extent runs.now)) start }
-    ensures answer { IfOk result (λ found. IsAnswer (R.passes runs.now class) start (A.hit aim.now
-        (R.extent runs.now))
-        found.end found.cost.0 found.waypoints) }
-    ensures most { IsWithinOpened (R.passes runs.now class) (A.hit aim.now (R.extent runs.now))
-        (A.framed aim.now (R.extent runs.now)) (R.extent runs.now) start ticks.old ticks.new }
-{
-    let problem = Problem {
-        runs,
+    let question = Question {
+        runs: &CellRuns::new(view),
         class,
         start,
         aim,
-        all: false,
     };
-    let traced = answered(&mut pool.front, alloc, &problem, ticks)?;
-    Ok(traced.found)
-}
-
-/// As [`jump_find_in`], in a pool of its own.
-pub fn jump_find_with<R: Runs, A: Aim, L: Ledger>(
-    alloc: Global,
-    runs: &R,
-    class: Class,
-    start: Cell,
-    aim: &A,
-    ticks: &mut Ticks<L>,
-) -> Result<Found, NoMemory>
-    requires class { class < R.class_count runs.now }
-    requires search { CanSearch (R.passes runs.now class) (A.hit aim.now (R.extent runs.now))
-        (A.sound aim.now (R.extent runs.now)) start }
-    ensures answer { IfOk result (λ found. IsAnswer (R.passes runs.now class) start (A.hit aim.now
-        (R.extent runs.now))
-        found.end found.cost.0 found.waypoints) }
-    ensures most { IsWithinOpened (R.passes runs.now class) (A.hit aim.now (R.extent runs.now))
-        (A.framed aim.now (R.extent runs.now)) (R.extent runs.now) start ticks.old ticks.new }
-{
-    let mut pool = Pool::new(alloc)?;
-    jump_find_in(&mut pool, alloc, runs, class, start, aim, ticks)
-}
-
-/// As [`jump_find_with`], over any view, cell by cell.
-pub fn jump_find<V: View, A: Aim, L: Ledger>(
-    alloc: Global,
-    view: &V,
-    class: Class,
-    start: Cell,
-    aim: &A,
-    ticks: &mut Ticks<L>,
-) -> Result<Found, NoMemory>
-    requires class { class < V.class_count view.now }
-    requires search { CanSearch (V.passes view.now class) (A.hit aim.now (V.extent view.now))
-        (A.sound aim.now (V.extent view.now)) start }
-    ensures answer { IfOk result (λ found. IsAnswer (V.passes view.now class) start (A.hit aim.now
-        (V.extent view.now))
-        found.end found.cost.0 found.waypoints) }
-    ensures most { IsWithinOpened (V.passes view.now class) (A.hit aim.now (V.extent view.now))
-        (A.framed aim.now (V.extent view.now)) (V.extent view.now) start ticks.old ticks.new }
-{
-    jump_find_with(alloc, &CellRuns::new(view), class, start, aim, ticks)
+    jump_search_with(alloc, &question, ticks)
 }

@@ -13,7 +13,7 @@ use cell_search::cell_find;
 use class_planes::{PlaneRuns, Planes};
 use grid_versions::Version;
 use jump_scan::CellRuns;
-use jump_search::{Pool, jump_find, jump_find_in, jump_find_with, jump_search, jump_search_with};
+use jump_search::{JumpSearch, Pool, Question, jump_search, jump_search_with};
 use nav_types::{Class, NoMemory, Size, Ticks, View};
 use navcell_grid::Grid;
 use std::alloc::Global;
@@ -117,8 +117,14 @@ fn answers_in_pool<L: Ledger>(
     if !aim.rect.is_inside(runs.size()) || !is_fit(&runs, class, start, search.points, aim) {
         return Ok(false);
     }
+    let question = Question {
+        runs: &runs,
+        class,
+        start,
+        aim,
+    };
     let mut ticks = Ticks::<L>::new(blank);
-    let found = jump_find_in(pool, alloc, &runs, class, start, aim, &mut ticks)?;
+    let found = question.jump_find_in(pool, alloc, &mut ticks)?;
     Ok(is_found(search, &found))
 }
 
@@ -146,7 +152,8 @@ fn answers_by_cells<L: Ledger>(
     Ok(is_found(search, &found))
 }
 
-/// Whether both searches answer as they should, and so many jump states are opened, where they are counted in a ledger.
+/// Whether the search over the cells answers as it should, and so many jump states are opened, where they are counted in a
+/// ledger.
 fn answers_counted<L: Ledger>(
     alloc: Global,
     map: &Grid,
@@ -164,10 +171,6 @@ fn answers_counted<L: Ledger>(
         return Ok(false);
     }
     let mut ticks = Ticks::<L>::new(blank);
-    let found = jump_find(alloc, map, class, start, aim, &mut ticks)?;
-    if !is_found(search, &found) {
-        return Ok(false);
-    }
     let traced = jump_search(alloc, map, class, start, aim, &mut ticks)?;
     Ok(traced.opened == opened && is_found(search, &traced.found))
 }
@@ -224,8 +227,15 @@ fn answers_by_planes<L: Ledger>(
     if !aim.rect.is_inside(runs.size()) || !is_fit(&runs, class, start, search.points, aim) {
         return Ok(false);
     }
+    let question = Question {
+        runs: &runs,
+        class,
+        start,
+        aim,
+    };
     let mut ticks = Ticks::<L>::new(blank);
-    let found = jump_find_with(alloc, &runs, class, start, aim, &mut ticks)?;
+    let mut pool = Pool::new(alloc)?;
+    let found = question.jump_find_in(&mut pool, alloc, &mut ticks)?;
     if !is_found(search, &found) {
         return Ok(false);
     }
@@ -284,12 +294,19 @@ fn answers_over<L: Ledger>(
         return Ok(false);
     }
     runs.reset();
+    let question = Question {
+        runs,
+        class,
+        start,
+        aim,
+    };
     let mut ticks = Ticks::<L>::new(blank);
-    let found = jump_find_with(alloc, runs, class, start, aim, &mut ticks)?;
+    let mut pool = Pool::new(alloc)?;
+    let found = question.jump_find_in(&mut pool, alloc, &mut ticks)?;
     if !is_found(search, &found) {
         return Ok(false);
     }
-    let traced = jump_search_with(alloc, runs, class, start, aim, &mut ticks)?;
+    let traced = jump_search_with(alloc, &question, &mut ticks)?;
     Ok(traced.opened == opened && is_found(search, &traced.found))
 }
 

@@ -5,7 +5,7 @@ ghost use Rattle.turn_core.specs.inner.Searching.{CanFind, IsFoundTo};
 use class_planes::PlaneRuns;
 use goal_reach::Target;
 use grid_versions::Version;
-use jump_search::{Pool, jump_find_in};
+use jump_search::{JumpSearch, Pool, Question};
 use nav_types::{Cell, Class, NoMemory, Ticks};
 use std::alloc::Global;
 use std::marker::Brand;
@@ -45,14 +45,12 @@ impl<'a> Search<'a> {
     {
         let runs = PlaneRuns::new(self.version, self.version.planes(), self.class);
         let mut ticks = Ticks::<L>::new(blank);
-        jump_find_in(
-            pool,
-            alloc,
-            &runs,
-            self.class,
-            self.start,
-            self.target,
-            &mut ticks,
-        )
+        let question = Question {
+            runs: &runs,
+            class: self.class,
+            start: self.start,
+            aim: self.target,
+        };
+        question.jump_find_in(pool, alloc, &mut ticks)
     }
 }

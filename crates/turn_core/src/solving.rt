@@ -27,7 +27,7 @@ use fixed_point::Fixed;
 use goal_reach::{Target, made_reachable, nearest_passable};
 use goal_shapes::{Goal, GoalSpec, cell_of_point};
 use grid_versions::{Refusal, Version};
-use jump_search::{Pool, Traced, jump_search_in};
+use jump_search::{JumpSearch, Pool, Question, Traced};
 use line_smooth::smooth;
 use nav_types::{Aim, Areas, Cell, Class, NoMemory, Ticks, View};
 use posts::{Answer, FlowLine, Note, Noted, PathAnswer, RegionAnswer, Report, Request};
@@ -317,15 +317,13 @@ impl<'a> Search<'a> {
         let _box = self.target.bounds(self.version.size());
         let runs = PlaneRuns::new(self.version, self.version.planes(), self.class);
         let mut ticks = Ticks::<L>::new(blank);
-        jump_search_in(
-            pool,
-            alloc,
-            &runs,
-            self.class,
-            self.start,
-            self.target,
-            &mut ticks,
-        )
+        let question = Question {
+            runs: &runs,
+            class: self.class,
+            start: self.start,
+            aim: self.target,
+        };
+        question.jump_search_in(pool, alloc, &mut ticks)
     }
 }
 

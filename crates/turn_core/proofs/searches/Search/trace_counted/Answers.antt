@@ -10,12 +10,12 @@ use Rattle.jump_search.specs.declared.search.Traced.{Traced}
 use Rattle.jump_search.specs.JumpStates.{CountsOpened}
 use Rattle.grid_versions.specs.Versions.{MapState, passes_of}
 use Rattle.turn_core.specs.Notes.{IsOpenedNumber}
-use Rattle.turn_core.specs.inner.Searching.{path_by}
+use Rattle.turn_core.specs.inner.Searching.{IsFoundTo, path_by}
 use Rattle.turn_core.proofs.Searchable.{can_search}
 use Rattle.turn_core.proofs.searches.Search.trace_counted.Goals as goal
 
-pub jump_search_in-requires-clause-search : goal.jump_search_in-requires-clause-search
-jump_search_in-requires-clause-search g c =
+pub jump_search_in-requires : goal.jump_search_in-requires
+jump_search_in-requires g c =
     let search = c.args.self.now in
     can_search search.version.now c.new-runs.result search.class search.start search.target.now c.new-runs.ensures c.requires.search
 
@@ -26,6 +26,12 @@ opened_by : (state : MapState) (class : ℕ) (start : Cell) (target : Target) (b
     → IfOk result (λ (traced : Traced). IsOpenedNumber (passes_of state class) state.map.size target (path_by start target traced.found) traced.opened)
 opened_by state class start target box (Ok traced) frame counted = record { box = box; frame = frame; counted = counted box frame }
 opened_by state class start target box (Err refused) frame counted = tt
+
+pub returns-clause-found : goal.returns-clause-found
+returns-clause-found g c =
+    let search = c.args.self.now in
+    subst (λ (s : MapState). IfOk c.jump_search_in.result (λ (traced : Traced). IsFoundTo s search.class search.start search.target.now traced.found))
+    c.new-runs.ensures c.jump_search_in.ensures.answer
 
 pub returns-clause-opened : goal.returns-clause-opened
 returns-clause-opened g c =
