@@ -1,5 +1,5 @@
 -- What a search that has ended or was halted says of the answer and of the opened number.
-use Rattle.std.proofs.Common.{ℕ, ◌≡◌, ◌+◌, ◌≤◌, ◌⊎◌, Bool, IsTrue, List, Option, Some, None}
+use Rattle.std.proofs.Common.{ℕ, ◌≡◌, ◌+◌, ◌≤◌, ◌⊎◌, Bool, IsTrue, List, [], ◌∷◌, Option, Some, None}
 use Rattle.std.proofs.Common.{inl, inr, sym, subst, arith}
 use Rattle.std.proofs.lemmas.Bool.{cases_lt}
 use Rattle.nav_types.specs.declared.cells.Cell.{Cell}
@@ -11,11 +11,11 @@ use Rattle.nav_types.specs.Counting.{Counts}
 use Rattle.nav_types.specs.Frames.{IsFrame}
 use Rattle.nav_types.specs.Walks.{IsWalk, walk_cost, CanReach}
 use Rattle.walks.specs.Chosen.{IsChosen, IsAnswer}
-use Rattle.walks.specs.Waypoints.{waypoints}
+use Rattle.walks.specs.Waypoints.{waypoints, IsInGrid, StaysInGrid}
 use Rattle.walks.proofs.Tracing.{chosen_walk, chosen_cost, in_grid}
 use Rattle.jump_search.specs.declared.nodes.Node.{Node}
 use Rattle.jump_search.specs.declared.searching.Best.{Best}
-use Rattle.jump_search.specs.JumpStates.{IsOpened}
+use Rattle.jump_search.specs.JumpStates.{CanSearch, IsOpened}
 use Rattle.jump_search.specs.inner.Searched.{IsSearched}
 use Rattle.jump_search.specs.inner.Underway.{opened_count, IsHalted, IsExhausted, HasEnded}
 use Rattle.jump_search.specs.inner.Traced.{HitsLieIn, IsTraceable}
@@ -75,6 +75,14 @@ counts_of all passes hit start rect end bound nodes searched is opened count =
     subst (λ (n : ℕ). Counts (IsOpened passes hit start rect bound) n) (sym count)
     (opened_number passes hit start rect end bound nodes
     (subst (λ (a : Bool). IsSearched a passes hit start rect end bound nodes) is searched))
+
+-- a walk over cells that pass stays in the largest map
+pub grid_walk : (passes : Cell → Bool) → ((cell : Cell) → IsTrue (passes cell) → IsInGrid cell) → (dirs : List Dir)
+    (from to : Cell) → IsTrue (passes from) → IsWalk passes from dirs to → StaysInGrid from dirs
+grid_walk passes grid [] from to passing walk = grid from passing
+grid_walk passes grid (dir ∷ dirs) from to passing walk =
+    let step = walk.1.0 in
+    (grid from passing, (walk.0, (step.leads, grid_walk passes grid dirs walk.0 to step.next walk.1.1)))
 
 -- what a search opens is no more than the opened number
 
@@ -189,3 +197,37 @@ ended_ticks all passes hit start rect last bound nodes before after opened able 
       ended_most all passes hit start rect last bound nodes able end cost points answer n
           counts,
     )
+
+-- What is known of a search that can be made: only cells of the map pass, those that are looked for lie in the frame, and
+-- from the start, which passes, one of them can be reached.
+pub record Begins (passes hit framed : Cell → Bool) (start : Cell) (size : Size) : Type 0 where
+  pub within : (cell : Cell) → IsTrue (passes cell) → IsInside size cell
+  pub hits_framed : (cell : Cell) → IsInside size cell → IsTrue (hit cell) → IsTrue (framed cell)
+  pub free : IsTrue (passes start)
+  pub reach : CanReach passes start hit
+
+-- it is known of each view and aim by their laws
+pub begins : {V A : Type 0} (extent : V → Size) (passes : V → ℕ → Cell → Bool) (Sound : A → Size → Type 0)
+    (hit framed : A → Size → Cell → Bool)
+    → ((view : V) (class : ℕ) (cell : Cell) → IsTrue (passes view class cell) → IsInside (extent view) cell)
+    → ((aim : A) (size : Size) (cell : Cell) → Sound aim size → IsInside size cell → IsTrue (hit aim size cell)
+    → IsTrue (framed aim size cell))
+    → (view : V) (class : ℕ) (aim : A) (start : Cell)
+    → CanSearch (passes view class) (hit aim (extent view)) (Sound aim (extent view)) start
+    → Begins (passes view class) (hit aim (extent view)) (framed aim (extent view)) start (extent view)
+begins extent passes Sound hit framed within hits_framed view class aim start can =
+    record {
+      within = within view class;
+      hits_framed = λ cell inside is. hits_framed aim (extent view) cell can.sound inside is;
+      free = can.free;
+      reach = can.reach;
+    }
+
+-- over each frame of the aim a search that has ended with a best hit can be traced back
+pub ended_over : (all : Bool) (passes hit framed : Cell → Bool) (start : Cell) (size : Size) (nodes : List Node)
+    (best : Option Best) (at : Best) → Begins passes hit framed start size
+    → ((rect : Rect) → IsFrame framed size rect → HasEnded all passes hit start rect nodes best) → best ≡ Some at
+    → (rect : Rect) → IsFrame framed size rect → IsTraceable all passes hit start rect at.cell at.cost nodes
+ended_over all passes hit framed start size nodes best at known ended is rect frame =
+    ended_able all passes hit framed start size rect nodes best at known.within known.hits_framed known.free frame
+    (ended rect frame) is

@@ -1,13 +1,17 @@
 //! The jump search, over a map that answers runs or over any view.
-ghost use Rattle.std.specs.Prelude.{◌≡◌, ◌<◌, ◌+◌, IsTrue, IfOk};
+ghost use Rattle.std.specs.Prelude.{◌≡◌, ◌<◌, ◌+◌, Bool, IsTrue, IfOk};
+ghost use Rattle.nav_types.specs.declared.cells.Cell.{Cell};
+ghost use Rattle.nav_types.specs.declared.cells.Rect.{Rect};
 ghost use Rattle.walks.specs.Chosen.{IsAnswer};
 ghost use Rattle.jump_search.specs.JumpStates.{CanSearch, CountsOpened, IsWithinOpened};
 ghost use Rattle.jump_search.specs.Questions.{Traces};
+ghost use Rattle.jump_search.specs.inner.Traced.{IsTraceable};
 
 use crate::framed::Framed;
 use crate::front::Front;
+use crate::nodes::Nodes;
 use crate::problems::{Problem, Question};
-use crate::searching::searched;
+use crate::searching::{Best, searched};
 use crate::tracing::traced;
 use jump_scan::{CellRuns, Runs};
 use nav_types::{Aim, Cell, Class, Cost, NoMemory, Ticks, View};
@@ -36,6 +40,24 @@ impl Pool {
 pub struct Traced {
     pub found: Found,
     pub opened: u64,
+}
+
+/// What a search that has ended with a best hit has found, traced back over its nodes.
+fn found(alloc: Global, nodes: &Nodes, start: Cell, best: Best) -> Result<Found, NoMemory>
+    requires { (all : Bool) × ((passes : Cell → Bool) × ((hit : Cell → Bool) × ((rect : Rect)
+        × IsTraceable all passes hit start rect best.cell best.cost nodes.now))) }
+    ensures answer { IfOk result (λ found. (all : Bool) (passes hit : Cell → Bool) (rect : Rect)
+        → IsTraceable all passes hit start rect best.cell best.cost nodes.now
+        → IsAnswer passes start hit found.end found.cost.0 found.waypoints) }
+    ensures cost { IfOk result (λ found. found.cost.0 ≡ best.cost) }
+{
+    let walk = traced(alloc, nodes, start, best)?;
+    let waypoints = waypoints(alloc, start, &walk)?;
+    Ok(Found {
+        end: best.cell,
+        cost: Cost(best.cost),
+        waypoints,
+    })
 }
 
 /// The answer of a search, which is for all jump states within the cost or not.
@@ -80,14 +102,9 @@ fn answered<R: Runs, A: Aim, L: Ledger>(
     let Some(best) = search.best else {
         unreachable!()
     };
-    let walk = traced(alloc, &front.nodes, start, best)?;
-    let waypoints = waypoints(alloc, start, &walk)?;
+    let found = found(alloc, &front.nodes, start, best)?;
     Ok(Traced {
-        found: Found {
-            end: best.cell,
-            cost: Cost(best.cost),
-            waypoints,
-        },
+        found,
         opened: search.opened,
     })
 }
