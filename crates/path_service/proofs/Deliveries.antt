@@ -1,5 +1,5 @@
 -- Drivers that deliver the running turn.
-use Rattle.std.proofs.Common.{◌≡◌, ℕ, zero, suc, ◌≤◌, ◌^◌, Bool, true, false, List, [], ◌∷◌, ◌++◌, Option, None, Some, Ok, Err, All, length, map, replicate, refl, sym, ap, ◌∙◌, subst, inl, inr, arith, append-nil, length-append}
+use Rattle.std.proofs.Common.{◌≡◌, ℕ, zero, suc, ◌≤◌, ◌^◌, Bool, true, false, List, [], ◌∷◌, ◌++◌, Option, None, Some, Ok, Err, All, length, replicate, refl, sym, ap, ◌∙◌, subst, inl, inr, arith, append-nil, length-append}
 use Rattle.std.specs.Prelude.{slice_get}
 use Rattle.std.proofs.lemmas.List.{length-map}
 use Rattle.nav_types.specs.declared.limits.TheConstants.{MAX_STAGED_POSTS}
@@ -314,6 +314,15 @@ delivers_of a b run parts sent same journal replies = record {
   replies = replies;
   failed = ap (λ (x : Inside). x.failed) same;
 }
+
+-- the same, where room for the turn was taken before it was put there
+pub delivers_by : (a b : Inside) (run : AnsweredRun) (parts : List (List Reply)) (journal : List (List (List Post))) (replies : List TurnReplies) → SendsParts a.ports.items b.ports.items run.replies.replies (Ok tt) parts
+    → b ≡ record a { version = run.after; ports = b.ports; running = b.running; journal = b.journal; replies = b.replies } → b.running ≡ None → journal ≡ a.journal.items → b.journal.items ≡ journal ++ run.posts ∷ []
+    → replies ≡ a.replies.items → b.replies.items ≡ replies ++ run.replies ∷ [] → Delivers a b run
+delivers_by a b run parts journal replies sent same none kept pushed held told =
+    delivers_of a b run parts sent
+    (same ∙ ap (λ (o : Option AnsweredRun). record a { version = run.after; ports = b.ports; running = o; journal = b.journal; replies = b.replies }) none)
+    (pushed ∙ ap (λ (l : List (List (List Post))). l ++ run.posts ∷ []) kept) (told ∙ ap (λ (l : List TurnReplies). l ++ run.replies ∷ []) held)
 
 -- some were sent, and the driver has failed
 pub sends_some_of : (a b : Inside) (run : AnsweredRun) (refused : NoMemory) (parts : List (List Reply)) → SendsParts a.ports.items b.ports.items run.replies.replies (Err refused) parts → a.running ≡ Some run

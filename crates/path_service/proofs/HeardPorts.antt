@@ -1,6 +1,7 @@
 -- Ports that hear notices and give them.
 use Rattle.std.proofs.Common.{◌≡◌, ℕ, zero, suc, ◌+◌, ◌<◌, max, List, [], ◌∷◌, Some, All, length, map, set, slice_index, refl, sym, ap, ◌∙◌, subst, arith}
 use Rattle.std.specs.Prelude.{slice_get}
+use Rattle.std.specs.Vec.{with_item}
 use Rattle.posts.specs.declared.posts.Post.{Post}
 use Rattle.posts.specs.declared.replies.Reply.{Reply}
 use Rattle.posts.specs.Callers.{list_of}
@@ -106,6 +107,14 @@ pub record IsSameBut (a b : Inside) (c : ℕ) (port now : Port) : Type 0 where
   pub ports : b.ports.items ≡ set a.ports.items c now
   pub at : slice_get a.ports.items c ≡ Some port
   pub same : IsSamePort port now
+
+-- the driver with another port at a place
+abbrev pub with_port : Inside → ℕ → Port → Inside
+with_port a c now = record a { ports = with_item a.ports c now }
+
+-- where that port is the same, the driver is another in this alone
+pub same_but : (a : Inside) (c : ℕ) (port now : Port) → slice_get a.ports.items c ≡ Some port → IsSamePort port now → IsSameBut a (with_port a c now) c port now
+same_but a c port now at same = record { rest = refl; ports = refl; at = at; same = same }
 
 same_posted : (a b : Inside) (c : ℕ) (port now : Port) → IsSameBut a b c port now → posted_in b.ports.items ≡ posted_in a.ports.items
 same_posted a b c port now k = ap posted_in k.ports ∙ map_set (λ (p : Port). p.posts.taken) a.ports.items c port now k.at k.same.taken

@@ -75,6 +75,23 @@ pub record IsMade (a : Inside) : Type 0 where
   pub replies : a.replies.items ≡ []
   pub failed : a.failed ≡ false
 
+-- the same, fact by fact
+pub made_of : (a : Inside) → a.version.map ≡ a.map → a.version.standing ≡ bare → length a.ports.items ≡ a.map.callers → All IsNew a.ports.items → a.hands.items ≡ replicate a.map.callers no_posts
+    → a.staged ≡ None → (a.running ≡ None) × (a.broken ≡ None) → a.journal.items ≡ [] → a.replies.items ≡ [] → a.failed ≡ false → IsMade a
+made_of a map standing count ports hands staged runs journal replies failed = record {
+  map = map;
+  standing = standing;
+  count = count;
+  ports = ports;
+  hands = hands;
+  staged = staged;
+  running = runs.0;
+  broken = runs.1;
+  journal = journal;
+  replies = replies;
+  failed = failed;
+}
+
 posted_is : (a : Inside) → IsMade a → posted_in a.ports.items ≡ replicate a.map.callers no_posts
 posted_is a made = new_posted a.ports.items made.ports ∙ ap (λ (n : ℕ). replicate n no_posts) made.count
 

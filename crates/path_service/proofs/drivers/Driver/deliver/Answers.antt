@@ -1,12 +1,10 @@
-use Rattle.std.proofs.Common.{◌≡◌, ◌∙◌, List, [], ◌∷◌, ◌++◌, Option, None, Some, true, refl, ap, subst}
-use Rattle.posts.specs.declared.posts.Post.{Post}
-use Rattle.posts.specs.declared.replies.TurnReplies.{TurnReplies}
+use Rattle.std.proofs.Common.{Some, true, refl, subst}
 use Rattle.path_service.specs.declared.runs.AnsweredRun.{AnsweredRun}
 use Rattle.path_service.specs.declared.drivers.Driver.TheInside.{Inside}
 use Rattle.path_service.specs.Services.{DriverState}
 use Rattle.path_service.specs.Steps.{HasDelivered, HasSentSome}
 use Rattle.path_service.specs.inner.Holding.{driver_of}
-use Rattle.path_service.proofs.Deliveries.{wide_replies, room_for, sends_of, delivers_of, sends_some_of, delivered_holds, has_delivered, unsent_holds, has_sent_some}
+use Rattle.path_service.proofs.Deliveries.{wide_replies, room_for, sends_of, delivers_by, sends_some_of, delivered_holds, has_delivered, unsent_holds, has_sent_some}
 use Rattle.path_service.proofs.drivers.Driver.deliver.Goals as goal
 
 pub send_turn-sent-requires : goal.send_turn-sent-requires
@@ -18,46 +16,34 @@ send_turn-sent-requires g c =
 
 pub invariant_of-self : goal.invariant_of-self
 invariant_of-self g c =
-    let a = c.self.inside in
-    let run : AnsweredRun = c.in-Some.run' in
+    let a = c.self.inside in let run : AnsweredRun = c.in-Some.run' in
     let k = sends_of a _ run c.self.view_is c.requires.sound c.self.invariant c.in-Some.ensures.value in
     let b : Inside = record a { ports = c.send_turn-sent.new.ports; running = Some run; journal = c.send_turn-sent.new.journal; replies = c.send_turn-sent.new.all; failed = true } in
-    let sent = c.in_default-sent.ensures.sends in
-    let new = sends_some_of a b run _ sent.0 sent.1 k.is refl c.in_default-sent.ensures.journal c.in_default-sent.ensures.all in
-    unsent_holds a b run sent.0 k.holds k.sound k.is sent.1.are_parts new
-
-pub invariant_of-self-2 : goal.invariant_of-self-2
-invariant_of-self-2 g c =
-    let a = c.self.inside in
-    let run : AnsweredRun = c.in-Some.run' in
-    let k = sends_of a _ run c.self.view_is c.requires.sound c.self.invariant c.in-Some.ensures.value in
-    let b : Inside = record a { version = run.after; ports = c.send_turn-sent.new.ports; running = c.take.new.self; journal = c.push_reserved.new.self; replies = c.push_reserved-2.new.self } in
-    let same : b ≡ record a { version = run.after; ports = b.ports; running = None; journal = b.journal; replies = b.replies } =
-    ap (λ (o : Option AnsweredRun). record b { running = o }) c.in-Some.ensures.after in
-    let new = delivers_of a b run c.in-Ok.ensures.sends.0 c.in-Ok.ensures.sends.1 same
-    (c.push_reserved.ensures.items ∙ ap (λ (l : List (List (List Post))). l ++ run.posts ∷ []) c.in-Ok.ensures.journal)
-    (c.push_reserved-2.ensures.items ∙ ap (λ (l : List TurnReplies). l ++ run.replies ∷ []) c.in-Ok.ensures.all) in
-    delivered_holds a b run k.holds k.sound k.is new
-
-pub returns-clause-ok : goal.returns-clause-ok
-returns-clause-ok g c =
-    let a = c.self.inside in
-    let run : AnsweredRun = c.in-Some.run' in
-    let k = sends_of a _ run c.self.view_is c.requires.sound c.self.invariant c.in-Some.ensures.value in
-    let b : Inside = record a { version = run.after; ports = c.send_turn-sent.new.ports; running = c.take.new.self; journal = c.push_reserved.new.self; replies = c.push_reserved-2.new.self } in
-    let same : b ≡ record a { version = run.after; ports = b.ports; running = None; journal = b.journal; replies = b.replies } =
-    ap (λ (o : Option AnsweredRun). record b { running = o }) c.in-Some.ensures.after in
-    let new = delivers_of a b run c.in-Ok.ensures.sends.0 c.in-Ok.ensures.sends.1 same
-    (c.push_reserved.ensures.items ∙ ap (λ (l : List (List (List Post))). l ++ run.posts ∷ []) c.in-Ok.ensures.journal)
-    (c.push_reserved-2.ensures.items ∙ ap (λ (l : List TurnReplies). l ++ run.replies ∷ []) c.in-Ok.ensures.all) in
-    subst (λ (d : DriverState). HasDelivered d (driver_of b)) c.self.view_is (has_delivered a b run k.holds k.sound k.is new)
+    unsent_holds a b run c.in_default-sent.ensures.sends.0 k.holds k.sound k.is c.in_default-sent.ensures.sends.1.are_parts
+    (sends_some_of a b run _ _ c.in_default-sent.ensures.sends.1 k.is refl c.in_default-sent.ensures.journal c.in_default-sent.ensures.all)
 
 pub returns-in_default-sent-clause-refused : goal.returns-in_default-sent-clause-refused
 returns-in_default-sent-clause-refused g c =
-    let a = c.self.inside in
-    let run : AnsweredRun = c.in-Some.run' in
+    let a = c.self.inside in let run : AnsweredRun = c.in-Some.run' in
     let k = sends_of a _ run c.self.view_is c.requires.sound c.self.invariant c.in-Some.ensures.value in
     let b : Inside = record a { ports = c.send_turn-sent.new.ports; running = Some run; journal = c.send_turn-sent.new.journal; replies = c.send_turn-sent.new.all; failed = true } in
-    let sent = c.in_default-sent.ensures.sends in
-    let new = sends_some_of a b run _ sent.0 sent.1 k.is refl c.in_default-sent.ensures.journal c.in_default-sent.ensures.all in
-    subst (λ (d : DriverState). HasSentSome d (driver_of b)) c.self.view_is (has_sent_some a b run sent.0 k.holds k.is sent.1.are_parts new)
+    subst (λ (d : DriverState). HasSentSome d (driver_of b)) c.self.view_is
+    (has_sent_some a b run c.in_default-sent.ensures.sends.0 k.holds k.is c.in_default-sent.ensures.sends.1.are_parts
+    (sends_some_of a b run _ _ c.in_default-sent.ensures.sends.1 k.is refl c.in_default-sent.ensures.journal c.in_default-sent.ensures.all))
+
+pub invariant_of-self-2 : goal.invariant_of-self-2
+invariant_of-self-2 g c =
+    let a = c.self.inside in let run : AnsweredRun = c.in-Some.run' in
+    let k = sends_of a _ run c.self.view_is c.requires.sound c.self.invariant c.in-Some.ensures.value in
+    let b : Inside = record a { version = run.after; ports = c.send_turn-sent.new.ports; running = c.take.new.self; journal = c.push_reserved.new.self; replies = c.push_reserved-2.new.self } in
+    delivered_holds a b run k.holds k.sound k.is
+    (delivers_by a b run _ _ _ c.in-Ok.ensures.sends.1 refl c.in-Some.ensures.after c.in-Ok.ensures.journal c.push_reserved.ensures.items c.in-Ok.ensures.all c.push_reserved-2.ensures.items)
+
+pub returns-clause-ok : goal.returns-clause-ok
+returns-clause-ok g c =
+    let a = c.self.inside in let run : AnsweredRun = c.in-Some.run' in
+    let k = sends_of a _ run c.self.view_is c.requires.sound c.self.invariant c.in-Some.ensures.value in
+    let b : Inside = record a { version = run.after; ports = c.send_turn-sent.new.ports; running = c.take.new.self; journal = c.push_reserved.new.self; replies = c.push_reserved-2.new.self } in
+    subst (λ (d : DriverState). HasDelivered d (driver_of b)) c.self.view_is
+    (has_delivered a b run k.holds k.sound k.is
+    (delivers_by a b run _ _ _ c.in-Ok.ensures.sends.1 refl c.in-Some.ensures.after c.in-Ok.ensures.journal c.push_reserved.ensures.items c.in-Ok.ensures.all c.push_reserved-2.ensures.items))

@@ -1,12 +1,10 @@
 use Rattle.std.proofs.Common.{◌≡◌, ◌<◌, length, refl, sym, ap, ◌∙◌, arith}
 use Rattle.std.specs.Prelude.{slice_get, Some}
-use Rattle.std.specs.Vec.{with_item}
 use Rattle.std.proofs.lemmas.Option.{slice_get_read}
 use Rattle.path_service.specs.declared.ports.Port.{Port}
-use Rattle.path_service.specs.declared.drivers.Driver.TheInside.{Inside}
 use Rattle.path_service.specs.Services.{DriverState, told_of}
 use Rattle.path_service.specs.inner.Holding.{driver_of}
-use Rattle.path_service.proofs.HeardPorts.{IsSameBut, hears_port, same_port, place_within, same_holds, heard_is}
+use Rattle.path_service.proofs.HeardPorts.{hears_port, same_port, place_within, same_but, same_holds, heard_is}
 use Rattle.path_service.proofs.drivers.Driver.hear.Goals as goal
 
 pub index_mut-port-requires : goal.index_mut-port-requires
@@ -28,38 +26,18 @@ hear-requires g c =
 
 pub invariant_of-self : goal.invariant_of-self
 invariant_of-self g c =
-    let a = c.self.inside in
-    let k = c.from.result in
+    let a = c.self.inside in let k = c.from.result in let port : Port = c.index_mut-port.result.now in
     let has = hears_port a _ c.args.caller c.args.notice.lane c.self.view_is c.requires in
     let own : slice_get a.ports.items k ≡ Some has.0 = ap (slice_get a.ports.items) c.from.ensures ∙ has.1.0 in
-    let port : Port = c.index_mut-port.result.now in
     let at : slice_get a.ports.items k ≡ Some port = slice_get_read a.ports.items (length a.ports.items) k port refl (place_within a.ports.items k has.0 own) c.index_mut-port.ensures.value in
-    let now : Port = record port { posts = c.hear.new.self } in
-    let b : Inside = record a { ports = with_item a.ports k now } in
-    let same : IsSameBut a b k port now = record {
-      rest = refl;
-      ports = refl;
-      at = at;
-      same = record { lane = c.hear.ensures.lane; taken = c.hear.ensures.taken; replies = refl };
-    } in
-    same_holds a b k port now c.self.invariant same
+    same_holds a _ k port (record port { posts = c.hear.new.self }) c.self.invariant (same_but a k port _ at (record { lane = c.hear.ensures.lane; taken = c.hear.ensures.taken; replies = refl }))
 
 pub returns : goal.returns
 returns g c =
-    let a = c.self.inside in
-    let k = c.from.result in
+    let a = c.self.inside in let k = c.from.result in let port : Port = c.index_mut-port.result.now in
     let has = hears_port a _ c.args.caller c.args.notice.lane c.self.view_is c.requires in
     let own : slice_get a.ports.items k ≡ Some has.0 = ap (slice_get a.ports.items) c.from.ensures ∙ has.1.0 in
-    let port : Port = c.index_mut-port.result.now in
     let at : slice_get a.ports.items k ≡ Some port = slice_get_read a.ports.items (length a.ports.items) k port refl (place_within a.ports.items k has.0 own) c.index_mut-port.ensures.value in
-    let now : Port = record port { posts = c.hear.new.self } in
-    let b : Inside = record a { ports = with_item a.ports k now } in
-    let same : IsSameBut a b k port now = record {
-      rest = refl;
-      ports = refl;
-      at = at;
-      same = record { lane = c.hear.ensures.lane; taken = c.hear.ensures.taken; replies = refl };
-    } in
-    heard_is a b k port now c.args.notice.count same c.hear.ensures.told
+    heard_is a _ k port (record port { posts = c.hear.new.self }) c.args.notice.count (same_but a k port _ at (record { lane = c.hear.ensures.lane; taken = c.hear.ensures.taken; replies = refl })) c.hear.ensures.told
     ∙ ap (λ (n : _). told_of (driver_of a) n c.args.notice.count) c.from.ensures
     ∙ ap (λ (d : DriverState). told_of d c.args.caller c.args.notice.count) c.self.view_is

@@ -20,36 +20,17 @@ next_turn-intake-requires g c =
 
 pub invariant_of-self : goal.invariant_of-self
 invariant_of-self g c =
-    let a = c.self.inside in
-    let base = c.version_for_next-base.result.now in
-    let intake = c.next_turn-intake.result in
-    let k = known_of a _ base c.replace-ports.result.items c.replace-hands.result.items intake c.self.view_is c.requires.none c.self.invariant c.version_for_next-base.ensures.map c.version_for_next-base.ensures.standing
-    (ap vec_items c.replace-ports.ensures.value) (ap vec_items c.replace-hands.ensures.value) c.next_turn-intake.ensures in
-    holds_taken a base.map base.standing intake k
+    let a = c.self.inside in let base = c.version_for_next-base.result.now in let intake = c.next_turn-intake.result in
+    holds_taken a base.map base.standing intake (known_of a _ base c.replace-ports.result.items c.replace-hands.result.items intake c.self.view_is c.requires.none c.self.invariant c.version_for_next-base.ensures.map c.version_for_next-base.ensures.standing
+    (ap vec_items c.replace-ports.ensures.value) (ap vec_items c.replace-hands.ensures.value) c.next_turn-intake.ensures)
 
-pub returns-clause-ok : goal.returns-clause-ok
-returns-clause-ok g c =
-    let a = c.self.inside in
-    let base = c.version_for_next-base.result.now in
-    let intake = c.next_turn-intake.result in
+pub returns : goal.returns
+returns g c =
+    let a = c.self.inside in let base = c.version_for_next-base.result.now in let intake = c.next_turn-intake.result in
     let k = known_of a _ base c.replace-ports.result.items c.replace-hands.result.items intake c.self.view_is c.requires.none c.self.invariant c.version_for_next-base.ensures.map c.version_for_next-base.ensures.standing
     (ap vec_items c.replace-ports.ensures.value) (ap vec_items c.replace-hands.ensures.value) c.next_turn-intake.ensures in
-    staged_ok a _ base.map base.standing intake c.self.view_is k
-
-pub returns-clause-refused : goal.returns-clause-refused
-returns-clause-refused g c =
-    let a = c.self.inside in
-    let base = c.version_for_next-base.result.now in
-    let intake = c.next_turn-intake.result in
-    let k = known_of a _ base c.replace-ports.result.items c.replace-hands.result.items intake c.self.view_is c.requires.none c.self.invariant c.version_for_next-base.ensures.map c.version_for_next-base.ensures.standing
-    (ap vec_items c.replace-ports.ensures.value) (ap vec_items c.replace-hands.ensures.value) c.next_turn-intake.ensures in
-    staged_refused a _ base.map base.standing intake c.self.view_is k
-
-pub returns-clause-rest : goal.returns-clause-rest
-returns-clause-rest g c =
-    let a = c.self.inside in
-    let base = c.version_for_next-base.result.now in
-    let intake = c.next_turn-intake.result in
-    let k = known_of a _ base c.replace-ports.result.items c.replace-hands.result.items intake c.self.view_is c.requires.none c.self.invariant c.version_for_next-base.ensures.map c.version_for_next-base.ensures.standing
-    (ap vec_items c.replace-ports.ensures.value) (ap vec_items c.replace-hands.ensures.value) c.next_turn-intake.ensures in
-    staged_rest a _ base.map base.standing intake c.self.view_is k
+    record {
+      ok = staged_ok a _ base.map base.standing intake c.self.view_is k;
+      refused = staged_refused a _ base.map base.standing intake c.self.view_is k;
+      rest = staged_rest a _ base.map base.standing intake c.self.view_is k;
+    }

@@ -30,55 +30,40 @@ run_beside-answers-requires g c =
 
 pub invariant_of-self : goal.invariant_of-self
 invariant_of-self g c =
-    let a = c.self.inside in
-    let ready : Ready = c.in-Some.ready in
-    let intake = c.run_beside-answers.result.intake in
+    let a = c.self.inside in let ready : Ready = c.in-Some.ready in let intake = c.run_beside-answers.result.intake in
+    let turn = c.into_parts-posts.result.0 in
     let begins = begins_of a _ ready intake c.replace-ports.result.items c.replace-hands.result.items c.self.view_is c.requires.sound c.requires.none_runs c.self.invariant c.in-Some.ensures.value
     (ap vec_items c.replace-ports.ensures.value) (ap vec_items c.replace-hands.ensures.value) c.run_beside-answers.ensures.intake in
-    let turn = c.into_parts-posts.result.0 in
     holds_taken (with_broken a turn) ready.map (after_edits_of ready) intake (broken_known a ready turn intake begins c.into_parts-posts.ensures.posts)
 
 pub invariant_of-self-2 : goal.invariant_of-self-2
 invariant_of-self-2 g c =
-    let a = c.self.inside in
-    let ready : Ready = c.in-Some.ready in
-    let intake = c.run_beside-answers.result.intake in
+    let a = c.self.inside in let ready : Ready = c.in-Some.ready in let intake = c.run_beside-answers.result.intake in
+    let run = c.new-3.result in
     let begins = begins_of a _ ready intake c.replace-ports.result.items c.replace-hands.result.items c.self.view_is c.requires.sound c.requires.none_runs c.self.invariant c.in-Some.ensures.value
     (ap vec_items c.replace-ports.ensures.value) (ap vec_items c.replace-hands.ensures.value) c.run_beside-answers.ensures.intake in
-    holds_taken (with_run a c.new-3.result) ready.map (after_edits_of ready) intake (started_known a ready c.new-3.result intake begins c.new-3.ensures.posts c.new-3.ensures.holds)
+    holds_taken (with_run a run) ready.map (after_edits_of ready) intake (started_known a ready run intake begins c.new-3.ensures.posts c.new-3.ensures.holds)
 
-pub returns-clause-ok : goal.returns-clause-ok
-returns-clause-ok g c =
-    let a = c.self.inside in
-    let ready : Ready = c.in-Some.ready in
-    let intake = c.run_beside-answers.result.intake in
+pub returns : goal.returns
+returns g c =
+    let a = c.self.inside in let ready : Ready = c.in-Some.ready in let intake = c.run_beside-answers.result.intake in
     let begins = begins_of a _ ready intake c.replace-ports.result.items c.replace-hands.result.items c.self.view_is c.requires.sound c.requires.none_runs c.self.invariant c.in-Some.ensures.value
     (ap vec_items c.replace-ports.ensures.value) (ap vec_items c.replace-hands.ensures.value) c.run_beside-answers.ensures.intake in
-    has_started a _ ready c.new-3.result intake c.in-Ok.done.count c.self.view_is begins c.new-3.ensures.posts c.new-3.ensures.holds c.in-Ok.ensures.count
+    record {
+      ok = has_started a _ ready c.new-3.result intake c.in-Ok.done.count c.self.view_is begins c.new-3.ensures.posts c.new-3.ensures.holds c.in-Ok.ensures.count;
+      rest = started_rest a _ ready c.new-3.result intake c.self.view_is begins c.new-3.ensures.posts c.new-3.ensures.holds;
+      refused = tt;
+      failed = tt;
+    }
 
-pub returns-clause-rest : goal.returns-clause-rest
-returns-clause-rest g c =
-    let a = c.self.inside in
-    let ready : Ready = c.in-Some.ready in
-    let intake = c.run_beside-answers.result.intake in
+pub returns-in_default-both : goal.returns-in_default-both
+returns-in_default-both g c =
+    let a = c.self.inside in let ready : Ready = c.in-Some.ready in let intake = c.run_beside-answers.result.intake in
     let begins = begins_of a _ ready intake c.replace-ports.result.items c.replace-hands.result.items c.self.view_is c.requires.sound c.requires.none_runs c.self.invariant c.in-Some.ensures.value
     (ap vec_items c.replace-ports.ensures.value) (ap vec_items c.replace-hands.ensures.value) c.run_beside-answers.ensures.intake in
-    started_rest a _ ready c.new-3.result intake c.self.view_is begins c.new-3.ensures.posts c.new-3.ensures.holds
-
-pub returns-in_default-both-clause-refused : goal.returns-in_default-both-clause-refused
-returns-in_default-both-clause-refused g c =
-    let a = c.self.inside in
-    let ready : Ready = c.in-Some.ready in
-    let intake = c.run_beside-answers.result.intake in
-    let begins = begins_of a _ ready intake c.replace-ports.result.items c.replace-hands.result.items c.self.view_is c.requires.sound c.requires.none_runs c.self.invariant c.in-Some.ensures.value
-    (ap vec_items c.replace-ports.ensures.value) (ap vec_items c.replace-hands.ensures.value) c.run_beside-answers.ensures.intake in
-    has_broken_off a _ ready c.into_parts-posts.result.0 intake c.self.view_is begins c.into_parts-posts.ensures.posts
-
-pub returns-in_default-both-clause-failed : goal.returns-in_default-both-clause-failed
-returns-in_default-both-clause-failed g c =
-    let a = c.self.inside in
-    let ready : Ready = c.in-Some.ready in
-    let intake = c.run_beside-answers.result.intake in
-    let begins = begins_of a _ ready intake c.replace-ports.result.items c.replace-hands.result.items c.self.view_is c.requires.sound c.requires.none_runs c.self.invariant c.in-Some.ensures.value
-    (ap vec_items c.replace-ports.ensures.value) (ap vec_items c.replace-hands.ensures.value) c.run_beside-answers.ensures.intake in
-    broken_rest a _ ready c.into_parts-posts.result.0 intake c.self.view_is begins c.into_parts-posts.ensures.posts
+    record {
+      ok = tt;
+      rest = tt;
+      refused = has_broken_off a _ ready c.into_parts-posts.result.0 intake c.self.view_is begins c.into_parts-posts.ensures.posts;
+      failed = broken_rest a _ ready c.into_parts-posts.result.0 intake c.self.view_is begins c.into_parts-posts.ensures.posts;
+    }
