@@ -9,7 +9,6 @@ use crate::fixtures::maps::drawn;
 use crate::fixtures::searches::{Search, is_fit, is_found, search_of};
 use crate::fixtures::texts::fields_of;
 use crate::fixtures::versions::drawn_for;
-use cell_search::cell_find;
 use class_planes::{PlaneRuns, Planes};
 use grid_versions::Version;
 use jump_scan::CellRuns;
@@ -128,30 +127,6 @@ fn answers_in_pool<L: Ledger>(
     Ok(is_found(search, &found))
 }
 
-/// Whether the search with one node for each cell answers as it should, in a pool that has served other maps, where its cells
-/// are counted in a ledger.
-fn answers_by_cells<L: Ledger>(
-    pool: &mut cell_search::Pool,
-    alloc: Global,
-    map: &Grid,
-    search: &Search<'_>,
-    blank: Blank,
-) -> Result<bool, NoMemory>
-    requires name { blank.name ≡ L.name }
-    requires parts { blank.parts ≡ L.parts }
-    requires some { 0 < L.parts }
-{
-    let class = Class::new(0);
-    let (start, aim) = (search.start, &search.targets);
-    let runs = CellRuns::new(map);
-    if !aim.rect.is_inside(runs.size()) || !is_fit(&runs, class, start, search.points, aim) {
-        return Ok(false);
-    }
-    let mut ticks = Ticks::<L>::new(blank);
-    let found = cell_find(pool, alloc, &runs, class, start, aim, &mut ticks)?;
-    Ok(is_found(search, &found))
-}
-
 /// Whether the search over the cells answers as it should, and so many jump states are opened, where they are counted in a
 /// ledger.
 fn answers_counted<L: Ledger>(
@@ -179,7 +154,6 @@ fn answers_counted<L: Ledger>(
 fn answers_as_the_line_says(
     alloc: Global,
     pool: &mut Pool,
-    cells: &mut cell_search::Pool,
     line: &str,
 ) -> Option<bool> {
     let [map, start, targets, end, cost, points, opened] = fields_of(line);
@@ -187,18 +161,16 @@ fn answers_as_the_line_says(
     let search = search_of(alloc, [start, targets, end, cost, points])?;
     let map = drawn(alloc, map)?;
     let again = answers_in_pool::<Brand>(pool, alloc, &map, &search, Blank::new(1)).ok()?;
-    let by_cells = answers_by_cells::<Brand>(cells, alloc, &map, &search, Blank::new(1)).ok()?;
     let anew = answers_counted::<Brand>(alloc, &map, &search, opened, Blank::new(1)).ok()?;
-    Some(again && by_cells && anew)
+    Some(again && anew)
 }
 
 #[test]
 fn answers_as_the_table_says(rt: HostRuntime) -> Result<(), Fail> {
     let mut pool = Pool::new(rt.alloc())?;
-    let mut cells = cell_search::Pool::new(rt.alloc())?;
     for line in TABLE.lines() {
         assert!(rt;
-            answers_as_the_line_says(rt.alloc(), &mut pool, &mut cells, line) == Some(true),
+            answers_as_the_line_says(rt.alloc(), &mut pool, line) == Some(true),
             "{line}"
         );
     }
@@ -236,12 +208,8 @@ fn answers_by_planes<L: Ledger>(
     let mut ticks = Ticks::<L>::new(blank);
     let mut pool = Pool::new(alloc)?;
     let found = question.jump_find_in(&mut pool, alloc, &mut ticks)?;
-    if !is_found(search, &found) {
-        return Ok(false);
-    }
-    let mut pool = cell_search::Pool::new(alloc)?;
-    let by_cells = cell_find(&mut pool, alloc, &runs, class, start, aim, &mut ticks)?;
-    Ok(is_found(search, &by_cells))
+    let traced = question.jump_search_in(&mut pool, alloc, &mut ticks)?;
+    Ok(is_found(search, &found) && is_found(search, &traced.found))
 }
 
 /// Whether both searches over planes of the classes of the mask answer as a line of `TABLE` says, whose map is drawn for
