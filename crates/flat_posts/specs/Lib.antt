@@ -1,5 +1,6 @@
 pub mod Cells
 pub mod Posts
+pub mod TurnPosts
 pub mod Replies
 pub mod Pages
 pub mod Maps

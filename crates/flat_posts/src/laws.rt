@@ -1,9 +1,13 @@
 //! Laws of flat posts.
-ghost use Rattle.std.specs.Prelude.{◌≡◌, ℕ, IsTrue};
+ghost use Rattle.std.specs.Prelude.{◌≡◌, ℕ, IsTrue, List};
 ghost use Rattle.class_config.specs.Classes.{are_distinct};
 ghost use Rattle.posts.specs.Maps.{Map};
 ghost use Rattle.posts.specs.declared.posts.Post.{Post};
+ghost use Rattle.flat_posts.specs.Maps.{IsMapOf};
 ghost use Rattle.flat_posts.specs.Posts.{IsPost};
+ghost use Rattle.flat_posts.specs.declared.map_parts.FlatClass.{FlatClass};
+ghost use Rattle.flat_posts.specs.declared.map_parts.FlatRect.{FlatRect};
+ghost use Rattle.flat_posts.specs.declared.maps.FlatMap.{FlatMap};
 ghost use Rattle.flat_posts.specs.declared.posted.FlatPost.{FlatPost};
 
 /// A law: a flat post is at most one post of one caller.
@@ -17,4 +21,10 @@ pub fn one_post()
 pub fn one_flat_post()
     ensures { (map : Map) (flat other : FlatPost) (caller : ℕ) (post : Post) → IsTrue (are_distinct map.classes)
         → IsPost map flat caller post → IsPost map other caller post → flat ≡ other }
+{}
+
+/// A law: numbers are at most one map.
+pub fn one_map()
+    ensures { (frame : FlatMap) (classes : List FlatClass) (base : List FlatRect) (map other : Map)
+        → IsMapOf frame classes base map → IsMapOf frame classes base other → map ≡ other }
 {}
