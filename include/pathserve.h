@@ -5,8 +5,9 @@
  * what they leave. No answer depends on floats, time, threads or addresses: machines that give a match the same posts get
  * the same answers, byte for byte. docs/FORMAT.md tells each of them.
  *
- *     by text    pathserve_open       feed, finish, then waiting and take
- *     to look    pathserve_view_of    passable, region, area, row, find
+ *     by text       pathserve_open       feed, finish          waiting, take
+ *     by structs    pathserve_open_map   post_all, end_turn    replies, waypoints, journal
+ *     to look       pathserve_view_of    passable, region, area, row, find
  *
  * WHAT YOU PROMISE, for each call. The library's functions are proved to be safe and to do what is said here. That rests on
  * these promises, which nothing checks: a broken one is undefined behaviour.
@@ -57,7 +58,11 @@ size_t pathserve_size_of(uint32_t which);
 enum {
     PATHSERVE_SIZE_MATCH = 1, /* 16 */
     PATHSERVE_SIZE_VIEW = 2,  /* 16 */
+    PATHSERVE_SIZE_MAP = 3,   /* 12 */
+    PATHSERVE_SIZE_CLASS = 4, /* 72 */
+    PATHSERVE_SIZE_RECT = 5,  /* 12 */
     PATHSERVE_SIZE_POST = 6,  /* 48 */
+    PATHSERVE_SIZE_TURN = 7,  /* 56 */
     PATHSERVE_SIZE_REPLY = 8, /* 56 */
     PATHSERVE_SIZE_CELL = 9   /* 4 */
 };
@@ -72,10 +77,11 @@ enum {
     PATHSERVE_TOO_LONG = 7,   /* a line has more than 8,388,608 bytes, or the script more than 4,294,967,296 */
     PATHSERVE_CLOSED = 16,    /* the handle is closed */
     PATHSERVE_OPEN = 17,      /* the handle is open already */
-    PATHSERVE_OTHER = 18,     /* the handle holds something else than the call is for */
+    PATHSERVE_OTHER = 18,     /* the match was opened by text and the call is one by structs, or the other way round */
     PATHSERVE_ENDED = 19,     /* pathserve_finish has ended the script */
     PATHSERVE_NO_MAP = 20,    /* the map line has not come */
-    PATHSERVE_BAD_VALUE = 21  /* a value is no such kind or number, or a field that is not used is not 0 */
+    PATHSERVE_BAD_VALUE = 21, /* a value is no such kind, number or size, or a field that is not used is not 0 */
+    PATHSERVE_SMALL = 22      /* the buffer is too small: nothing was written, and what it takes was told */
 };
 
 /* After every status but those of the script (BAD_LINE, TOO_LONG) a handle is as it was, unless the status is
@@ -86,7 +92,7 @@ enum {
 typedef struct pathserve_match { uint64_t live; void *at; } pathserve_match; /* a match */
 typedef struct pathserve_view { uint64_t live; void *at; } pathserve_view;   /* what stands, to be looked at beside a match */
 
-/* Closes a match and frees all that it has. A closed one stays closed: closing twice is no harm. */
+/* Closes a match of either kind and frees all that it has. A closed one stays closed: closing twice is no harm. */
 void pathserve_close(pathserve_match *match);
 
 /* ======== a match by text: what the program does by `replay`, `profile`, `flow` or `smooth` ======== */
@@ -121,15 +127,15 @@ pathserve_status pathserve_feed(pathserve_match *match, const uint8_t *bytes, si
  *   CLOSED, OTHER */
 pathserve_status pathserve_finish(pathserve_match *match);
 
-/* How many bytes of text wait. 0 of a closed match. */
+/* How many bytes of text wait. 0 of a match that is closed or by structs. */
 size_t pathserve_waiting(pathserve_match *match);
 
 /* Moves the first bytes that wait into the buffer: as many as there are and as it holds. Those behind them wait still.
- * Gives how many it moved; 0 of a closed match. Memory of text that was taken is used again once none
+ * Gives how many it moved; 0 of a match that is closed or by structs. Memory of text that was taken is used again once none
  * waits, so take all that waits now and then. */
 size_t pathserve_take(pathserve_match *match, uint8_t *buffer, size_t length);
 
-/* ======== requests and replies as structs ======== */
+/* ======== a match by structs ======== */
 
 /* A coordinate or a length: 65,536 is the side of a navcell. Decimals of a script are cut to such numbers. */
 typedef int32_t pathserve_fixed;
@@ -138,7 +144,28 @@ typedef int32_t pathserve_fixed;
 /* A navcell by its column from the west and its row from the south. */
 typedef struct pathserve_cell { uint16_t i, j; } pathserve_cell;
 
+/* A map's size in navcells, 1 to 2048 each way, and its callers, 1 to 64. */
+typedef struct pathserve_map { uint32_t width, height, callers; } pathserve_map;
+
+/* A passability class: its name, 1 to 64 ASCII letters, digits, `-` or `_` and zeros behind them, and how far its units keep
+ * from obstructions, 0 to 64 navcells. */
+typedef struct pathserve_class { uint8_t name[64]; uint32_t name_length; pathserve_fixed clearance; } pathserve_class;
+
+/* A rectangle of navcells, both corners among them, that is never passable for the classes of the mask: bit k is for class
+ * k. `zero` is 0, as every field of that name. */
+typedef struct pathserve_rect { uint16_t i0, j0, i1, j1, mask, zero; } pathserve_rect;
+
+/* Opens a closed handle: a match on this map, before its first turn. There are 1 to 16 classes, whose names differ and whose
+ * numbers are their places; the rectangles lie inside the map.
+ * DONE, OPEN, BAD_VALUE, NO_MEMORY. */
+pathserve_status pathserve_open_map(pathserve_match *match, const pathserve_map *map, const pathserve_class *classes,
+                                    size_t class_count, const pathserve_rect *base, size_t base_count);
+
 enum { /* pathserve_post.kind */
+    PATHSERVE_ADD_UNIT = 1,   /* add an obstruction: a square along the axes. id, mask, x, z, radius (its half side) */
+    PATHSERVE_ADD_SQUARE = 2, /* add an obstruction: a rectangle along a unit vector. id, mask, x, z, ux, uz, hw, hh */
+    PATHSERVE_REMOVE = 3,     /* remove an obstruction. id */
+    PATHSERVE_MOVE = 4,       /* move an obstruction. id, x, z (its new middle) */
     PATHSERVE_PATH = 5,       /* ask for a path. class_number, x, z (where it starts), goal and what that uses */
     PATHSERVE_REGION = 6      /* ask for the region and the area at a point. class_number, x, z */
 };
@@ -167,7 +194,29 @@ typedef struct pathserve_post {
     pathserve_fixed radius;         /* a radius, a half side or a distance: see the kinds */
 } pathserve_post;
 
+/* Posts, behind those that the turn has. DONE: all were taken. BAD_VALUE: a kind, a goal, a caller or a class that there is
+ * not, or a field that is not used and not 0; none was taken. Other values that break a limit are taken, and refused by a
+ * reply. NO_MEMORY: none was taken. CLOSED, OTHER. */
+pathserve_status pathserve_post_all(pathserve_match *match, const pathserve_post *posts, size_t count);
+
+/* What a turn comes to: its number from 1; how many regions, region edges and areas all classes have after it; in how many
+ * pairs of class and chunk some cell changed; how many replies there are, and waypoints in all of them. */
+typedef struct pathserve_turn {
+    uint64_t turn;
+    uint64_t regions, edges, areas;
+    uint64_t replies, waypoints;
+    uint32_t relabelled, zero;
+} pathserve_turn;
+
+/* Ends the turn: makes its edits, answers its requests, and keeps the replies until the next turn ends. The next turn has no
+ * posts. DONE. NO_MEMORY: the turn has not ended and has its posts; the replies of the turn before stay. CLOSED, OTHER.
+ * `turn` is written with DONE alone. */
+pathserve_status pathserve_end_turn(pathserve_match *match, pathserve_turn *turn);
+
 enum { /* pathserve_reply.kind */
+    PATHSERVE_ADDED = 1,     /* id */
+    PATHSERVE_REMOVED = 2,   /* id */
+    PATHSERVE_MOVED = 3,     /* id */
     PATHSERVE_REFUSED = 4,   /* why */
     PATHSERVE_NOWHERE = 5,   /* no cell of the map is passable for the class */
     PATHSERVE_AT_GOAL = 6,   /* a path that ends at the goal. start, end, cost, waypoints, first_waypoint */
@@ -176,7 +225,10 @@ enum { /* pathserve_reply.kind */
 };
 enum { /* pathserve_reply.why of a refusal; 0 of other replies */
     PATHSERVE_BAD_SHAPE = 1,     /* a shape or a goal is not within its limits */
+    PATHSERVE_DUPLICATE_ID = 2,  /* an obstruction stands under the number */
+    PATHSERVE_STORE_FULL = 3,    /* 65,536 obstructions stand */
     PATHSERVE_UNKNOWN_ID = 4,    /* no obstruction stands under the number */
+    PATHSERVE_UNKNOWN_CLASS = 5, /* the map has no class of the name: not of posts by structs, whose classes are numbers */
     PATHSERVE_START_OUTSIDE = 6, /* the start or the point does not lie on the map */
     PATHSERVE_GOAL_OUTSIDE = 7   /* the middle of the goal does not lie on the map */
 };
@@ -187,7 +239,7 @@ typedef struct pathserve_reply {
     uint8_t caller;
     uint8_t why;
     uint8_t zero;
-    uint32_t post;             /* the post's number among those of its caller, from 0 */
+    uint32_t post;             /* the post's number among those of its caller in the turn, from 0 */
     uint32_t id;               /* the obstruction's number */
     pathserve_cell start, end; /* where a path starts and ends */
     pathserve_cell chunk;      /* the column and the row of a chunk of 96 by 96 navcells */
@@ -195,13 +247,27 @@ typedef struct pathserve_reply {
     uint16_t zero_too;
     uint32_t area;             /* the number of an area, from 1; 0 of an impassable cell */
     uint64_t waypoints;        /* how many waypoints a path has */
-    uint64_t first_waypoint;   /* the place of the first of them among all waypoints */
+    uint64_t first_waypoint;   /* the place of the first of them among the waypoints of the turn */
     uint64_t cost;             /* what a path costs: 65,536 a straight step, 92,682 a diagonal one */
 } pathserve_reply;
 
+/* Copies replies of the last turn that ended, from the one of the place `first` on: caller by caller, in the order of their
+ * posts. Gives how many it copied: as many as there are and as the buffer holds. 0 of a match that is closed or by text. */
+size_t pathserve_replies(pathserve_match *match, uint64_t first, pathserve_reply *replies, size_t count);
+
+/* Copies waypoints of that turn, from the one of the place `first` on: those of each path stand together, in the order of
+ * the replies. A path leads from its start by its waypoints, the last of which is its end. Gives how many it copied, as
+ * above. */
+size_t pathserve_waypoints(pathserve_match *match, uint64_t first, pathserve_cell *waypoints, size_t count);
+
+/* Writes the match so far as a script, the turns that have ended and no other, in canonical form. A match that is fed with it
+ * gets the same map and the same turns. `whole` is how many bytes it has. DONE: it stands at the head of the buffer. SMALL:
+ * the buffer holds fewer; nothing was written. NO_MEMORY, CLOSED, OTHER: neither was written. */
+pathserve_status pathserve_journal(pathserve_match *match, uint8_t *buffer, size_t length, size_t *whole);
+
 /* ======== views: questions between turns, by any thread ======== */
 
-/* Opens a closed view of what stands after the turns of a match that have ended. The match goes on, and the
+/* Opens a closed view of what stands after the turns of a match, of either kind, that have ended. The match goes on, and the
  * view stays as it is. A few small allocations, and nothing of the map is copied, once the first turn has ended.
  * DONE, CLOSED (the match), OPEN (the view), NO_MAP, NO_MEMORY. */
 pathserve_status pathserve_view_of(pathserve_match *match, pathserve_view *view);
@@ -228,8 +294,8 @@ size_t pathserve_row(pathserve_view *view, uint32_t class_number, uint32_t j, ui
 /* Answers a post of the kind PATHSERVE_PATH or PATHSERVE_REGION at once, as a turn without edits would. The match knows
  * nothing of it: ask for what is drawn, and post what is played. Writes the reply, and the first waypoints of a path, as many
  * as the buffer holds; `reply->waypoints` is how many there are, and `first_waypoint` is 0.
- * DONE. BAD_VALUE: another kind, a goal, a caller or a class that there is not, or a field that is not used and not 0. Other
- * values that break a limit are refused by the reply. NO_MEMORY, CLOSED. With DONE alone something is written. */
+ * DONE. BAD_VALUE: another kind, or as of pathserve_post_all. Other values that break a limit are refused by the reply.
+ * NO_MEMORY, CLOSED, and OTHER of a match. With DONE alone something is written. */
 pathserve_status pathserve_find(pathserve_view *view, const pathserve_post *post, pathserve_reply *reply,
                                 pathserve_cell *waypoints, size_t count);
 
@@ -255,7 +321,11 @@ pathserve_status pathserve_find(pathserve_view *view, const pathserve_post *post
 
 PATHSERVE_HAS_SIZE(pathserve_match, 16);
 PATHSERVE_HAS_SIZE(pathserve_view, 16);
+PATHSERVE_HAS_SIZE(pathserve_map, 12);
+PATHSERVE_HAS_SIZE(pathserve_class, 72);
+PATHSERVE_HAS_SIZE(pathserve_rect, 12);
 PATHSERVE_HAS_SIZE(pathserve_post, 48);
+PATHSERVE_HAS_SIZE(pathserve_turn, 56);
 PATHSERVE_HAS_SIZE(pathserve_reply, 56);
 PATHSERVE_HAS_SIZE(pathserve_cell, 4);
 

@@ -151,11 +151,7 @@ fn answers_counted<L: Ledger>(
 }
 
 /// Whether a line of `TABLE` says what the answer is. None where it is not in the form of the table.
-fn answers_as_the_line_says(
-    alloc: Global,
-    pool: &mut Pool,
-    line: &str,
-) -> Option<bool> {
+fn answers_as_the_line_says(alloc: Global, pool: &mut Pool, line: &str) -> Option<bool> {
     let [map, start, targets, end, cost, points, opened] = fields_of(line);
     let opened = opened.parse().ok()?;
     let search = search_of(alloc, [start, targets, end, cost, points])?;

@@ -2,3 +2,4 @@ mod AsBox
 mod Asking
 mod Feeding
 mod Places
+mod Turning

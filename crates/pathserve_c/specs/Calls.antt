@@ -1,15 +1,27 @@
 -- What calls make of what a handle holds.
-use Rattle.std.specs.Prelude.{ℕ, ◌≡◌, ◌≢◌, List, [], ◌∷◌, slice_get, Option, Some, None, option_map, Result}
+use Rattle.std.specs.Prelude.{ℕ, ◌≡◌, ◌≢◌, ◌<◌, ◌⊎◌, List, [], ◌∷◌, ◌++◌, length, drop, slice_get, Option, Some, None, option_map, Result}
+use Rattle.std.specs.List.{Contains}
+use Rattle.posts.specs.Maps.{Map}
 use Rattle.posts.specs.declared.notes.Report.{Report}
 use Rattle.posts.specs.declared.notes.Report.TheVariants.{Answers, OpenedNumbers, Flows, Smoothed}
 use Rattle.match_play.specs.declared.faults.MatchFault.{MatchFault}
 use Rattle.match_play.specs.Playing.{said_of}
 use Rattle.grid_versions.specs.Versions.{MapState, map_state}
 use Rattle.match_play.specs.Texts.{Said}
+use Rattle.script_text.specs.ReadsBack.{canon_script}
+use Rattle.flat_posts.specs.declared.map_parts.FlatClass.{FlatClass}
+use Rattle.flat_posts.specs.declared.map_parts.FlatRect.{FlatRect}
+use Rattle.flat_posts.specs.declared.maps.FlatMap.{FlatMap}
+use Rattle.flat_posts.specs.declared.posted.FlatPost.{FlatPost}
+use Rattle.flat_posts.specs.declared.turns.FlatTurn.{FlatTurn}
+use Rattle.flat_posts.specs.Maps.{IsMapOf}
+use Rattle.flat_posts.specs.Replies.{flat_turn}
 use Rattle.pathserve_c.specs.declared.states.State.{State}
-use Rattle.pathserve_c.specs.declared.states.State.TheVariants.{Text, View}
-use Rattle.pathserve_c.specs.declared.statuses.TheConstants.{DONE, NO_MEMORY, CLOSED, OPEN, NO_MAP, BAD_VALUE}
-use Rattle.pathserve_c.specs.Statuses.{refusal, status_of}
+use Rattle.pathserve_c.specs.declared.states.State.TheVariants.{Text, Structs, View}
+use Rattle.pathserve_c.specs.declared.statuses.TheConstants.{DONE, NO_MEMORY, CLOSED, OPEN, NO_MAP, BAD_VALUE, SMALL}
+use Rattle.pathserve_c.specs.Statuses.{refusal, status_of, status_of_posts}
+use Rattle.pathserve_c.specs.Structs.{StructState, Ends, IsNew, PostsAs, standing_in}
+use Rattle.pathserve_c.specs.declared.statuses.PostFault.{PostFault}
 use Rattle.pathserve_c.specs.Texts.{TextState, IsUnread, Feeds, Finishes, Takes}
 
 -- what is told beside the answers, by its number
@@ -29,6 +41,7 @@ IsMade Is (Some made) status = (status ≡ DONE) × Is made
 abbrev pub IsUnreadText : Report → State → Type 0
 IsUnreadText report (Text text) = IsUnread report text
 IsUnreadText report (View version) = ⊥
+IsUnreadText report (Structs structs) = ⊥
 
 -- a match was opened for this report, if there is such
 abbrev pub IsOpenedFor : Option Report → Option State → ℕ → Type 0
@@ -44,6 +57,8 @@ IsOpened number None new status = IsOpenedFor (report_of number) new status
 abbrev pub IsFed : Option State → Option State → List ℕ → List ℕ → ℕ → Type 0
 IsFed None new piece left status = IsRefused (refusal None) None new status × (left ≡ piece)
 IsFed (Some (View version)) new piece left status = IsRefused (refusal (Some (View version))) (Some (View version)) new status × (left ≡ piece)
+IsFed (Some (Structs structs)) new piece left status =
+    IsRefused (refusal (Some (Structs structs))) (Some (Structs structs)) new status × (left ≡ piece)
 IsFed (Some (Text old)) new piece left status = (made : TextState) × ((answer : Result (Unit {0}) MatchFault)
     × ((new ≡ Some (Text made)) × ((status ≡ status_of answer) × Feeds old made piece left answer)))
 
@@ -51,6 +66,7 @@ IsFed (Some (Text old)) new piece left status = (made : TextState) × ((answer :
 abbrev pub IsFinished : Option State → Option State → ℕ → Type 0
 IsFinished None new status = IsRefused (refusal None) None new status
 IsFinished (Some (View version)) new status = IsRefused (refusal (Some (View version))) (Some (View version)) new status
+IsFinished (Some (Structs structs)) new status = IsRefused (refusal (Some (Structs structs))) (Some (Structs structs)) new status
 IsFinished (Some (Text old)) new status = (made : TextState) × ((answer : Result (Unit {0}) MatchFault)
     × ((new ≡ Some (Text made)) × ((status ≡ status_of answer) × Finishes old made answer)))
 
@@ -58,6 +74,7 @@ IsFinished (Some (Text old)) new status = (made : TextState) × ((answer : Resul
 abbrev pub IsTaken : Option State → Option State → ℕ → Type 0
 IsTaken None new count = new ≡ None
 IsTaken (Some (View version)) new count = new ≡ Some (View version)
+IsTaken (Some (Structs structs)) new count = new ≡ Some (Structs structs)
 IsTaken (Some (Text old)) new count = (made : TextState) × ((new ≡ Some (Text made)) × Takes old made count)
 
 -- what a match tells on, as a version of the map; none where the map has not come
@@ -67,6 +84,7 @@ version_said said = option_map (λ map. map_state map said.standing) said.map
 -- what can be looked at beside a state
 abbrev pub version_in : State → Option MapState
 version_in (Text text) = version_said (said_of text.game.ground)
+version_in (Structs structs) = Some (map_state structs.game.map (standing_in structs.game))
 version_in (View version) = Some version
 
 -- a closed view was opened of a version, where there is one
@@ -79,3 +97,74 @@ abbrev pub IsViewed : Option State → Option State → Option State → ℕ →
 IsViewed from (Some state) new status = IsRefused OPEN (Some state) new status
 IsViewed None None new status = IsRefused CLOSED None new status
 IsViewed (Some from) None new status = IsShown (version_in from) new status
+
+-- ---- matches by structs
+
+-- the match is one by structs on this map, before its first turn
+abbrev pub IsNewOn : Map → State → Type 0
+IsNewOn map (Text text) = ⊥
+IsNewOn map (View version) = ⊥
+IsNewOn map (Structs structs) = IsNew map structs
+
+-- a closed handle was opened for a match on the map that the numbers are; else they are none, or there was no memory
+abbrev pub IsMadeOn : FlatMap → List FlatClass → List FlatRect → Option State → ℕ → Type 0
+IsMadeOn frame classes base None status = status ≢ NO_MEMORY → (status ≡ BAD_VALUE) × ((map : Map) → ¬ IsMapOf frame classes base map)
+IsMadeOn frame classes base (Some made) status = (status ≡ DONE) × ((map : Map) × (IsMapOf frame classes base map × IsNewOn map made))
+
+-- a match was opened on a map
+abbrev pub IsOpenedOn : FlatMap → List FlatClass → List FlatRect → Option State → Option State → ℕ → Type 0
+IsOpenedOn frame classes base (Some state) new status = IsRefused OPEN (Some state) new status
+IsOpenedOn frame classes base None new status = IsMadeOn frame classes base new status
+
+-- posts were taken by a match by structs; anything else refuses
+abbrev pub IsPosted : Option State → Option State → List FlatPost → ℕ → Type 0
+IsPosted None new flats status = IsRefused (refusal None) None new status
+IsPosted (Some (Text text)) new flats status = IsRefused (refusal (Some (Text text))) (Some (Text text)) new status
+IsPosted (Some (View version)) new flats status = IsRefused (refusal (Some (View version))) (Some (View version)) new status
+IsPosted (Some (Structs old)) new flats status = (made : StructState) × ((answer : Result (Unit {0}) PostFault)
+    × ((new ≡ Some (Structs made)) × ((status ≡ status_of_posts answer) × PostsAs old made flats answer)))
+
+-- The turn has ended, and was told.
+pub record HasEnded (old new : StructState) (turn : FlatTurn) (status : ℕ) : Type 0 where
+  pub done : status ≡ DONE
+  pub ends : Ends old new
+  pub told : turn ≡ flat_turn (length new.game.journal) new.told
+
+-- There was no memory, and all is as it was.
+pub record IsUnended (old new : StructState) (before after : FlatTurn) (status : ℕ) : Type 0 where
+  pub why : status ≡ NO_MEMORY
+  pub same : new ≡ old
+  pub untold : after ≡ before
+
+-- a refusal that told nothing
+abbrev pub IsRefusedUntold : Option State → Option State → (before after : FlatTurn) → ℕ → Type 0
+IsRefusedUntold old new before after status = IsRefused (refusal old) old new status × (after ≡ before)
+
+-- the turn of a match by structs has ended, or there was no memory; anything else refuses
+abbrev pub IsEnded : Option State → Option State → (before after : FlatTurn) → ℕ → Type 0
+IsEnded None new before after status = IsRefusedUntold None new before after status
+IsEnded (Some (Text text)) new before after status = IsRefusedUntold (Some (Text text)) new before after status
+IsEnded (Some (View version)) new before after status = IsRefusedUntold (Some (View version)) new before after status
+IsEnded (Some (Structs old)) new before after status = (made : StructState)
+    × ((new ≡ Some (Structs made)) × (HasEnded old made after status ⊎ IsUnended old made before after status))
+
+-- Of a match by structs, its script stands at the head of the buffer, or the buffer is too small, or there was no memory.
+pub record IsScript (script before after : List ℕ) (old new status : ℕ) : Type 0 where
+  pub statuses : Contains (DONE ∷ SMALL ∷ NO_MEMORY ∷ []) status
+  pub done : status ≡ DONE → after ≡ script ++ drop (length script) before
+  pub small : status ≡ SMALL → length before < length script
+  pub kept : status ≢ DONE → after ≡ before
+  pub known : status ≢ NO_MEMORY → new ≡ length script
+  pub unknown : status ≡ NO_MEMORY → new ≡ old
+
+-- nothing was written
+abbrev pub IsUnwritten : Option State → (before after : List ℕ) → (old new : ℕ) → ℕ → Type 0
+IsUnwritten state before after old new status = (status ≡ refusal state) × (after ≡ before) × (new ≡ old)
+
+-- the script of a match by structs was written; anything else refuses
+abbrev pub IsWritten : Option State → (before after : List ℕ) → (old new : ℕ) → ℕ → Type 0
+IsWritten None before after old new status = IsUnwritten None before after old new status
+IsWritten (Some (Text text)) before after old new status = IsUnwritten (Some (Text text)) before after old new status
+IsWritten (Some (View version)) before after old new status = IsUnwritten (Some (View version)) before after old new status
+IsWritten (Some (Structs structs)) before after old new status =
+    IsScript (canon_script structs.game.map structs.game.journal) before after old new status

@@ -15,7 +15,7 @@ use Rattle.flat_posts.specs.Replies.{flat_reply, turn_waypoints}
 use Rattle.pathserve_c.specs.declared.statuses.PostFault.{PostFault}
 use Rattle.pathserve_c.specs.declared.statuses.PostFault.TheVariants as fault
 use Rattle.pathserve_c.specs.declared.states.State.{State}
-use Rattle.pathserve_c.specs.declared.states.State.TheVariants.{Text, View}
+use Rattle.pathserve_c.specs.declared.states.State.TheVariants.{Text, Structs, View}
 use Rattle.pathserve_c.specs.Statuses.{refusal, status_of_posts}
 
 -- The post is a request of a caller of the map, and the reply tells its answer on what stands. The first waypoints of a path
@@ -46,5 +46,7 @@ abbrev pub IsFound : Option State → FlatPost → (old new : FlatReply) → (be
 IsFound None post old new before after status = (status ≡ refusal None) × IsUnwritten old new before after
 IsFound (Some (Text text)) post old new before after status =
     (status ≡ refusal (Some (Text text))) × IsUnwritten old new before after
+IsFound (Some (Structs structs)) post old new before after status =
+    (status ≡ refusal (Some (Structs structs))) × IsUnwritten old new before after
 IsFound (Some (View version)) post old new before after status = (answer : Result (Unit {0}) PostFault)
     × ((status ≡ status_of_posts answer) × FindsAs version post old new before after answer)

@@ -4,4 +4,5 @@ pub mod Handles
 pub mod Owned
 pub mod Sizes
 pub mod Statuses
+pub mod Structs
 pub mod Texts

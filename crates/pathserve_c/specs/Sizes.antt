@@ -5,6 +5,9 @@ use Rattle.std.specs.Prelude.{ℕ, ◌==◌, ◌||◌, if◌then◌else◌}
 abbrev pub size_named : ℕ → ℕ
 size_named which =
     if which == 1 || which == 2 then 16 else (
+    if which == 3 || which == 5 then 12 else (
+    if which == 4 then 72 else (
     if which == 6 then 48 else (
+    if which == 7 then 56 else (
     if which == 8 then 56 else (
-    if which == 9 then 4 else 0)))
+    if which == 9 then 4 else 0))))))

@@ -51,7 +51,7 @@ fn find_in(
 {
     match state {
         State::View(version) => status_of_posts(find(alloc, version, post, reply, waypoints)),
-        State::Text(_) => OTHER,
+        State::Text(_) | State::Structs(_) => OTHER,
     }
 }
 

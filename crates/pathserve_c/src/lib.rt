@@ -1,7 +1,7 @@
 //! The library that games link: what crosses to C.
 //!
 //! ```text
-//!    C: pathserve_match, pathserve_view --> Handle --> a match by text | what stands
+//!    C: pathserve_match, pathserve_view --> Handle --> a match by text | a match by structs | what stands
 //! ```
 //!
 //! `include/pathserve.h` says what each call owes and gives. A [`Handle`] lies in C's memory and owns a box of a state. Each
@@ -15,6 +15,8 @@ mod raw_box;
 mod shared_versions;
 mod states;
 mod statuses;
+mod struct_matches;
+mod structs;
 mod text_matches;
 mod texts;
 mod versions;
@@ -26,8 +28,13 @@ pub use held::Held;
 pub use raw_box::RawBox;
 pub use states::State;
 pub use statuses::{
-    BAD_LINE, BAD_VALUE, CLOSED, DONE, ENDED, NO_MAP, NO_MEMORY, OPEN, OTHER, PostFault, TOO_LONG,
-    status_of, status_of_posts,
+    BAD_LINE, BAD_VALUE, CLOSED, DONE, ENDED, NO_MAP, NO_MEMORY, OPEN, OTHER, PostFault, SMALL,
+    TOO_LONG, status_of, status_of_posts,
+};
+pub use struct_matches::StructMatch;
+pub use structs::{
+    pathserve_end_turn, pathserve_journal, pathserve_open_map, pathserve_post_all,
+    pathserve_replies, pathserve_waypoints,
 };
 pub use text_matches::TextMatch;
 pub use texts::{

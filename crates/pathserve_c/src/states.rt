@@ -1,4 +1,5 @@
 //! What a handle holds.
+use crate::struct_matches::StructMatch;
 use crate::text_matches::TextMatch;
 use grid_versions::Version;
 
@@ -7,6 +8,8 @@ use grid_versions::Version;
 pub enum State {
     /// A match by text.
     Text(TextMatch),
+    /// A match by structs.
+    Structs(StructMatch),
     /// What stands, to be looked at beside a match.
     View(Version),
 }

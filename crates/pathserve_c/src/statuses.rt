@@ -34,6 +34,9 @@ pub const NO_MAP: u32 = 20;
 /// A value is no such kind, number or size.
 pub const BAD_VALUE: u32 = 21;
 
+/// The buffer is too small.
+pub const SMALL: u32 = 22;
+
 /// The status that tells how far a match came.
 pub fn status_of(answer: Result<(), MatchFault>) -> u32
     ensures { result ≡ status_of answer }

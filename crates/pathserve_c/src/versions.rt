@@ -3,7 +3,7 @@ ghost use Rattle.std.specs.Prelude.{◌≡◌};
 ghost use Rattle.pathserve_c.specs.Sizes.{size_named};
 
 use crate::handles::Handle;
-use flat_posts::{FlatCell, FlatPost, FlatReply};
+use flat_posts::{FlatCell, FlatClass, FlatMap, FlatPost, FlatRect, FlatReply, FlatTurn};
 use std::mem::size_of;
 
 /// The version of the interface: the major number times 65536, the minor one times 256, and the patch.
@@ -37,7 +37,11 @@ pub extern "C" fn pathserve_size_of(which: u32) -> usize
 {
     match which {
         1 | 2 => size_of::<Handle>(),
+        3 => size_of::<FlatMap>(),
+        4 => size_of::<FlatClass>(),
+        5 => size_of::<FlatRect>(),
         6 => size_of::<FlatPost>(),
+        7 => size_of::<FlatTurn>(),
         8 => size_of::<FlatReply>(),
         9 => size_of::<FlatCell>(),
         _ => 0,

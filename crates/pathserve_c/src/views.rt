@@ -72,7 +72,7 @@ pub extern "C" fn pathserve_passable(
     };
     let passable = match &*state {
         State::View(version) => passable(version, class_number, i, j),
-        State::Text(_) => 0,
+        State::Text(_) | State::Structs(_) => 0,
     };
     view.put(state);
     passable
@@ -97,7 +97,7 @@ pub extern "C" fn pathserve_region(
     };
     let region = match &*state {
         State::View(version) => region(version, class_number, i, j),
-        State::Text(_) => 0,
+        State::Text(_) | State::Structs(_) => 0,
     };
     view.put(state);
     region
@@ -122,7 +122,7 @@ pub extern "C" fn pathserve_area(
     };
     let area = match &*state {
         State::View(version) => area(version, class_number, i, j),
-        State::Text(_) => 0,
+        State::Text(_) | State::Structs(_) => 0,
     };
     view.put(state);
     area
@@ -150,7 +150,7 @@ pub extern "C" fn pathserve_row(
     };
     let count = match &*state {
         State::View(version) => row(version, class_number, j, words),
-        State::Text(_) => 0,
+        State::Text(_) | State::Structs(_) => 0,
     };
     view.put(state);
     count
@@ -189,6 +189,10 @@ fn version_in(alloc: Global, state: &State) -> Result<Option<Version>, NoMemory>
 {
     match state {
         State::Text(text) => text.view(alloc),
+        State::Structs(structs) => match shared(alloc, structs.version()) {
+            Ok(version) => Ok(Some(version)),
+            Err(NoMemory) => Err(NoMemory),
+        },
         State::View(version) => match shared(alloc, version) {
             Ok(version) => Ok(Some(version)),
             Err(NoMemory) => Err(NoMemory),

@@ -1,0 +1,125 @@
+//! Matches by structs.
+ghost use Rattle.std.specs.Prelude.{◌≡◌, IfOk, OnErr, OnOk, [], length};
+ghost use Rattle.script_text.specs.ReadsBack.{canon_script};
+ghost use Rattle.pathserve_c.specs.Structs.{Ends, IsNew, PostsAs, standing_in};
+
+use crate::statuses::PostFault;
+use flat_posts::{CallerPosts, FlatPost, PostsFault, read_posts, turn_of};
+use grid_versions::Version;
+use match_play::{EndedTurn, PostedMatch};
+use nav_types::{Bytes, NoMemory, Sequence};
+use posts::{MapSpec, Report, Tallies, TurnReplies};
+use std::alloc::Global;
+use std::marker::Model;
+
+/// A match by structs. Contracts see the match, the posts of the turn and the replies of the last one (`StructState`).
+#[derive(Drop)]
+pub struct StructMatch {
+    game: PostedMatch,
+    posted: CallerPosts,
+    told: TurnReplies,
+}
+
+impl Model for StructMatch {
+    ghost use Rattle.std.specs.Prelude.{ℕ, ◌≡◌, ◌<◌, All};
+    ghost use Rattle.posts.specs.declared.posts.Post.{Post};
+    ghost use Rattle.pathserve_c.specs.Structs.{StructState};
+
+    ghost Value = { StructState };
+
+    ghost view = { λ m. record { game = m.game; posted = m.posted; told = m.told } };
+
+    ghost invariant = { λ m. (m.game.map.version ≡ 3)
+        × All (λ (entry : ℕ × Post). entry.0 < m.game.map.callers) m.posted };
+}
+
+impl StructMatch {
+    /// A match on a map of version 3, before its first turn.
+    pub fn open(alloc: Global, map: &MapSpec) -> Result<StructMatch, NoMemory>
+        requires { map.now.version ≡ 3 }
+        ensures { IfOk result (IsNew map.now) }
+    {
+        let game = PostedMatch::open(alloc, map)?;
+        Ok(StructMatch {
+            game,
+            posted: Sequence::new(alloc),
+            told: nothing_told(alloc),
+        })
+    }
+
+    /// Takes posts, behind those that the turn has: all of them or none.
+    pub fn post_all(&mut self, alloc: Global, flats: &[FlatPost]) -> Result<(), PostFault>
+        ensures { PostsAs self.old self.new flats.now result }
+    {
+        let mut read = match read_posts(alloc, self.game.version().map(), flats) {
+            Ok(read) => read,
+            Err(PostsFault::NotPost) => return Err(PostFault::BadValue),
+            Err(PostsFault::NoMemory) => return Err(PostFault::NoMemory),
+        };
+        match self.posted.append(&mut read) {
+            Ok(()) => Ok(()),
+            Err(NoMemory) => Err(PostFault::NoMemory),
+        }
+    }
+
+    /// Ends the turn. Where there is no memory it has not ended, and has its posts.
+    pub fn end_turn(&mut self, alloc: Global) -> Result<(), NoMemory>
+        ensures ended { OnOk result (Ends self.old self.new) }
+        ensures same { OnErr result (self.new ≡ self.old) }
+    {
+        let callers = usize::from(self.game.version().map().callers());
+        let turn = turn_of(alloc, callers, self.posted.as_slice())?;
+        match self.game.end_turn(alloc, Report::Answers, turn) {
+            Ok(EndedTurn { replies, .. }) => {
+                self.told = replies;
+                self.posted.clear();
+                Ok(())
+            }
+            Err(_) => Err(NoMemory),
+        }
+    }
+
+    /// The replies of the turn that ended last.
+    pub fn told(&self) -> &TurnReplies
+        ensures { result.now ≡ self.now.told }
+    {
+        &self.told
+    }
+
+    /// The version after the turns that have ended.
+    pub fn version(&self) -> &Version
+        ensures map { result.now.map ≡ self.now.game.map }
+        ensures standing { result.now.standing ≡ standing_in self.now.game }
+    {
+        self.game.version()
+    }
+
+    /// How many turns have ended.
+    pub fn turns(&self) -> usize
+        ensures { result ≡ length self.now.game.journal }
+    {
+        self.game.journal().len()
+    }
+
+    /// The match as a script: the canonical text of its map and of the turns that have ended.
+    pub fn script(&self, alloc: Global) -> Result<Bytes, NoMemory>
+        ensures { IfOk result (λ text. text ≡ canon_script self.now.game.map self.now.game.journal) }
+    {
+        self.game.script(alloc)
+    }
+}
+
+/// The replies where no turn has ended: none.
+fn nothing_told(alloc: Global) -> TurnReplies
+    ensures { result.replies ≡ [] }
+{
+    TurnReplies {
+        tallies: Tallies {
+            regions: 0,
+            edges: 0,
+            areas: 0,
+        },
+        relabelled: 0,
+        replies: Sequence::new(alloc),
+    }
+}
