@@ -1,19 +1,33 @@
 #!/usr/bin/env python3
-"""Plays a script by text, and then looks at what stands: PATHSERVE_LIBRARY=libpathserve.so.0 skirmish.py skirmish.script"""
-import sys
+"""Plays examples/skirmish.script by posts, without a script, and looks at what stands.
 
-from pathserve import Goal, TextMatch, fixed, path
+PATHSERVE_LIBRARY=libpathserve.so.0 examples/python/skirmish.py
+"""
+from pathserve import Goal, PassabilityClass, PostedMatch, Rect, add_square, fixed, move, path, region, remove
 
 INFANTRY, SIEGE = 0, 1
-with open(sys.argv[1], "rb") as file:
-    script = file.read()
+classes = [PassabilityClass("infantry", fixed(0.5)), PassabilityClass("siege", fixed(1.5))]
+west = path(1, SIEGE, fixed(10.5), fixed(3.5), Goal.circle(fixed(1.5), fixed(3.5), fixed(1)))
+turns = [
+    [
+        add_square(0, 1, 1 << INFANTRY | 1 << SIEGE, fixed(6), fixed(3), fixed(1), 0, fixed(0.5), fixed(2)),
+        path(0, INFANTRY, fixed(1.5), fixed(1.5), Goal.obstruction(1, fixed(1))),
+        west,
+        region(1, SIEGE, fixed(6.5), fixed(3.5)),
+    ],
+    [west, move(0, 1, fixed(6), fixed(1)), remove(0, 2)],
+]
 
-with TextMatch() as match:
-    match.feed(script)
-    print(match.take().decode(), end="")
+with PostedMatch(12, 8, 2, classes, [Rect(0, 7, 11, 7, 1 << INFANTRY | 1 << SIEGE)]) as match:
+    for posts in turns:
+        match.post(posts)
+        turn = match.end_turn()
+        print(f"turn {turn.turn}: {turn.areas} areas, {turn.relabelled} relabelled")
+        for reply in turn.replies:
+            said = reply.path or reply.region or reply.why or reply.id
+            print(f"  caller {reply.caller}, post {reply.post}: {reply.kind.name} {said}")
     with match.view() as view:
         print("siege, from the north:")
         for j in reversed(range(8)):
             print("  " + "".join(".#"[not free] for free in view.row(SIEGE, j, 12)))
-        ask = path(0, INFANTRY, fixed(1.5), fixed(1.5), Goal.point(fixed(10.5), fixed(1.5)))
-        print("infantry, from west to east:", view.find(ask).path)
+        print("and back east:", view.find(path(1, SIEGE, fixed(1.5), fixed(3.5), Goal.point(fixed(10.5), fixed(3.5)))).path)

@@ -1,7 +1,8 @@
-"""The C library of a release beside the plain program: by text, views, cut, out of memory, by threads, from each language.
+"""The C library of a release beside the plain program: by text, by structs, cut, out of memory, by threads, from each language.
 
 The release is the folder that PATHSERVE_RELEASE names, or out/release, which `./release` makes.
 """
+import json
 import os
 import re
 import shutil
@@ -72,6 +73,21 @@ class Header(unittest.TestCase):
                 continue
             subprocess.run(words, check=True)
 
+    @needs_cc
+    def test_each_size_is_what_the_library_says(self):
+        with open(HEADER, encoding="utf-8") as file:
+            sizes = re.findall(r"PATHSERVE_SIZE_(\w+) = (\d+),? +/\* (\d+) \*/", file.read())
+        self.assertEqual([int(number) for _, number, _ in sizes], list(range(1, 10)))
+        lines = "".join(
+            f"    if (pathserve_size_of({number}) != {size} || sizeof(pathserve_{name.lower()}) != {size}) return {number};\n"
+            for name, number, size in sizes
+        )
+        with tempfile.TemporaryDirectory() as folder:
+            source = os.path.join(folder, "sizes.c")
+            with open(source, "w", encoding="utf-8") as file:
+                file.write(f"#include <pathserve.h>\nint main(void) {{\n{lines}    return (int)pathserve_size_of(0);\n}}\n")
+            self.assertEqual(answers(built(folder, source)), (b"", 0))
+
     @unittest.skipUnless(shutil.which("nm"), "there is no nm")
     def test_the_shared_object_exports_what_it_declares(self):
         told = subprocess.run(["nm", "-D", "--defined-only", SHARED], capture_output=True, text=True, check=True).stdout
@@ -92,6 +108,11 @@ class Clients(unittest.TestCase):
                 self.assertEqual(answers(program, read(f"examples/{name}.script")), (read(f"examples/{name}.answers"), 0))
             for script, text, status in scripts(100):
                 self.assertEqual(answers(program, script), (text, status), script)
+
+    def test_by_structs(self):
+        for archive in ("libpathserve.a", "rattle/libpathserve.a"):
+            program = built(self.folder, "examples/c/by_structs.c", archive, SANE)
+            self.assertEqual(answers(program), (read("examples/skirmish.answers"), 0))
 
     def test_views(self):
         for archive in ("libpathserve.a", "rattle/libpathserve.a"):
@@ -136,13 +157,103 @@ class Clients(unittest.TestCase):
     @unittest.skipUnless(shutil.which("cargo"), "there is no cargo")
     def test_rust(self):
         where = dict(os.environ, PATHSERVE_LIB_DIR=os.path.join(RELEASE, "lib"), CARGO_TARGET_DIR=self.folder)
-        for name in ("skirmish", "views"):
+        for name in ("skirmish", "posts", "views"):
             words = ["cargo", "run", "-q", "--offline", "--example", name]
             folder = os.path.join(TOP, "examples", "rust", "pathserve")
             ran = subprocess.run(words, cwd=folder, env=where, input=read("examples/skirmish.script"), capture_output=True)
             self.assertEqual(ran.returncode, 0, ran.stderr.decode())
             if name == "skirmish":
                 self.assertEqual(ran.stdout, read("examples/skirmish.answers"))
+
+
+def text_of(turn):
+    """The text of a turn, by its replies."""
+    head = f"turn {turn.turn} regions {turn.regions} edges {turn.edges} areas {turn.areas} relabelled {turn.relabelled}"
+    return "".join(f"{line}\n" for line in [head, *map(line_of, turn.replies)])
+
+
+def line_of(reply):
+    kind = reply.kind.name
+    if reply.why:
+        said = "refused " + reply.why.name.lower().replace("_", "-")
+    elif reply.path:
+        path = reply.path
+        ends = f"{path.start.i} {path.start.j} {path.end.i} {path.end.j} {'goal' if kind == 'AT_GOAL' else 'near'}"
+        said = " ".join(["path", ends, str(path.cost), str(len(path.waypoints)), *(f"{it.i}.5,{it.j}.5" for it in path.waypoints)])
+    elif reply.region:
+        said = f"region {reply.region.chunk.i} {reply.region.chunk.j} {reply.region.region} {reply.region.area}"
+    else:
+        said = kind.lower() + (f" {reply.id}" if reply.id is not None else "")
+    return f"{reply.caller} {reply.post} {said}"
+
+
+class Posted:
+    """A script as the posts of its turns."""
+
+    def __init__(self, api, script):
+        self.api = api
+        lines = [json.loads(line) for line in script.decode().splitlines()]
+        first = lines[0]
+        self.size, self.callers, self.version = first["size"], first["callers"], first["version"]
+        self.names = [it["name"] for it in first["classes"]]
+        self.classes = [api.PassabilityClass(it["name"], check.decimal(it["clearance"])) for it in first["classes"]]
+        self.base = [api.Rect(*it) for line in lines if "base" in line for it in line["base"]]
+        self.turns = [[]]
+        for line in lines[1:]:
+            if "end" in line:
+                self.turns.append([])
+            elif "base" not in line:
+                self.turns[-1].append(self.post(line))
+        self.turns.pop()
+
+    def open(self):
+        return self.api.PostedMatch(*self.size, self.callers, self.classes, self.base)
+
+    def is_said(self):
+        """Whether structs can say each post: a class is a number there, so one that the map lacks is not."""
+        return all(post is not None for posts in self.turns for post in posts)
+
+    def post(self, line):
+        caller = line["caller"]
+        if "add" in line:
+            kind = "unit" if "unit" in line else "square"
+            make = self.api.add_unit if kind == "unit" else self.api.add_square
+            mask = line["mask"] if self.version > 1 else 65535
+            return make(caller, line["add"], mask, *check.decimals(line[kind], len(line[kind])))
+        if "remove" in line:
+            return self.api.remove(caller, line["remove"])
+        if "move" in line:
+            return self.api.move(caller, line["move"], *check.decimals(line["to"], 2))
+        name = line.get("path", line.get("region"))
+        if name not in self.names:
+            return None
+        if "path" in line:
+            return self.api.path(caller, self.names.index(name), *check.decimals(line["from"], 2), self.goal(line["goal"]))
+        return self.api.region(caller, self.names.index(name), *check.decimals(line["at"], 2))
+
+    def goal(self, goal):
+        (kind, value), = goal.items()
+        if kind == "obstruction":
+            return self.api.Goal.obstruction(value[0], check.decimal(value[1]))
+        numbers = check.decimals(value, len(value))
+        if kind == "point":
+            return self.api.Goal.point(*numbers)
+        make = self.api.Goal.circle if kind.endswith("circle") else self.api.Goal.square
+        return make(*numbers, outside=kind.startswith("not-"))
+
+
+def stand_after(standing, posts, replies):
+    """The adds of what stands after a turn, by the replies to its posts, caller by caller."""
+    standing = dict(standing)
+    by_caller = sorted(posts, key=lambda post: post.caller)
+    for post, reply in zip(by_caller, replies):
+        if reply.kind.name == "ADDED":
+            standing[post.id] = post
+        elif reply.kind.name == "REMOVED":
+            del standing[post.id]
+        elif reply.kind.name == "MOVED":
+            standing[post.id] = standing[post.id]._replace(x=post.x, z=post.z)
+    return standing
 
 
 @needs_release
@@ -168,6 +279,78 @@ class Python(unittest.TestCase):
             except self.api.Failed as failed:
                 status = int(failed.status)
             return text + match.take(), status
+
+    def said(self, count):
+        """Made scripts that structs can say, as posts, with their texts."""
+        for script, text, status in scripts(count):
+            posted = Posted(self.api, script) if status == 0 else None
+            if posted and posted.is_said():
+                yield posted, text
+
+    def test_made_scripts_by_posts(self):
+        played = 0
+        for posted, text in self.said(400):
+            with posted.open() as match:
+                told = ""
+                for posts in posted.turns:
+                    match.post(posts[:1])
+                    match.post(posts[1:])
+                    told += text_of(match.end_turn())
+                self.assertEqual(told.encode(), text)
+                self.assertEqual(self.by_text(match.journal()), (text, 0))
+            played += 1
+        self.assertGreater(played, 200)
+
+    def test_a_match_that_is_saved_goes_on_alike(self):
+        compared = 0
+        for posted, _ in self.said(100):
+            with posted.open() as match:
+                standing = {}
+                for at, posts in enumerate(posted.turns):
+                    match.post(posts)
+                    standing = stand_after(standing, posts, match.end_turn().replies)
+                    with match.view() as view, posted.open() as opened:
+                        opened.post(add._replace(caller=0) for add in standing.values())
+                        self.assertEqual({it.kind.name for it in opened.end_turn().replies} - {"ADDED"}, set())
+                        self.assertEqual(self.further(opened, posted.turns[at + 1 :]), self.further_of(posted, at + 1))
+                        compared += 1
+        self.assertGreater(compared, 100)
+
+    def further(self, match, turns):
+        """What these turns are told, without their numbers."""
+        told = []
+        for posts in turns:
+            match.post(posts)
+            told.append(match.end_turn()._replace(turn=0))
+        return told
+
+    def further_of(self, posted, first):
+        with posted.open() as match:
+            return self.further(match, posted.turns)[first:]
+
+    def test_what_is_no_post_or_no_map_is_refused(self):
+        api = self.api
+        classes = [api.PassabilityClass("walker", api.fixed(0.5))]
+        no_maps = [
+            (0, 8, 1, classes, []), (2049, 8, 1, classes, []), (12, 8, 65, classes, []), (12, 8, 0, classes, []), (12, 8, 1, [], []),
+            (12, 8, 1, classes * 2, []), (12, 8, 1, [api.PassabilityClass("a b", 0)], []),
+            (12, 8, 1, [api.PassabilityClass("a", -1)], []), (12, 8, 1, classes, [api.Rect(0, 0, 12, 0, 1)]),
+        ]
+        for parts in no_maps:
+            with self.assertRaises(api.Failed) as raised:
+                api.PostedMatch(*parts)
+            self.assertEqual(raised.exception.status, api.Status.BAD_VALUE, parts)
+        with api.PostedMatch(12, 8, 1, classes) as match:
+            good = api.region(0, 0, 0, 0)
+            for bad in (good._replace(kind=7), good._replace(caller=1), good._replace(class_number=1), good._replace(mask=1)):
+                with self.assertRaises(api.Failed) as raised:
+                    match.post([good, bad])
+                self.assertEqual(raised.exception.status, api.Status.BAD_VALUE, bad)
+            self.assertEqual(match.end_turn().replies, [])
+            library = api.load()
+            self.assertEqual(library.pathserve_finish(match._handle), api.Status.OTHER)
+        with api.TextMatch() as match:
+            self.assertEqual(library.pathserve_post_all(match._handle, None, 0), api.Status.OTHER)
 
     def test_in_pieces_of_any_length(self):
         script = read("examples/skirmish.script")

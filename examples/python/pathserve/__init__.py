@@ -1,4 +1,4 @@
-"""The library libpathserve for Python: matches by text, and views. Python 3.8 or later, nothing to install.
+"""The library libpathserve for Python: matches by text and by posts, and views. Python 3.8 or later, nothing to install.
 
     with TextMatch() as match:
         match.feed(script)
@@ -8,12 +8,31 @@ The shared object is the file that the variable PATHSERVE_LIBRARY names, or else
 loader finds it. What each call owes and gives stands in pathserve.h; a status that is not DONE is raised as an exception.
 A match or a view is used by one thread at a time. Distinct ones may be used by several threads at once.
 """
-from .matches import TextMatch
+from .matches import PostedMatch, TextMatch, Turn
 from .native import BadLine, Failed, OutOfMemory, Status, load
-from .posts import NAVCELL, Goal, Kind, Path, Post, Refusal, Region, Reply, fixed, path, region
+from .posts import (
+    NAVCELL,
+    Goal,
+    Kind,
+    PassabilityClass,
+    Path,
+    Post,
+    Rect,
+    Refusal,
+    Region,
+    Reply,
+    add_square,
+    add_unit,
+    fixed,
+    move,
+    path,
+    region,
+    remove,
+)
 from .views import View
 
 __all__ = [
-    "NAVCELL", "BadLine", "Failed", "Goal", "Kind", "OutOfMemory", "Path", "Post", "Refusal", "Region", "Reply", "Status",
-    "TextMatch", "View", "fixed", "load", "path", "region",
+    "NAVCELL", "BadLine", "Failed", "Goal", "Kind", "OutOfMemory", "PassabilityClass", "Path", "Post", "PostedMatch", "Rect",
+    "Refusal", "Region", "Reply", "Status", "TextMatch", "Turn", "View", "add_square", "add_unit", "fixed", "load", "move",
+    "path", "region", "remove",
 ]

@@ -1,23 +1,36 @@
-"""Matches by the text of their script."""
+"""Matches by text and by posts."""
 from __future__ import annotations
 
 import ctypes
+from typing import Iterable, NamedTuple, Sequence
 
 from . import native
 from .native import OutOfMemory, Status, must
 from .owners import Owner
+from .posts import PassabilityClass, Post, Rect, Reply, cell_of, reply_of
 from .views import View
 
 REPORTS = {"replay": 0, "profile": 1, "flow": 2, "smooth": 3}
 
 
-class TextMatch(Owner):
+class _Match(Owner):
+    def __init__(self) -> None:
+        library = native.load()
+        super().__init__(library, native.MatchHandle(), library.pathserve_close)
+
+    def view(self) -> View:
+        """What stands after the turns that have ended."""
+        view = View(self._library)
+        must(self._library.pathserve_view_of(self._handle, view._handle))
+        return view
+
+
+class TextMatch(_Match):
     """A match by the text of its script, as the program plays it with the words `replay`, `profile`, `flow` or `smooth`."""
 
     def __init__(self, report: str = "replay") -> None:
-        library = native.load()
-        super().__init__(library, native.MatchHandle(), library.pathserve_close)
-        must(library.pathserve_open(self._handle, REPORTS[report]))
+        super().__init__()
+        must(self._library.pathserve_open(self._handle, REPORTS[report]))
 
     def feed(self, script: bytes) -> None:
         """Feeds the next bytes, cut anywhere. What is told waits, also where this raises BadLine.
@@ -40,8 +53,53 @@ class TextMatch(Owner):
         count = self._library.pathserve_take(self._handle, buffer, len(buffer))
         return buffer.raw[:count]
 
-    def view(self) -> View:
-        """What stands after the turns that have ended."""
-        view = View(self._library)
-        must(self._library.pathserve_view_of(self._handle, view._handle))
-        return view
+
+class Turn(NamedTuple):
+    """A turn's numbers, and the replies to its posts, caller by caller."""
+
+    turn: int
+    regions: int
+    edges: int
+    areas: int
+    relabelled: int
+    replies: list[Reply]
+
+
+class PostedMatch(_Match):
+    """A match on a map, whose turns are posts."""
+
+    def __init__(
+        self, width: int, height: int, callers: int, classes: Sequence[PassabilityClass], base: Sequence[Rect] = ()
+    ) -> None:
+        super().__init__()
+        its_classes = (native.ClassStruct * len(classes))(*[it.struct() for it in classes])
+        its_base = (native.RectStruct * len(base))(*[it.struct() for it in base])
+        its_map = native.MapStruct(width, height, callers)
+        must(self._library.pathserve_open_map(self._handle, its_map, its_classes, len(classes), its_base, len(base)))
+
+    def post(self, posts: Iterable[Post]) -> None:
+        """Posts, behind those that the turn has: all or none."""
+        structs = [it.struct() for it in posts]
+        must(self._library.pathserve_post_all(self._handle, (native.PostStruct * len(structs))(*structs), len(structs)))
+
+    def end_turn(self) -> Turn:
+        """Makes the edits of the turn, and answers its requests on what they leave."""
+        turn = native.TurnStruct()
+        must(self._library.pathserve_end_turn(self._handle, turn))
+        replies = (native.ReplyStruct * turn.replies)()
+        self._library.pathserve_replies(self._handle, 0, replies, len(replies))
+        cells = (native.CellStruct * turn.waypoints)()
+        self._library.pathserve_waypoints(self._handle, 0, cells, len(cells))
+        waypoints = [cell_of(it) for it in cells]
+        told = [reply_of(it, waypoints) for it in replies]
+        return Turn(turn.turn, turn.regions, turn.edges, turn.areas, turn.relabelled, told)
+
+    def journal(self) -> bytes:
+        """The turns that have ended as a script, which a TextMatch or the program answers alike."""
+        whole = ctypes.c_size_t()
+        status = self._library.pathserve_journal(self._handle, None, 0, whole)
+        if status != Status.SMALL:
+            must(status)
+        buffer = ctypes.create_string_buffer(whole.value)
+        must(self._library.pathserve_journal(self._handle, buffer, len(buffer), whole))
+        return buffer.raw

@@ -21,6 +21,7 @@ class Status(enum.IntEnum):
     ENDED = 19
     NO_MAP = 20
     BAD_VALUE = 21
+    SMALL = 22
 
 
 class Failed(Exception):
@@ -55,12 +56,34 @@ class CellStruct(ctypes.Structure):
     _fields_ = [("i", c_uint16), ("j", c_uint16)]
 
 
+class MapStruct(ctypes.Structure):
+    _fields_ = [(name, c_uint32) for name in ("width", "height", "callers")]
+
+
+NameBytes = c_uint8 * 64
+
+
+class ClassStruct(ctypes.Structure):
+    _fields_ = [("name", NameBytes), ("name_length", c_uint32), ("clearance", c_int32)]
+
+
+class RectStruct(ctypes.Structure):
+    _fields_ = [(name, c_uint16) for name in ("i0", "j0", "i1", "j1", "mask", "zero")]
+
+
 class PostStruct(ctypes.Structure):
     _fields_ = [
         *[(name, c_uint8) for name in ("kind", "caller", "class_number", "goal")],
         *[(name, c_uint16) for name in ("mask", "zero")],
         ("id", c_uint32),
         *[(name, c_int32) for name in ("x", "z", "goal_x", "goal_z", "ux", "uz", "hw", "hh", "radius")],
+    ]
+
+
+class TurnStruct(ctypes.Structure):
+    _fields_ = [
+        *[(name, c_uint64) for name in ("turn", "regions", "edges", "areas", "replies", "waypoints")],
+        *[(name, c_uint32) for name in ("relabelled", "zero")],
     ]
 
 
@@ -75,8 +98,8 @@ class ReplyStruct(ctypes.Structure):
     ]
 
 
-# by their PATHSERVE_SIZE_..
-STRUCTS = {1: MatchHandle, 2: ViewHandle, 6: PostStruct, 8: ReplyStruct, 9: CellStruct}
+# in the order of PATHSERVE_SIZE_..
+STRUCTS = (MatchHandle, ViewHandle, MapStruct, ClassStruct, RectStruct, PostStruct, TurnStruct, ReplyStruct, CellStruct)
 
 MATCH, VIEW, SIZE = POINTER(MatchHandle), POINTER(ViewHandle), POINTER(c_size_t)
 CALLS = {
@@ -89,6 +112,12 @@ CALLS = {
     "finish": (c_uint32, [MATCH]),
     "waiting": (c_size_t, [MATCH]),
     "take": (c_size_t, [MATCH, c_void_p, c_size_t]),
+    "open_map": (c_uint32, [MATCH, POINTER(MapStruct), POINTER(ClassStruct), c_size_t, POINTER(RectStruct), c_size_t]),
+    "post_all": (c_uint32, [MATCH, POINTER(PostStruct), c_size_t]),
+    "end_turn": (c_uint32, [MATCH, POINTER(TurnStruct)]),
+    "replies": (c_size_t, [MATCH, c_uint64, POINTER(ReplyStruct), c_size_t]),
+    "waypoints": (c_size_t, [MATCH, c_uint64, POINTER(CellStruct), c_size_t]),
+    "journal": (c_uint32, [MATCH, c_void_p, c_size_t, SIZE]),
     "view_of": (c_uint32, [MATCH, VIEW]),
     "view_again": (c_uint32, [VIEW, VIEW]),
     "view_close": (None, [VIEW]),
@@ -121,7 +150,7 @@ def load(file: str | None = None) -> ctypes.CDLL:
     version, answers = library.pathserve_version(), library.pathserve_answers()
     if (version >> 8, answers) != (VERSION_MAJOR << 8 | VERSION_MINOR, ANSWERS):
         raise ImportError(f"libpathserve has the version {version >> 16}.{version >> 8 & 255} with answers {answers}")
-    for which, struct in STRUCTS.items():
+    for which, struct in enumerate(STRUCTS, 1):
         if library.pathserve_size_of(which) != ctypes.sizeof(struct):
             raise ImportError(f"{struct.__name__} has another size in libpathserve")
     return library

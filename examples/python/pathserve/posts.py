@@ -1,4 +1,4 @@
-"""Requests and their replies. Coordinates and lengths are whole numbers, of which 65,536 are the side of a navcell."""
+"""Posts and their replies. Coordinates and lengths are whole numbers, of which 65,536 are the side of a navcell."""
 from __future__ import annotations
 
 import enum
@@ -6,7 +6,7 @@ import math
 from dataclasses import dataclass
 from typing import NamedTuple, Sequence
 
-from .native import CellStruct, PostStruct, ReplyStruct
+from .native import CellStruct, ClassStruct, NameBytes, PostStruct, RectStruct, ReplyStruct
 
 NAVCELL = 65536
 
@@ -37,6 +37,24 @@ class Post(NamedTuple):
 
     def struct(self) -> PostStruct:
         return PostStruct(**self._asdict())
+
+
+def add_unit(caller: int, number: int, mask: int, x: int, z: int, half: int) -> Post:
+    """Adds a square along the axes under a number, for the classes of the mask."""
+    return Post(1, caller, mask=mask, id=number, x=x, z=z, radius=half)
+
+
+def add_square(caller: int, number: int, mask: int, x: int, z: int, ux: int, uz: int, hw: int, hh: int) -> Post:
+    """Adds a rectangle along the unit vector (ux, uz) under a number, for the classes of the mask."""
+    return Post(2, caller, mask=mask, id=number, x=x, z=z, ux=ux, uz=uz, hw=hw, hh=hh)
+
+
+def remove(caller: int, number: int) -> Post:
+    return Post(3, caller, id=number)
+
+
+def move(caller: int, number: int, x: int, z: int) -> Post:
+    return Post(4, caller, id=number, x=x, z=z)
 
 
 class Goal(NamedTuple):
@@ -80,6 +98,9 @@ def region(caller: int, class_number: int, x: int, z: int) -> Post:
 
 
 class Kind(enum.IntEnum):
+    ADDED = 1
+    REMOVED = 2
+    MOVED = 3
     REFUSED = 4
     NOWHERE = 5
     AT_GOAL = 6
@@ -89,7 +110,10 @@ class Kind(enum.IntEnum):
 
 class Refusal(enum.IntEnum):
     BAD_SHAPE = 1
+    DUPLICATE_ID = 2
+    STORE_FULL = 3
     UNKNOWN_ID = 4
+    UNKNOWN_CLASS = 5
     START_OUTSIDE = 6
     GOAL_OUTSIDE = 7
 
@@ -116,9 +140,12 @@ class Region:
 
 @dataclass(frozen=True)
 class Reply:
-    """What a request is answered. One of the last three is there, or none (NOWHERE)."""
+    """The reply to the post of this number among those of its caller. One of the last four is there, or none of them (NOWHERE)."""
 
+    caller: int
+    post: int
     kind: Kind
+    id: int | None = None
     why: Refusal | None = None
     path: Path | None = None
     region: Region | None = None
@@ -129,13 +156,40 @@ def cell_of(struct: CellStruct) -> Cell:
 
 
 def reply_of(struct: ReplyStruct, waypoints: Sequence[Cell]) -> Reply:
-    """A reply, with the waypoints of its path."""
+    """A reply, with the waypoints of its turn."""
     kind = Kind(struct.kind)
     found: dict = {}
-    if kind == Kind.REFUSED:
+    if kind in (Kind.ADDED, Kind.REMOVED, Kind.MOVED):
+        found["id"] = struct.id
+    elif kind == Kind.REFUSED:
         found["why"] = Refusal(struct.why)
     elif kind in (Kind.AT_GOAL, Kind.NEAR_GOAL):
-        found["path"] = Path(cell_of(struct.start), cell_of(struct.end), struct.cost, tuple(waypoints[: struct.waypoints]))
+        its = tuple(waypoints[struct.first_waypoint : struct.first_waypoint + struct.waypoints])
+        found["path"] = Path(cell_of(struct.start), cell_of(struct.end), struct.cost, its)
     elif kind == Kind.IN_REGION:
         found["region"] = Region(cell_of(struct.chunk), struct.region, struct.area)
-    return Reply(kind, **found)
+    return Reply(struct.caller, struct.post, kind, **found)
+
+
+class PassabilityClass(NamedTuple):
+    """A class of units: its name, and how far they keep from obstructions."""
+
+    name: str
+    clearance: int
+
+    def struct(self) -> ClassStruct:
+        name = self.name.encode("ascii")
+        return ClassStruct(NameBytes(*name[:64]), len(name), self.clearance)
+
+
+class Rect(NamedTuple):
+    """A rectangle of navcells, both corners among them, that the classes of the mask never pass."""
+
+    i0: int
+    j0: int
+    i1: int
+    j1: int
+    mask: int
+
+    def struct(self) -> RectStruct:
+        return RectStruct(*self)

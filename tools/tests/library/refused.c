@@ -1,5 +1,5 @@
-/* Refuses each allocation in turn: refused SCRIPT. A match that is fed the script, and one with views that are asked for a
- * path, must tell the same in the end as where nothing is refused, and a prefix of it where nothing is given any more. All
+/* Refuses each allocation in turn: refused SCRIPT. A match by text that is fed the script, and one by structs, each with
+ * views, must tell the same in the end as where nothing is refused, and a prefix of it where nothing is given any more. All
  * that was taken is given back. Link it with libpathserve_noheap.a. */
 #include <stdio.h>
 #include <stdlib.h>
@@ -58,33 +58,11 @@ static void tell(const void *bytes, size_t count) {
         status = (call);                                             \
     } while (status == PATHSERVE_NO_MEMORY && !refuses_on)
 
-static pathserve_status play_text(void) {
-    pathserve_match match = {0};
-    pathserve_status status;
-    size_t at = 0, taken;
-    AGAIN(status, pathserve_open(&match, PATHSERVE_SMOOTH));
-    while (status == PATHSERVE_DONE && at < script_length) {
-        size_t piece = script_length - at < 7 ? script_length - at : 7;
-        status = pathserve_feed(&match, script + at, piece, &taken);
-        if (status != PATHSERVE_NO_MEMORY && taken != piece) fail("a piece was not taken", first_refused);
-        at += taken;
-        if (status == PATHSERVE_NO_MEMORY && !refuses_on) status = PATHSERVE_DONE;
-    }
-    if (status == PATHSERVE_DONE) AGAIN(status, pathserve_finish(&match));
-    length += pathserve_take(&match, text + length, sizeof text - length);
-    pathserve_close(&match);
-    return status;
-}
-
-static const char turn[] =
-    "{\"version\":3,\"size\":[12,8],\"callers\":1,\"classes\":[{\"name\":\"siege\",\"clearance\":\"1.5\"}]}\n"
-    "{\"caller\":0,\"add\":1,\"square\":[\"6\",\"3\",\"1\",\"0\",\"0.5\",\"2\"],\"mask\":1}\n"
-    "{\"end\":1}\n";
+static const pathserve_post ask = {.kind = PATHSERVE_PATH, .caller = 1, .class_number = 1, .goal = PATHSERVE_CIRCLE, .x = 688128,
+                                   .z = 229376, .goal_x = 98304, .goal_z = 229376, .radius = 65536};
 
 /* A view of a match, another view of the same, and a path that it is asked for. */
 static pathserve_status look(pathserve_match *match) {
-    const pathserve_post ask = {.kind = PATHSERVE_PATH, .goal = PATHSERVE_OBSTRUCTION, .id = 1, .x = 688128, .z = 229376,
-                                .radius = 131072};
     pathserve_view view = {0}, other = {0};
     pathserve_reply reply;
     pathserve_cell waypoints[64];
@@ -104,19 +82,61 @@ static pathserve_status look(pathserve_match *match) {
     return status;
 }
 
-static pathserve_status play_views(void) {
+static pathserve_status play_text(void) {
     pathserve_match match = {0};
     pathserve_status status;
     size_t at = 0, taken;
-    AGAIN(status, pathserve_open(&match, PATHSERVE_REPLAY));
-    while (status == PATHSERVE_DONE && at < sizeof turn - 1) {
-        status = pathserve_feed(&match, (const uint8_t *)turn + at, sizeof turn - 1 - at, &taken);
+    AGAIN(status, pathserve_open(&match, PATHSERVE_SMOOTH));
+    while (status == PATHSERVE_DONE && at < script_length) {
+        size_t piece = script_length - at < 7 ? script_length - at : 7;
+        status = pathserve_feed(&match, script + at, piece, &taken);
+        if (status != PATHSERVE_NO_MEMORY && taken != piece) fail("a piece was not taken", first_refused);
         at += taken;
         if (status == PATHSERVE_NO_MEMORY && !refuses_on) status = PATHSERVE_DONE;
     }
-    /* (where the last turn waits to be told, a call with no more bytes tells it) */
-    if (status == PATHSERVE_DONE) AGAIN(status, pathserve_feed(&match, NULL, 0, &taken));
+    if (status == PATHSERVE_DONE) AGAIN(status, pathserve_finish(&match));
+    length += pathserve_take(&match, text + length, sizeof text - length);
     if (status == PATHSERVE_DONE) status = look(&match);
+    pathserve_close(&match);
+    return status;
+}
+
+static const pathserve_map map = {12, 8, 2};
+static const pathserve_class classes[2] = {{"infantry", 8, 32768}, {"siege", 5, 98304}};
+static const pathserve_rect north = {0, 7, 11, 7, 3, 0};
+
+static pathserve_status play_turn(pathserve_match *match, const pathserve_post *posts, size_t count) {
+    pathserve_status status;
+    pathserve_turn turn;
+    pathserve_reply replies[8];
+    pathserve_cell waypoints[64];
+    AGAIN(status, pathserve_post_all(match, posts, count));
+    if (status == PATHSERVE_DONE) AGAIN(status, pathserve_end_turn(match, &turn));
+    if (status != PATHSERVE_DONE) return status;
+    tell(&turn, sizeof turn);
+    tell(replies, sizeof *replies * pathserve_replies(match, 0, replies, 8));
+    tell(waypoints, sizeof *waypoints * pathserve_waypoints(match, 0, waypoints, 64));
+    return status;
+}
+
+static pathserve_status play_structs(void) {
+    const pathserve_post first[] = {
+        {.kind = PATHSERVE_ADD_SQUARE, .id = 1, .mask = 3, .x = 393216, .z = 196608, .ux = 65536, .hw = 32768, .hh = 131072},
+        {.kind = PATHSERVE_PATH, .goal = PATHSERVE_OBSTRUCTION, .id = 1, .x = 98304, .z = 98304, .radius = 65536},
+        ask,
+        {.kind = PATHSERVE_REGION, .caller = 1, .class_number = 1, .x = 425984, .z = 229376},
+    };
+    const pathserve_post second[] = {{.kind = PATHSERVE_MOVE, .id = 1, .x = 393216, .z = 65536}, {.kind = PATHSERVE_REMOVE, .id = 2}, ask};
+    static uint8_t journal[4096];
+    pathserve_match match = {0};
+    pathserve_status status;
+    size_t bytes = 0;
+    AGAIN(status, pathserve_open_map(&match, &map, classes, 2, &north, 1));
+    if (status == PATHSERVE_DONE) status = play_turn(&match, first, 4);
+    if (status == PATHSERVE_DONE) status = play_turn(&match, second, 3);
+    if (status == PATHSERVE_DONE) status = look(&match);
+    if (status == PATHSERVE_DONE) AGAIN(status, pathserve_journal(&match, journal, sizeof journal, &bytes));
+    if (status == PATHSERVE_DONE) tell(journal, bytes);
     pathserve_close(&match);
     return status;
 }
@@ -147,6 +167,6 @@ int main(int count, char **words) {
     script_length = fread(script, 1, sizeof script, file);
     fclose(file);
     size_t by_text = refuse_each(play_text);
-    printf("%zu allocations by text, %zu with views\n", by_text, refuse_each(play_views));
+    printf("%zu allocations by text, %zu by structs\n", by_text, refuse_each(play_structs));
     return 0;
 }

@@ -16,6 +16,7 @@ pub const OTHER: u32 = 18;
 pub const ENDED: u32 = 19;
 pub const NO_MAP: u32 = 20;
 pub const BAD_VALUE: u32 = 21;
+pub const SMALL: u32 = 22;
 
 /// A match: all zero before it is opened, written by the library alone, never copied.
 #[repr(C)]
@@ -39,6 +40,33 @@ pub struct Cell {
 }
 
 #[repr(C)]
+#[derive(Clone, Copy, Debug)]
+pub struct Map {
+    pub width: u32,
+    pub height: u32,
+    pub callers: u32,
+}
+
+#[repr(C)]
+#[derive(Clone, Copy, Debug)]
+pub struct Class {
+    pub name: [u8; 64],
+    pub name_length: u32,
+    pub clearance: i32,
+}
+
+#[repr(C)]
+#[derive(Clone, Copy, Debug)]
+pub struct Rect {
+    pub i0: u16,
+    pub j0: u16,
+    pub i1: u16,
+    pub j1: u16,
+    pub mask: u16,
+    pub zero: u16,
+}
+
+#[repr(C)]
 #[derive(Clone, Copy, Debug, Default)]
 pub struct Post {
     pub kind: u8,
@@ -57,6 +85,19 @@ pub struct Post {
     pub hw: i32,
     pub hh: i32,
     pub radius: i32,
+}
+
+#[repr(C)]
+#[derive(Clone, Copy, Debug, Default)]
+pub struct Turn {
+    pub turn: u64,
+    pub regions: u64,
+    pub edges: u64,
+    pub areas: u64,
+    pub replies: u64,
+    pub waypoints: u64,
+    pub relabelled: u32,
+    pub zero: u32,
 }
 
 #[repr(C)]
@@ -91,6 +132,20 @@ extern "C" {
     pub fn pathserve_finish(its: *mut Match) -> u32;
     pub fn pathserve_waiting(its: *mut Match) -> usize;
     pub fn pathserve_take(its: *mut Match, buffer: *mut u8, length: usize) -> usize;
+
+    pub fn pathserve_open_map(
+        its: *mut Match,
+        map: *const Map,
+        classes: *const Class,
+        class_count: usize,
+        base: *const Rect,
+        base_count: usize,
+    ) -> u32;
+    pub fn pathserve_post_all(its: *mut Match, posts: *const Post, count: usize) -> u32;
+    pub fn pathserve_end_turn(its: *mut Match, turn: *mut Turn) -> u32;
+    pub fn pathserve_replies(its: *mut Match, first: u64, replies: *mut Reply, count: usize) -> usize;
+    pub fn pathserve_waypoints(its: *mut Match, first: u64, waypoints: *mut Cell, count: usize) -> usize;
+    pub fn pathserve_journal(its: *mut Match, buffer: *mut u8, length: usize, whole: *mut usize) -> u32;
 
     pub fn pathserve_view_of(its: *mut Match, view: *mut View) -> u32;
     pub fn pathserve_view_again(from: *mut View, view: *mut View) -> u32;

@@ -1,5 +1,5 @@
 //! Plays a script by text, and asks what stands for a path from another thread: cargo run --example views < skirmish.script
-use pathserve::{fixed, Error, Goal, Outcome, Report, Request, TextMatch};
+use pathserve::{fixed, Error, Goal, Outcome, Post, Report, TextMatch};
 use std::io::{self, Read};
 use std::thread;
 
@@ -10,11 +10,11 @@ fn main() -> Result<(), Error> {
     game.feed(&script)?;
     let mut view = game.view()?;
     let goal = Goal::Point { x: fixed(10.5), z: fixed(1.5) };
-    let ask = Request::Path { class: 0, x: fixed(1.5), z: fixed(1.5), goal };
+    let ask = Post::Path { caller: 0, class: 0, x: fixed(1.5), z: fixed(1.5), goal };
     let mut other = view.again()?;
     let found = thread::spawn(move || other.find(&ask)).join().expect("a thread")?;
     assert_eq!(found, view.find(&ask)?);
-    if let Outcome::AtGoal(path) | Outcome::NearGoal(path) = found {
+    if let Outcome::AtGoal(path) | Outcome::NearGoal(path) = found.outcome {
         println!("cost {}, by {} waypoints", path.cost, path.waypoints.len());
     }
     Ok(())

@@ -1,6 +1,6 @@
 //! Matches and views of libpathserve as owners: what `pathserve.h` asks of its caller holds by their types.
 //!
-//! A [`TextMatch`] and a [`View`] are neither copied nor shared, each call borrows them for itself, they may
+//! A [`TextMatch`], a [`PostedMatch`] and a [`View`] are neither copied nor shared, each call borrows them for itself, they may
 //! move to another thread, and dropping one frees what it has.
 //!
 //! ```no_run
@@ -14,9 +14,9 @@ mod matches;
 mod posts;
 mod views;
 
-pub use matches::{Report, TextMatch};
-pub use pathserve_sys::Cell;
-pub use posts::{fixed, Goal, Outcome, Path, Refusal, Request, NAVCELL};
+pub use matches::{PostedMatch, Report, TextMatch, Turn};
+pub use pathserve_sys::{Cell, Rect};
+pub use posts::{fixed, Class, Goal, Outcome, Path, Post, Refusal, Reply, NAVCELL};
 pub use views::View;
 
 use pathserve_sys as sys;

@@ -1,4 +1,5 @@
-//! Matches by text.
+//! Matches by text and by posts.
+use crate::posts::{reply_of, Class, Post, Reply};
 use crate::{must, same_version, Error, View};
 use pathserve_sys as sys;
 use std::ptr;
@@ -75,6 +76,93 @@ impl TextMatch {
             let count = sys::pathserve_take(self.handle(), text.as_mut_ptr(), text.len());
             text.truncate(count);
             text
+        }
+    }
+
+    /// What stands after the turns that have ended.
+    pub fn view(&mut self) -> Result<View, Error> {
+        self.0.view()
+    }
+
+    fn handle(&mut self) -> *mut sys::Match {
+        &mut self.0 .0
+    }
+}
+
+/// A turn's numbers, and the replies to its posts, caller by caller.
+#[derive(Clone, Debug, PartialEq, Eq)]
+pub struct Turn {
+    pub turn: u64,
+    pub regions: u64,
+    pub edges: u64,
+    pub areas: u64,
+    pub relabelled: u32,
+    pub replies: Vec<Reply>,
+}
+
+/// A match on a map, whose turns are posts.
+pub struct PostedMatch(Owned);
+
+impl PostedMatch {
+    /// A match on a map of so many navcells and callers. Class k is `classes[k]`, and bit k of a mask is for it.
+    pub fn open(
+        width: u32,
+        height: u32,
+        callers: u32,
+        classes: &[Class],
+        base: &[sys::Rect],
+    ) -> Result<PostedMatch, Error> {
+        let mut owned = Owned::closed()?;
+        let map = sys::Map { width, height, callers };
+        let classes: Vec<sys::Class> = classes.iter().map(Class::raw).collect::<Option<_>>().ok_or(Error::BadValue)?;
+        // SAFETY: a closed handle that is all zero, and slices with their lengths.
+        must(unsafe {
+            sys::pathserve_open_map(&mut owned.0, &map, classes.as_ptr(), classes.len(), base.as_ptr(), base.len())
+        })?;
+        Ok(PostedMatch(owned))
+    }
+
+    /// Posts, behind those that the turn has: all or none.
+    pub fn post(&mut self, posts: &[Post]) -> Result<(), Error> {
+        let posts: Vec<sys::Post> = posts.iter().map(Post::raw).collect();
+        // SAFETY: a slice with its length.
+        must(unsafe { sys::pathserve_post_all(self.handle(), posts.as_ptr(), posts.len()) })
+    }
+
+    /// Makes the edits of the turn, and answers its requests on what they leave.
+    pub fn end_turn(&mut self) -> Result<Turn, Error> {
+        let mut turn = sys::Turn::default();
+        // SAFETY: exclusive, and buffers with their lengths.
+        let (replies, waypoints) = unsafe {
+            must(sys::pathserve_end_turn(self.handle(), &mut turn))?;
+            let mut replies = vec![sys::Reply::default(); turn.replies as usize];
+            sys::pathserve_replies(self.handle(), 0, replies.as_mut_ptr(), replies.len());
+            let mut waypoints = vec![sys::Cell::default(); turn.waypoints as usize];
+            sys::pathserve_waypoints(self.handle(), 0, waypoints.as_mut_ptr(), waypoints.len());
+            (replies, waypoints)
+        };
+        Ok(Turn {
+            turn: turn.turn,
+            regions: turn.regions,
+            edges: turn.edges,
+            areas: turn.areas,
+            relabelled: turn.relabelled,
+            replies: replies.iter().map(|reply| reply_of(reply, &waypoints)).collect(),
+        })
+    }
+
+    /// The turns that have ended as a script, which a [`TextMatch`] or the program answers alike.
+    pub fn journal(&mut self) -> Result<Vec<u8>, Error> {
+        let mut script = Vec::new();
+        loop {
+            let mut whole = 0;
+            // SAFETY: the buffer has its length.
+            let status =
+                unsafe { sys::pathserve_journal(self.handle(), script.as_mut_ptr(), script.len(), &mut whole) };
+            match status {
+                sys::SMALL => script.resize(whole, 0),
+                status => return must(status).map(|()| script),
+            }
         }
     }
 

@@ -1,4 +1,4 @@
-//! Requests and what they are answered.
+//! Posts and their replies.
 use pathserve_sys as sys;
 
 /// The side of a navcell, as a coordinate or a length.
@@ -7,6 +7,25 @@ pub const NAVCELL: i32 = 65536;
 /// A length in navcells as a coordinate, rounded down. For constants and tests: a game in lockstep computes without floats.
 pub fn fixed(navcells: f64) -> i32 {
     (navcells * f64::from(NAVCELL)).floor() as i32
+}
+
+/// A passability class: its name, and how far its units keep from obstructions.
+#[derive(Clone, Debug, PartialEq, Eq)]
+pub struct Class {
+    pub name: String,
+    pub clearance: i32,
+}
+
+impl Class {
+    pub fn new(name: &str, clearance: i32) -> Class {
+        Class { name: name.to_owned(), clearance }
+    }
+
+    pub(crate) fn raw(&self) -> Option<sys::Class> {
+        let mut name = [0; 64];
+        name.get_mut(..self.name.len())?.copy_from_slice(self.name.as_bytes());
+        Some(sys::Class { name, name_length: self.name.len() as u32, clearance: self.clearance })
+    }
 }
 
 /// Where a path shall lead.
@@ -20,22 +39,33 @@ pub enum Goal {
     Obstruction { id: u32, distance: i32 },
 }
 
-/// What is asked of a view.
+/// A post of a caller.
 #[derive(Clone, Copy, Debug, PartialEq, Eq)]
-pub enum Request {
-    /// A path for a class from a point to a goal.
-    Path { class: u8, x: i32, z: i32, goal: Goal },
-    /// The region and the area of a class at a point.
-    Region { class: u8, x: i32, z: i32 },
+pub enum Post {
+    AddUnit { caller: u8, id: u32, mask: u16, x: i32, z: i32, half: i32 },
+    AddSquare { caller: u8, id: u32, mask: u16, x: i32, z: i32, ux: i32, uz: i32, hw: i32, hh: i32 },
+    Remove { caller: u8, id: u32 },
+    Move { caller: u8, id: u32, x: i32, z: i32 },
+    Path { caller: u8, class: u8, x: i32, z: i32, goal: Goal },
+    Region { caller: u8, class: u8, x: i32, z: i32 },
 }
 
-impl Request {
+impl Post {
     pub(crate) fn raw(&self) -> sys::Post {
+        let none = sys::Post::default();
         match *self {
-            Request::Path { class, x, z, goal } => sys::Post { kind: 5, class_number: class, x, z, ..goal.raw() },
-            Request::Region { class, x, z } => {
-                sys::Post { kind: 6, class_number: class, x, z, ..sys::Post::default() }
+            Post::AddUnit { caller, id, mask, x, z, half } => {
+                sys::Post { kind: 1, caller, id, mask, x, z, radius: half, ..none }
             }
+            Post::AddSquare { caller, id, mask, x, z, ux, uz, hw, hh } => {
+                sys::Post { kind: 2, caller, id, mask, x, z, ux, uz, hw, hh, ..none }
+            }
+            Post::Remove { caller, id } => sys::Post { kind: 3, caller, id, ..none },
+            Post::Move { caller, id, x, z } => sys::Post { kind: 4, caller, id, x, z, ..none },
+            Post::Path { caller, class, x, z, goal } => {
+                sys::Post { kind: 5, caller, class_number: class, x, z, ..goal.raw() }
+            }
+            Post::Region { caller, class, x, z } => sys::Post { kind: 6, caller, class_number: class, x, z, ..none },
         }
     }
 }
@@ -58,11 +88,14 @@ impl Goal {
     }
 }
 
-/// Why a request is refused.
+/// Why an edit or a request is refused.
 #[derive(Clone, Copy, Debug, PartialEq, Eq)]
 pub enum Refusal {
     BadShape,
+    DuplicateId,
+    StoreFull,
     UnknownId,
+    UnknownClass,
     StartOutside,
     GoalOutside,
 }
@@ -76,9 +109,12 @@ pub struct Path {
     pub waypoints: Vec<sys::Cell>,
 }
 
-/// What a request is answered.
+/// What a post is answered.
 #[derive(Clone, Debug, PartialEq, Eq)]
 pub enum Outcome {
+    Added(u32),
+    Removed(u32),
+    Moved(u32),
     Refused(Refusal),
     Nowhere,
     AtGoal(Path),
@@ -86,30 +122,48 @@ pub enum Outcome {
     InRegion { chunk: sys::Cell, region: u16, area: u32 },
 }
 
+/// The reply to the post of this number among those of its caller.
+#[derive(Clone, Debug, PartialEq, Eq)]
+pub struct Reply {
+    pub caller: u8,
+    pub post: u32,
+    pub outcome: Outcome,
+}
+
 fn refusal(why: u8) -> Refusal {
     match why {
         1 => Refusal::BadShape,
+        2 => Refusal::DuplicateId,
+        3 => Refusal::StoreFull,
         4 => Refusal::UnknownId,
+        5 => Refusal::UnknownClass,
         6 => Refusal::StartOutside,
         7 => Refusal::GoalOutside,
         other => unreachable!("a refusal of the kind {other}"),
     }
 }
 
-/// What a reply says, with the waypoints of its path.
-pub(crate) fn outcome_of(reply: &sys::Reply, waypoints: &[sys::Cell]) -> Outcome {
-    let path = || Path {
-        start: reply.start,
-        end: reply.end,
-        cost: reply.cost,
-        waypoints: waypoints[..reply.waypoints as usize].to_vec(),
+/// A reply, with the waypoints of its turn.
+pub(crate) fn reply_of(reply: &sys::Reply, waypoints: &[sys::Cell]) -> Reply {
+    let path = || {
+        let first = reply.first_waypoint as usize;
+        Path {
+            start: reply.start,
+            end: reply.end,
+            cost: reply.cost,
+            waypoints: waypoints[first..first + reply.waypoints as usize].to_vec(),
+        }
     };
-    match reply.kind {
+    let outcome = match reply.kind {
+        1 => Outcome::Added(reply.id),
+        2 => Outcome::Removed(reply.id),
+        3 => Outcome::Moved(reply.id),
         4 => Outcome::Refused(refusal(reply.why)),
         5 => Outcome::Nowhere,
         6 => Outcome::AtGoal(path()),
         7 => Outcome::NearGoal(path()),
         8 => Outcome::InRegion { chunk: reply.chunk, region: reply.region, area: reply.area },
         other => unreachable!("a reply of the kind {other}"),
-    }
+    };
+    Reply { caller: reply.caller, post: reply.post, outcome }
 }

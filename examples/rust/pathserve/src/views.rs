@@ -1,5 +1,5 @@
 //! Views of what stands.
-use crate::posts::{outcome_of, Outcome, Request};
+use crate::posts::{reply_of, Post, Reply};
 use crate::{must, Error};
 use pathserve_sys as sys;
 use std::ptr;
@@ -49,15 +49,15 @@ impl View {
     }
 
     /// Answers a path or a region at once, as a turn without edits would. The match knows nothing of it.
-    pub fn find(&mut self, request: &Request) -> Result<Outcome, Error> {
-        let (post, mut reply, mut waypoints) = (request.raw(), sys::Reply::default(), vec![sys::Cell::default(); 64]);
+    pub fn find(&mut self, post: &Post) -> Result<Reply, Error> {
+        let (post, mut reply, mut waypoints) = (post.raw(), sys::Reply::default(), vec![sys::Cell::default(); 64]);
         loop {
             // SAFETY: the buffer has its length.
             must(unsafe {
                 sys::pathserve_find(&mut self.0, &post, &mut reply, waypoints.as_mut_ptr(), waypoints.len())
             })?;
             match reply.waypoints as usize {
-                count if count <= waypoints.len() => return Ok(outcome_of(&reply, &waypoints)),
+                count if count <= waypoints.len() => return Ok(reply_of(&reply, &waypoints)),
                 count => waypoints.resize(count, sys::Cell::default()),
             }
         }
