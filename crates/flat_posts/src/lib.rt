@@ -2,7 +2,8 @@
 //!
 //! ```text
 //!    FlatMap, FlatClass, FlatRect  --read-->  MapSpec
-//!    FlatPost  <--of, read-->  a caller and its Post;  FlatPost list  --read_posts, turn_of-->  TurnPosts
+//!    FlatPost  <--of, read-->  a caller and its Post
+//!    FlatPost, FlatPost, ..  --read_posts, turn_of-->  TurnPosts
 //!    TurnReplies  --of, write_replies, write_waypoints-->  FlatTurn, FlatReply, FlatCell
 //! ```
 //!

@@ -158,13 +158,13 @@ pub record IsScript (script before after : List ℕ) (old new status : ℕ) : Ty
   pub unknown : status ≡ NO_MEMORY → new ≡ old
 
 -- nothing was written
-abbrev pub IsUnwritten : Option State → (before after : List ℕ) → (old new : ℕ) → ℕ → Type 0
-IsUnwritten state before after old new status = (status ≡ refusal state) × (after ≡ before) × (new ≡ old)
+abbrev pub IsRefusedUnwritten : Option State → (before after : List ℕ) → (old new : ℕ) → ℕ → Type 0
+IsRefusedUnwritten state before after old new status = (status ≡ refusal state) × (after ≡ before) × (new ≡ old)
 
 -- the script of a match by structs was written; anything else refuses
 abbrev pub IsWritten : Option State → (before after : List ℕ) → (old new : ℕ) → ℕ → Type 0
-IsWritten None before after old new status = IsUnwritten None before after old new status
-IsWritten (Some (Text text)) before after old new status = IsUnwritten (Some (Text text)) before after old new status
-IsWritten (Some (View version)) before after old new status = IsUnwritten (Some (View version)) before after old new status
+IsWritten None before after old new status = IsRefusedUnwritten None before after old new status
+IsWritten (Some (Text text)) before after old new status = IsRefusedUnwritten (Some (Text text)) before after old new status
+IsWritten (Some (View version)) before after old new status = IsRefusedUnwritten (Some (View version)) before after old new status
 IsWritten (Some (Structs structs)) before after old new status =
     IsScript (canon_script structs.game.map structs.game.journal) before after old new status
