@@ -96,6 +96,11 @@ fn lines_of_version_3_have_causes(rt: HostRuntime) {
                 "the key \"caller\" must have the number of a caller, which is a whole number below 2",
             ),
             (
+                "{\"caller\":0,\"remove\":1,\"caller\":2}\n",
+                wrong(Key::Caller, Wanted::Caller { callers: 2 }),
+                "the key \"caller\" must have the number of a caller, which is a whole number below 2",
+            ),
+            (
                 "{\"region\":\"a\",\"at\":[1.5,\"0\"],\"caller\":0}\n",
                 wrong(Key::At, Wanted::TwoDecimals),
                 "the key \"at\" must have an array of two decimals in quotes with at most 16 places, from -32768 to below 32768",

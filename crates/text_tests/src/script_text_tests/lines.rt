@@ -118,6 +118,14 @@ fn versions_have_their_lines(rt: HostRuntime) {
     have_form(&rt, rt.alloc(), MAP_3, POST, &[mask, moves, goal]);
 }
 
+#[test]
+fn a_key_that_stands_twice_has_its_last_value(rt: HostRuntime) {
+    let last_is_right = "{\"caller\":2,\"remove\":7,\"caller\":0}";
+    let last_is_wrong = "{\"caller\":0,\"remove\":7,\"caller\":2}";
+    have_form(&rt, rt.alloc(), MAP_1, POST, &[last_is_right]);
+    have_form(&rt, rt.alloc(), MAP_1, NONE, &[last_is_wrong]);
+}
+
 /// A script with a post of each form, as it is written.
 const CANONICAL: &str =
     "{\"version\":3,\"size\":[3,2],\"callers\":1,\"classes\":[{\"name\":\"default\",\"clearance\":\"0.5\"}]}\n\
