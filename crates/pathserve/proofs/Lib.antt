@@ -20,3 +20,4 @@ pub mod DrivenTurns
 pub mod WrittenTexts
 pub mod WholeReadings
 pub mod ServedTexts
+mod WrongWords

@@ -1,5 +1,5 @@
 -- The words of a command line.
-use Rattle.std.specs.Prelude.{ℕ, ◌+◌, ◌-◌, ◌*◌, ◌^◌, ◌==◌, ◌&&◌, ◌||◌, not, List, [], ◌∷◌, length, slice_index, Bool, Option, Some, None, if◌then◌else◌, nat_le, nat_lt, codes, bytes_eq, option_map, option_and_then}
+use Rattle.std.specs.Prelude.{ℕ, ◌+◌, ◌-◌, ◌*◌, ◌^◌, ◌==◌, ◌&&◌, ◌||◌, not, List, [], ◌∷◌, length, slice_index, Bool, Option, Some, None, is_some, if◌then◌else◌, nat_le, nat_lt, codes, bytes_eq, option_map, option_and_then}
 use Rattle.std.specs.Int.{is_in_range}
 use Rattle.std.specs.Str.Parse.{digits_value}
 use Rattle.fixed_point.specs.Text.{is_digits}
@@ -35,6 +35,10 @@ report_by word =
     else if bytes_eq word (codes "flow") then Some Flows
     else if bytes_eq word (codes "smooth") then Some Smoothed
     else None
+
+-- a word that is a command by itself
+abbrev pub is_script_word : List ℕ → Bool
+is_script_word word = bytes_eq word (codes "serve") || is_some (report_by word)
 
 -- the command of one word, by so many workers
 abbrev pub command_by : List ℕ → ℕ → Option Command

@@ -1,4 +1,5 @@
 pub mod Commands
+pub mod WrongWords
 pub mod Words
 pub mod Output
 pub mod Serving

@@ -4,3 +4,4 @@ pub mod Works
 pub mod Begun
 pub mod Sessions
 pub mod WholeScripts
+pub mod WordPlaces

@@ -3,7 +3,7 @@ ghost use Rattle.std.specs.Result.{result_ok};
 ghost use Rattle.std.specs.Str.Parse.{digits_value};
 ghost use Rattle.fixed_point.specs.Text.{some_if};
 ghost use Rattle.nav_types.specs.declared.limits.TheConstants.{MAX_WORKERS};
-ghost use Rattle.pathserve.specs.Commands.{command_of, command_by, report_by, make_by, is_whole_number, seed_of, workers_of, workers_in};
+ghost use Rattle.pathserve.specs.Commands.{command_of, command_by, is_script_word, report_by, make_by, is_whole_number, seed_of, workers_of, workers_in};
 
 use nav_types::Words;
 use nav_types::limits::MAX_WORKERS;
@@ -71,6 +71,13 @@ fn command_by(word: &[u8], workers: u8) -> Option<Command>
     }
 }
 
+/// Whether a word alone is a command.
+pub(crate) fn is_script_word(word: &[u8]) -> bool
+    ensures { result ≡ is_script_word word.now }
+{
+    word == b"serve".as_slice() || report_by(word).is_some()
+}
+
 /// What a word asks to be told beside the answers to a script.
 fn report_by(word: &[u8]) -> Option<Report>
     ensures { result ≡ report_by word.now }
@@ -103,7 +110,7 @@ fn make_by(word: &[u8], number: &[u8], workers: u8) -> Option<Command>
 }
 
 /// The number below 2^64 that a word is.
-fn seed_of(word: &[u8]) -> Option<u64>
+pub(crate) fn seed_of(word: &[u8]) -> Option<u64>
     ensures { result ≡ seed_of word.now }
 {
     match whole_number(word) {
@@ -130,7 +137,7 @@ fn whole_number(word: &[u8]) -> Option<u128>
 }
 
 /// The number of workers that a word names.
-fn worker_count(word: &[u8]) -> Option<u8>
+pub(crate) fn worker_count(word: &[u8]) -> Option<u8>
     ensures count { result ≡ workers_of word.now }
     ensures bounds { IfSome result (λ n. (1 ≤ n) × (n ≤ MAX_WORKERS)) }
 {

@@ -23,6 +23,7 @@ mod summing;
 mod turn_answers;
 mod works;
 mod writing;
+mod wrong_words;
 
 pub use bad_lines::BadLine;
 pub use commands::{Command, NotWords, read_words};
@@ -38,3 +39,4 @@ pub use sessions::serve_session;
 pub use status::Status;
 pub use summing::run_make;
 pub use turn_answers::Reporter;
+pub use wrong_words::first_wrong;

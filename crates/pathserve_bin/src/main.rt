@@ -3,7 +3,7 @@
 
 use io_edges::{OpenGate, StdSink, StdSource};
 use nav_types::{Bytes, NoMemory, Words};
-use pathserve::{Status, run};
+use pathserve::{Status, first_wrong, run};
 use std::env;
 use std::fmt::Display;
 use std::io::{self, ErrorKind, Write};
@@ -53,6 +53,23 @@ fn say<T: Display>(rt: &HostRuntime, reason: &T) {
     let _said = writeln!(errors, "pathserve: {reason}");
 }
 
+/// Says which word is wrong, and what the words may be.
+fn say_usage(rt: &HostRuntime, words: &Words) {
+    if let Some(number) = first_wrong(words) {
+        match word_at(words, number) {
+            Some(word) => say(rt, &format_args!("word {number} is wrong: {word}")),
+            None => say(rt, &format_args!("word {number} is missing")),
+        }
+    }
+    say(rt, &Status::Usage);
+}
+
+/// The word of this number, from 1. None where there are fewer.
+fn word_at(words: &Words, number: u64) -> Option<&str> {
+    let place = usize::try_from(number).ok()?.checked_sub(1)?;
+    str::from_utf8(words.as_slice().get(place)?.as_slice()).ok()
+}
+
 fn main(rt: HostRuntime) -> ExitCode {
     let words = match words_after_name(&rt) {
         Ok(words) => words,
@@ -80,6 +97,7 @@ fn main(rt: HostRuntime) -> ExitCode {
     match why {
         Some(bad) => say(&rt, &bad),
         None if status == Status::Done => {}
+        None if status == Status::Usage => say_usage(&rt, &words),
         None => say(&rt, &status),
     }
     ExitCode::from(status as u8)

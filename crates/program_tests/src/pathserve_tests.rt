@@ -2,7 +2,7 @@
 use io_edges::{Gate, MemorySink, MemorySource, OpenGate};
 use itoa::Buffer;
 use nav_types::{Bytes, NoMemory, Words};
-use pathserve::{BadLine, Status, run};
+use pathserve::{BadLine, Status, first_wrong, run};
 use script_text::{Cause, Key, Wanted};
 use std::alloc::Global;
 use std::sync::Wait;
@@ -140,30 +140,35 @@ fn a_bad_line_has_its_cause(rt: HostRuntime) {
     assert!(rt; is_bad_for(&rt, rt.alloc(), "\n{\"caller\":0,\"remove\":1}", no_end));
 }
 
-/// Words that are not in the grammar.
-const OTHER_WORDS: [&[&str]; 14] = [
-    &[],
-    &["make", "07"],
-    &["replay", "--workers=4"],
-    &["replay", "--workers"],
-    &["replay", "--workers", ""],
-    &["replay", "--workers", "0"],
-    &["replay", "--workers", "01"],
-    &["replay", "--workers", "+1"],
-    &["replay", "--workers", "65"],
-    &["replay", "--workers", "100"],
-    &["replay", "--workers", "4", "--workers", "4"],
-    &["--workers", "4", "replay"],
-    &["profile", "--workers", "65"],
-    &["profile", "replay"],
+/// Words that are not in the grammar, and the number of the first that is wrong.
+const OTHER_WORDS: [(&[&str], u64); 17] = [
+    (&[], 1),
+    (&["make"], 2),
+    (&["make", "07"], 2),
+    (&["make", "7", "8"], 3),
+    (&["make", "7", "--workers", "4", "4"], 5),
+    (&["replay", "--workers=4"], 2),
+    (&["replay", "--workers"], 3),
+    (&["replay", "--workers", ""], 3),
+    (&["replay", "--workers", "0"], 3),
+    (&["replay", "--workers", "01"], 3),
+    (&["replay", "--workers", "+1"], 3),
+    (&["replay", "--workers", "65"], 3),
+    (&["replay", "--workers", "100"], 3),
+    (&["replay", "--workers", "4", "--workers", "4"], 4),
+    (&["--workers", "4", "replay"], 1),
+    (&["profile", "--workers", "65"], 3),
+    (&["profile", "replay"], 2),
 ];
 
 // None of the reads and writes may fail.
 #[test]
 fn other_words_read_nothing(rt: HostRuntime) {
-    for words in OTHER_WORDS {
+    for (words, wrong) in OTHER_WORDS {
         let bytes = COVER.as_bytes();
         assert!(rt; runs_to(&rt, rt.alloc(), words, bytes, &[1], &[1], Status::Usage, ""));
+        let list = words_of(rt.alloc(), words).expect(&rt, "memory");
+        assert!(rt; first_wrong(&list) == Some(wrong), "{wrong}");
     }
 }
 
