@@ -34,7 +34,7 @@ use Rattle.match_laws.proofs.ScriptReads.{place, place_in, place_base, go_on, po
 bad_number : Ends → ℕ
 bad_number (at_place p) = 0
 bad_number (stuck_by whole_input) = 0
-bad_number (stuck_by too_long) = 0
+bad_number (stuck_by (too_long n)) = 0
 bad_number (stuck_by (bad_line n)) = n
 
 -- a walk stops at a bad line
@@ -45,7 +45,7 @@ same_number : (n k : ℕ) → stuck_by (bad_line n) ≡ stuck_by (bad_line k) �
 unfolding bad_number
 same_number n k is = sym (ap bad_number is)
 
-not_long : {A : Type 0} (k : ℕ) → stuck_by too_long ≡ stuck_by (bad_line k) → A
+not_long : {A : Type 0} {n : ℕ} (k : ℕ) → stuck_by (too_long n) ≡ stuck_by (bad_line k) → A
 not_long k is = absurd (cc)
 
 not_whole : {A : Type 0} (k : ℕ) → stuck_by whole_input ≡ stuck_by (bad_line k) → A
@@ -199,7 +199,7 @@ bad_turns m [] b l n k posts within bytes is = bad_finish m b l n k posts (list_
 bad_turns m ((size, line) ∷ lines) b l n k posts within bytes is = by_long (bad_turns m lines) (is_long (place_in b l m n posts) size line) refl is
   where
     by_long : BadInTurns m lines → (long : Bool) → is_long (place_in b l m n posts) size line ≡ long
-        → StopsAt k (chain (cond long (stuck too_long) (placed (counted (place_in b l m n posts) size) (reading_of line))) (go_on lines))
+        → StopsAt k (chain (cond long (stuck (too_long (l + 1))) (placed (counted (place_in b l m n posts) size) (reading_of line))) (go_on lines))
         → BadAt l k (line ∷ texts lines) (Begins m (n + 1) posts)
     by_long more true long is = not_long k is
     by_long more false long is =
@@ -254,7 +254,7 @@ bad_bases [] m b l k high bytes is = not_whole k is
 bad_bases ((size, line) ∷ lines) m b l k high bytes is = by_long (bad_bases lines) (is_long (place_base b l m) size line) refl is
   where
     by_long : BadInBase lines → (long : Bool) → is_long (place_base b l m) size line ≡ long
-        → StopsAt k (chain (cond long (stuck too_long) (placed (counted (place_base b l m) size) (reading_of line))) (go_on lines))
+        → StopsAt k (chain (cond long (stuck (too_long (l + 1))) (placed (counted (place_base b l m) size) (reading_of line))) (go_on lines))
         → BadAt l k (line ∷ texts lines) (BeginsBase m)
     by_long more true long is = not_long k is
     by_long more false long is =
@@ -360,7 +360,7 @@ bad_script [] k bytes is = bad_here 0 k [] BeginScript some_script is
 bad_script ((size, line) ∷ lines) k bytes is = by_long (is_long beginning size line) refl is
   where
     by_long : (long : Bool) → is_long beginning size line ≡ long
-        → StopsAt k (chain (cond long (stuck too_long) (placed (counted beginning size) (reading_of line))) (go_on lines))
+        → StopsAt k (chain (cond long (stuck (too_long 1)) (placed (counted beginning size) (reading_of line))) (go_on lines))
         → BadAt 0 k (line ∷ texts lines) BeginScript
     by_long true long is = not_long k is
     by_long false long is =
@@ -410,7 +410,7 @@ good_turn m b l n k j size part posts turns more lines d ds good at few are (inr
 
 -- the walk behind a line that has a value and is not too long
 stops_line : (p : Place) (size : ℕ) (line : List ℕ) (lines : List (ℕ × List ℕ)) (d : Data) (k : ℕ) (long : Bool) → is_long p size line ≡ long → reading_of line ≡ Some d
-    → StopsAt k (chain (cond long (stuck too_long) (placed (counted p size) (reading_of line))) (go_on lines))
+    → StopsAt k (chain (cond long (stuck (too_long (p.lines + 1))) (placed (counted p size) (reading_of line))) (go_on lines))
     → (is_long p size line ≡ false) × StopsAt k (chain (placed (counted p size) (Some d)) (go_on lines))
 stops_line p size line lines d k true e reads is = not_long k is
 stops_line p size line lines d k false e reads is = (e, ap (λ (o : Option Data). (chain (placed (counted p size) o) (go_on lines)).ends) (sym reads) ∙ is)

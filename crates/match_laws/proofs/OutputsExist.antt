@@ -45,7 +45,7 @@ map_line_first p None go_on = tt
 map_line_first p (Some m) go_on = tt
 
 line_first : (long : Bool) (p : Place) (d : Option Data) (go_on : Place → Walk)
-    → BeginWithMap (chain (if long then stuck too_long else placed_in before_map p d) go_on).items
+    → BeginWithMap (chain (if long then stuck (too_long p.lines) else placed_in before_map p d) go_on).items
 line_first true p d go_on = tt
 line_first false p d go_on = map_line_first p (option_and_then map_of d) go_on
 

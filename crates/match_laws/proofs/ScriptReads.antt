@@ -63,7 +63,7 @@ not_post-end version callers size d turn e = by_post (post_of version callers d)
 is_whole : Ends → Bool
 is_whole (at_place p) = false
 is_whole (stuck_by whole_input) = true
-is_whole (stuck_by too_long) = false
+is_whole (stuck_by (too_long n)) = false
 is_whole (stuck_by (bad_line n)) = false
 
 -- what stops otherwise is no whole input
@@ -71,9 +71,9 @@ not_whole : {A : Type 0} (e : Ends) → is_whole e ≡ false → e ≡ stuck_by 
 unfolding is_whole
 not_whole e other is = let clash : false ≡ true = sym other ∙ ap is_whole is in absurd (cc)
 
-long_stops : {A : Type 0} → stuck_by too_long ≡ stuck_by whole_input → A
+long_stops : {A : Type 0} {n : ℕ} → stuck_by (too_long n) ≡ stuck_by whole_input → A
 unfolding is_whole
-long_stops is = not_whole (stuck_by too_long) refl is
+long_stops {A} {n} is = not_whole (stuck_by (too_long n)) refl is
 
 bad_stops : {A : Type 0} (n : ℕ) → stuck_by (bad_line n) ≡ stuck_by whole_input → A
 unfolding is_whole
@@ -171,7 +171,7 @@ placed_goes (InTurns rules) p d = in_turn_goes p rules d
 
 limits_line : (lines : List (ℕ × List ℕ)) (size : ℕ) (line : List ℕ) (p : Place) (long : Bool) → is_long p size line ≡ long
     → ((q : Place) → (passes lines q).ends ≡ stuck_by whole_input → Limits q.bytes lines)
-    → (chain (cond long (stuck too_long) (placed (counted p size) (reading_of line))) (λ q. passes lines q)).ends ≡ stuck_by whole_input
+    → (chain (cond long (stuck (too_long (p.lines + 1))) (placed (counted p size) (reading_of line))) (λ q. passes lines q)).ends ≡ stuck_by whole_input
     → Limits p.bytes ((size, line) ∷ lines)
 limits_line lines size line p true e more is = long_stops is
 limits_line lines size line p false e more is =
@@ -263,9 +263,9 @@ turns_told m [] b l n posts is = told_finish m b l n posts (list_all is_empty po
 turns_told m ((size, line) ∷ lines) b l n posts is = by_long (turns_told m lines) (is_long (place_in b l m n posts) size line) is
   where
     by_long : TellsAll m lines → (long : Bool)
-        → (chain (cond long (stuck too_long) (placed (counted (place_in b l m n posts) size) (reading_of line))) (go_on lines)).ends ≡ stuck_by whole_input
+        → (chain (cond long (stuck (too_long (l + 1))) (placed (counted (place_in b l m n posts) size) (reading_of line))) (go_on lines)).ends ≡ stuck_by whole_input
         → Tells m (n + 1) posts (line ∷ texts lines)
-        (chain (cond long (stuck too_long) (placed (counted (place_in b l m n posts) size) (reading_of line))) (go_on lines)).items
+        (chain (cond long (stuck (too_long (l + 1))) (placed (counted (place_in b l m n posts) size) (reading_of line))) (go_on lines)).items
     by_long more true is = long_stops is
     by_long more false is =
         told_in_turn m (b + size) (l + 1) n (InTurns (rules_of m)) posts line lines (reading_of line) refl more is
@@ -321,9 +321,9 @@ base_told [] m b l is = record { whole = m; values = []; are = tt; rest = (refl,
 base_told ((size, line) ∷ lines) m b l is = by_long (base_told lines) (is_long (place_base b l m) size line) is
   where
     by_long : TellsAllBase lines → (long : Bool)
-        → (chain (cond long (stuck too_long) (placed (counted (place_base b l m) size) (reading_of line))) (go_on lines)).ends ≡ stuck_by whole_input
+        → (chain (cond long (stuck (too_long (l + 1))) (placed (counted (place_base b l m) size) (reading_of line))) (go_on lines)).ends ≡ stuck_by whole_input
         → TellsBase m (line ∷ texts lines)
-        (chain (cond long (stuck too_long) (placed (counted (place_base b l m) size) (reading_of line))) (go_on lines)).items
+        (chain (cond long (stuck (too_long (l + 1))) (placed (counted (place_base b l m) size) (reading_of line))) (go_on lines)).items
     by_long more true is = long_stops is
     by_long more false is = told_in_base m (b + size) (l + 1) line lines (reading_of line) refl more is
 
@@ -373,8 +373,8 @@ script_told [] is = bad_stops 1 is
 script_told ((size, line) ∷ lines) is = by_long (is_long beginning size line) is
   where
     by_long : (long : Bool)
-        → (chain (cond long (stuck too_long) (placed (counted beginning size) (reading_of line))) (go_on lines)).ends ≡ stuck_by whole_input
-        → TellsScript (line ∷ texts lines) (chain (cond long (stuck too_long) (placed (counted beginning size) (reading_of line))) (go_on lines)).items
+        → (chain (cond long (stuck (too_long 1)) (placed (counted beginning size) (reading_of line))) (go_on lines)).ends ≡ stuck_by whole_input
+        → TellsScript (line ∷ texts lines) (chain (cond long (stuck (too_long 1)) (placed (counted beginning size) (reading_of line))) (go_on lines)).items
     by_long true is = long_stops is
     by_long false is = told_first (0 + size) 1 line lines (reading_of line) refl is
 
@@ -417,7 +417,7 @@ line_fits size line p d short few reads =
     let e : is_long p size line ≡ false =
     or_from (nat_lt 8388608 (length line)) (nat_lt 4294967296 (p.bytes + size))
     (le-ltb 8388608 (length line) short) (le-ltb 4294967296 (p.bytes + size) few) in
-    ap (λ (b : Bool). cond b (stuck too_long) (placed (counted p size) (reading_of line))) e ∙ ap (placed (counted p size)) reads
+    ap (λ (b : Bool). cond b (stuck (too_long (p.lines + 1))) (placed (counted p size) (reading_of line))) e ∙ ap (placed (counted p size)) reads
 
 -- what a line gives in its place, and the rest behind it
 chain_is : (w : Walk) (items : List Item) (q : Place) (g : Place → Walk) (more : List Item) → w ≡ arrived items q → g q ≡ stuck_after more whole_input

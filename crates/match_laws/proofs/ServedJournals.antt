@@ -221,8 +221,8 @@ sound_placed found (InTurns rules) p d at fits = sound_in_turn found p rules d f
 sound_accept : (found : Option Map) (size : ℕ) (l : List ℕ) (p : Place) → FitsPart found p.part p.posts → Sound found (accept size l p)
 sound_accept found size l p fits = by_length (is_long p size l)
   where
-    by_length : (long : Bool) → Sound found (cond long (stuck too_long) (placed (counted p size) (reading_of l)))
-    by_length true = sound_stuck found too_long
+    by_length : (long : Bool) → Sound found (cond long (stuck (too_long (p.lines + 1))) (placed (counted p size) (reading_of l)))
+    by_length true = sound_stuck found (too_long (p.lines + 1))
     by_length false = sound_placed found p.part (counted p size) (reading_of l) refl fits
 
 -- ---- the whole input

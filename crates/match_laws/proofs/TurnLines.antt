@@ -403,7 +403,7 @@ bad_line_is n = line_of_words (codes "bad" ∷ codes "line" ∷ decimal n ∷ []
 stop_lines : (ends : Ends) → IsStopLines ends
 stop_lines (at_place p) = record { lines = []; is = no_lines; count = refl }
 stop_lines (stuck_by whole_input) = record { lines = []; is = no_lines; count = refl }
-stop_lines (stuck_by too_long) = record { lines = []; is = no_lines; count = refl }
+stop_lines (stuck_by (too_long n)) = record { lines = []; is = no_lines; count = refl }
 stop_lines (stuck_by (bad_line n)) = record { lines = join_with_byte 32 (codes "bad" ∷ codes "line" ∷ decimal n ∷ []) ∷ []; is = bad_line_is n; count = refl }
 
 -- the lines of an output text

@@ -64,7 +64,7 @@ places_of {A} lines caller (xs ∷ rest) = places_from lines caller 0 xs ++ plac
 abbrev pub lines_of_stop : Ends → ℕ
 lines_of_stop (at_place p) = 0
 lines_of_stop (stuck_by whole_input) = 0
-lines_of_stop (stuck_by too_long) = 0
+lines_of_stop (stuck_by (too_long n)) = 0
 lines_of_stop (stuck_by (bad_line n)) = 1
 
 -- how many lines a turn has where nothing is told beside the answers: its own, and one for each post

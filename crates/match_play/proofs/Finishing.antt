@@ -115,8 +115,8 @@ refused_by old new (met.BadLine n) stop told is =
   where
     stops_same : (a b : ScriptStop) → Some a ≡ Some b → a ≡ b
     stops_same a b is = cc
-refused_by old new met.TooLong stop told is =
-    let same : TooLong ≡ stop = stops_same TooLong stop is in
+refused_by old new (met.TooLong n) stop told is =
+    let same : TooLong n ≡ stop = stops_same (TooLong n) stop is in
     subst (λ (s : ScriptStop). reading old.bytes old.place ≡ stuck_after [] (stop_of s)) same told
   where
     stops_same : (a b : ScriptStop) → Some a ≡ Some b → a ≡ b
@@ -137,7 +137,7 @@ rest_stop a new met stop ended at told is = quiet a (with_ahead a new (ahead.Sto
 -- there was no memory
 pub kept_held : (old new : Held) (met : ScriptFault) → EndTold old new (Err met) → stop_in met ≡ None → (new.place ≡ old.place) × (new.bytes ≡ old.bytes)
 kept_held old new (met.BadLine n) told none = absurd (cc)
-kept_held old new met.TooLong told none = absurd (cc)
+kept_held old new (met.TooLong n) told none = absurd (cc)
 kept_held old new met.ReadFault told none = absurd told
 kept_held old new met.NoMemory told none = told
 
@@ -197,7 +197,7 @@ over_text m stop next fed told ended at says stops h =
 
 told_by : (report : Report) (stop : ScriptStop) (fed told : List ℕ) → IsWholeText report (stop_of stop) fed told → FinishTold report (Err (fault_of stop)) fed told
 told_by report (BadLine n) fed told is = is
-told_by report TooLong fed told is = is
+told_by report (TooLong n) fed told is = is
 
 pub finish_whole : (a b : Course) → Plays a b [] [] → IsTrue b.ended → b.ahead ≡ ahead.Whole → FinishPlays a b (Ok tt)
 finish_whole a b p ended at = finish_by a b (Ok tt) p (λ fed told h. over_text b whole_input ahead.Whole fed told ended at refl (λ items read. read) h)

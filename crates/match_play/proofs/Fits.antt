@@ -126,7 +126,7 @@ pub fits_fault : (g : Ground) (old new : Held) (piece left : List ℕ) (fault : 
     → new.failed ≡ is_refused (Err fault) → IsFalse new.ended → new.place.bytes ≤ MAX_INPUT_BYTES
     → IsOpen new (turns_in g) × FitsPart g new.place.part
 fits_fault g old new piece left (met.BadLine n) opens fits none told keeps going more limit = absurd (cc)
-fits_fault g old new piece left met.TooLong opens fits none told keeps going more limit = absurd (cc)
+fits_fault g old new piece left (met.TooLong n) opens fits none told keeps going more limit = absurd (cc)
 fits_fault g old new piece left met.ReadFault opens fits none told keeps going more limit = absurd (told [])
 fits_fault g old new piece left met.NoMemory opens fits none told keeps going more limit =
     fits_on g old new (piece ++ []) (left ++ []) opens fits (told []) keeps going more limit

@@ -74,7 +74,7 @@ stays_placed (InTurns rules) p d inside =
 
 stays_accept : (size : ℕ) (line : List ℕ) (p : Place) → IsInTurns p.part → StaysInTurns (accept size line p)
 stays_accept size line p inside =
-    stays_cond (is_long p size line) _ _ (stays_stuck too_long) (stays_placed p.part (counted p size) (reading_of line) inside)
+    stays_cond (is_long p size line) _ _ (stays_stuck (too_long (p.lines + 1))) (stays_placed p.part (counted p size) (reading_of line) inside)
 
 stays_walk : (lines : List (List ℕ)) (p : Place) → IsInTurns p.part → StaysInTurns (walk lines p)
 stays_walk [] p inside = record { items = tt; ends = inside }
@@ -110,7 +110,7 @@ finish_gives (InTurns rules) p first more is = by_posts (list_all is_empty p.pos
 
 -- a line that gives something has room in the input
 room_line : (size : ℕ) (line : List ℕ) (p : Place) (go_on : Place → Walk) (long : Bool) (first : Item) (more : List Item) → 1 ≤ size → is_long p size line ≡ long
-    → (chain (cond long (stuck too_long) (placed (counted p size) (reading_of line))) go_on).items ≡ first ∷ more → p.bytes < MAX_INPUT_BYTES
+    → (chain (cond long (stuck (too_long (p.lines + 1))) (placed (counted p size) (reading_of line))) go_on).items ≡ first ∷ more → p.bytes < MAX_INPUT_BYTES
 room_line size line p go_on true first more some e is = none_first first more is
 room_line size line p go_on false first more some e is =
     let limits = or_parts (nat_lt 8388608 (length line)) (nat_lt 4294967296 (p.bytes + size)) e in
@@ -205,7 +205,7 @@ rest_next g old new i last e keeps going =
 
 may_go_on : (old new : Held) (fault : ScriptFault) → EndTold old new (Err fault) → stop_in fault ≡ None → IsFalse (is_refused (Err fault))
 may_go_on old new (met.BadLine n) told none = absurd (cc)
-may_go_on old new met.TooLong told none = absurd (cc)
+may_go_on old new (met.TooLong n) told none = absurd (cc)
 may_go_on old new met.ReadFault told none = absurd told
 may_go_on old new met.NoMemory told none = refl
 

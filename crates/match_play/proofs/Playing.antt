@@ -157,7 +157,7 @@ plays_lines a new piece left unended at told going = plays_on a new piece left u
 pub plays_fault : (a : Course) (new : Held) (piece left : List ℕ) (fault : ScriptFault) → IsFalse a.ended → a.ahead ≡ ahead.Lines → PushTold a.script new piece left (Err fault)
     → IsFalse new.ended → stop_in fault ≡ None → Plays a (with_script a new) piece left
 plays_fault a new piece left (met.BadLine n) unended at told going none = absurd (cc)
-plays_fault a new piece left met.TooLong unended at told going none = absurd (cc)
+plays_fault a new piece left (met.TooLong n) unended at told going none = absurd (cc)
 plays_fault a new piece left met.ReadFault unended at told going none = absurd (told [])
 plays_fault a new piece left met.NoMemory unended at told going none = plays_on a new piece left unended at (told []) going
 
@@ -193,8 +193,8 @@ stopped : (old new : Held) (piece left : List ℕ) (fault : ScriptFault) (stop :
 stopped old new piece left (met.BadLine n) stop told is more =
     let same : BadLine n ≡ stop = stops_same (BadLine n) stop is in
     subst (λ (s : ScriptStop). reading (old.bytes ++ (piece ++ more)) old.place ≡ stuck_after [] (stop_of s)) same (told more).stuck
-stopped old new piece left met.TooLong stop told is more =
-    let same : TooLong ≡ stop = stops_same TooLong stop is in
+stopped old new piece left (met.TooLong n) stop told is more =
+    let same : TooLong n ≡ stop = stops_same (TooLong n) stop is in
     subst (λ (s : ScriptStop). reading (old.bytes ++ (piece ++ more)) old.place ≡ stuck_after [] (stop_of s)) same (told more)
 stopped old new piece left met.ReadFault stop told is more = absurd (told more)
 stopped old new piece left met.NoMemory stop told is more = absurd (cc)
@@ -370,7 +370,7 @@ stop_told b stop fed told unended at h =
 
 told_by : (report : Report) (stop : ScriptStop) (fed told : List ℕ) → IsStopText report (stop_of stop) fed told → FeedTold report (Err (fault_of stop)) fed told
 told_by report (BadLine n) fed told is = is
-told_by report TooLong fed told is = is
+told_by report (TooLong n) fed told is = is
 
 feed_stopped : (a b : Course) (stop : ScriptStop) (piece left : List ℕ) → Plays a b piece left → IsFalse b.ended → b.ahead ≡ ahead.Nothing stop
     → FeedPlays a b piece left (Err (fault_of stop))
@@ -395,7 +395,7 @@ feed_ended a piece = record { plays = plays_none a piece; told = λ fed told h. 
 pub stop_answer : (next : Ahead) (result : Result (Unit {0}) MatchFault) → TellsStop next result → result ≡ Err fault.Ended → ⊥
 stop_answer next result (inl none) is = absurd (cc)
 stop_answer next result (inr (BadLine n, (at, met))) is = absurd (cc)
-stop_answer next result (inr (TooLong, (at, met))) is = absurd (cc)
+stop_answer next result (inr (TooLong n, (at, met))) is = absurd (cc)
 
 -- an answer that only a script gives that has ended
 pub only_ended : (result : Result (Unit {0}) MatchFault) (ended : Bool) → IsFalse ended → (result ≡ Err fault.Ended → ⊥) → (result ≡ Err fault.Ended) ↔ IsTrue ended

@@ -134,7 +134,7 @@ line_in (InTurns rules) p d items q at is =
     line_turn p rules (option_and_then (post_of rules.version rules.callers) d) (option_and_then end_of d) items q is
 
 line_if : (long : Bool) (p : Place) (d : Option Data) (items : List Item) (q : Place)
-    → (if long then stuck too_long else placed p d) ≡ arrived items q → Line p items q
+    → (if long then stuck (too_long p.lines) else placed p d) ≡ arrived items q → Line p items q
 line_if true p d items q is = never _ items [] q is
 line_if false p d items q is = line_in p.part p d items q refl is
 

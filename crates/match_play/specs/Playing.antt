@@ -26,7 +26,7 @@ said_of (ground.Turns version turns) = record { map = Some version.map; standing
 -- a stop, as the reading of an input names it
 abbrev pub stop_of : ScriptStop → Stop
 stop_of (BadLine n) = bad_line n
-stop_of TooLong = too_long
+stop_of (TooLong n) = too_long n
 
 -- These items were read. While the script may go on they are those of lines that were used; of a script that has ended, its
 -- reading goes on behind them with what is held.
@@ -93,7 +93,7 @@ pub record IsStopText (report : Report) (stop : Stop) (fed told : List ℕ) : Ty
 abbrev pub FeedTold : Report → Result (Unit {0}) MatchFault → List ℕ → List ℕ → Type 0
 FeedTold report (Ok done) fed told = IsLinesText report fed told
 FeedTold report (Err (fault.BadLine n)) fed told = IsStopText report (bad_line n) fed told
-FeedTold report (Err fault.TooLong) fed told = IsStopText report too_long fed told
+FeedTold report (Err (fault.TooLong n)) fed told = IsStopText report (too_long n) fed told
 FeedTold report (Err fault.Ended) fed told = ⊤
 FeedTold report (Err fault.NoMemory) fed told = ⊤
 
@@ -106,7 +106,7 @@ pub record IsWholeText (report : Report) (stop : Stop) (fed told : List ℕ) : T
 abbrev pub FinishTold : Report → Result (Unit {0}) MatchFault → List ℕ → List ℕ → Type 0
 FinishTold report (Ok done) fed told = IsWholeText report whole_input fed told
 FinishTold report (Err (fault.BadLine n)) fed told = IsWholeText report (bad_line n) fed told
-FinishTold report (Err fault.TooLong) fed told = IsWholeText report too_long fed told
+FinishTold report (Err (fault.TooLong n)) fed told = IsWholeText report (too_long n) fed told
 FinishTold report (Err fault.Ended) fed told = IsOut report fed told
 FinishTold report (Err fault.NoMemory) fed told = ⊤
 
@@ -136,7 +136,7 @@ pub record FinishPlays (old new : Course) (result : Result (Unit {0}) MatchFault
 abbrev pub TakesAll : List ℕ → Result (Unit {0}) MatchFault → Type 0
 TakesAll left (Ok done) = left ≡ []
 TakesAll left (Err (fault.BadLine n)) = left ≡ []
-TakesAll left (Err fault.TooLong) = left ≡ []
+TakesAll left (Err (fault.TooLong n)) = left ≡ []
 TakesAll left (Err fault.Ended) = ⊤
 TakesAll left (Err fault.NoMemory) = ⊤
 

@@ -55,7 +55,7 @@ IsText report items text = (t : Said) × Gives report unsaid items text t
 -- what is written for a stop: a bad line is named
 abbrev pub stop_text : Stop → List ℕ
 stop_text whole_input = []
-stop_text too_long = []
+stop_text (too_long n) = []
 stop_text (bad_line n) = bad_line_text n
 
 abbrev pub ends_text : Ends → List ℕ

@@ -179,7 +179,7 @@ fn stop_in(fault: ScriptFault) -> Option<ScriptStop>
 {
     match fault {
         ScriptFault::BadLine(number) => Some(ScriptStop::BadLine(number)),
-        ScriptFault::TooLong => Some(ScriptStop::TooLong),
+        ScriptFault::TooLong(number) => Some(ScriptStop::TooLong(number)),
         ScriptFault::ReadFault | ScriptFault::NoMemory => None,
     }
 }
@@ -213,7 +213,7 @@ fn append_stop(alloc: Global, stop: ScriptStop, text: &mut Bytes) -> Result<(), 
 {
     match stop {
         ScriptStop::BadLine(number) => text.extend(bad_line_text(alloc, number)?.as_slice()),
-        ScriptStop::TooLong => Ok(()),
+        ScriptStop::TooLong(_) => Ok(()),
     }
 }
 
@@ -223,6 +223,6 @@ fn fault_of(stop: ScriptStop) -> MatchFault
 {
     match stop {
         ScriptStop::BadLine(number) => MatchFault::BadLine(number),
-        ScriptStop::TooLong => MatchFault::TooLong,
+        ScriptStop::TooLong(number) => MatchFault::TooLong(number),
     }
 }

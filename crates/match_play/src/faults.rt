@@ -8,8 +8,8 @@ use nav_types::NoMemory;
 pub enum MatchFault {
     /// The line of this number of the script is not in the grammar in its place. The match has stopped.
     BadLine(u64),
-    /// A line or the script is past its limit. The match has stopped.
-    TooLong,
+    /// The line of this number is past the limit of a line, or the script with it past its own. The match has stopped.
+    TooLong(u64),
     /// `finish` was called: the script has no more bytes. Nothing was taken or told.
     Ended,
     /// There was no memory. Nothing is lost: the call may come again.

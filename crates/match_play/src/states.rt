@@ -9,8 +9,8 @@ use script_text::{PushedScript, ScriptItem};
 pub enum ScriptStop {
     /// The line of this number is not in the grammar in its place.
     BadLine(u64),
-    /// A line or the script is past its limit.
-    TooLong,
+    /// The line of this number is past the limit of a line, or the script with it past its own.
+    TooLong(u64),
 }
 
 /// What comes next in a match.

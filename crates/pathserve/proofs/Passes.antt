@@ -1,6 +1,6 @@
 -- What a source gave in the reads of a replay, and what a sink took in its writes.
-use Rattle.std.proofs.Common.{◌≡◌, ℕ, List, [], take, inl, inr, Option, Some, None, Result, Ok, Err, false, refl, sym, arith, ◌∙◌}
-use Rattle.std.specs.Prelude.{◌≢◌}
+use Rattle.std.proofs.Common.{◌≡◌, ℕ, List, [], take, ◌⊎◌, inl, inr, Option, Some, None, Result, Ok, Err, false, refl, ap, sym, subst, arith, ◌∙◌}
+use Rattle.std.specs.Prelude.{◌≢◌, IfSome, IsSome, IsTrue}
 use Rattle.io_edges.specs.Faults.{Rose}
 use Rattle.io_edges.proofs.Passed.{given_none, taken_none}
 use Rattle.std.proofs.lemmas.Bool.{both_ways}
@@ -10,10 +10,12 @@ use Rattle.io_edges.specs.declared.edges.WriteRefusal.TheVariants as refusal
 use Rattle.script_text.specs.declared.faults.ScriptFault.{ScriptFault}
 use Rattle.script_text.specs.declared.faults.ScriptFault.TheVariants as fault
 use Rattle.script_text.specs.Script.{Item, bad_line}
-use Rattle.pathserve.specs.declared.bad_lines.BadLine as named
+use Rattle.pathserve.specs.declared.reasons.Reason.{Reason}
+use Rattle.pathserve.specs.declared.reasons.Reason.TheVariants as why_so
 use Rattle.pathserve.specs.declared.status.Status.{Status}
 use Rattle.pathserve.specs.declared.status.Status.TheVariants.{Done, BadLine, ReadFault, WriteFault, NoMemory, TooLong}
-use Rattle.pathserve.specs.Runs.{ReadsFrom, WritesTo, NamesBadLine}
+use Rattle.pathserve.specs.Runs.{ReadsFrom, WritesTo, NamesReason, names_line, reason_status}
+use Rattle.pathserve.specs.inner.Stopping.{IsHeldReason}
 use Rattle.pathserve.specs.inner.Writing.{WritesPiece, WritesSome, StopsWith, EndsWith, refused_status, status_after}
 use Rattle.posts.specs.declared.notes.Report.{Report}
 use Rattle.pathserve.specs.Output.{Said, stop_text, ComesByMaking}
@@ -53,7 +55,7 @@ ends_taken Is kept now status (written, (wrote, is)) = some_taken Is kept now wr
 -- what a stop of the input leaves
 pub stop_taken : (kept now : Option (List ℕ)) (met : ScriptFault) (status : Status) → StopsWith met kept now status → HasTaken kept now
 stop_taken kept now (fault.BadLine n) status (written, (wrote, is)) = piece_taken kept now (stop_text (bad_line n)) written wrote
-stop_taken kept now fault.TooLong status (is, wrote) = record { taken = []; behind = wrote }
+stop_taken kept now (fault.TooLong n) status (is, wrote) = record { taken = []; behind = wrote }
 stop_taken kept now fault.ReadFault status (is, wrote) = record { taken = []; behind = wrote }
 stop_taken kept now fault.NoMemory status (is, wrote) = record { taken = []; behind = wrote }
 
@@ -79,43 +81,59 @@ bad_no_read (Err refused) is = refused_no_read refused is
 pub stop_read : (reads reading_now : ℕ) (kept now : Option (List ℕ)) (met : ScriptFault) (status : Status) → StopsWith met kept now status
     → (met ≡ fault.ReadFault → Rose reads reading_now) → status ≡ ReadFault → Rose reads reading_now
 stop_read reads reading_now kept now (fault.BadLine n) status (written, (wrote, is)) rose read = absurd (bad_no_read written (sym is ∙ read))
-stop_read reads reading_now kept now fault.TooLong status (is, wrote) rose read = let other : TooLong ≡ ReadFault = sym is ∙ read in cc
+stop_read reads reading_now kept now (fault.TooLong n) status (is, wrote) rose read = let other : TooLong ≡ ReadFault = sym is ∙ read in cc
 stop_read reads reading_now kept now fault.ReadFault status (is, wrote) rose read = rose refl
 stop_read reads reading_now kept now fault.NoMemory status (is, wrote) rose read = let other : NoMemory ≡ ReadFault = sym is ∙ read in cc
 
--- ---- the bad line that is named
+-- ---- the line that is named
 
--- a stop of the input has the status BadLine only where a line was refused
-pub stop_bad : (kept now : Option (List ℕ)) (met : ScriptFault) (status : Status) → StopsWith met kept now status → status ≡ BadLine
-    → (n : ℕ) × (met ≡ fault.BadLine n)
-stop_bad kept now (fault.BadLine n) status stops bad = (n, refl)
-stop_bad kept now fault.TooLong status (is, wrote) bad = let other : TooLong ≡ BadLine = sym is ∙ bad in cc
-stop_bad kept now fault.ReadFault status (is, wrote) bad = let other : ReadFault ≡ BadLine = sym is ∙ bad in cc
-stop_bad kept now fault.NoMemory status (is, wrote) bad = let other : NoMemory ≡ BadLine = sym is ∙ bad in cc
+-- a stop of the input has a status at which a line is named only where a line was refused
+pub stop_line : (kept now : Option (List ℕ)) (met : ScriptFault) (status : Status) → StopsWith met kept now status → IsTrue (names_line status)
+    → (n : ℕ) × ((met ≡ fault.BadLine n) ⊎ (met ≡ fault.TooLong n))
+stop_line kept now (fault.BadLine n) status stops named = (n, inl refl)
+stop_line kept now (fault.TooLong n) status stops named = (n, inr refl)
+stop_line kept now fault.ReadFault status (is, wrote) named = absurd (both_ways (names_line status) (ap names_line is) named)
+stop_line kept now fault.NoMemory status (is, wrote) named = absurd (both_ways (names_line status) (ap names_line is) named)
 
 -- none is, at another status
-pub none_named : (input : Option (List ℕ)) (why : Option named.BadLine) (status : Status) → why ≡ None → status ≢ BadLine → NamesBadLine input why status
+pub none_named : (input : Option (List ℕ)) (why : Option Reason) (status : Status) → why ≡ None → names_line status ≡ false → NamesReason input why status
 none_named input None status is other = record {
   true_of = λ bytes told. tt;
-  named = (λ some. absurd (both_ways false refl some), λ bad. absurd (other bad));
+  status_of = tt;
+  named = (λ some. absurd (both_ways false refl some), λ line. absurd (both_ways (names_line status) other line));
 }
 none_named input (Some bad) status is other = cc
 
-pub done_no_bad : Done ≢ BadLine
-done_no_bad is = cc
+pub refused_no_line : (refused : WriteRefusal) → names_line (refused_status refused) ≡ false
+refused_no_line refusal.Failed = refl
+refused_no_line refusal.NoMemory = refl
 
-pub no_memory_no_bad : NoMemory ≢ BadLine
-no_memory_no_bad is = cc
+-- the status of a stop is that of the reason for which the line was refused
+bad_line_status : (written : Result (Unit {0}) WriteRefusal) (status : Status) → status ≡ status_after written BadLine → IsTrue (names_line status) → status ≡ BadLine
+bad_line_status (Ok done) status is named = is
+bad_line_status (Err refused) status is named = absurd (both_ways (names_line status) (ap names_line is ∙ refused_no_line refused) named)
 
-pub refused_no_bad : (refused : WriteRefusal) → refused_status refused ≢ BadLine
-refused_no_bad refusal.Failed is = let other : WriteFault ≡ BadLine = is in cc
-refused_no_bad refusal.NoMemory is = let other : NoMemory ≡ BadLine = is in cc
+pub stop_reason : (h : Held) (kept now : Option (List ℕ)) (met : ScriptFault) (status : Status) (why : Option Reason) → StopsWith met kept now status → IsTrue (names_line status)
+    → IfSome why (IsHeldReason h met) → IfSome why (λ reason. status ≡ reason_status reason)
+stop_reason h kept now met status None stops named held = tt
+stop_reason h kept now met status (Some (why_so.BadLine bad)) stops named held =
+    let (written, (wrote, is)) = subst (λ (f : ScriptFault). StopsWith f kept now status) held.line stops in bad_line_status written status is named
+stop_reason h kept now met status (Some (why_so.TooLong n)) stops named held = (subst (λ (f : ScriptFault). StopsWith f kept now status) held stops).0
+
+-- where a line was refused, a reason is named
+pub stop_named : (kept now : Option (List ℕ)) (met : ScriptFault) (status : Status) (why : Option Reason) → StopsWith met kept now status
+    → ((n : ℕ) → met ≡ fault.BadLine n → IsSome why) → ((n : ℕ) → met ≡ fault.TooLong n → IsSome why) → IsTrue (names_line status) → IsSome why
+stop_named kept now met status why stops bad long named = by_line (stop_line kept now met status stops named)
+  where
+    by_line : ((n : ℕ) × ((met ≡ fault.BadLine n) ⊎ (met ≡ fault.TooLong n))) → IsSome why
+    by_line (n, inl is) = bad n is
+    by_line (n, inr is) = long n is
 
 -- a run that makes a match names none
-pub making_no_bad : (before now : ℕ) (status : Status) → ComesByMaking before now status → status ≢ BadLine
-making_no_bad before now status (inl is) bad = let other : Done ≡ BadLine = sym is ∙ bad in cc
-making_no_bad before now status (inr (inl is)) bad = let other : NoMemory ≡ BadLine = sym is ∙ bad in cc
-making_no_bad before now status (inr (inr (is, rose))) bad = let other : WriteFault ≡ BadLine = sym is ∙ bad in cc
+pub making_no_line : (before now : ℕ) (status : Status) → ComesByMaking before now status → names_line status ≡ false
+making_no_line before now status (inl is) = ap names_line is
+making_no_line before now status (inr (inl is)) = ap names_line is
+making_no_line before now status (inr (inr (is, rose))) = ap names_line is
 
 -- ---- runs that read nothing, or write nothing
 

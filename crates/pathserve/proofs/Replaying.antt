@@ -21,8 +21,10 @@ use Rattle.pathserve.specs.declared.status.Status.TheVariants.{Done, Usage, BadL
 use Rattle.posts.specs.declared.notes.Report.{Report}
 use Rattle.pathserve.specs.Output.{Said, unsaid, with_map, with_turn, IsTurnText, Says, Gives, stop_text, IsOut, IsBeginning, Replays, ReplaysTold, stop_status, ComesByStop}
 use Rattle.pathserve.specs.declared.bad_lines.BadLine as reason
-use Rattle.pathserve.specs.Reasons.{IsWhyBad}
-use Rattle.pathserve.specs.inner.Stopping.{IsHeldBad}
+use Rattle.pathserve.specs.declared.reasons.Reason.{Reason}
+use Rattle.pathserve.specs.declared.reasons.Reason.TheVariants as why_so
+use Rattle.pathserve.specs.Reasons.{IsReason, IsWhyBad}
+use Rattle.pathserve.specs.inner.Stopping.{IsHeldBad, IsHeldReason}
 use Rattle.pathserve.specs.inner.Writing.{WritesPiece, WritesSome, refused_status, status_after, StopsWith}
 use Rattle.pathserve.proofs.Progress.{Went, went_nowhere, gives_on, gives_one, gives_map, begun_here, begun_item, out_here, begun_stop, taken_here}
 
@@ -205,10 +207,10 @@ pub told_fault : (report : Report) (start before now kept keeps final : Option (
     → StopsWith met keeps final status → ReplaysTold report start now kept final status
 told_fault report start before now kept keeps final held new state (fault.BadLine n) status s a (written, (wrote, is)) =
     subst (λ (x : Status). ReplaysTold report start now kept final x) (sym is) (told_bad_line report start before now kept keeps final held new state n written s a wrote)
-told_fault report start before now kept keeps final held new state fault.TooLong status s a (is, wrote) =
+told_fault report start before now kept keeps final held new state (fault.TooLong n) status s a (is, wrote) =
     subst (λ (x : Status). ReplaysTold report start now kept final x) (sym is)
-    (replays_told report start before now kept keeps final held state (λ left after. RefusesMap held new left after fault.TooLong) TooLong [] s a wrote
-    (λ bytes left after items text w gives r. stopped_out report bytes left after held new items state text fault.TooLong too_long w gives r r.refused))
+    (replays_told report start before now kept keeps final held state (λ left after. RefusesMap held new left after (fault.TooLong n)) TooLong [] s a wrote
+    (λ bytes left after items text w gives r. (n, stopped_out report bytes left after held new items state text (fault.TooLong n) (too_long n) w gives r r.refused)))
 told_fault report start before now kept keeps final held new state fault.ReadFault status s a (is, wrote) =
     subst (λ (x : Status). ReplaysTold report start now kept final x) (sym is)
     (replays_told report start before now kept keeps final held state (λ left after. RefusesMap held new left after fault.ReadFault) ReadFault [] s a wrote
@@ -225,7 +227,7 @@ told_fault report start before now kept keeps final held new state fault.NoMemor
 
 map_refused : (held new : Held) (left after : List ℕ) (met : ScriptFault) → MapAnswers held new (Err met) left after → RefusesMap held new left after met
 map_refused held new left after (fault.BadLine n) a = record { items = []; refused = a.1; no_turn = refl }
-map_refused held new left after fault.TooLong a = a
+map_refused held new left after (fault.TooLong n) a = a
 map_refused held new left after fault.ReadFault a = a
 map_refused held new left after fault.NoMemory a = record { items = []; refused = tt; no_turn = refl }
 
@@ -305,8 +307,8 @@ pub stop_fault : (report : Report) (start before now kept keeps final : Option (
 stop_fault report start before now kept keeps final held new state (fault.BadLine n) status reads reading_now writes writing_now s a (written, (wrote, is)) rose_read rose bytes told =
     let ends = ends_told start before now held s.items (λ left after. RefusesMap held new left after (fault.BadLine n)) (bad_line n) bytes s.went a told (λ left after r. (r.items, r.refused.stuck)) in
     stop_bad_line reads reading_now writes writing_now (reading bytes beginning).ends n written status is ends rose
-stop_fault report start before now kept keeps final held new state fault.TooLong status reads reading_now writes writing_now s a (is, wrote) rose_read rose bytes told =
-    let ends = ends_told start before now held s.items (λ left after. RefusesMap held new left after fault.TooLong) too_long bytes s.went a told (λ left after r. (r.items, r.refused)) in
+stop_fault report start before now kept keeps final held new state (fault.TooLong n) status reads reading_now writes writing_now s a (is, wrote) rose_read rose bytes told =
+    let ends = ends_told start before now held s.items (λ left after. RefusesMap held new left after (fault.TooLong n)) (too_long n) bytes s.went a told (λ left after r. (r.items, r.refused)) in
     inl (is ∙ ap stop_status (sym ends))
 stop_fault report start before now kept keeps final held new state fault.ReadFault status reads reading_now writes writing_now s a (is, wrote) rose_read rose bytes told =
     inr (inr (inl (is, rose_read refl)))
@@ -323,14 +325,21 @@ why_by bytes left after held new items met bad w refused why =
       cause = IfSome_then bad.cause why.cause (λ found held_so. w.cause ∙ r.refused.cause ∙ held_so);
     }
 
+reason_by : (bytes left after : List ℕ) (held new : Held) (items : List Item) (met : ScriptFault) (why : Reason) → Went bytes left held items → RefusesMap held new left after met
+    → IsHeldReason new met why → IsReason bytes why
+reason_by bytes left after held new items met (why_so.BadLine bad) w refused h = why_by bytes left after held new items met bad w refused h
+reason_by bytes left after held new items met (why_so.TooLong n) w refused h =
+    let r = subst (λ (f : ScriptFault). RefusesMap held new left after f) h refused in
+    ap (λ (v : Walk). v.ends) (stuck_then unread held bytes left items r.items (too_long n) w r.refused)
+
 -- what is held is bad for the cause for which the input stops
-pub why_told : (report : Report) (start before now kept keeps : Option (List ℕ)) (held new : Held) (state : Said) (met : ScriptFault) (why : Option reason.BadLine)
-    → Stands report start before kept keeps held state → Tells held before now (λ left after. RefusesMap held new left after met) → IfSome why (IsHeldBad new met)
-    → (bytes : List ℕ) → start ≡ Some bytes → IfSome why (IsWhyBad bytes)
+pub why_told : (report : Report) (start before now kept keeps : Option (List ℕ)) (held new : Held) (state : Said) (met : ScriptFault) (why : Option Reason)
+    → Stands report start before kept keeps held state → Tells held before now (λ left after. RefusesMap held new left after met) → IfSome why (IsHeldReason new met)
+    → (bytes : List ℕ) → start ≡ Some bytes → IfSome why (IsReason bytes)
 why_told report start before now kept keeps held new state met None s a h bytes is = tt
 why_told report None before now kept keeps held new state met (Some bad) s a h bytes is = cc
 why_told report (Some first) None now kept keeps held new state met (Some bad) s a h bytes is = absurd s.went
 why_told report (Some first) (Some left) None kept keeps held new state met (Some bad) s a h bytes is = absurd a
 why_told report (Some first) (Some left) (Some after) kept keeps held new state met (Some bad) s a h bytes is =
     let same : first ≡ bytes = cc in
-    subst (λ (l : List ℕ). IsWhyBad l bad) same (why_by first left after held new s.items met bad s.went (a s.went.at_end) h)
+    subst (λ (l : List ℕ). IsReason l bad) same (reason_by first left after held new s.items met bad s.went (a s.went.at_end) h)

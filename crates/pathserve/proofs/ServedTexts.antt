@@ -1,5 +1,5 @@
 -- What is written for a script that is served, over a source that may tell its bytes and a sink that may keep them.
-use Rattle.std.proofs.Common.{◌≡◌, ◌≢◌, ℕ, List, [], ◌∷◌, ◌++◌, take, zero, suc, Bool, true, Option, Some, None, Result, Ok, Err, inl, inr, refl, sym, ap, ◌∙◌, subst}
+use Rattle.std.proofs.Common.{◌≡◌, ◌≢◌, ℕ, List, [], ◌∷◌, ◌++◌, take, zero, suc, Bool, true, Option, Some, None, Result, Ok, Err, inl, inr, refl, sym, ap, ◌∙◌, subst, false}
 use Rattle.std.specs.Prelude.{All, IfSome}
 use Rattle.std.specs.List.{list_all}
 use Rattle.std.specs.Io.KnownBytes.{Appends}
@@ -28,12 +28,15 @@ use Rattle.pathserve.specs.declared.status.Status.{Status}
 use Rattle.pathserve.specs.declared.status.Status.TheVariants.{Done, Usage, BadLine, ReadFault, WriteFault, NoMemory, TooLong}
 use Rattle.pathserve.specs.declared.bad_lines.BadLine as reason
 use Rattle.pathserve.specs.Output.{ComesByStop, stop_status, stop_text}
-use Rattle.pathserve.specs.Reasons.{IsWhyBad}
+use Rattle.pathserve.specs.declared.reasons.Reason.{Reason}
+use Rattle.pathserve.specs.declared.reasons.Reason.TheVariants as why_so
+use Rattle.pathserve.specs.Reasons.{IsReason, IsWhyBad}
+use Rattle.pathserve.specs.Runs.{names_line}
 use Rattle.pathserve.specs.Serving.{IsJournalOf, IsServed, IsServedTo, IsServedBeginning, Serves, ServesTold, TakesNoStop, journal_text}
-use Rattle.pathserve.specs.inner.Stopping.{IsHeldBad}
+use Rattle.pathserve.specs.inner.Stopping.{IsHeldReason}
 use Rattle.pathserve.specs.inner.WholeScripts.{AllTold, IsTextOfSession, IsWholeScript, RefusedTold, RefusesAll, WholeTold}
 use Rattle.pathserve.specs.inner.Writing.{WritesPiece, WritesSome, StopsWith, EndsWith, refused_status, status_after}
-use Rattle.pathserve.proofs.Passes.{refused_no_bad}
+use Rattle.pathserve.proofs.Passes.{refused_no_line}
 use Rattle.pathserve.proofs.Progress.{going, walked_taken}
 use Rattle.pathserve.proofs.Replaying.{map_refusal, refused_by_fault, refused_no_read, refused_no_usage, stop_bad_line}
 use Rattle.pathserve.proofs.WholeReadings.{refuses_then}
@@ -188,10 +191,10 @@ pub told_refused : (new : Held) (met : ScriptFault) (start now kept final : Opti
     → StopsWith met kept final status → ServesTold start now kept final status
 told_refused new (fault.BadLine n) start now kept final status s (written, (wrote, is)) =
     subst (λ (x : Status). ServesTold start now kept final x) (sym is) (told_bad new n start now kept final written s wrote)
-told_refused new fault.TooLong start now kept final status s (is, wrote) =
+told_refused new (fault.TooLong n) start now kept final status s (is, wrote) =
     subst (λ (x : Status). ServesTold start now kept final x) (sym is)
-    (serves_told start now kept final (λ bytes rest. RefusesAll unread new bytes rest fault.TooLong) [] TooLong s wrote
-    (λ bytes rest r. (ends_of bytes r.items too_long r.refused, refl)))
+    (serves_told start now kept final (λ bytes rest. RefusesAll unread new bytes rest (fault.TooLong n)) [] TooLong s wrote
+    (λ bytes rest r. (n, (ends_of bytes r.items (too_long n) r.refused, refl))))
 told_refused new fault.ReadFault start now kept final status s (is, wrote) =
     subst (λ (x : Status). ServesTold start now kept final x) (sym is)
     (serves_told start now kept final (λ bytes rest. RefusesAll unread new bytes rest fault.ReadFault) [] ReadFault s wrote
@@ -244,12 +247,12 @@ ends_no_usage Is kept final status ends = ends_so (λ s. s ≢ Usage) Is kept fi
 pub ends_no_read : (Is : List ℕ → Type 0) (kept final : Option (List ℕ)) (status : Status) → EndsWith Is kept final status → status ≢ ReadFault
 ends_no_read Is kept final status ends = ends_so (λ s. s ≢ ReadFault) Is kept final status ends no_read_fault
 
-no_bad_line : (written : Result (Unit {0}) WriteRefusal) → status_after written Done ≢ BadLine
-no_bad_line (Ok done) is = let other : Done ≡ BadLine = is in cc
-no_bad_line (Err refused) is = refused_no_bad refused is
+no_line_named : (written : Result (Unit {0}) WriteRefusal) → names_line (status_after written Done) ≡ false
+no_line_named (Ok done) = refl
+no_line_named (Err refused) = refused_no_line refused
 
-pub ends_no_bad : (Is : List ℕ → Type 0) (kept final : Option (List ℕ)) (status : Status) → EndsWith Is kept final status → status ≢ BadLine
-ends_no_bad Is kept final status ends = ends_so (λ s. s ≢ BadLine) Is kept final status ends no_bad_line
+pub ends_no_line : (Is : List ℕ → Type 0) (kept final : Option (List ℕ)) (status : Status) → EndsWith Is kept final status → names_line status ≡ false
+ends_no_line Is kept final status ends = ends_so (λ s. names_line s ≡ false) Is kept final status ends no_line_named
 
 pub stop_of_refusal : (new : Held) (met : ScriptFault) (start now kept final : Option (List ℕ)) (status : Status) (reads reading_now writes writing_now : ℕ)
     → RefusedTold new met start now → StopsWith met kept final status → (met ≡ fault.ReadFault → Rose reads reading_now)
@@ -260,20 +263,20 @@ stop_of_refusal new (fault.BadLine n) start now kept final status reads reading_
     (λ bytes rest. RefusesAll unread new bytes rest (fault.BadLine n)) bytes s told
     (λ left rest r. stop_bad_line reads reading_now writes writing_now (reading left beginning).ends n written status is
     (ends_of left r.items (bad_line n) r.refused.stuck) rose)
-stop_of_refusal new fault.TooLong start now kept final status reads reading_now writes writing_now s (is, wrote) rose_read rose bytes told =
+stop_of_refusal new (fault.TooLong n) start now kept final status reads reading_now writes writing_now s (is, wrote) rose_read rose bytes told =
     at_bytes (λ (l : List ℕ). ComesByStop reads reading_now writes writing_now (reading l beginning).ends status) start now
-    (λ bytes rest. RefusesAll unread new bytes rest fault.TooLong) bytes s told
-    (λ left rest r. inl (is ∙ ap stop_status (sym (ends_of left r.items too_long r.refused))))
+    (λ bytes rest. RefusesAll unread new bytes rest (fault.TooLong n)) bytes s told
+    (λ left rest r. inl (is ∙ ap stop_status (sym (ends_of left r.items (too_long n) r.refused))))
 stop_of_refusal new fault.ReadFault start now kept final status reads reading_now writes writing_now s (is, wrote) rose_read rose bytes told =
     inr (inr (inl (is, rose_read refl)))
 stop_of_refusal new fault.NoMemory start now kept final status reads reading_now writes writing_now s (is, wrote) rose_read rose bytes told = inr (inl is)
 
 -- ---- why a line is bad
 
-pub why_refused : (new : Held) (met : ScriptFault) (start now : Option (List ℕ)) (why : Option reason.BadLine) → RefusedTold new met start now
-    → IfSome why (IsHeldBad new met) → (bytes : List ℕ) → start ≡ Some bytes → IfSome why (IsWhyBad bytes)
+pub why_refused : (new : Held) (met : ScriptFault) (start now : Option (List ℕ)) (why : Option Reason) → RefusedTold new met start now
+    → IfSome why (IsHeldReason new met) → (bytes : List ℕ) → start ≡ Some bytes → IfSome why (IsReason bytes)
 why_refused new met start now None s h bytes is = tt
-why_refused new met start now (Some bad) s h bytes is =
+why_refused new met start now (Some (why_so.BadLine bad)) s h bytes is =
     at_bytes (λ (l : List ℕ). IsWhyBad l bad) start now (λ bytes rest. RefusesAll unread new bytes rest met) bytes s is
     (λ left rest r.
     let bad_one = subst (λ (f : ScriptFault). RefusesAll unread new left rest f) h.line r in
@@ -281,6 +284,11 @@ why_refused new met start now (Some bad) s h bytes is =
       stops = ends_of left bad_one.items (bad_line bad.number) bad_one.refused.stuck;
       cause = IfSome_then bad.cause h.cause (λ found held_so. bad_one.refused.cause ∙ held_so);
     })
+why_refused new met start now (Some (why_so.TooLong n)) s h bytes is =
+    at_bytes (λ (l : List ℕ). IsReason l (why_so.TooLong n)) start now (λ bytes rest. RefusesAll unread new bytes rest met) bytes s is
+    (λ left rest r.
+    let long = subst (λ (f : ScriptFault). RefusesAll unread new left rest f) h r in
+    ends_of left long.items (too_long n) long.refused)
 
 -- ---- the lines of the journal
 

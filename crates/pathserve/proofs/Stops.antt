@@ -22,7 +22,7 @@ use Rattle.pathserve.proofs.OneText.{taken_reading}
 abbrev IsLine : ℕ → Ends → Type 0
 IsLine n (at_place q) = q.lines ≡ n
 IsLine n (stuck_by whole_input) = ⊤
-IsLine n (stuck_by too_long) = ⊤
+IsLine n (stuck_by (too_long k)) = k ≡ n
 IsLine n (stuck_by (bad_line k)) = k ≡ n
 
 either_line : (b : Bool) (n : ℕ) (x y : Walk) → IsLine n x.ends → IsLine n y.ends → IsLine n (if b then x else y).ends
@@ -54,7 +54,7 @@ line_in (in_base rules) p d = line_of_base p rules d (option_and_then (base_of r
 line_in (in_turns rules) p d = line_in_turn p rules d
 
 line_accepted : (size : ℕ) (line : List ℕ) (p : Place) → IsLine (p.lines + 1) (accept size line p).ends
-line_accepted size line p = either_line (is_long p size line) (p.lines + 1) _ _ tt (line_in p.part (counted p size) (reading_of line))
+line_accepted size line p = either_line (is_long p size line) (p.lines + 1) _ _ refl (line_in p.part (counted p size) (reading_of line))
 
 -- ---- many lines: a walk that arrives has counted them all, and a bad line of it comes after those before it
 
@@ -66,13 +66,13 @@ ArrivesPast n (stuck_by stop) = ⊤
 abbrev IsPast : ℕ → Ends → Type 0
 IsPast n (at_place q) = n ≤ q.lines
 IsPast n (stuck_by whole_input) = ⊤
-IsPast n (stuck_by too_long) = ⊤
+IsPast n (stuck_by (too_long k)) = n < k
 IsPast n (stuck_by (bad_line k)) = n < k
 
 past_line : (n m : ℕ) (ends : Ends) → n < m → IsLine m ends → IsPast n ends
 past_line n m (at_place q) less is = omega arith
 past_line n m (stuck_by whole_input) less is = tt
-past_line n m (stuck_by too_long) less is = tt
+past_line n m (stuck_by (too_long k)) less is = omega arith
 past_line n m (stuck_by (bad_line k)) less is = omega arith
 
 arrives_line : (n m : ℕ) (ends : Ends) → n ≤ m → IsLine m ends → ArrivesPast n ends
@@ -138,10 +138,10 @@ no_stop report bytes rest out text front back stop parts is =
     ap (λ (w : Walk). w.ends) (sym text.walked) ∙ (ap (λ (ls : List (List ℕ)). (walk ls beginning).ends) parts ∙ all) in
     cc
 
--- a bad line comes after the lines taken
-pub bad_line_later : (report : Report) (bytes rest out : List ℕ) (text : IsTakenText report bytes rest out) (n : ℕ)
-    → (reading bytes beginning).ends ≡ stuck_by (bad_line n) → length (full_lines text.taken) < n
-bad_line_later report bytes rest out text n bad =
+-- the line that stops an input comes after the lines taken
+stop_later : (report : Report) (bytes rest out : List ℕ) (text : IsTakenText report bytes rest out) (stop : Stop)
+    → (reading bytes beginning).ends ≡ stuck_by stop → IsPast (length (full_lines text.taken)) (stuck_by stop)
+stop_later report bytes rest out text stop bad =
     let lines = full_lines text.taken in let place = text.place in
     let more = full_lines (tail_of text.taken ++ rest) in
     let goes = ap (λ (l : List ℕ). reading l beginning) text.took ∙ taken_reading text.taken rest text.items place text.walked in
@@ -152,6 +152,16 @@ bad_line_later report bytes rest out text n bad =
     let past : IsPast (length lines) (chain_from on.items on.ends (λ r. last_line (tail_of (text.taken ++ rest)) r)).ends =
     past_chain (length lines) on.items on.ends (λ r. last_line (tail_of (text.taken ++ rest)) r)
     (past_walk (length lines) more place count) (λ q here. past_last (length lines) (tail_of (text.taken ++ rest)) q here) in
-    let same : (chain_from on.items on.ends (λ r. last_line (tail_of (text.taken ++ rest)) r)).ends ≡ stuck_by (bad_line n) =
+    let same : (chain_from on.items on.ends (λ r. last_line (tail_of (text.taken ++ rest)) r)).ends ≡ stuck_by stop =
     sym (ap (λ (w : Walk). w.ends) goes) ∙ bad in
     subst (λ (e : Ends). IsPast (length lines) e) same past
+
+-- a bad line
+pub bad_line_later : (report : Report) (bytes rest out : List ℕ) (text : IsTakenText report bytes rest out) (n : ℕ)
+    → (reading bytes beginning).ends ≡ stuck_by (bad_line n) → length (full_lines text.taken) < n
+bad_line_later report bytes rest out text n bad = stop_later report bytes rest out text (bad_line n) bad
+
+-- and a line that passes a limit
+pub too_long_later : (report : Report) (bytes rest out : List ℕ) (text : IsTakenText report bytes rest out) (n : ℕ)
+    → (reading bytes beginning).ends ≡ stuck_by (too_long n) → length (full_lines text.taken) < n
+too_long_later report bytes rest out text n long = stop_later report bytes rest out text (too_long n) long

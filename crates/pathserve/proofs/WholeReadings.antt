@@ -29,7 +29,7 @@ refuses_then first held new bytes left after items more (fault.BadLine n) stays 
   stuck = stuck_then first held bytes left items more (bad_line n) on refused.stuck;
   cause = on.cause ∙ refused.cause;
 }
-refuses_then first held new bytes left after items more fault.TooLong stays on refused = stuck_then first held bytes left items more too_long on refused
+refuses_then first held new bytes left after items more (fault.TooLong n) stays on refused = stuck_then first held bytes left items more (too_long n) on refused
 refuses_then first held new bytes left after items more fault.ReadFault stays on refused = fault_then first held new bytes left after items more stays on refused
 refuses_then first held new bytes left after items more fault.NoMemory stays on refused = tt
 

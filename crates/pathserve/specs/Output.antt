@@ -72,7 +72,7 @@ Replays report bytes rest out BadLine = (n : ℕ) × (((reading bytes beginning)
 Replays report bytes rest out ReadFault = IsTakenText report bytes rest out × IsBeginning report bytes out
 Replays report bytes rest out WriteFault = IsBeginning report bytes out
 Replays report bytes rest out NoMemory = IsBeginning report bytes out
-Replays report bytes rest out TooLong = ((reading bytes beginning).ends ≡ stuck_by too_long) × IsOut report bytes out
+Replays report bytes rest out TooLong = (n : ℕ) × (((reading bytes beginning).ends ≡ stuck_by (too_long n)) × IsOut report bytes out)
 
 -- the same, where the source tells its bytes and the sink keeps them
 abbrev pub ReplaysTold : Report → Option (List ℕ) → Option (List ℕ) → Option (List ℕ) → Option (List ℕ) → Status → Type 0
@@ -86,7 +86,7 @@ ReplaysTold report (Some bytes) (Some rest) (Some kept) (Some now) status = (out
 abbrev pub stop_status : Ends → Status
 stop_status (at_place p) = Done
 stop_status (stuck_by whole_input) = Done
-stop_status (stuck_by too_long) = TooLong
+stop_status (stuck_by (too_long n)) = TooLong
 stop_status (stuck_by (bad_line n)) = BadLine
 
 -- Where neither count rose, the status is that of the stop, or there was no memory.

@@ -1,11 +1,12 @@
 -- What every run keeps to, whatever it was asked for and however it ended.
-use Rattle.std.specs.Prelude.{ℕ, ◌≡◌, ◌≤◌, ◌↔◌, List, Option, Some, IfSome, IsSome}
+use Rattle.std.specs.Prelude.{ℕ, ◌≡◌, ◌≤◌, ◌↔◌, List, Bool, true, false, Option, Some, IfSome, IsSome, IsTrue}
 use Rattle.io_edges.specs.Faults.{Rose}
 use Rattle.io_edges.specs.Passing.{HasGiven, HasTaken}
-use Rattle.pathserve.specs.declared.bad_lines.BadLine.{BadLine as Named}
+use Rattle.pathserve.specs.declared.reasons.Reason.{Reason}
+use Rattle.pathserve.specs.declared.reasons.Reason.TheVariants as reason
 use Rattle.pathserve.specs.declared.status.Status.{Status}
-use Rattle.pathserve.specs.declared.status.Status.TheVariants.{BadLine, ReadFault, WriteFault}
-use Rattle.pathserve.specs.Reasons.{IsWhyBad}
+use Rattle.pathserve.specs.declared.status.Status.TheVariants.{Done, Usage, BadLine, ReadFault, WriteFault, NoMemory, TooLong}
+use Rattle.pathserve.specs.Reasons.{IsReason}
 
 -- A run reads its source: the source gave the first of the bytes that it had left (`before`) and has the rest (`now`), its
 -- count of faults has not fallen, and the status is ReadFault only where that count rose.
@@ -21,8 +22,24 @@ pub record WritesTo (before now : Option (List ℕ)) (faults_before faults_now :
   pub later : faults_before ≤ faults_now
   pub fault : status ≡ WriteFault → Rose faults_before faults_now
 
--- A run names a bad line where its status is BadLine, and there alone: the one at which its input stops, and the cause
--- where it tells one.
-pub record NamesBadLine (input : Option (List ℕ)) (why : Option Named) (status : Status) : Type 0 where
-  pub true_of : (bytes : List ℕ) → input ≡ Some bytes → IfSome why (IsWhyBad bytes)
-  pub named : (IsSome why) ↔ (status ≡ BadLine)
+-- the status of a run whose input stops for the reason
+abbrev pub reason_status : Reason → Status
+reason_status (reason.BadLine bad) = BadLine
+reason_status (reason.TooLong n) = TooLong
+
+-- the statuses at which a run names a line
+abbrev pub names_line : Status → Bool
+names_line Done = false
+names_line Usage = false
+names_line BadLine = true
+names_line ReadFault = false
+names_line WriteFault = false
+names_line NoMemory = false
+names_line TooLong = true
+
+-- A run names the line at which its input stops where its status is BadLine or TooLong, and there alone: for a reason of that
+-- status, which is the one for which its input stops.
+pub record NamesReason (input : Option (List ℕ)) (why : Option Reason) (status : Status) : Type 0 where
+  pub true_of : (bytes : List ℕ) → input ≡ Some bytes → IfSome why (IsReason bytes)
+  pub status_of : IfSome why (λ named. status ≡ reason_status named)
+  pub named : (IsSome why) ↔ IsTrue (names_line status)

@@ -65,7 +65,7 @@ pub record IsServed (bytes out : List ℕ) : Type 0 where
 abbrev pub IsServedTo : List ℕ → Ends → List ℕ → Type 0
 IsServedTo bytes (at_place place) text = text ≡ []
 IsServedTo bytes (stuck_by whole_input) text = IsServed bytes text
-IsServedTo bytes (stuck_by too_long) text = text ≡ []
+IsServedTo bytes (stuck_by (too_long n)) text = text ≡ []
 IsServedTo bytes (stuck_by (bad_line n)) text = text ≡ bad_line_text n
 
 -- nothing, or the first bytes of such a text
@@ -90,7 +90,7 @@ Serves bytes rest out BadLine = (n : ℕ) × (((reading bytes beginning).ends �
 Serves bytes rest out ReadFault = TakesNoStop bytes rest × (out ≡ [])
 Serves bytes rest out WriteFault = IsServedBeginning bytes out
 Serves bytes rest out NoMemory = IsServedBeginning bytes out
-Serves bytes rest out TooLong = ((reading bytes beginning).ends ≡ stuck_by too_long) × (out ≡ [])
+Serves bytes rest out TooLong = (n : ℕ) × (((reading bytes beginning).ends ≡ stuck_by (too_long n)) × (out ≡ []))
 
 -- the same, where the source tells its bytes and the sink keeps them
 abbrev pub ServesTold : Option (List ℕ) → Option (List ℕ) → Option (List ℕ) → Option (List ℕ) → Status → Type 0

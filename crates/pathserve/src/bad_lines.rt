@@ -1,11 +1,5 @@
 //! Why the line is bad at which a script stops.
-ghost use Rattle.std.specs.Prelude.{◌≡◌, ℕ, IfSome, IsSome};
-ghost use Rattle.script_text.specs.Reader.{HoldsRefused};
-ghost use Rattle.pathserve.specs.inner.Stopping.{IsHeldBad};
-
-use nav_types::NoMemory;
-use script_text::{Cause, ScriptFault, ScriptReader};
-use std::alloc::Global;
+use script_text::Cause;
 use std::fmt;
 
 /// The line at which a script stops, and why it is bad there, where there was memory to find that (`IsWhyBad`).
@@ -29,23 +23,5 @@ impl fmt::Display for BadLine {
             Some(cause) => write!(f, "line {} is bad: {cause}", self.number),
             None => write!(f, "line {} is bad", self.number),
         }
-    }
-}
-
-/// The line that a call of the reader refused, and why it is bad. None where it refused no line.
-pub(crate) fn why_bad(alloc: Global, reader: &ScriptReader, fault: ScriptFault) -> Option<BadLine>
-    requires held { HoldsRefused reader.now fault }
-    ensures why { IfSome result (IsHeldBad reader.now fault) }
-    ensures named { (number : ℕ) → fault ≡ ScriptFault.BadLine number → IsSome result }
-{
-    match fault {
-        ScriptFault::BadLine(number) => {
-            let cause = match reader.cause(alloc) {
-                Ok(cause) => Some(cause),
-                Err(NoMemory) => None,
-            };
-            Some(BadLine { number, cause })
-        }
-        _ => None,
     }
 }

@@ -4,7 +4,7 @@ ghost use Rattle.std.specs.Prelude.{◌≡◌, ◌≢◌, ◌++◌, ◌<◌, ℕ
 ghost use Rattle.posts.specs.declared.replies.TurnReplies.{TurnReplies};
 ghost use Rattle.posts.specs.Maps.{Map};
 ghost use Rattle.input_lines.specs.Lines.{full_lines};
-ghost use Rattle.script_text.specs.Script.{Stop, bad_line, stuck_by, beginning, walk, reading, map_after, turns_of};
+ghost use Rattle.script_text.specs.Script.{Stop, bad_line, too_long, stuck_by, beginning, walk, reading, map_after, turns_of};
 ghost use Rattle.posts.specs.declared.notes.Note.{Note};
 ghost use Rattle.posts.specs.declared.notes.Report.{Report};
 ghost use Rattle.posts.specs.declared.notes.Report.TheVariants.{Answers};
@@ -37,13 +37,15 @@ pub fn taken_text()
 {}
 
 /// The line that stops an input does not lie among the full lines taken: no beginning of them stops, and a bad line
-/// comes after them.
+/// or one that passes a limit comes after them.
 pub fn stop_is_not_taken()
     ensures no_stop { (report : Report) (bytes rest out : List ℕ) (text : IsTakenText report bytes rest out)
         (front back : List (List ℕ)) (stop : Stop)
         → full_lines text.taken ≡ front ++ back → (walk front beginning).ends ≢ stuck_by stop }
     ensures later { (report : Report) (bytes rest out : List ℕ) (text : IsTakenText report bytes rest out) (n : ℕ)
         → (reading bytes beginning).ends ≡ stuck_by (bad_line n) → length (full_lines text.taken) < n }
+    ensures later_long { (report : Report) (bytes rest out : List ℕ) (text : IsTakenText report bytes rest out) (n : ℕ)
+        → (reading bytes beginning).ends ≡ stuck_by (too_long n) → length (full_lines text.taken) < n }
 {}
 
 /// A law: where an input gives a map, the text of its turns is that of the replies of one thread to its journal, where

@@ -14,6 +14,7 @@
 mod bad_lines;
 mod commands;
 mod laws;
+mod reasons;
 mod replay;
 mod runs;
 mod serving;
@@ -32,6 +33,7 @@ pub use laws::{
     text_is_one_thread,
 };
 pub use made_match::{Made, make_script};
+pub use reasons::Reason;
 pub use replay::run_replay;
 pub use runs::run;
 pub use serving::run_serve;

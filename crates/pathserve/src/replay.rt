@@ -1,5 +1,5 @@
 //! Scripts that are answered turn by turn: each turn's text is written once its end line was read.
-ghost use Rattle.std.specs.Prelude.{◌≡◌, ◌≢◌, ◌<◌, ◌≤◌, ◌^◌, ◌↔◌, ℕ, IfErr, IfOk, IfSome, IsErrOf, IsFalse, IsSome, List, OnOk, Option, Some, None, Ok, Err, length};
+ghost use Rattle.std.specs.Prelude.{◌≡◌, ◌≢◌, ◌<◌, ◌≤◌, ◌^◌, ◌↔◌, ℕ, IfErr, IfOk, IfSome, IsErrOf, IsFalse, IsSome, IsTrue, List, OnOk, Option, Some, None, Ok, Err, length};
 ghost use Rattle.io_edges.specs.Faults.{Rose};
 ghost use Rattle.io_edges.specs.Passing.{HasGiven, HasTaken};
 ghost use Rattle.posts.specs.Posts.{jobs};
@@ -8,11 +8,11 @@ ghost use Rattle.script_text.specs.Reader.{HoldsRefused, MapTold, rules_at, unre
 ghost use Rattle.turn_core.specs.Turns.{after_turn};
 ghost use Rattle.turn_core.specs.Words.{bare};
 ghost use Rattle.pathserve.specs.Output.{IsTurnText, ReplaysTold, ComesByStop};
-ghost use Rattle.pathserve.specs.Runs.{ReadsFrom, WritesTo, NamesBadLine};
-ghost use Rattle.pathserve.specs.inner.Stopping.{IsHeldBad};
+ghost use Rattle.pathserve.specs.Runs.{ReadsFrom, WritesTo, NamesReason, names_line, reason_status};
+ghost use Rattle.pathserve.specs.inner.Stopping.{IsHeldReason};
 ghost use Rattle.pathserve.specs.inner.Writing.{StopsWith, WritesSome};
 
-use crate::bad_lines::{BadLine, why_bad};
+use crate::reasons::{Reason, reason_of};
 use crate::status::Status;
 use crate::turn_answers::{Reporter, TurnText, text_of_turn};
 use crate::writing::{status_of, write_all, write_stop};
@@ -37,7 +37,7 @@ pub fn run_replay<R: Threads + Sync, S: Source, K: Sink, G: Gate + Sync>(
     reporter: &Reporter<'_, R, G>,
     source: &mut S,
     sink: &mut K,
-    why: &mut Option<BadLine>,
+    why: &mut Option<Reason>,
 ) -> Status
     ensures told { ReplaysTold reporter.now.report (S.left source.old) (S.left source.new) (K.kept sink.old)
         (K.kept sink.new) result }
@@ -47,7 +47,7 @@ pub fn run_replay<R: Threads + Sync, S: Source, K: Sink, G: Gate + Sync>(
     ensures usage { result ≢ Status.Usage }
     ensures source { ReadsFrom (S.left source.old) (S.left source.new) (S.faults source.old) (S.faults source.new) result }
     ensures sink { WritesTo (K.kept sink.old) (K.kept sink.new) (K.faults sink.old) (K.faults sink.new) result }
-    ensures why { NamesBadLine (S.left source.old) why.new result }
+    ensures why { NamesReason (S.left source.old) why.new result }
 {
     *why = None;
     let mut reader = match ScriptReader::new(alloc) {
@@ -125,24 +125,26 @@ fn write_turn<R: Threads + Sync, K: Sink, G: Gate + Sync>(
 }
 
 /// The status where no part of the script came. A bad line is named, here and in what is written, and then it is found
-/// why it is bad.
+/// why it is bad. A line past a limit is named here.
+#[tactic(auto, using(crate::proofs::Passes::stop_reason, crate::proofs::Passes::stop_named))]
 pub(crate) fn stop_at<K: Sink>(
     alloc: Global,
     sink: &mut K,
     reader: &ScriptReader,
     fault: ScriptFault,
-    why: &mut Option<BadLine>,
+    why: &mut Option<Reason>,
 ) -> Status
     requires held { HoldsRefused reader.now fault }
     ensures stops { StopsWith fault (K.kept sink.old) (K.kept sink.new) result }
     ensures later { K.faults sink.old ≤ K.faults sink.new }
     ensures write { result ≡ Status.WriteFault → Rose (K.faults sink.old) (K.faults sink.new) }
-    ensures why { IfSome why.new (IsHeldBad reader.now fault) }
-    ensures named { (IsSome why.new) ↔ (result ≡ Status.BadLine) }
+    ensures why { IfSome why.new (IsHeldReason reader.now fault) }
+    ensures status { IfSome why.new (λ reason. result ≡ reason_status reason) }
+    ensures named { (IsSome why.new) ↔ IsTrue (names_line result) }
 {
     let status = write_stop(alloc, sink, fault);
     *why = match status {
-        Status::BadLine => why_bad(alloc, reader, fault),
+        Status::BadLine | Status::TooLong => reason_of(alloc, reader, fault),
         _ => None,
     };
     status

@@ -6,10 +6,10 @@ ghost use Rattle.script_text.specs.Script.{reading, beginning};
 ghost use Rattle.posts.specs.declared.notes.Report.{Report};
 ghost use Rattle.pathserve.specs.Output.{ReplaysTold, ComesByStop, MakesTold, ComesByMaking};
 ghost use Rattle.pathserve.specs.Serving.{ServesTold};
-ghost use Rattle.pathserve.specs.Runs.{ReadsFrom, WritesTo, NamesBadLine};
+ghost use Rattle.pathserve.specs.Runs.{ReadsFrom, WritesTo, NamesReason};
 
-use crate::bad_lines::BadLine;
 use crate::commands::{Command, NotWords, read_words};
+use crate::reasons::Reason;
 use crate::replay::run_replay;
 use crate::serving::run_serve;
 use crate::status::Status;
@@ -28,8 +28,8 @@ use std::thread::Threads;
 /// At every status what was read and what is left in the source are what was left in it before, the sink keeps what it
 /// took behind what it had kept, and neither count of faults has fallen.
 ///
-/// At the status BadLine `why` has the line's number, and its cause too, unless there was no memory to find that. At
-/// every other status it has none.
+/// At the status BadLine `why` has the line's number, and its cause too, unless there was no memory to find that. At the
+/// status TooLong it has the number of the line that is past a limit. At every other status it has none.
 ///
 /// ```
 /// let mut source = MemorySource::new(alloc, bytes, 4096, &[])?;
@@ -45,7 +45,7 @@ pub fn run<R: Threads + Wait + Sync, S: Source, K: Sink, G: Gate + Sync>(
     source: &mut S,
     sink: &mut K,
     gate: &G,
-    why: &mut Option<BadLine>,
+    why: &mut Option<Reason>,
 ) -> Status
     ensures usage { (result ≡ Status.Usage) ↔ (command_of words.now ≡ None) }
     ensures untouched { result ≡ Status.Usage → (source.new ≡ source.old) × (sink.new ≡ sink.old) }
@@ -69,7 +69,7 @@ pub fn run<R: Threads + Wait + Sync, S: Source, K: Sink, G: Gate + Sync>(
         → source.new ≡ source.old }
     ensures source { ReadsFrom (S.left source.old) (S.left source.new) (S.faults source.old) (S.faults source.new) result }
     ensures sink { WritesTo (K.kept sink.old) (K.kept sink.new) (K.faults sink.old) (K.faults sink.new) result }
-    ensures why { NamesBadLine (S.left source.old) why.new result }
+    ensures why { NamesReason (S.left source.old) why.new result }
 {
     match read_words(words) {
         Ok(Command::Replay { report, workers }) => {

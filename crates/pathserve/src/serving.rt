@@ -12,12 +12,12 @@ ghost use Rattle.script_text.specs.ReadsBack.{canon_script};
 ghost use Rattle.script_text.specs.Reader.{HaveLinesAt, HoldsRefused, callers_of, rules_at, unread};
 ghost use Rattle.script_text.specs.Script.{reading, beginning};
 ghost use Rattle.pathserve.specs.Output.{ComesByStop, turn_texts};
-ghost use Rattle.pathserve.specs.Runs.{ReadsFrom, WritesTo, NamesBadLine};
+ghost use Rattle.pathserve.specs.Runs.{ReadsFrom, WritesTo, NamesReason};
 ghost use Rattle.pathserve.specs.Serving.{ServesTold, journal_text};
 ghost use Rattle.pathserve.specs.inner.WholeScripts.{AllTold, IsTextOfSession, RefusedTold, WholeTold};
 ghost use Rattle.pathserve.specs.inner.Writing.{WritesPiece, WritesSome};
 
-use crate::bad_lines::BadLine;
+use crate::reasons::Reason;
 use crate::replay::stop_at;
 use crate::sessions::serve_session;
 use crate::status::Status;
@@ -54,7 +54,7 @@ pub fn run_serve<R: Threads + Wait + Sync, S: Source, K: Sink, G: Gate + Sync>(
     source: &mut S,
     sink: &mut K,
     gate: &G,
-    why: &mut Option<BadLine>,
+    why: &mut Option<Reason>,
 ) -> Status
     requires some { 1 ≤ workers }
     requires few { workers ≤ MAX_WORKERS }
@@ -65,7 +65,7 @@ pub fn run_serve<R: Threads + Wait + Sync, S: Source, K: Sink, G: Gate + Sync>(
     ensures usage { result ≢ Status.Usage }
     ensures source { ReadsFrom (S.left source.old) (S.left source.new) (S.faults source.old) (S.faults source.new) result }
     ensures sink { WritesTo (K.kept sink.old) (K.kept sink.new) (K.faults sink.old) (K.faults sink.new) result }
-    ensures why { NamesBadLine (S.left source.old) why.new result }
+    ensures why { NamesReason (S.left source.old) why.new result }
 {
     *why = None;
     let mut reader = match ScriptReader::new(alloc) {

@@ -76,7 +76,7 @@ pub(crate) fn write_stop<K: Sink>(alloc: Global, sink: &mut K, fault: ScriptFaul
             Ok(()) => Status::BadLine,
             Err(refusal) => status_of(refusal),
         },
-        ScriptFault::TooLong => Status::TooLong,
+        ScriptFault::TooLong(_) => Status::TooLong,
         ScriptFault::ReadFault => Status::ReadFault,
         ScriptFault::NoMemory => Status::NoMemory,
     }

@@ -95,7 +95,7 @@ fn main(rt: HostRuntime) -> ExitCode {
         &mut why,
     );
     match why {
-        Some(bad) => say(&rt, &bad),
+        Some(reason) => say(&rt, &reason),
         None if status == Status::Done => {}
         None if status == Status::Usage => say_usage(&rt, &words),
         None => say(&rt, &status),

@@ -11,7 +11,7 @@ use Rattle.pathserve_c.specs.declared.states.State.{State}
 abbrev pub status_of : Result (Unit {0}) MatchFault → ℕ
 status_of (Ok done) = DONE
 status_of (Err (fault.BadLine n)) = BAD_LINE
-status_of (Err fault.TooLong) = TOO_LONG
+status_of (Err (fault.TooLong n)) = TOO_LONG
 status_of (Err fault.Ended) = ENDED
 status_of (Err fault.NoMemory) = NO_MEMORY
 

@@ -44,7 +44,7 @@ pub fn status_of(answer: Result<(), MatchFault>) -> u32
     match answer {
         Ok(()) => DONE,
         Err(MatchFault::BadLine(_)) => BAD_LINE,
-        Err(MatchFault::TooLong) => TOO_LONG,
+        Err(MatchFault::TooLong(_)) => TOO_LONG,
         Err(MatchFault::Ended) => ENDED,
         Err(MatchFault::NoMemory) => NO_MEMORY,
     }

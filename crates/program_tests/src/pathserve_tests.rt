@@ -2,7 +2,7 @@
 use io_edges::{Gate, MemorySink, MemorySource, OpenGate};
 use itoa::Buffer;
 use nav_types::{Bytes, NoMemory, Words};
-use pathserve::{BadLine, Status, first_wrong, run};
+use pathserve::{BadLine, Reason, Status, first_wrong, run};
 use script_text::{Cause, Key, Wanted};
 use std::alloc::Global;
 use std::sync::Wait;
@@ -29,11 +29,11 @@ const MAP_LINE: &str =
 const LARGE_MAP: &str =
     "{\"version\":1,\"size\":[256,256],\"callers\":1,\"classes\":[{\"name\":\"default\",\"clearance\":\"0\"}]}\n";
 
-/// How a run ended, why a line was bad, and what it wrote.
+/// How a run ended, why its script stopped, and what it wrote.
 #[derive(Drop)]
 struct Ran {
     status: Status,
-    why: Option<BadLine>,
+    why: Option<Reason>,
     sink: MemorySink,
 }
 
@@ -118,7 +118,7 @@ fn is_bad_for<R: Threads + Wait + Sync>(rt: &R, alloc: Global, lines: &str, bad:
         return false;
     };
     match run_over(rt, alloc, &["replay"], text.as_slice(), &[], &[], &OpenGate) {
-        Ok(ran) => ran.why == Some(bad),
+        Ok(ran) => ran.why == Some(Reason::BadLine(bad)),
         Err(NoMemory) => false,
     }
 }
@@ -343,13 +343,27 @@ fn padded(alloc: Global, length: usize) -> Result<Bytes, NoMemory> {
 
 #[test]
 fn a_line_has_a_limit(rt: HostRuntime) {
-    for (length, status) in [(8_388_608, Status::Done), (8_388_609, Status::TooLong)] {
+    let limits = [
+        (8_388_608, Status::Done, None),
+        (
+            8_388_609,
+            Status::TooLong,
+            Some(Reason::TooLong { number: 1 }),
+        ),
+    ];
+    for (length, status, why) in limits {
         let text = padded(rt.alloc(), length).expect(&rt, "memory");
-        let bytes = text.as_slice();
-        assert!(rt;
-            runs_to(&rt, rt.alloc(), &["replay"], bytes, &[], &[], status, ""),
-            "{length}"
-        );
+        let ran = run_over(
+            &rt,
+            rt.alloc(),
+            &["replay"],
+            text.as_slice(),
+            &[],
+            &[],
+            &OpenGate,
+        )
+        .expect(&rt, "memory");
+        assert!(rt; ran.status == status && ran.why == why, "{length}");
     }
 }
 

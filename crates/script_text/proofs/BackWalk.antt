@@ -80,7 +80,7 @@ accept-short size text p value short few reads =
     let e : is_long p size text ≡ false =
     or_from (nat_lt 8388608 (length text)) (nat_lt 4294967296 (p.bytes + size))
     (le-ltb 8388608 (length text) short) (le-ltb 4294967296 (p.bytes + size) few) in
-    ap (λ b. cond b (stuck too_long) (placed (counted p size) (reading_of text))) e ∙ ap (placed (counted p size)) reads
+    ap (λ b. cond b (stuck (too_long (p.lines + 1))) (placed (counted p size) (reading_of text))) e ∙ ap (placed (counted p size)) reads
 
 -- what a line's reading gives at a stage, however many bytes and lines stand before it
 abbrev pub Gives : Data → Stage → List Item → Stage → Type 0

@@ -22,14 +22,14 @@ by_bytes p (byte ∷ bytes) ended some found = record { number = refl; cause = f
 bad_accept : (p : Place) (line : List ℕ) (size : ℕ) → accept size line p ≡ stuck (bad_line (counted p size).lines) → placed (counted p size) (reading_of line) ≡ bad (counted p size)
 bad_accept p line size e = by_length (is_long p size line) e
   where
-    by_length : (long : Bool) → cond long (stuck too_long) (placed (counted p size) (reading_of line)) ≡ stuck (bad_line (counted p size).lines)
+    by_length : (long : Bool) → cond long (stuck (too_long (p.lines + 1))) (placed (counted p size) (reading_of line)) ≡ stuck (bad_line (counted p size).lines)
         → placed (counted p size) (reading_of line) ≡ bad (counted p size)
     by_length true e = let ends = ap (λ (w : Walk). w.ends) e in absurd (cc)
     by_length false e = e
 
 holds_line : (p q : Place) (h : HeldLine) (size : ℕ) (fault : ScriptFault) → IsPlain h.line → IsWholeLine h size → IsStuckBy (accept size h.line p) fault
     → IsBadAt q (counted p size) fault → HoldsRefused (held_at q h) fault
-holds_line p q h size TooLong plain whole refused at = tt
+holds_line p q h size (TooLong n) plain whole refused at = tt
 holds_line p q h size ReadFault plain whole refused at = tt
 holds_line p q h size NoMemory plain whole refused at = tt
 holds_line p q h size (BadLine n) plain whole refused at =

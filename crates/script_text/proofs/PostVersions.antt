@@ -148,7 +148,7 @@ accept_has : (size : ℕ) (line : List ℕ) (p q : Place) (rules : Rules) → ru
 unfolding silent is_silent
 accept_has size line p q rules at all e = by_length (is_long p size line) e
   where
-    by_length : (long : Bool) → cond long (stuck too_long) (placed (counted p size) (reading_of line)) ≡ arrived [] q → HaveLines rules.version q.posts
+    by_length : (long : Bool) → cond long (stuck (too_long (p.lines + 1))) (placed (counted p size) (reading_of line)) ≡ arrived [] q → HaveLines rules.version q.posts
     by_length true e = absurd (false≢true (ap silent e))
     by_length false e = part_has p.part (counted p size) q rules (reading_of line) at all e
 

@@ -106,7 +106,7 @@ last_refused p q h after size (BadLine n) behind total some plain same e at kept
       stuck = reading-last h size p behind total some plain ∙ ap (λ w. chain w finish) e;
       cause = cause-bad h size n p behind total some plain e;
     }))
-last_refused p q h after size TooLong behind total some plain same e at kept = reading-last h size p behind total some plain ∙ ap (λ w. chain w finish) e
+last_refused p q h after size (TooLong n) behind total some plain same e at kept = reading-last h size p behind total some plain ∙ ap (λ w. chain w finish) e
 last_refused p q h after size ReadFault behind total some plain same e at kept = absurd e
 last_refused p q h after size NoMemory behind total some plain same e at kept = (kept refl, ap bytes_of same)
 
@@ -117,7 +117,7 @@ ends_by : (first last : Held) (w : Walk) (result : Result (Option ScriptItem) Sc
 ends_by first last w (Ok None) same cause nothing e some = (same ∙ e, nothing)
 ends_by first last w (Ok (Some item)) same cause nothing e some = absurd e
 ends_by first last w (Err (BadLine n)) same cause nothing e some = record { stuck = same ∙ e; cause = cause }
-ends_by first last w (Err TooLong) same cause nothing e some = same ∙ e
+ends_by first last w (Err (TooLong n)) same cause nothing e some = same ∙ e
 ends_by first last w (Err ReadFault) same cause nothing e some = absurd e
 ends_by first last w (Err NoMemory) same cause nothing e some = absurd (some refl)
 
@@ -148,7 +148,7 @@ same_holds old new (BadLine n) place bytes bad =
     let At : Place → Type 0 = λ r. HoldsRefused (record { place = r; bytes = new.bytes; ended = new.ended; over = new.over; failed = new.failed }) (BadLine n) in
     let Bytes : List ℕ → Type 0 = λ l. HoldsRefused (record { place = old.place; bytes = l; ended = new.ended; over = new.over; failed = new.failed }) (BadLine n) in
     subst At (sym place) (subst Bytes (sym bytes) (record { number = bad.number; cause = bad.cause }))
-same_holds old new TooLong place bytes bad = tt
+same_holds old new (TooLong n) place bytes bad = tt
 same_holds old new ReadFault place bytes bad = tt
 same_holds old new NoMemory place bytes bad = tt
 

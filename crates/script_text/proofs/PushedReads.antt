@@ -90,7 +90,7 @@ no_line_held p now plain open_end behind =
 refused_by : (first : Held) (p q : Place) (h : HeldLine) (size : ℕ) (x z : List ℕ) (fault : ScriptFault) → IsWholeLine h size → IsPlain h.line
     → IsStuckBy (accept size h.line p) fault → IsBadAt q (counted p size) fault → (fault ≡ NoMemory → q ≡ p) → GoesOn first (held_at p h) x z [] → PushAnswers first (held_at q h) (Err fault) x z
 refused_by first p q h size x z (BadLine n) w plain e at kept g = refuses_line first p q h size x z [] (BadLine n) w plain e at g
-refused_by first p q h size x z TooLong w plain e at kept g = refuses_line first p q h size x z [] TooLong w plain e at g
+refused_by first p q h size x z (TooLong n) w plain e at kept g = refuses_line first p q h size x z [] (TooLong n) w plain e at g
 refused_by first p q h size x z ReadFault w plain e at kept g = absurd e
 refused_by first p q h size x z NoMemory w plain e at kept g = let At : Place → Type 0 = λ r. GoesOn first (held_at r h) x z [] in subst At (sym (kept refl)) g
 
@@ -102,7 +102,7 @@ line_refused first p q h after size x z fault same w plain e at kept g =
     subst Says (sym same) (λ more. refused_by first p q h size (x ++ more) (z ++ more) fault w plain e at kept (g more))
 
 pushes_long : (first : Held) (p : Place) (h : HeldLine) (room : ℕ) (x y : List ℕ) → room + p.bytes ≡ 4294967296 → IsPlain h.line → bytes_of h ≡ h.line → h.rest ≡ nothing_behind → GrowsPastLimit h room y
-    → Pushes first (held_at p h) x y [] → (more : List ℕ) → reading (first.bytes ++ (x ++ more)) first.place ≡ stuck too_long
+    → Pushes first (held_at p h) x y [] → (more : List ℕ) → reading (first.bytes ++ (x ++ more)) first.place ≡ stuck (too_long (p.lines + 1))
 pushes_long first p h room x y e plain begun behind l g more =
     let longer : HeldLine = record { line = h.line ++ l.part; line_end = None; rest = nothing_behind } in
     refuses_long first p h longer room (x ++ more) (y ++ more) (l.rest ++ more) [] e (All-append (λ byte. byte ≢ 10) h.line l.part plain l.plain) (g more)
@@ -114,7 +114,7 @@ pushes_long first p h room x y e plain begun behind l g more =
 
 -- the next line is refused
 pub next_refused : (first : Held) (p : Place) (h now : HeldLine) (room : ℕ) (x y z : List ℕ) (fault : LineFault) → room + p.bytes ≡ 4294967296 → IsPlain now.line → bytes_of h ≡ h.line → h.rest ≡ nothing_behind
-    → now ≡ h → z ≡ y → PushAnswer h now room (Err fault) y z → Pushes first (held_at p h) x y [] → PushTold first (held_at p now) x z (Err (script_fault fault))
+    → now ≡ h → z ≡ y → PushAnswer h now room (Err fault) y z → Pushes first (held_at p h) x y [] → PushTold first (held_at p now) x z (Err (script_fault (p.lines + 1) fault))
 next_refused first p h now room x y z no_line.TooLong e plain begun behind same left l g =
     let Plain : HeldLine → Type 0 = λ k. IsPlain k.line in pushes_long first p h room x y e (subst Plain same plain) begun behind l g
 next_refused first p h now room x y z no_line.ReadFault e plain begun behind same left l g = absurd l

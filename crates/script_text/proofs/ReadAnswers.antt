@@ -20,31 +20,31 @@ use Rattle.script_text.proofs.ReadStill.{with_flags}
 -- a line that is held is refused by no read
 pub stuck_unread : {A P : Type 0} (w : Walk) (fault : ScriptFault) → IsStuckBy w fault → IsErrOf {T = A} (Err fault) ReadFault → P
 stuck_unread w (BadLine n) stuck is = absurd (cc)
-stuck_unread w TooLong stuck is = absurd (cc)
+stuck_unread w (TooLong n) stuck is = absurd (cc)
 stuck_unread w ReadFault stuck is = absurd stuck
 stuck_unread w NoMemory stuck is = absurd (cc)
 
 -- a line that did not come is no bad line, and leaves none to be judged
-pub no_bad_line : (fault : LineFault) (n : ℕ) → script_fault fault ≡ BadLine n → ⊥
-no_bad_line no_line.TooLong n e = absurd (cc)
-no_bad_line no_line.ReadFault n e = absurd (cc)
-no_bad_line no_line.NoMemory n e = absurd (cc)
+pub no_bad_line : (line : ℕ) (fault : LineFault) (n : ℕ) → script_fault line fault ≡ BadLine n → ⊥
+no_bad_line line no_line.TooLong n e = absurd (cc)
+no_bad_line line no_line.ReadFault n e = absurd (cc)
+no_bad_line line no_line.NoMemory n e = absurd (cc)
 
-pub refused_unread : (h : Held) (fault : LineFault) → HoldsRefused h (script_fault fault)
-refused_unread h no_line.TooLong = tt
-refused_unread h no_line.ReadFault = tt
-refused_unread h no_line.NoMemory = tt
+pub refused_unread : (h : Held) (line : ℕ) (fault : LineFault) → HoldsRefused h (script_fault line fault)
+refused_unread h line no_line.TooLong = tt
+refused_unread h line no_line.ReadFault = tt
+refused_unread h line no_line.NoMemory = tt
 
 -- it did not come by a read where the script says so
-pub unread_err : {A B : Type 0} (fault : LineFault) → IsErrOf {T = A} (Err (script_fault fault)) ReadFault → IsErrOf {T = B} (Err fault) no_line.ReadFault
-unread_err no_line.TooLong is = absurd (cc)
-unread_err no_line.ReadFault is = refl
-unread_err no_line.NoMemory is = absurd (cc)
+pub unread_err : {A B : Type 0} (line : ℕ) (fault : LineFault) → IsErrOf {T = A} (Err (script_fault line fault)) ReadFault → IsErrOf {T = B} (Err fault) no_line.ReadFault
+unread_err line no_line.TooLong is = absurd (cc)
+unread_err line no_line.ReadFault is = refl
+unread_err line no_line.NoMemory is = absurd (cc)
 
 -- whether calls may follow plays no part in what a refusal leaves
 refused_by : (h : Held) (over failed : Bool) (fault : ScriptFault) → HoldsRefused h fault → HoldsRefused (with_flags h over failed) fault
 refused_by h over failed (BadLine n) bad = record { number = bad.number; cause = bad.cause }
-refused_by h over failed TooLong bad = tt
+refused_by h over failed (TooLong n) bad = tt
 refused_by h over failed ReadFault bad = tt
 refused_by h over failed NoMemory bad = tt
 

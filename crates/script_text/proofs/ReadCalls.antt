@@ -124,8 +124,8 @@ adds_kept old p q h now after m m1 m2 size room a b c stays k told next =
 base_refused : (old new : Held) (p : Place) (h now : HeldLine) (m m1 m2 : Map) (size : ℕ) (x y z : List ℕ) (fault : ScriptFault) (q : Place) (after : HeldLine) → (IsTrue h.rest.ended → IsTrue now.rest.ended)
     → IsWholeLine now size → IsPlain now.line → TakesBase p q m1 m2 now after size (Err fault) → AddsToMap old (held_at p h) x y m m1 → TakesNext h now y z → BaseAnswers old new m m2 (Err fault) x z
 base_refused old new p h now m m1 m2 size x y z (BadLine n) q after stays w plain e a t = absurd e
-base_refused old new p h now m m1 m2 size x y z TooLong q after stays w plain e a t =
-    record { items = a.items; refused = stuck_line old p now size x z a.items too_long w plain e (goes_next old p h now x y z a.items stays a.on t); no_turn = a.no_turn }
+base_refused old new p h now m m1 m2 size x y z (TooLong n) q after stays w plain e a t =
+    record { items = a.items; refused = stuck_line old p now size x z a.items (too_long n) w plain e (goes_next old p h now x y z a.items stays a.on t); no_turn = a.no_turn }
 base_refused old new p h now m m1 m2 size x y z ReadFault q after stays w plain e a t = absurd e
 base_refused old new p h now m m1 m2 size x y z NoMemory q after stays w plain e a t = tt
 
@@ -136,13 +136,13 @@ adds_refused old new p q h now after m m1 m2 size room fault a b c stays w plain
     told-then a b c _ _ _ (λ x y z t n end. base_refused old new p h now m m1 m2 size x y z fault q after stays w plain e (t end) (n (t end).on.at_end)) told next
 
 next_refused : (old : Held) (p : Place) (h now : HeldLine) (m m1 : Map) (room : ℕ) (x y z : List ℕ) (fault : LineFault) → room + p.bytes ≡ 4294967296 → (IsTrue old.ended → IsTrue h.rest.ended) → IsPlain now.line
-    → AddsToMap old (held_at p h) x y m m1 → NextAnswer h now room (Err fault) y z → BaseAnswers old (held_at p now) m m1 (Err (script_fault fault)) x z
+    → AddsToMap old (held_at p h) x y m m1 → NextAnswer h now room (Err fault) y z → BaseAnswers old (held_at p now) m m1 (Err (script_fault (p.lines + 1) fault)) x z
 next_refused old p h now m m1 room x y z no_line.TooLong e stays plain a n = record { items = a.items; refused = refuses_next old p h now room x y z a.items no_line.TooLong e stays plain a.on n; no_turn = a.no_turn }
 next_refused old p h now m m1 room x y z no_line.ReadFault e stays plain a n = record { items = a.items; refused = refuses_next old p h now room x y z a.items no_line.ReadFault e stays plain a.on n; no_turn = a.no_turn }
 next_refused old p h now m m1 room x y z no_line.NoMemory e stays plain a n = tt
 
 pub adds_fault : (old : Held) (p : Place) (h now : HeldLine) (m m1 : Map) (room : ℕ) (fault : LineFault) (a b c : Option (List ℕ)) → room + p.bytes ≡ 4294967296 → (IsTrue old.ended → IsTrue h.rest.ended) → IsPlain now.line
-    → AddsTold old (held_at p h) m m1 a b → NextTold h now b c room (Err fault) → BaseTold old (held_at p now) m m1 a c (Err (script_fault fault))
+    → AddsTold old (held_at p h) m m1 a b → NextTold h now b c room (Err fault) → BaseTold old (held_at p now) m m1 a c (Err (script_fault (p.lines + 1) fault))
 adds_fault old p h now m m1 room fault a b c e stays plain told next =
     told-then a b c _ _ _ (λ x y z t n end. next_refused old p h now m m1 room x y z fault e stays plain (t end) (n (t end).on.at_end)) told next
 
@@ -172,8 +172,8 @@ first_told p q h now after size room (Err (BadLine n)) a c stays w plain e used 
     let Said : HeldLine → Type 0 = λ l. MapTold (held_at p h) (held_at q l) a c (Err (BadLine n)) in
     subst Said (sym kept) (told-weaker a c _ _ (λ x z t end.
     (number n refl, stops_line (held_at p h) p q now size x z [] n w plain e at.0 (first_on p h now x z end stays (t end)))) next)
-first_told p q h now after size room (Err TooLong) a c stays w plain e used number kept at next =
-    told-weaker a c _ _ (λ x z t end. record { items = []; refused = stuck_line (held_at p h) p now size x z [] too_long w plain e (first_on p h now x z end stays (t end)); no_turn = refl }) next
+first_told p q h now after size room (Err (TooLong n)) a c stays w plain e used number kept at next =
+    told-weaker a c _ _ (λ x z t end. record { items = []; refused = stuck_line (held_at p h) p now size x z [] (too_long n) w plain e (first_on p h now x z end stays (t end)); no_turn = refl }) next
 first_told p q h now after size room (Err ReadFault) a c stays w plain e used number kept at next = absurd e
 first_told p q h now after size room (Err NoMemory) a c stays w plain e used number kept at next = told-weaker a c _ _ (λ x z t end. tt) next
 
@@ -183,7 +183,7 @@ first_missing p h now room a c first stays u next =
     told-weaker a c _ _ (λ x z t end. (refl, stops_at_end (held_at p h) p now x z [] 1 u (ap (λ r. finish r) first) (first_on p h now x z end stays (t end)))) next
 
 first_refused : (p : Place) (h now : HeldLine) (room : ℕ) (x z : List ℕ) (fault : LineFault) → room + p.bytes ≡ 4294967296 → (IsTrue h.rest.ended → x ≡ []) → IsPlain now.line
-    → NextAnswer h now room (Err fault) x z → MapAnswers (held_at p h) (held_at p now) (Err (script_fault fault)) x z
+    → NextAnswer h now room (Err fault) x z → MapAnswers (held_at p h) (held_at p now) (Err (script_fault (p.lines + 1) fault)) x z
 first_refused p h now room x z no_line.TooLong e end plain a =
     record { items = []; refused = refuses_next (held_at p h) p h now room x x z [] no_line.TooLong e (λ t. t) plain (goes_nowhere (held_at p h) x end) a; no_turn = refl }
 first_refused p h now room x z no_line.ReadFault e end plain a =
@@ -191,7 +191,7 @@ first_refused p h now room x z no_line.ReadFault e end plain a =
 first_refused p h now room x z no_line.NoMemory e end plain a = tt
 
 pub first_fault : (p : Place) (h now : HeldLine) (room : ℕ) (fault : LineFault) (a c : Option (List ℕ)) → room + p.bytes ≡ 4294967296 → IsPlain now.line → NextTold h now a c room (Err fault)
-    → MapTold (held_at p h) (held_at p now) a c (Err (script_fault fault))
+    → MapTold (held_at p h) (held_at p now) a c (Err (script_fault (p.lines + 1) fault))
 first_fault p h now room fault a c e plain next = told-weaker a c _ _ (λ x z t end. first_refused p h now room x z fault e end plain (t end)) next
 
 -- ---- the map line, and then base lines
@@ -211,8 +211,8 @@ map_told a b c m now made k l n stays same told base =
 
 map_refused : (a b c : Held) (x y z : List ℕ) (m now : Map) (fault : ScriptFault) → (IsTrue a.ended → IsTrue b.ended) → GivesMap a b x y m → BaseAnswers b c m now (Err fault) y z → MapAnswers a c (Err fault) x z
 map_refused a b c x y z m now (BadLine n) stays g h = absurd h
-map_refused a b c x y z m now TooLong stays g h =
-    record { items = g.items ++ h.items; refused = stuck_then a b x y g.items h.items too_long g.on h.refused; no_turn = no_turns g.items h.items g.no_turn h.no_turn }
+map_refused a b c x y z m now (TooLong n) stays g h =
+    record { items = g.items ++ h.items; refused = stuck_then a b x y g.items h.items (too_long n) g.on h.refused; no_turn = no_turns g.items h.items g.no_turn h.no_turn }
 map_refused a b c x y z m now ReadFault stays g h =
     record { items = g.items ++ h.items; refused = fault_then a b c x y z g.items h.items stays g.on h.refused; no_turn = no_turns g.items h.items g.no_turn h.no_turn }
 map_refused a b c x y z m now NoMemory stays g h = tt
@@ -265,7 +265,7 @@ turn_refused old p q h now after size room fault a b c stays w plain e at kept t
 
 -- no next line came
 pub turn_fault : (old : Held) (p : Place) (h now : HeldLine) (room : ℕ) (fault : LineFault) (a b c : Option (List ℕ)) → room + p.bytes ≡ 4294967296 → (IsTrue old.ended → IsTrue h.rest.ended) → IsPlain now.line
-    → GoesTold old (held_at p h) a b → NextTold h now b c room (Err fault) → TurnTold old (held_at p now) a c (Err (script_fault fault))
+    → GoesTold old (held_at p h) a b → NextTold h now b c room (Err fault) → TurnTold old (held_at p now) a c (Err (script_fault (p.lines + 1) fault))
 turn_fault old p h now room fault a b c e stays plain told next =
     told-then a b c _ _ _ (λ x y z t n end. refuses_next old p h now room x y z [] fault e stays plain (t end) (n (t end).at_end)) told next
 
@@ -279,7 +279,7 @@ turn_none old p h now room a b c stays u e told next = told-then a b c _ _ _ (λ
 end_refused : (old : Held) (p : Place) (now : HeldLine) (x z : List ℕ) (fault : ScriptFault) → IsUsedUp now → IsStuckBy (finish p) fault → GoesOn old (held_at p now) x z []
     → Refuses old (held_at p now) x z [] fault
 end_refused old p now x z (BadLine n) u e g = stops_at_end old p now x z [] n u e g
-end_refused old p now x z TooLong u e g = reading-used_up old p now x z [] u g ∙ e
+end_refused old p now x z (TooLong n) u e g = reading-used_up old p now x z [] u g ∙ e
 end_refused old p now x z ReadFault u e g = absurd e
 end_refused old p now x z NoMemory u e g = tt
 

@@ -147,7 +147,7 @@ stops_line old p q h size x z items n w plain e at g = record {
 pub refuses_line : (old : Held) (p q : Place) (h : HeldLine) (size : ℕ) (x z : List ℕ) (items : List Item) (fault : ScriptFault) → IsWholeLine h size → IsPlain h.line
     → IsStuckBy (accept size h.line p) fault → IsBadAt q (counted p size) fault → GoesOn old (held_at p h) x z items → Refuses old (held_at q h) x z items fault
 refuses_line old p q h size x z items (BadLine n) w plain e at g = stops_line old p q h size x z items n w plain e at.0 g
-refuses_line old p q h size x z items TooLong w plain e at g = stuck_line old p h size x z items _ w plain e g
+refuses_line old p q h size x z items (TooLong n) w plain e at g = stuck_line old p h size x z items (too_long n) w plain e g
 refuses_line old p q h size x z items ReadFault w plain e at g = absurd e
 refuses_line old p q h size x z items NoMemory w plain e at g = tt
 
@@ -157,12 +157,12 @@ past_limit p h room e (inl long) = inl long
 past_limit p h room e (inr long) = inr (omega arith)
 
 pub refuses_long : (old : Held) (p : Place) (h now : HeldLine) (room : ℕ) (x y z : List ℕ) (items : List Item) → room + p.bytes ≡ 4294967296 → IsPlain now.line → GoesOn old (held_at p h) x y items
-    → TakesMore h now y z → IsPastLimit now room → reading (old.bytes ++ x) old.place ≡ stuck_after items too_long
+    → TakesMore h now y z → IsPastLimit now room → reading (old.bytes ++ x) old.place ≡ stuck_after items (too_long (p.lines + 1))
 refuses_long old p h now room x y z items e plain g t long =
     let behind = (newline_of now.line_end ++ now.rest.bytes) ++ z in
     let bytes : bytes_of now ++ z ≡ now.line ++ behind = append_assoc now.line (newline_of now.line_end ++ now.rest.bytes) z in
-    let stops : reading (bytes_of now ++ z) p ≡ stuck too_long = ap (λ l. reading l p) bytes ∙ reading-long now.line behind p (omega arith) plain (past_limit p now room e long) in
-    same_more old p h now x y z items g t ∙ ap (λ v. chain (arrived items p) (λ r. v)) stops ∙ chain-arrived_stuck items p too_long
+    let stops : reading (bytes_of now ++ z) p ≡ stuck (too_long (p.lines + 1)) = ap (λ l. reading l p) bytes ∙ reading-long now.line behind p (omega arith) plain (past_limit p now room e long) in
+    same_more old p h now x y z items g t ∙ ap (λ v. chain (arrived items p) (λ r. v)) stops ∙ chain-arrived_stuck items p (too_long (p.lines + 1))
 
 breaks_off : (old : Held) (p : Place) (h now : HeldLine) (x y z : List ℕ) (items : List Item) → (IsTrue old.ended → IsTrue h.rest.ended) → IsPlain now.line → GoesOn old (held_at p h) x y items
     → TakesMore h now y z → BreaksOff h now → StopsAtFault old (held_at p now) x z items
@@ -176,7 +176,7 @@ breaks_off old p h now x y z items stays plain g t b = record {
 
 -- no next line came
 pub refuses_next : (old : Held) (p : Place) (h now : HeldLine) (room : ℕ) (x y z : List ℕ) (items : List Item) (fault : LineFault) → room + p.bytes ≡ 4294967296 → (IsTrue old.ended → IsTrue h.rest.ended)
-    → IsPlain now.line → GoesOn old (held_at p h) x y items → NextAnswer h now room (Err fault) y z → Refuses old (held_at p now) x z items (script_fault fault)
+    → IsPlain now.line → GoesOn old (held_at p h) x y items → NextAnswer h now room (Err fault) y z → Refuses old (held_at p now) x z items (script_fault (p.lines + 1) fault)
 refuses_next old p h now room x y z items no_line.TooLong e stays plain g a = refuses_long old p h now room x y z items e plain g a.0 a.1
 refuses_next old p h now room x y z items no_line.ReadFault e stays plain g a = breaks_off old p h now x y z items stays plain g a.0 a.1
 refuses_next old p h now room x y z items no_line.NoMemory e stays plain g a = tt

@@ -82,7 +82,7 @@ goes_flags old new a b c d x y items g =
 refuses_flags : (old new : Held) (a b c d : Bool) (x y : List ℕ) (items : List Item) (fault : ScriptFault) → Refuses old new x y items fault
     → Refuses (with_flags old a b) (with_flags new c d) x y items fault
 refuses_flags old new a b c d x y items (BadLine n) r = record { stuck = r.stuck; cause = r.cause }
-refuses_flags old new a b c d x y items TooLong r = r
+refuses_flags old new a b c d x y items (TooLong n) r = r
 refuses_flags old new a b c d x y items ReadFault r =
     record { going = r.going; taken = r.taken; took = r.took; used = uses_flags old new a b c d r.taken items r.used; no_line = r.no_line }
 refuses_flags old new a b c d x y items NoMemory r = r
@@ -94,7 +94,7 @@ map_answers_flags : (old new : Held) (a b c d : Bool) (x y : List ℕ) (result :
     → MapAnswers (with_flags old a b) (with_flags new c d) result x y
 map_answers_flags old new a b c d x y (Ok m) t = record { items = t.items; on = goes_flags old new a b c d x y t.items t.on; map = t.map; no_turn = t.no_turn }
 map_answers_flags old new a b c d x y (Err (BadLine n)) t = (t.0, refuses_flags old new a b c d x y [] (BadLine n) t.1)
-map_answers_flags old new a b c d x y (Err TooLong) t = map_refuses_flags old new a b c d x y TooLong t
+map_answers_flags old new a b c d x y (Err (TooLong n)) t = map_refuses_flags old new a b c d x y (TooLong n) t
 map_answers_flags old new a b c d x y (Err ReadFault) t = map_refuses_flags old new a b c d x y ReadFault t
 map_answers_flags old new a b c d x y (Err NoMemory) t = t
 

@@ -88,10 +88,10 @@ reading-tail line p plain =
 
 -- ---- lines that are too long
 
-pub accept-long : (size : ℕ) (line : List ℕ) (p : Place) → (8388608 < length line) ⊎ (4294967296 < p.bytes + size) → accept size line p ≡ stuck too_long
+pub accept-long : (size : ℕ) (line : List ℕ) (p : Place) → (8388608 < length line) ⊎ (4294967296 < p.bytes + size) → accept size line p ≡ stuck (too_long (p.lines + 1))
 accept-long size line p h =
     let e : is_long p size line ≡ true = long h in
-    ap (λ b. cond b (stuck too_long) (placed (counted p size) (reading_of line))) e
+    ap (λ b. cond b (stuck (too_long (p.lines + 1))) (placed (counted p size) (reading_of line))) e
   where
     long : (8388608 < length line) ⊎ (4294967296 < p.bytes + size) → is_long p size line ≡ true
     long (inl h) = or_left (nat_lt 8388608 (length line)) (nat_lt 4294967296 (p.bytes + size)) (lt-ltb 8388608 (length line) h)
@@ -118,10 +118,10 @@ some_byte : (p : Place) (line part : List ℕ) → p.bytes ≤ 4294967296 → Pa
 some_byte p line part low (inl h) = omega (arith, length-append line part)
 some_byte p line part low (inr h) = omega (arith, length-append line part)
 
-pub reading-long : (line rest : List ℕ) (p : Place) → p.bytes ≤ 4294967296 → IsPlain line → PassesAt p line → reading (line ++ rest) p ≡ stuck too_long
+pub reading-long : (line rest : List ℕ) (p : Place) → p.bytes ≤ 4294967296 → IsPlain line → PassesAt p line → reading (line ++ rest) p ≡ stuck (too_long (p.lines + 1))
 reading-long line rest p low plain passes = by_rest (cut_at_newline rest)
   where
-    by_rest : IsPlain rest ⊎ ((part : List ℕ) × (more : List ℕ) × IsPlain part × (rest ≡ part ++ 10 ∷ more)) → reading (line ++ rest) p ≡ stuck too_long
+    by_rest : IsPlain rest ⊎ ((part : List ℕ) × (more : List ℕ) × IsPlain part × (rest ≡ part ++ 10 ∷ more)) → reading (line ++ rest) p ≡ stuck (too_long (p.lines + 1))
     by_rest (inl h) =
         let all = line ++ rest in
         let long : (8388608 < length all) ⊎ (4294967296 < p.bytes + length all) = passes_tail p line rest passes in

@@ -67,7 +67,7 @@ keeps-in_turns (InBase rules) p d t = absurd t
 keeps-in_turns (InTurns rules) p d t = keeps-placed_in_turn p rules d
 
 keeps-accept : (size : ℕ) (line : List ℕ) (p : Place) → IsInTurns p.part → KeepsMap (accept size line p)
-keeps-accept size line p t = keeps-cond (is_long p size line) _ _ (keeps-stuck too_long) (keeps-in_turns p.part (counted p size) (reading_of line) t)
+keeps-accept size line p t = keeps-cond (is_long p size line) _ _ (keeps-stuck (too_long (p.lines + 1))) (keeps-in_turns p.part (counted p size) (reading_of line) t)
 
 -- a line that is no base line, where base lines may stand
 keeps-no_base : (p : Place) (rules : Rules) (d : Option Data) (rects : Option (List (Rect × ℕ))) → rects ≡ None → KeepsMap (base_line p rules d rects)
@@ -77,7 +77,7 @@ keeps-no_base p rules d (Some rects) e = absurd cc
 keeps-first : (size : ℕ) (line : List ℕ) (p : Place) (rules : Rules) → p.part ≡ InBase rules → IsNoBaseLine rules.size line → KeepsMap (accept size line p)
 keeps-first size line p rules part none =
     let Kept : Part → Type 0 = λ q. KeepsMap (placed_in q (counted p size) (reading_of line)) in
-    keeps-cond (is_long p size line) _ _ (keeps-stuck too_long)
+    keeps-cond (is_long p size line) _ _ (keeps-stuck (too_long (p.lines + 1)))
     (subst Kept (sym part) (keeps-no_base (counted p size) rules (reading_of line) (option_and_then (base_of rules.size) (reading_of line)) none))
 
 -- ---- the rest of an input

@@ -38,7 +38,7 @@ turn_bad P (Err fault) item is holds = subst (λ i. IfErr i P) (sym is) holds
 
 no_memory : {A B : Type 0} (fault : ScriptFault) → IsErrOf {T = A} (Err fault) NoMemory → IsErrOf {T = B} (Err fault) NoMemory
 no_memory (BadLine n) is = absurd (cc)
-no_memory TooLong is = absurd (cc)
+no_memory (TooLong n) is = absurd (cc)
 no_memory ReadFault is = absurd (cc)
 no_memory NoMemory is = refl
 
@@ -60,7 +60,7 @@ turn_keeps (InTurns rules) now held posts begun same lists all have = (same, (li
 
 refused_keeps : (old now : Part) (fault : ScriptFault) → rules_at now ≡ rules_at old → KeepsRules (rules_at old) (rules_at now) (turn_item (Err fault))
 refused_keeps old now (BadLine n) same = tt
-refused_keeps old now TooLong same = tt
+refused_keeps old now (TooLong n) same = tt
 refused_keeps old now ReadFault same = tt
 refused_keeps old now NoMemory same = same
 

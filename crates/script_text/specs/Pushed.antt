@@ -27,7 +27,7 @@ abbrev pub PushAnswers : Held → Held → Result (Option ScriptItem) ScriptFaul
 PushAnswers old new (Ok (Some item)) before after = GoesOn old new before after (item_of item ∷ [])
 PushAnswers old new (Ok None) before after = GoesOn old new before after []
 PushAnswers old new (Err (BadLine n)) before after = StopsAtBad old new before [] n
-PushAnswers old new (Err TooLong) before after = reading (old.bytes ++ before) old.place ≡ stuck too_long
+PushAnswers old new (Err (TooLong n)) before after = reading (old.bytes ++ before) old.place ≡ stuck (too_long n)
 PushAnswers old new (Err ReadFault) before after = ⊥
 PushAnswers old new (Err NoMemory) before after = GoesOn old new before after []
 
@@ -67,7 +67,7 @@ abbrev pub KeepsRules : Option Rules → Option Rules → Result (Option ScriptI
 KeepsRules old now (Ok (Some item)) = KeepsTo old now item
 KeepsRules old now (Ok None) = now ≡ old
 KeepsRules old now (Err NoMemory) = now ≡ old
-KeepsRules old now (Err TooLong) = ⊤
+KeepsRules old now (Err (TooLong n)) = ⊤
 KeepsRules old now (Err ReadFault) = ⊤
 KeepsRules old now (Err (BadLine n)) = ⊤
 
@@ -89,7 +89,7 @@ abbrev pub EndTold : Held → Held → Result (Option ScriptItem) ScriptFault �
 EndTold old new (Ok (Some item)) = EndsWith old new (item_of item)
 EndTold old new (Ok None) = (reading old.bytes old.place ≡ stuck whole_input) × (new.bytes ≡ [])
 EndTold old new (Err (BadLine n)) = EndsBad old new n
-EndTold old new (Err TooLong) = reading old.bytes old.place ≡ stuck too_long
+EndTold old new (Err (TooLong n)) = reading old.bytes old.place ≡ stuck (too_long n)
 EndTold old new (Err ReadFault) = ⊥
 EndTold old new (Err NoMemory) = (new.place ≡ old.place) × (new.bytes ≡ old.bytes)
 
@@ -97,6 +97,6 @@ EndTold old new (Err NoMemory) = (new.place ≡ old.place) × (new.bytes ≡ old
 abbrev pub is_refused : Result (Option ScriptItem) ScriptFault → Bool
 is_refused (Ok next) = false
 is_refused (Err (BadLine n)) = true
-is_refused (Err TooLong) = true
+is_refused (Err (TooLong n)) = true
 is_refused (Err ReadFault) = true
 is_refused (Err NoMemory) = false

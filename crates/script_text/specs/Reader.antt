@@ -96,7 +96,7 @@ pub record StopsAtBad (old new : Held) (before : List ℕ) (items : List Item) (
 -- source.
 abbrev pub Refuses : Held → Held → List ℕ → List ℕ → List Item → ScriptFault → Type 0
 Refuses old new before after items (BadLine n) = StopsAtBad old new before items n
-Refuses old new before after items TooLong = reading (old.bytes ++ before) old.place ≡ stuck_after items too_long
+Refuses old new before after items (TooLong n) = reading (old.bytes ++ before) old.place ≡ stuck_after items (too_long n)
 Refuses old new before after items ReadFault = StopsAtFault old new before after items
 Refuses old new before after items NoMemory = ⊤
 
@@ -117,7 +117,7 @@ pub record RefusesMap (old new : Held) (before after : List ℕ) (fault : Script
 abbrev pub MapAnswers : Held → Held → Result Map ScriptFault → List ℕ → List ℕ → Type 0
 MapAnswers old new (Ok m) before after = GivesMap old new before after m
 MapAnswers old new (Err (BadLine n)) before after = (n ≡ 1) × StopsAtBad old new before [] n
-MapAnswers old new (Err TooLong) before after = RefusesMap old new before after TooLong
+MapAnswers old new (Err (TooLong n)) before after = RefusesMap old new before after (TooLong n)
 MapAnswers old new (Err ReadFault) before after = RefusesMap old new before after ReadFault
 MapAnswers old new (Err NoMemory) before after = ⊤
 
@@ -167,6 +167,6 @@ pub record HoldsBad (n : ℕ) (h : Held) : Type 0 where
 -- what a refusal leaves held
 abbrev pub HoldsRefused : Held → ScriptFault → Type 0
 HoldsRefused h (BadLine n) = HoldsBad n h
-HoldsRefused h TooLong = ⊤
+HoldsRefused h (TooLong n) = ⊤
 HoldsRefused h ReadFault = ⊤
 HoldsRefused h NoMemory = ⊤

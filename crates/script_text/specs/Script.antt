@@ -39,10 +39,11 @@ pub data Item : Type 0 where
   adds_base : List (Rect × ℕ) → Item
   ends_turn : List (List Post) → Item
 
--- why an input stops: it is whole, a line or the input is too long, or a line is bad
+-- why an input stops: it is whole; the line of this number passes the limit of a line, or the input with it its own; or the
+-- line of this number is bad
 pub data Stop : Type 0 where
   whole_input : Stop
-  too_long : Stop
+  too_long : ℕ → Stop
   bad_line : ℕ → Stop
 
 -- a walk over lines ends at a place, or at a stop
@@ -149,7 +150,7 @@ is_long p size line = nat_lt MAX_LINE_BYTES (length line) || nat_lt MAX_INPUT_BY
 
 -- what a line of so many bytes, with its newline where it has one, gives in its place
 abbrev pub accept : ℕ → List ℕ → Place → Walk
-accept size line p = if is_long p size line then stuck too_long else placed (counted p size) (reading_of line)
+accept size line p = if is_long p size line then stuck (too_long (p.lines + 1)) else placed (counted p size) (reading_of line)
 
 -- ---- the whole input
 

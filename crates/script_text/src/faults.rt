@@ -1,7 +1,6 @@
 //! Why no part of a script came.
 ghost use Rattle.std.specs.Prelude.{◌≡◌};
 
-use input_lines::LineFault;
 use nav_types::NoMemory;
 
 /// Why no part of a script came.
@@ -9,8 +8,8 @@ use nav_types::NoMemory;
 pub enum ScriptFault {
     /// The line of this number is not in the grammar in its place.
     BadLine(u64),
-    /// A line or the input is past its limit.
-    TooLong,
+    /// The line of this number is past the limit of a line, or the input with it past its own.
+    TooLong(u64),
     /// The source met a fault.
     ReadFault,
     /// There was no memory.
@@ -24,19 +23,5 @@ impl From<NoMemory> for ScriptFault {
 
     fn from(_none: NoMemory) -> ScriptFault {
         ScriptFault::NoMemory
-    }
-}
-
-impl From<LineFault> for ScriptFault {
-    ghost use Rattle.script_text.specs.Faults.{script_fault};
-
-    ghost from_gives = { λ line fault. fault ≡ script_fault line };
-
-    fn from(fault: LineFault) -> ScriptFault {
-        match fault {
-            LineFault::TooLong => ScriptFault::TooLong,
-            LineFault::ReadFault => ScriptFault::ReadFault,
-            LineFault::NoMemory => ScriptFault::NoMemory,
-        }
     }
 }

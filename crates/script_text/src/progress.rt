@@ -13,6 +13,7 @@ use crate::faults::ScriptFault;
 use crate::forms::{self, CallerPost};
 use crate::items::ScriptItem;
 use crate::parts::{Part, Rules};
+use input_lines::LineFault;
 use nav_types::limits::{MAX_INPUT_BYTES, MAX_LINE_BYTES};
 use nav_types::{NoMemory, Size};
 use posts::{BaseRects, MapSpec, Posts, TurnPosts, empty_lists, push_post};
@@ -49,6 +50,7 @@ impl Progress {
     ghost use Rattle.script_text.specs.Script.{beginning, rules_of, accept, counted, end_line, finish, is_long};
     ghost use Rattle.script_text.specs.Script.{arrived, begins, map_line, no_posts, placed_in_turn, with_post};
     ghost use Rattle.script_text.specs.Reader.{HaveLinesAt, callers_of, rules_at};
+    ghost use Rattle.script_text.specs.Faults.{script_fault};
     ghost use Rattle.script_text.specs.Pushed.{KeepsRules};
     ghost use Rattle.script_text.specs.Causes.{end_cause};
     ghost use Rattle.script_text.specs.inner.Judging.{cause_of_held};
@@ -95,7 +97,7 @@ impl Progress {
         ensures memory { IsErrOf result ScriptFault.NoMemory → self.new ≡ self.old }
     {
         if self.is_long(line, size) {
-            return Err(ScriptFault::TooLong);
+            return Err(ScriptFault::TooLong(self.lines + 1));
         }
         let Some(map) = read_map(alloc, line)? else {
             return Err(self.bad_line(size));
@@ -144,7 +146,7 @@ impl Progress {
             unreachable!();
         };
         if self.is_long(line, size) {
-            return Err(ScriptFault::TooLong);
+            return Err(ScriptFault::TooLong(self.lines + 1));
         }
         match read_base(alloc, rules.size, line)? {
             Some(rects) => {
@@ -178,7 +180,7 @@ impl Progress {
         ensures memory { IsErrOf result ScriptFault.NoMemory → self.new ≡ self.old }
     {
         if self.is_long(line, size) {
-            return Err(ScriptFault::TooLong);
+            return Err(ScriptFault::TooLong(self.lines + 1));
         }
         match read_line(alloc, line)? {
             Some(value) => self.take_reading(alloc, size, &value),
@@ -216,6 +218,17 @@ impl Progress {
                 Err(fault) => Err(fault),
             },
             Part::InTurns(_) => turn_item(self.accept(alloc, line, size)),
+        }
+    }
+
+    /// The refusal where the next line did not come.
+    pub fn no_line(&self, fault: LineFault) -> ScriptFault
+        ensures { result ≡ script_fault (self.now.lines + 1) fault }
+    {
+        match fault {
+            LineFault::TooLong => ScriptFault::TooLong(self.lines + 1),
+            LineFault::ReadFault => ScriptFault::ReadFault,
+            LineFault::NoMemory => ScriptFault::NoMemory,
         }
     }
 

@@ -168,7 +168,11 @@ fn next_item(
 {
     'lines: loop {
         let room = progress.room();
-        let Some(size) = next_size(line, bytes, room)? else {
+        let found = match next_size(line, bytes, room) {
+            Ok(found) => found,
+            Err(fault) => return Err(progress.no_line(fault)),
+        };
+        let Some(size) = found else {
             return Ok(None);
         };
         if let Some(item) = take_held(alloc, line, progress, size)? {

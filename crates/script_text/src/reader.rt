@@ -207,7 +207,11 @@ fn read_lines_of_map<S: Source>(
     ensures bad { IfErr result (HoldsRefused (held_at progress.new lines.new)) }
 {
     let room = progress.room();
-    let Some(size) = lines.next_line(source, room)? else {
+    let found = match lines.next_line(source, room) {
+        Ok(found) => found,
+        Err(fault) => return Err(progress.no_line(fault)),
+    };
+    let Some(size) = found else {
         return Err(ScriptFault::BadLine(1));
     };
     let mut map = take_map_line(alloc, lines, progress, size)?;
@@ -265,7 +269,11 @@ fn read_base_lines<S: Source>(
 {
     'lines: loop {
         let room = progress.room();
-        let Some(size) = lines.next_line(source, room)? else {
+        let found = match lines.next_line(source, room) {
+            Ok(found) => found,
+            Err(fault) => return Err(progress.no_line(fault)),
+        };
+        let Some(size) = found else {
             return Ok(());
         };
         // A line that is none stays held, and is judged as the first line of a turn.
@@ -330,7 +338,11 @@ fn read_turn<S: Source>(
 {
     'lines: loop {
         let room = progress.room();
-        let Some(size) = lines.next_line(source, room)? else {
+        let found = match lines.next_line(source, room) {
+            Ok(found) => found,
+            Err(fault) => return Err(progress.no_line(fault)),
+        };
+        let Some(size) = found else {
             progress.finish()?;
             return Ok(None);
         };

@@ -153,7 +153,7 @@ IsStopped ahead.Whole = ⊥
 -- the refusal of a match that has stopped
 abbrev pub fault_of : ScriptStop → MatchFault
 fault_of (BadLine n) = fault.BadLine n
-fault_of TooLong = fault.TooLong
+fault_of (TooLong n) = fault.TooLong n
 
 -- the stop was told, and is the refusal; or there was no memory
 abbrev pub TellsStop : Ahead → Result (Unit {0}) MatchFault → Type 0
@@ -162,6 +162,6 @@ TellsStop next result = (result ≡ Err fault.NoMemory) ⊎ ((stop : ScriptStop)
 -- the stop that a refusal of the script is, if it is one
 abbrev pub stop_in : ScriptFault → Option ScriptStop
 stop_in (met.BadLine n) = Some (BadLine n)
-stop_in met.TooLong = Some TooLong
+stop_in (met.TooLong n) = Some (TooLong n)
 stop_in met.ReadFault = None
 stop_in met.NoMemory = None

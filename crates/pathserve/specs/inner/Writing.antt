@@ -41,7 +41,7 @@ status_after (Err refused) whole = refused_status refused
 abbrev pub StopsWith : ScriptFault → Option (List ℕ) → Option (List ℕ) → Status → Type 0
 StopsWith (fault.BadLine n) kept now status =
     (written : Result (Unit {0}) WriteRefusal) × (WritesPiece kept now (stop_text (bad_line n)) written × (status ≡ status_after written BadLine))
-StopsWith fault.TooLong kept now status = (status ≡ TooLong) × Appends kept now []
+StopsWith (fault.TooLong n) kept now status = (status ≡ TooLong) × Appends kept now []
 StopsWith fault.ReadFault kept now status = (status ≡ ReadFault) × Appends kept now []
 StopsWith fault.NoMemory kept now status = (status ≡ NoMemory) × Appends kept now []
 

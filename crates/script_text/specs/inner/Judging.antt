@@ -51,14 +51,14 @@ pub record IsReadTo (p : Place) : Type 0 where
 -- where a line is bad, the place is that which has counted it, and the number that of the line
 abbrev pub IsBadAt : Place → Place → ScriptFault → Type 0
 IsBadAt new counted (BadLine n) = (new ≡ counted) × (n ≡ counted.lines)
-IsBadAt new counted TooLong = ⊤
+IsBadAt new counted (TooLong n) = ⊤
 IsBadAt new counted ReadFault = ⊤
 IsBadAt new counted NoMemory = ⊤
 
 -- the walk is stuck as the refusal says
 abbrev pub IsStuckBy : Walk → ScriptFault → Type 0
 IsStuckBy w (BadLine n) = w ≡ stuck (bad_line n)
-IsStuckBy w TooLong = w ≡ stuck too_long
+IsStuckBy w (TooLong n) = w ≡ stuck (too_long n)
 IsStuckBy w ReadFault = ⊥
 IsStuckBy w NoMemory = ⊤
 
@@ -98,7 +98,7 @@ pub record LeavesLine (old new : Place) (size : ℕ) (line : List ℕ) : Type 0 
 abbrev pub AddsBase : Place → Place → ℕ → List ℕ → Result (Option (List (Rect × ℕ))) ScriptFault → Type 0
 AddsBase old new size line (Ok (Some rects)) = accept size line old ≡ arrived (adds_base rects ∷ []) new
 AddsBase old new size line (Ok None) = LeavesLine old new size line
-AddsBase old new size line (Err TooLong) = accept size line old ≡ stuck too_long
+AddsBase old new size line (Err (TooLong n)) = accept size line old ≡ stuck (too_long n)
 AddsBase old new size line (Err NoMemory) = ⊤
 AddsBase old new size line (Err ReadFault) = ⊥
 AddsBase old new size line (Err (BadLine n)) = ⊥
@@ -120,7 +120,7 @@ pub record KeepsLine (old new : Place) (m now : Map) (h after : HeldLine) (size 
 abbrev pub TakesBase : Place → Place → Map → Map → HeldLine → HeldLine → ℕ → Result Bool ScriptFault → Type 0
 TakesBase old new m now h after size (Ok true) = UsesBase old new m now h after size
 TakesBase old new m now h after size (Ok false) = KeepsLine old new m now h after size
-TakesBase old new m now h after size (Err TooLong) = accept size h.line old ≡ stuck too_long
+TakesBase old new m now h after size (Err (TooLong n)) = accept size h.line old ≡ stuck (too_long n)
 TakesBase old new m now h after size (Err NoMemory) = ⊤
 TakesBase old new m now h after size (Err ReadFault) = ⊥
 TakesBase old new m now h after size (Err (BadLine n)) = ⊥
@@ -135,7 +135,7 @@ pub record AddsToMap (old new : Held) (before after : List ℕ) (m now : Map) : 
 -- what an answer to base lines says of an input that tells its bytes
 abbrev pub BaseAnswers : Held → Held → Map → Map → Result ⊤ ScriptFault → List ℕ → List ℕ → Type 0
 BaseAnswers old new m now (Ok u) before after = AddsToMap old new before after m now
-BaseAnswers old new m now (Err TooLong) before after = RefusesMap old new before after TooLong
+BaseAnswers old new m now (Err (TooLong n)) before after = RefusesMap old new before after (TooLong n)
 BaseAnswers old new m now (Err ReadFault) before after = RefusesMap old new before after ReadFault
 BaseAnswers old new m now (Err NoMemory) before after = ⊤
 BaseAnswers old new m now (Err (BadLine n)) before after = ⊥

@@ -8,11 +8,12 @@ use Rattle.turn_core.specs.Words.{Standing}
 use Rattle.script_text.specs.declared.faults.ScriptFault.{ScriptFault}
 use Rattle.script_text.specs.Reader.{unread}
 use Rattle.pathserve.specs.Output.{Said, IsTurnText, unsaid, with_turn}
+use Rattle.pathserve.specs.Runs.{names_line}
 use Rattle.pathserve.proofs.Progress.{going}
 use Rattle.pathserve.proofs.Replaying.{Stands, stands_unread, stands_map, stands_turn, told_turn, told_done, told_no_memory, tells_nothing, told_fault, map_refusal, turn_refusal, stop_done, stop_fault, stop_refused, refused_no_usage, refused_no_read, refused_by_fault, why_told}
 use Rattle.input_lines.proofs.ToldLines.{rose-later}
 use Rattle.io_edges.proofs.Passed.{given_more, taken_more}
-use Rattle.pathserve.proofs.Passes.{stands_given, stands_taken, some_taken, stop_taken, stop_read, reads_nothing, writes_nothing, none_named, done_no_bad, done_no_read, done_no_write, no_memory_no_bad, no_memory_no_read, no_memory_no_write, refused_no_bad}
+use Rattle.pathserve.proofs.Passes.{stands_given, stands_taken, some_taken, stop_taken, stop_read, reads_nothing, writes_nothing, none_named, done_no_read, done_no_write, no_memory_no_read, no_memory_no_write, refused_no_line}
 use Rattle.pathserve.proofs.replay.run_replay.Goals as goal
 
 -- ---- the jobs of a turn are fewer than the bytes of its posts
@@ -197,25 +198,27 @@ returns-in-Err-write_turn-clause-usage g c = λ is. refused_no_usage c.in-Err-wr
 -- ---- why a line is bad
 
 pub returns-in-Err-clause-why : goal.returns-in-Err-clause-why
-returns-in-Err-clause-why g c = none_named _ _ _ refl no_memory_no_bad
+returns-in-Err-clause-why g c = none_named _ _ _ refl refl
 
 pub returns-in-Err-read_version-clause-why : goal.returns-in-Err-read_version-clause-why
 returns-in-Err-read_version-clause-why g c = record {
   true_of = why_told c.args.reporter.now.report _ _ _ _ _ _ _ _ c.in-Err-read_version.fault _ (stands_unread c.args.reporter.now.report (g.S.Source.left c.args.source.now) (g.K.Sink.kept c.args.sink.now) unread refl)
       (map_refusal unread c.read_version.new.reader _ _ c.in-Err-read_version.fault c.in-Err-read_version.ensures.refused) c.stop_at.ensures.why;
+  status_of = c.stop_at.ensures.status;
   named = c.stop_at.ensures.named;
 }
 
 pub returns-in-Err-write_turn-clause-why : goal.returns-in-Err-write_turn-clause-why
 returns-in-Err-write_turn-clause-why g c =
-    none_named _ _ _ c.turns.invariant.quiet (λ is. refused_no_bad c.in-Err-write_turn.refusal (sym c.status_of.ensures ∙ is))
+    none_named _ _ _ c.turns.invariant.quiet (ap names_line c.status_of.ensures ∙ refused_no_line c.in-Err-write_turn.refusal)
 
 pub returns-in-Ok-None-clause-why : goal.returns-in-Ok-None-clause-why
-returns-in-Ok-None-clause-why g c = none_named _ _ _ c.turns.invariant.quiet done_no_bad
+returns-in-Ok-None-clause-why g c = none_named _ _ _ c.turns.invariant.quiet refl
 
 pub returns-in-Err-next_turn-clause-why : goal.returns-in-Err-next_turn-clause-why
 returns-in-Err-next_turn-clause-why g c = record {
   true_of = why_told c.args.reporter.now.report _ _ _ _ _ _ _ _ c.in-Err-next_turn.fault _ c.turns.invariant.stands
       (turn_refusal c.turns.reader c.next_turn.new.self _ _ c.in-Err-next_turn.fault c.in-Err-next_turn.ensures.told) c.stop_at-in-Err-next_turn.ensures.why;
+  status_of = c.stop_at-in-Err-next_turn.ensures.status;
   named = c.stop_at-in-Err-next_turn.ensures.named;
 }

@@ -3,7 +3,7 @@ use Rattle.script_text.specs.declared.faults.ScriptFault.{ScriptFault}
 use Rattle.pathserve.specs.declared.serving.Script.{Script}
 use Rattle.pathserve.specs.inner.WholeScripts.{IsTextOfSession}
 use Rattle.pathserve.proofs.Passes.{ends_taken, none_named, stop_read, stop_taken}
-use Rattle.pathserve.proofs.ServedTexts.{ends_no_bad, ends_no_read, ends_no_usage, fault_written, stop_of_refusal, stop_served, told_refused, told_session, why_refused}
+use Rattle.pathserve.proofs.ServedTexts.{ends_no_line, ends_no_read, ends_no_usage, fault_written, stop_of_refusal, stop_served, told_refused, told_session, why_refused}
 use Rattle.pathserve.proofs.serving.run_serve.Goals as goal
 
 -- ---- no part of the script came
@@ -69,10 +69,11 @@ returns-in-Ok-read_script-clause-sink g c = record {
 pub returns-clause-why : goal.returns-clause-why
 returns-clause-why g c = record {
   true_of = why_refused c.read_script.new.reader c.in-Err-read_script.fault _ _ _ c.in-Err-read_script.ensures.refused c.stop_at.ensures.why;
+  status_of = c.stop_at.ensures.status;
   named = c.stop_at.ensures.named;
 }
 
 pub returns-in-Ok-read_script-clause-why : goal.returns-in-Ok-read_script-clause-why
 returns-in-Ok-read_script-clause-why g c =
-    none_named _ _ _ refl (ends_no_bad (IsTextOfSession c.in-Ok-read_script.script.map c.in-Ok-read_script.script.posts) _ _ _
+    none_named _ _ _ refl (ends_no_line (IsTextOfSession c.in-Ok-read_script.script.map c.in-Ok-read_script.script.posts) _ _ _
     (c.serve_script.result, (c.serve_script.ensures.written, c.status_written.ensures)))

@@ -19,7 +19,7 @@ lines-preserved c =
     let Found : Option ℕ → Type 0 = λ found. PushAnswer c.lines.line now c.room-room.result (Ok found) c.lines.bytes.now c.next_size.new.bytes.now in
     let Given : Option ScriptItem → Type 0 = λ next. GivesItem (accept c.in-Some.size now.line c.lines.progress) c.take_held.new.progress (Ok next) in
     let Kept : Option ScriptItem → Type 0 = λ next. KeepsRules (rules_at c.lines.progress.part) (rules_at c.take_held.new.progress.part) (Ok next) in
-    let found = subst Found c.in-Some.is c.in_ok-size.ensures.takes in
+    let found = subst Found c.in-Some.is c.in-Ok.ensures.takes in
     record {
       told = pushes_line first c.lines.progress c.take_held.new.progress now c.take_held.new.line c.in-Some.size c.args.bytes.now.now c.next_size.new.bytes.now []
           c.in_ok-item.ensures.line found.1 c.next_size.ensures.plain (subst Given c.in_default-2.is c.in_ok-item.ensures.gives)
@@ -36,7 +36,7 @@ returns-in-Some-2-clause-told c =
     let now = c.next_size.new.line in
     let Found : Option ℕ → Type 0 = λ found. PushAnswer c.lines.line now c.room-room.result (Ok found) c.lines.bytes.now c.next_size.new.bytes.now in
     let Given : Option ScriptItem → Type 0 = λ next. GivesItem (accept c.in-Some.size now.line c.lines.progress) c.take_held.new.progress (Ok next) in
-    let found = subst Found c.in-Some.is c.in_ok-size.ensures.takes in
+    let found = subst Found c.in-Some.is c.in-Ok.ensures.takes in
     pushes_line first c.lines.progress c.take_held.new.progress now c.take_held.new.line c.in-Some.size c.args.bytes.now.now c.next_size.new.bytes.now _
     c.in_ok-item.ensures.line found.1 c.next_size.ensures.plain (subst Given c.in-Some-2.is c.in_ok-item.ensures.gives)
     (pushes_more first c.lines.progress c.lines.line now c.args.bytes.now.now c.lines.bytes.now c.next_size.new.bytes.now c.lines.invariant.behind c.next_size.ensures.behind found.0 c.lines.invariant.told)
@@ -46,7 +46,7 @@ returns-in-Some-2-clause-taken c =
     let first = held_at c.args.progress.now c.args.line.now in
     let now = c.next_size.new.line in
     let Found : Option ℕ → Type 0 = λ found. PushAnswer c.lines.line now c.room-room.result (Ok found) c.lines.bytes.now c.next_size.new.bytes.now in
-    let found = subst Found c.in-Some.is c.in_ok-size.ensures.takes in
+    let found = subst Found c.in-Some.is c.in-Ok.ensures.takes in
     ends_line first c.lines.progress now c.take_held.new.line c.take_held.new.progress c.in-Some.size c.args.bytes.now.now c.next_size.new.bytes.now c.in_ok-item.ensures.line c.next_size.ensures.behind
     found.1 c.next_size.ensures.plain
     (pushes_more first c.lines.progress c.lines.line now c.args.bytes.now.now c.lines.bytes.now c.next_size.new.bytes.now c.lines.invariant.behind c.next_size.ensures.behind found.0 c.lines.invariant.told)
@@ -56,7 +56,7 @@ pub returns-in_default-clause-told : goal.returns-in_default-clause-told
 returns-in_default-clause-told c =
     let now = c.next_size.new.line in
     let Found : Option ℕ → Type 0 = λ found. PushAnswer c.lines.line now c.room-room.result (Ok found) c.lines.bytes.now c.next_size.new.bytes.now in
-    let found = subst Found c.in_default.is c.in_ok-size.ensures.takes in
+    let found = subst Found c.in_default.is c.in-Ok.ensures.takes in
     pushes_more (held_at c.args.progress.now c.args.line.now) c.lines.progress c.lines.line now c.args.bytes.now.now c.lines.bytes.now c.next_size.new.bytes.now c.lines.invariant.behind c.next_size.ensures.behind
     found.0 c.lines.invariant.told
 
@@ -64,7 +64,7 @@ pub returns-in_default-clause-taken : goal.returns-in_default-clause-taken
 returns-in_default-clause-taken c =
     let now = c.next_size.new.line in
     let Found : Option ℕ → Type 0 = λ found. PushAnswer c.lines.line now c.room-room.result (Ok found) c.lines.bytes.now c.next_size.new.bytes.now in
-    let found = subst Found c.in_default.is c.in_ok-size.ensures.takes in
+    let found = subst Found c.in_default.is c.in-Ok.ensures.takes in
     (found.1.0, no_line_held c.lines.progress now c.next_size.ensures.plain found.1.1 c.next_size.ensures.behind)
 
 -- the line is refused
@@ -73,8 +73,8 @@ returns-in_err-item-clause-told c =
     let first = held_at c.args.progress.now c.args.line.now in
     let now = c.next_size.new.line in
     let Found : Option ℕ → Type 0 = λ found. PushAnswer c.lines.line now c.room-room.result (Ok found) c.lines.bytes.now c.next_size.new.bytes.now in
-    let found = subst Found c.in-Some.is c.in_ok-size.ensures.takes in
-    let p = err_from_is_err_and c.from_residual-in_err-item.result c.from_residual-in_err-item.ensures.1 in
+    let found = subst Found c.in-Some.is c.in-Ok.ensures.takes in
+    let p = err_from_is_err_and c.from_residual.result c.from_residual.ensures.1 in
     rw (p.1, p.2)
     (line_refused first c.lines.progress c.take_held.new.progress now c.take_held.new.line c.in-Some.size c.args.bytes.now.now c.next_size.new.bytes.now c.in_err-item.field-0.0
     c.in_err-item.ensures.kept found.1 c.next_size.ensures.plain c.in_err-item.ensures.gives c.in_err-item.ensures.bad (λ e. c.in_err-item.ensures.memory (ap (λ f. Err f) e))
@@ -84,16 +84,15 @@ pub returns-in_err-item-clause-bad : goal.returns-in_err-item-clause-bad
 returns-in_err-item-clause-bad c =
     let now = c.next_size.new.line in
     let Found : Option ℕ → Type 0 = λ found. PushAnswer c.lines.line now c.room-room.result (Ok found) c.lines.bytes.now c.next_size.new.bytes.now in
-    let found = subst Found c.in-Some.is c.in_ok-size.ensures.takes in
-    let p = err_from_is_err_and c.from_residual-in_err-item.result c.from_residual-in_err-item.ensures.1 in
+    let found = subst Found c.in-Some.is c.in-Ok.ensures.takes in
+    let p = err_from_is_err_and c.from_residual.result c.from_residual.ensures.1 in
     rw (p.1, p.2, c.in_err-item.ensures.kept)
     (holds_refused c.lines.progress c.take_held.new.progress now c.in-Some.size c.in_err-item.field-0.0 now.line refl c.next_size.ensures.plain found.1 c.in_err-item.ensures.gives c.in_err-item.ensures.bad)
 
 -- no next line came
-pub returns-in_err-size-clause-told : goal.returns-in_err-size-clause-told
-returns-in_err-size-clause-told c =
-    let p = err_from_is_err_and c.from_residual.result c.from_residual.ensures.1 in
-    rw (p.1, p.2)
+pub returns-in-Err-clause-told : goal.returns-in-Err-clause-told
+returns-in-Err-clause-told c =
+    rw c.no_line.ensures
     (next_refused (held_at c.args.progress.now c.args.line.now) c.lines.progress c.lines.line c.next_size.new.line c.room-room.result c.args.bytes.now.now c.lines.bytes.now c.next_size.new.bytes.now
-    c.in_err-size.field-0.0 c.room-room.ensures.room c.next_size.ensures.plain c.in_err-size.ensures.begun c.lines.invariant.behind c.in_err-size.ensures.refused.0 c.in_err-size.ensures.refused.1
-    c.in_err-size.ensures.takes c.lines.invariant.told)
+    c.in-Err.fault c.room-room.ensures.room c.next_size.ensures.plain c.in-Err.ensures.begun c.lines.invariant.behind c.in-Err.ensures.refused.0 c.in-Err.ensures.refused.1
+    c.in-Err.ensures.takes c.lines.invariant.told)

@@ -36,13 +36,13 @@ lines-preserved g c =
     let uses = subst Base c.if-not-branch.false c.in_ok-take_base_line.ensures.takes in
     record {
       told = adds_line first c.lines.progress c.take_base_line.new.progress c.lines.lines now after c.args.map.now c.lines.map c.take_base_line.new.map c.in-Some.size c.room-room.result
-          (left c.args.source.now) (left c.lines.source) (left c.next_line.new.source) c.in_ok-size.ensures.stays
-          (subst Found c.in-Some.is c.in_ok-size.ensures.finds) c.in_ok-size.ensures.plain uses c.lines.invariant.told
-          (subst Next c.in-Some.is c.in_ok-size.ensures.told);
+          (left c.args.source.now) (left c.lines.source) (left c.next_line.new.source) c.in-Ok.ensures.stays
+          (subst Found c.in-Some.is c.in-Ok.ensures.finds) c.in-Ok.ensures.plain uses c.lines.invariant.told
+          (subst Next c.in-Some.is c.in-Ok.ensures.told);
       part = c.take_base_line.ensures.rules;
       posts = ap post_count c.take_base_line.ensures.posts ∙ c.lines.invariant.posts;
       between = λ none. ap (λ h. h.line) uses.line;
-      stays = λ ended. subst Ended (sym c.take_base_line.ensures.rest) (c.in_ok-size.ensures.stays (c.lines.invariant.stays ended));
+      stays = λ ended. subst Ended (sym c.take_base_line.ensures.rest) (c.in-Ok.ensures.stays (c.lines.invariant.stays ended));
       given = given_more _ _ _ c.lines.invariant.given (given_by_need _ _ _ _ c.next_line.ensures.reads);
       later = omega (arith, c.lines.invariant.later, c.next_line.ensures.later);
     }
@@ -56,8 +56,8 @@ returns-then-not-branch-clause-told g c =
     let Next : Option ℕ → Type 0 = λ found. NextTold c.lines.lines now (left c.lines.source) (left c.next_line.new.source) c.room-room.result (Ok found) in
     let Base : Bool → Type 0 = λ taken. TakesBase c.lines.progress c.take_base_line.new.progress c.lines.map c.take_base_line.new.map now after c.in-Some.size (Ok taken) in
     adds_kept (held_at c.args.progress.now c.args.lines.now) c.lines.progress c.take_base_line.new.progress c.lines.lines now after c.args.map.now c.lines.map c.take_base_line.new.map
-    c.in-Some.size c.room-room.result (left c.args.source.now) (left c.lines.source) (left c.next_line.new.source) c.in_ok-size.ensures.stays
-    (subst Base c.if-not-branch.true c.in_ok-take_base_line.ensures.takes) c.lines.invariant.told (subst Next c.in-Some.is c.in_ok-size.ensures.told)
+    c.in-Some.size c.room-room.result (left c.args.source.now) (left c.lines.source) (left c.next_line.new.source) c.in-Ok.ensures.stays
+    (subst Base c.if-not-branch.true c.in_ok-take_base_line.ensures.takes) c.lines.invariant.told (subst Next c.in-Some.is c.in-Ok.ensures.told)
 
 -- the line is refused
 pub returns-in_err-take_base_line-clause-told : goal.returns-in_err-take_base_line-clause-told
@@ -66,34 +66,33 @@ returns-in_err-take_base_line-clause-told g c =
     let now = c.next_line.new.self in
     let Found : Option ℕ → Type 0 = λ found. FindsLine now found in
     let Next : Option ℕ → Type 0 = λ found. NextTold c.lines.lines now (left c.lines.source) (left c.next_line.new.source) c.room-room.result (Ok found) in
-    let p = err_from_is_err_and c.from_residual-in_err-take_base_line.result c.from_residual-in_err-take_base_line.ensures.1 in
+    let p = err_from_is_err_and c.from_residual.result c.from_residual.ensures.1 in
     rw (p.1, p.2)
     (adds_refused (held_at c.args.progress.now c.args.lines.now) (held_at c.take_base_line.new.progress c.take_base_line.new.lines) c.lines.progress c.take_base_line.new.progress c.lines.lines now
     c.take_base_line.new.lines c.args.map.now c.lines.map c.take_base_line.new.map c.in-Some.size c.room-room.result c.in_err-take_base_line.field-0.0
-    (left c.args.source.now) (left c.lines.source) (left c.next_line.new.source) c.in_ok-size.ensures.stays
-    (subst Found c.in-Some.is c.in_ok-size.ensures.finds) c.in_ok-size.ensures.plain c.in_err-take_base_line.ensures.takes c.lines.invariant.told
-    (subst Next c.in-Some.is c.in_ok-size.ensures.told))
+    (left c.args.source.now) (left c.lines.source) (left c.next_line.new.source) c.in-Ok.ensures.stays
+    (subst Found c.in-Some.is c.in-Ok.ensures.finds) c.in-Ok.ensures.plain c.in_err-take_base_line.ensures.takes c.lines.invariant.told
+    (subst Next c.in-Some.is c.in-Ok.ensures.told))
 
 -- the input has ended
 pub returns-in_default-clause-told : goal.returns-in_default-clause-told
 returns-in_default-clause-told g c =
     let left = g.S.Source.left in
-    adds_end (held_at c.args.progress.now c.args.lines.now) c.lines.progress c.lines.lines c.next_line.new.self c.args.map.now c.lines.map c.in_ok-size.field-0 c.room-room.result
-    (left c.args.source.now) (left c.lines.source) (left c.next_line.new.source) c.in_ok-size.ensures.stays c.lines.invariant.told c.in_ok-size.ensures.told
+    adds_end (held_at c.args.progress.now c.args.lines.now) c.lines.progress c.lines.lines c.next_line.new.self c.args.map.now c.lines.map c.in-Ok.found c.room-room.result
+    (left c.args.source.now) (left c.lines.source) (left c.next_line.new.source) c.in-Ok.ensures.stays c.lines.invariant.told c.in-Ok.ensures.told
 
 pub returns-in_default-clause-ready : goal.returns-in_default-clause-ready
 returns-in_default-clause-ready g c =
     let Found : Option ℕ → Type 0 = λ found. FindsLine c.next_line.new.self found in
-    used_up_ready c.lines.progress c.next_line.new.self (rules_of c.lines.map) c.lines.invariant.part c.lines.invariant.posts (subst Found c.in_default.is c.in_ok-size.ensures.finds)
+    used_up_ready c.lines.progress c.next_line.new.self (rules_of c.lines.map) c.lines.invariant.part c.lines.invariant.posts (subst Found c.in_default.is c.in-Ok.ensures.finds)
 
 -- no next line came
-pub returns-in_err-size-clause-told : goal.returns-in_err-size-clause-told
-returns-in_err-size-clause-told g c =
+pub returns-in-Err-clause-told : goal.returns-in-Err-clause-told
+returns-in-Err-clause-told g c =
     let left = g.S.Source.left in
-    let p = err_from_is_err_and c.from_residual.result c.from_residual.ensures.1 in
-    rw (p.1, p.2)
-    (adds_fault (held_at c.args.progress.now c.args.lines.now) c.lines.progress c.lines.lines c.next_line.new.self c.args.map.now c.lines.map c.room-room.result c.in_err-size.field-0.0
-    (left c.args.source.now) (left c.lines.source) (left c.next_line.new.source) c.room-room.ensures.room c.lines.invariant.stays c.in_err-size.ensures.plain c.lines.invariant.told c.in_err-size.ensures.told)
+    rw c.no_line.ensures
+    (adds_fault (held_at c.args.progress.now c.args.lines.now) c.lines.progress c.lines.lines c.next_line.new.self c.args.map.now c.lines.map c.room-room.result c.in-Err.fault
+    (left c.args.source.now) (left c.lines.source) (left c.next_line.new.source) c.room-room.ensures.room c.lines.invariant.stays c.in-Err.ensures.plain c.lines.invariant.told c.in-Err.ensures.told)
 
 pub returns-then-not-branch-clause-ready : goal.returns-then-not-branch-clause-ready
 returns-then-not-branch-clause-ready g c =
@@ -102,9 +101,9 @@ returns-then-not-branch-clause-ready g c =
     let Found : Option ℕ → Type 0 = λ found. FindsLine now found in
     let Base : Bool → Type 0 = λ taken. TakesBase c.lines.progress c.take_base_line.new.progress c.lines.map c.take_base_line.new.map now after c.in-Some.size (Ok taken) in
     let kept = subst Base c.if-not-branch.true c.in_ok-take_base_line.ensures.takes in
-    let whole = subst Found c.in-Some.is c.in_ok-size.ensures.finds in
+    let whole = subst Found c.in-Some.is c.in-Ok.ensures.finds in
     no_base_ready c.lines.progress c.take_base_line.new.progress now after c.in-Some.size (rules_of c.lines.map) c.lines.invariant.part c.lines.invariant.posts whole
-    c.in_ok-size.ensures.plain kept.line.same kept.same kept.line.no_base (whole_between now c.in-Some.size whole)
+    c.in-Ok.ensures.plain kept.line.same kept.same kept.line.no_base (whole_between now c.in-Some.size whole)
 
 -- ---- what the source gave
 
@@ -117,22 +116,22 @@ returns-in_default-clause-given g c = given_more _ _ _ c.lines.invariant.given (
 pub returns-in_err-take_base_line-clause-given : goal.returns-in_err-take_base_line-clause-given
 returns-in_err-take_base_line-clause-given g c = given_more _ _ _ c.lines.invariant.given (given_by_need _ _ _ _ c.next_line.ensures.reads)
 
-pub returns-in_err-size-clause-given : goal.returns-in_err-size-clause-given
-returns-in_err-size-clause-given g c = given_more _ _ _ c.lines.invariant.given (given_by_need _ _ _ _ c.next_line.ensures.reads)
+pub returns-in-Err-clause-given : goal.returns-in-Err-clause-given
+returns-in-Err-clause-given g c = given_more _ _ _ c.lines.invariant.given (given_by_need _ _ _ _ c.next_line.ensures.reads)
 
 -- ---- what is kept
 
-pub returns-in_err-size-clause-later : goal.returns-in_err-size-clause-later
-returns-in_err-size-clause-later g c = omega (arith, c.lines.invariant.later, c.next_line.ensures.later)
+pub returns-in-Err-clause-later : goal.returns-in-Err-clause-later
+returns-in-Err-clause-later g c = omega (arith, c.lines.invariant.later, c.next_line.ensures.later)
 
-pub returns-in_err-size-clause-rules : goal.returns-in_err-size-clause-rules
-returns-in_err-size-clause-rules g c = c.lines.invariant.part
+pub returns-in-Err-clause-rules : goal.returns-in-Err-clause-rules
+returns-in-Err-clause-rules g c = c.lines.invariant.part
 
-pub returns-in_err-size-clause-limit : goal.returns-in_err-size-clause-limit
-returns-in_err-size-clause-limit g c = c.room-room.ensures.limit
+pub returns-in-Err-clause-limit : goal.returns-in-Err-clause-limit
+returns-in-Err-clause-limit g c = c.room-room.ensures.limit
 
-pub returns-in_err-size-clause-stays : goal.returns-in_err-size-clause-stays
-returns-in_err-size-clause-stays g c = λ ended. c.next_line.ensures.stays (c.lines.invariant.stays ended)
+pub returns-in-Err-clause-stays : goal.returns-in-Err-clause-stays
+returns-in-Err-clause-stays g c = λ ended. c.next_line.ensures.stays (c.lines.invariant.stays ended)
 
 pub returns-in_default-clause-later : goal.returns-in_default-clause-later
 returns-in_default-clause-later g c = omega (arith, c.lines.invariant.later, c.next_line.ensures.later)
@@ -174,15 +173,15 @@ returns-then-not-branch-clause-stays g c =
     let Ended : Taken → Type 0 = λ rest. IsTrue rest.ended in
     λ ended. subst Ended (sym c.take_base_line.ensures.rest) (c.next_line.ensures.stays (c.lines.invariant.stays ended))
 
-pub returns-in_err-size-clause-fault : goal.returns-in_err-size-clause-fault
-returns-in_err-size-clause-fault g c = let p = err_from_is_err_and c.from_residual.result c.from_residual.ensures.1 in rw (p.1, p.2) (λ is. rose-later _ _ _ c.lines.invariant.later (c.in_err-size.ensures.fault (unread_err c.in_err-size.field-0.0 is)))
+pub returns-in-Err-clause-fault : goal.returns-in-Err-clause-fault
+returns-in-Err-clause-fault g c = rw c.no_line.ensures (λ is. rose-later _ _ _ c.lines.invariant.later (c.in-Err.ensures.fault (unread_err (c.lines.progress.lines + 1) c.in-Err.fault is)))
 
-pub returns-in_err-size-clause-good : goal.returns-in_err-size-clause-good
-returns-in_err-size-clause-good g c = let p = err_from_is_err_and c.from_residual.result c.from_residual.ensures.1 in rw (p.1, p.2) (no_bad_line c.in_err-size.field-0.0)
+pub returns-in-Err-clause-good : goal.returns-in-Err-clause-good
+returns-in-Err-clause-good g c = rw c.no_line.ensures (no_bad_line (c.lines.progress.lines + 1) c.in-Err.fault)
 
 pub lines-smaller : goal.lines-smaller
 lines-smaller g c =
     let Used : Bool → Type 0 = λ taken. IsTrue taken → c.take_base_line.new.progress.bytes ≡ c.lines.progress.bytes + c.in-Some.size in
     let Found : Option ℕ → Type 0 = λ found. FindsLine c.next_line.new.self found in
-    let whole = subst Found c.in-Some.is c.in_ok-size.ensures.finds in
+    let whole = subst Found c.in-Some.is c.in-Ok.ensures.finds in
     omega (arith, subst Used c.if-not-branch.false c.in_ok-take_base_line.ensures.used refl, whole.some_byte, c.take_base_line.ensures.limit)

@@ -47,10 +47,10 @@ lines-preserved g c =
     let used : new.bytes ≡ old.bytes + c.in-Some.size = c.in_ok-turn.ensures.used in
     record {
       told = goes_post (held_at c.args.progress.now c.args.lines.now) old new c.lines.lines now after c.in-Some.size c.room-room.result
-          (left c.args.source.now) (left c.lines.source) (left c.next_line.new.source) c.in_ok-size.ensures.stays
-          (subst Found c.in-Some.is c.in_ok-size.ensures.finds) c.in_ok-size.ensures.plain
+          (left c.args.source.now) (left c.lines.source) (left c.next_line.new.source) c.in-Ok.ensures.stays
+          (subst Found c.in-Some.is c.in-Ok.ensures.finds) c.in-Ok.ensures.plain
           (subst Given c.in_default-2.is c.in_ok-turn.ensures.gives) c.in_ok-turn.ensures.line c.lines.invariant.told
-          (subst Next c.in-Some.is c.in_ok-size.ensures.told);
+          (subst Next c.in-Some.is c.in-Ok.ensures.told);
       ahead = ahead_on (held_at c.args.progress.now c.args.lines.now) c.lines.progress c.lines.lines (left c.args.source.now) (left c.lines.source) (left c.next_line.new.source)
           c.lines.invariant.stays c.lines.invariant.told c.lines.invariant.ahead c.next_line.ensures.reads;
       rules = c.take_turn_line.ensures.rules ∙ c.lines.invariant.rules;
@@ -59,16 +59,16 @@ lines-preserved g c =
       have = have_on c.args.progress.now.part c.in-Some.size now.line old new c.lines.invariant.rules c.lines.invariant.have
           (subst Given c.in_default-2.is c.in_ok-turn.ensures.gives);
       counted = omega (arith, c.lines.invariant.counted, more, size, used);
-      stays = λ ended. subst Ended (sym c.take_turn_line.ensures.rest) (c.in_ok-size.ensures.stays (c.lines.invariant.stays ended));
+      stays = λ ended. subst Ended (sym c.take_turn_line.ensures.rest) (c.in-Ok.ensures.stays (c.lines.invariant.stays ended));
       still = λ holds.
           let first = held_at c.args.progress.now c.args.lines.now in
           let before = c.lines.invariant.still holds in
           let has = holds_line first (held_at old c.lines.lines) holds before.1 in
           let Uses : HeldLine → Type 0 = λ h. UsesLines first (held_at new h) [] [] in
-          let used = uses_held first old new c.lines.lines now c.in-Some.size before.1 has (c.in_ok-size.ensures.held has)
-          (subst Found c.in-Some.is c.in_ok-size.ensures.finds) c.in_ok-size.ensures.plain
+          let used = uses_held first old new c.lines.lines now c.in-Some.size before.1 has (c.in-Ok.ensures.held has)
+          (subst Found c.in-Some.is c.in-Ok.ensures.finds) c.in-Ok.ensures.plain
           (subst Given c.in_default-2.is c.in_ok-turn.ensures.gives) in
-          (c.in_ok-size.ensures.still has ∙ before.0, subst Uses (sym c.in_ok-turn.ensures.line) used);
+          (c.in-Ok.ensures.still has ∙ before.0, subst Uses (sym c.in_ok-turn.ensures.line) used);
       later = omega (arith, c.lines.invariant.later, c.next_line.ensures.later);
     }
 
@@ -81,10 +81,10 @@ returns-in-Some-2-clause-told g c =
     let Next : Option ℕ → Type 0 = λ found. NextTold c.lines.lines now (left c.lines.source) (left c.next_line.new.source) c.room-room.result (Ok found) in
     let Given : Option (List (List Post)) → Type 0 = λ next. GivesTurn (accept c.in-Some.size now.line c.lines.progress) c.take_turn_line.new.progress (Ok next) in
     turn_told (held_at c.args.progress.now c.args.lines.now) c.lines.progress c.take_turn_line.new.progress c.lines.lines now c.take_turn_line.new.lines c.in-Some.size c.room-room.result
-    c.in-Some-2.turn (left c.args.source.now) (left c.lines.source) (left c.next_line.new.source) c.in_ok-size.ensures.stays
-    (subst Found c.in-Some.is c.in_ok-size.ensures.finds) c.in_ok-size.ensures.plain
+    c.in-Some-2.turn (left c.args.source.now) (left c.lines.source) (left c.next_line.new.source) c.in-Ok.ensures.stays
+    (subst Found c.in-Some.is c.in-Ok.ensures.finds) c.in-Ok.ensures.plain
     (subst Given c.in-Some-2.is c.in_ok-turn.ensures.gives) c.in_ok-turn.ensures.line c.lines.invariant.told
-    (subst Next c.in-Some.is c.in_ok-size.ensures.told)
+    (subst Next c.in-Some.is c.in-Ok.ensures.told)
 
 pub returns-in-Some-2-clause-lines : goal.returns-in-Some-2-clause-lines
 returns-in-Some-2-clause-lines g c =
@@ -102,19 +102,18 @@ returns-in_err-turn-clause-told g c =
     let p = err_from_is_err_and c.from_residual-in_err-turn.result c.from_residual-in_err-turn.ensures.1 in
     rw (p.1, p.2)
     (turn_refused (held_at c.args.progress.now c.args.lines.now) c.lines.progress c.take_turn_line.new.progress c.lines.lines now c.take_turn_line.new.lines c.in-Some.size
-    c.room-room.result c.in_err-turn.field-0.0 (left c.args.source.now) (left c.lines.source) (left c.next_line.new.source) c.in_ok-size.ensures.stays
-    (subst Found c.in-Some.is c.in_ok-size.ensures.finds) c.in_ok-size.ensures.plain c.in_err-turn.ensures.gives
+    c.room-room.result c.in_err-turn.field-0.0 (left c.args.source.now) (left c.lines.source) (left c.next_line.new.source) c.in-Ok.ensures.stays
+    (subst Found c.in-Some.is c.in-Ok.ensures.finds) c.in-Ok.ensures.plain c.in_err-turn.ensures.gives
     c.in_err-turn.ensures.at_bad c.in_err-turn.ensures.kept c.lines.invariant.told
-    (subst Next c.in-Some.is c.in_ok-size.ensures.told))
+    (subst Next c.in-Some.is c.in-Ok.ensures.told))
 
 -- no next line came
-pub returns-in_err-size-clause-told : goal.returns-in_err-size-clause-told
-returns-in_err-size-clause-told g c =
+pub returns-in-Err-clause-told : goal.returns-in-Err-clause-told
+returns-in-Err-clause-told g c =
     let left = g.S.Source.left in
-    let p = err_from_is_err_and c.from_residual.result c.from_residual.ensures.1 in
-    rw (p.1, p.2)
-    (turn_fault (held_at c.args.progress.now c.args.lines.now) c.lines.progress c.lines.lines c.next_line.new.self c.room-room.result c.in_err-size.field-0.0
-    (left c.args.source.now) (left c.lines.source) (left c.next_line.new.source) c.room-room.ensures.room c.lines.invariant.stays c.in_err-size.ensures.plain c.lines.invariant.told c.in_err-size.ensures.told)
+    rw c.no_line.ensures
+    (turn_fault (held_at c.args.progress.now c.args.lines.now) c.lines.progress c.lines.lines c.next_line.new.self c.room-room.result c.in-Err.fault
+    (left c.args.source.now) (left c.lines.source) (left c.next_line.new.source) c.room-room.ensures.room c.lines.invariant.stays c.in-Err.ensures.plain c.lines.invariant.told c.in-Err.ensures.told)
 
 -- where a turn was held, nothing was read
 pub returns-in-Some-2-clause-still : goal.returns-in-Some-2-clause-still
@@ -133,8 +132,8 @@ pub returns-in_err-finish-clause-still : goal.returns-in_err-finish-clause-still
 returns-in_err-finish-clause-still g c =
     still_unread (held_at c.args.progress.now c.args.lines.now) (held_at c.lines.progress c.lines.lines) c.args.source.now c.lines.source c.next_line.new.source c.lines.invariant.still c.next_line.ensures.still
 
-pub returns-in_err-size-clause-still : goal.returns-in_err-size-clause-still
-returns-in_err-size-clause-still g c =
+pub returns-in-Err-clause-still : goal.returns-in-Err-clause-still
+returns-in-Err-clause-still g c =
     still_unread (held_at c.args.progress.now c.args.lines.now) (held_at c.lines.progress c.lines.lines) c.args.source.now c.lines.source c.next_line.new.source c.lines.invariant.still c.next_line.ensures.still
 
 -- the input has ended between turns
@@ -145,8 +144,8 @@ returns-in_default-clause-told g c =
     let Found : Option ℕ → Type 0 = λ found. FindsLine now found in
     let Next : Option ℕ → Type 0 = λ found. NextTold c.lines.lines now (left c.lines.source) (left c.next_line.new.source) c.room-room.result (Ok found) in
     turn_none (held_at c.args.progress.now c.args.lines.now) c.lines.progress c.lines.lines now c.room-room.result (left c.args.source.now) (left c.lines.source) (left c.next_line.new.source)
-    c.in_ok-size.ensures.stays (subst Found c.in_default.is c.in_ok-size.ensures.finds) c.in_ok-finish.ensures.stops c.lines.invariant.told
-    (subst Next c.in_default.is c.in_ok-size.ensures.told)
+    c.in-Ok.ensures.stays (subst Found c.in_default.is c.in-Ok.ensures.finds) c.in_ok-finish.ensures.stops c.lines.invariant.told
+    (subst Next c.in_default.is c.in-Ok.ensures.told)
 
 -- the input has ended inside a turn
 pub returns-in_err-finish-clause-told : goal.returns-in_err-finish-clause-told
@@ -156,11 +155,11 @@ returns-in_err-finish-clause-told g c =
     let Found : Option ℕ → Type 0 = λ found. FindsLine now found in
     let Next : Option ℕ → Type 0 = λ found. NextTold c.lines.lines now (left c.lines.source) (left c.next_line.new.source) c.room-room.result (Ok found) in
     let first = held_at c.args.progress.now c.args.lines.now in
-    let p = err_from_is_err_and c.from_residual-in_err-finish.result c.from_residual-in_err-finish.ensures.1 in
+    let p = err_from_is_err_and c.from_residual.result c.from_residual.ensures.1 in
     rw (p.1, p.2)
     (turn_missing first c.lines.progress c.lines.lines now c.room-room.result c.in_err-finish.field-0.0 (left c.args.source.now) (left c.lines.source)
-    (left c.next_line.new.source) c.in_ok-size.ensures.stays (subst Found c.in_default.is c.in_ok-size.ensures.finds) c.in_err-finish.ensures.stops c.lines.invariant.told
-    (subst Next c.in_default.is c.in_ok-size.ensures.told))
+    (left c.next_line.new.source) c.in-Ok.ensures.stays (subst Found c.in_default.is c.in-Ok.ensures.finds) c.in_err-finish.ensures.stops c.lines.invariant.told
+    (subst Next c.in_default.is c.in-Ok.ensures.told))
 
 -- nothing was read ahead
 pub returns-in-Some-2-clause-ahead : goal.returns-in-Some-2-clause-ahead
@@ -187,45 +186,44 @@ returns-in_err-finish-clause-ahead g c =
     ahead_on (held_at c.args.progress.now c.args.lines.now) c.lines.progress c.lines.lines (left c.args.source.now) (left c.lines.source) (left c.next_line.new.source)
     c.lines.invariant.stays c.lines.invariant.told c.lines.invariant.ahead c.next_line.ensures.reads
 
-pub returns-in_err-size-clause-ahead : goal.returns-in_err-size-clause-ahead
-returns-in_err-size-clause-ahead g c =
+pub returns-in-Err-clause-ahead : goal.returns-in-Err-clause-ahead
+returns-in-Err-clause-ahead g c =
     let left = g.S.Source.left in
     ahead_on (held_at c.args.progress.now c.args.lines.now) c.lines.progress c.lines.lines (left c.args.source.now) (left c.lines.source) (left c.next_line.new.source)
     c.lines.invariant.stays c.lines.invariant.told c.lines.invariant.ahead c.next_line.ensures.reads
 
 -- ---- what is kept, and what an answer without a turn owes
 
-pub returns-in_err-size-clause-later : goal.returns-in_err-size-clause-later
-returns-in_err-size-clause-later g c = omega (arith, c.lines.invariant.later, c.next_line.ensures.later)
+pub returns-in-Err-clause-later : goal.returns-in-Err-clause-later
+returns-in-Err-clause-later g c = omega (arith, c.lines.invariant.later, c.next_line.ensures.later)
 
-pub returns-in_err-size-clause-rules : goal.returns-in_err-size-clause-rules
-returns-in_err-size-clause-rules g c = c.lines.invariant.rules
+pub returns-in-Err-clause-rules : goal.returns-in-Err-clause-rules
+returns-in-Err-clause-rules g c = c.lines.invariant.rules
 
-pub returns-in_err-size-clause-limit : goal.returns-in_err-size-clause-limit
-returns-in_err-size-clause-limit g c = c.room-room.ensures.limit
+pub returns-in-Err-clause-limit : goal.returns-in-Err-clause-limit
+returns-in-Err-clause-limit g c = c.room-room.ensures.limit
 
-pub returns-in_err-size-clause-stays : goal.returns-in_err-size-clause-stays
-returns-in_err-size-clause-stays g c = λ ended. c.next_line.ensures.stays (c.lines.invariant.stays ended)
+pub returns-in-Err-clause-stays : goal.returns-in-Err-clause-stays
+returns-in-Err-clause-stays g c = λ ended. c.next_line.ensures.stays (c.lines.invariant.stays ended)
 
-pub returns-in_err-size-clause-few : goal.returns-in_err-size-clause-few
-returns-in_err-size-clause-few g c = rw (err_from_is_err_and c.from_residual.result c.from_residual.ensures.1).1 tt
+pub returns-in-Err-clause-few : goal.returns-in-Err-clause-few
+returns-in-Err-clause-few g c = tt
 
-pub returns-in_err-size-clause-lists : goal.returns-in_err-size-clause-lists
-returns-in_err-size-clause-lists g c = rw (err_from_is_err_and c.from_residual.result c.from_residual.ensures.1).1 tt
+pub returns-in-Err-clause-lists : goal.returns-in-Err-clause-lists
+returns-in-Err-clause-lists g c = tt
 
-pub returns-in_err-size-clause-lines : goal.returns-in_err-size-clause-lines
-returns-in_err-size-clause-lines g c = rw (err_from_is_err_and c.from_residual.result c.from_residual.ensures.1).1 tt
+pub returns-in-Err-clause-lines : goal.returns-in-Err-clause-lines
+returns-in-Err-clause-lines g c = tt
 
-pub returns-in_err-size-clause-used : goal.returns-in_err-size-clause-used
-returns-in_err-size-clause-used g c = rw (err_from_is_err_and c.from_residual.result c.from_residual.ensures.1).1 tt
+pub returns-in-Err-clause-used : goal.returns-in-Err-clause-used
+returns-in-Err-clause-used g c = tt
 
-pub returns-in_err-size-clause-ready : goal.returns-in_err-size-clause-ready
-returns-in_err-size-clause-ready g c = rw (err_from_is_err_and c.from_residual.result c.from_residual.ensures.1).1 tt
+pub returns-in-Err-clause-ready : goal.returns-in-Err-clause-ready
+returns-in-Err-clause-ready g c = tt
 
-pub returns-in_err-size-clause-fault : goal.returns-in_err-size-clause-fault
-returns-in_err-size-clause-fault g c =
-    let p = err_from_is_err_and c.from_residual.result c.from_residual.ensures.1 in
-    rw (p.1, p.2) (λ is. rose-later _ _ _ c.lines.invariant.later (c.in_err-size.ensures.fault (unread_err c.in_err-size.field-0.0 is)))
+pub returns-in-Err-clause-fault : goal.returns-in-Err-clause-fault
+returns-in-Err-clause-fault g c =
+    rw c.no_line.ensures (λ is. rose-later _ _ _ c.lines.invariant.later (c.in-Err.ensures.fault (unread_err (c.lines.progress.lines + 1) c.in-Err.fault is)))
 
 pub returns-in_err-finish-clause-later : goal.returns-in_err-finish-clause-later
 returns-in_err-finish-clause-later g c = omega (arith, c.lines.invariant.later, c.next_line.ensures.later)
@@ -240,19 +238,19 @@ pub returns-in_err-finish-clause-stays : goal.returns-in_err-finish-clause-stays
 returns-in_err-finish-clause-stays g c = λ ended. c.next_line.ensures.stays (c.lines.invariant.stays ended)
 
 pub returns-in_err-finish-clause-few : goal.returns-in_err-finish-clause-few
-returns-in_err-finish-clause-few g c = rw (err_from_is_err_and c.from_residual-in_err-finish.result c.from_residual-in_err-finish.ensures.1).1 tt
+returns-in_err-finish-clause-few g c = rw (err_from_is_err_and c.from_residual.result c.from_residual.ensures.1).1 tt
 
 pub returns-in_err-finish-clause-lists : goal.returns-in_err-finish-clause-lists
-returns-in_err-finish-clause-lists g c = rw (err_from_is_err_and c.from_residual-in_err-finish.result c.from_residual-in_err-finish.ensures.1).1 tt
+returns-in_err-finish-clause-lists g c = rw (err_from_is_err_and c.from_residual.result c.from_residual.ensures.1).1 tt
 
 pub returns-in_err-finish-clause-lines : goal.returns-in_err-finish-clause-lines
-returns-in_err-finish-clause-lines g c = rw (err_from_is_err_and c.from_residual-in_err-finish.result c.from_residual-in_err-finish.ensures.1).1 tt
+returns-in_err-finish-clause-lines g c = rw (err_from_is_err_and c.from_residual.result c.from_residual.ensures.1).1 tt
 
 pub returns-in_err-finish-clause-used : goal.returns-in_err-finish-clause-used
-returns-in_err-finish-clause-used g c = rw (err_from_is_err_and c.from_residual-in_err-finish.result c.from_residual-in_err-finish.ensures.1).1 tt
+returns-in_err-finish-clause-used g c = rw (err_from_is_err_and c.from_residual.result c.from_residual.ensures.1).1 tt
 
 pub returns-in_err-finish-clause-ready : goal.returns-in_err-finish-clause-ready
-returns-in_err-finish-clause-ready g c = rw (err_from_is_err_and c.from_residual-in_err-finish.result c.from_residual-in_err-finish.ensures.1).1 tt
+returns-in_err-finish-clause-ready g c = rw (err_from_is_err_and c.from_residual.result c.from_residual.ensures.1).1 tt
 
 pub returns-in_default-clause-later : goal.returns-in_default-clause-later
 returns-in_default-clause-later g c = omega (arith, c.lines.invariant.later, c.next_line.ensures.later)
@@ -336,10 +334,9 @@ returns-in-Some-2-clause-fault g c = λ is. absurd (cc)
 pub returns-in-Some-2-clause-bad : goal.returns-in-Some-2-clause-bad
 returns-in-Some-2-clause-bad g c = tt
 
-pub returns-in_err-size-clause-bad : goal.returns-in_err-size-clause-bad
-returns-in_err-size-clause-bad g c =
-    let p = err_from_is_err_and c.from_residual.result c.from_residual.ensures.1 in
-    rw (p.1, p.2) (refused_unread (held_at c.lines.progress c.next_line.new.self) c.in_err-size.field-0.0)
+pub returns-in-Err-clause-bad : goal.returns-in-Err-clause-bad
+returns-in-Err-clause-bad g c =
+    rw c.no_line.ensures (refused_unread (held_at c.lines.progress c.next_line.new.self) (c.lines.progress.lines + 1) c.in-Err.fault)
 
 pub returns-in_err-turn-clause-bad : goal.returns-in_err-turn-clause-bad
 returns-in_err-turn-clause-bad g c = let p = err_from_is_err_and c.from_residual-in_err-turn.result c.from_residual-in_err-turn.ensures.1 in rw (p.1, p.2) c.in_err-turn.ensures.bad
@@ -351,7 +348,7 @@ returns-in_err-turn-clause-fault g c =
 
 pub returns-in_err-finish-clause-fault : goal.returns-in_err-finish-clause-fault
 returns-in_err-finish-clause-fault g c =
-    let p = err_from_is_err_and c.from_residual-in_err-finish.result c.from_residual-in_err-finish.ensures.1 in
+    let p = err_from_is_err_and c.from_residual.result c.from_residual.ensures.1 in
     rw (p.1, p.2) (λ is. stuck_unread _ c.in_err-finish.field-0.0 c.in_err-finish.ensures.stops is)
 
 -- ---- the turn
@@ -392,7 +389,7 @@ pub take_turn_line-requires-clause-no_base : goal.take_turn_line-requires-clause
 take_turn_line-requires-clause-no_base g c = no_base_found c.lines.progress.part c.lines.lines c.next_line.new.self c.lines.invariant.no_base c.next_line.ensures.kept
 
 pub take_turn_line-requires-clause-whole : goal.take_turn_line-requires-clause-whole
-take_turn_line-requires-clause-whole g c = let Found : Option ℕ → Type 0 = FindsLine c.next_line.new.self in subst Found c.in-Some.is c.in_ok-size.ensures.finds
+take_turn_line-requires-clause-whole g c = let Found : Option ℕ → Type 0 = FindsLine c.next_line.new.self in subst Found c.in-Some.is c.in-Ok.ensures.finds
 
 pub lines-smaller : goal.lines-smaller
 lines-smaller g c = omega (arith, c.in_ok-turn.ensures.used, c.in_ok-turn.ensures.two_bytes, c.take_turn_line.ensures.limit)
