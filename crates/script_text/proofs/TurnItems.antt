@@ -11,7 +11,7 @@ use Rattle.script_text.specs.Canon.{HaveLines}
 use Rattle.script_text.specs.Script.{Place, Walk, accept}
 use Rattle.script_text.specs.Reader.{HaveLinesAt, callers_of, rules_at}
 use Rattle.script_text.specs.Pushed.{KeepsRules}
-use Rattle.script_text.specs.inner.Judging.{CountsPosts, GivesItem, GivesTurn, IsBadAt, turn_item}
+use Rattle.script_text.specs.inner.Judging.{CountsPosts, GivesItem, GivesTurn, turn_item}
 use Rattle.script_text.proofs.PostVersions.{have_by, have_on, none_have_at}
 
 abbrev pub Turn : Type 0

@@ -1,9 +1,8 @@
-use Rattle.std.proofs.Common.{◌∙◌, ◌+◌, ℕ, Option, Ok, Err, IsTrue, ap, refl, sym, subst, arith}
+use Rattle.std.proofs.Common.{◌+◌, ℕ, Option, Ok, Err, IsTrue, ap, refl, sym, subst}
 use Rattle.std.proofs.lemmas.Result.{err_from_is_err_and}
 use Rattle.io_edges.proofs.Passed.{given_more}
 use Rattle.input_lines.specs.Held.{Taken, FindsLine, NextTold}
 use Rattle.input_lines.proofs.NeededReads.{given_by_need}
-use Rattle.input_lines.proofs.ToldLines.{rose-later}
 use Rattle.script_text.specs.inner.Judging.{held_at}
 use Rattle.script_text.proofs.ReadCalls.{first_told, first_missing, first_fault, map_told, map_fault}
 use Rattle.script_text.proofs.ReadAnswers.{no_bad_line, refused_unread, unread_err}
