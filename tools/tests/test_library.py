@@ -1,7 +1,9 @@
-"""The C library of a release beside the plain program: by text, by structs, cut, out of memory, by threads, from each language.
+"""The C library of a release beside the plain program: by text, by structs, cut, out of memory, by threads, from each language;
+and its folder by itself: what its pages name is there, and what they show runs.
 
 The release is the folder that PATHSERVE_RELEASE names, or out/release, which `./release` makes.
 """
+import glob
 import json
 import os
 import re
@@ -12,6 +14,7 @@ import tempfile
 import unittest
 
 from places import TOP, read
+import links
 import mapscript
 
 RELEASE = os.environ.get("PATHSERVE_RELEASE") or os.path.join(TOP, "out", "release")
@@ -137,9 +140,7 @@ class Clients(unittest.TestCase):
         said = subprocess.run(["pkg-config", "--cflags", "--libs", "pathserve"], env=where, capture_output=True, text=True, check=True)
         program = os.path.join(self.folder, "linked")
         subprocess.run([CC, os.path.join(TOP, "examples/c/by_text.c"), "-o", program, *said.stdout.split()], check=True)
-        where = dict(os.environ, LD_LIBRARY_PATH=os.path.join(RELEASE, "lib"))
-        ran = subprocess.run([program], env=where, input=read("examples/skirmish.script"), capture_output=True)
-        self.assertEqual(ran.stdout, read("examples/skirmish.answers"))
+        self.assertEqual(answers(program, read("examples/skirmish.script")), (read("examples/skirmish.answers"), 0))
 
     @unittest.skipUnless(shutil.which("cmake"), "there is no cmake")
     def test_cmake(self):
@@ -159,11 +160,67 @@ class Clients(unittest.TestCase):
         where = dict(os.environ, PATHSERVE_LIB_DIR=os.path.join(RELEASE, "lib"), CARGO_TARGET_DIR=self.folder)
         for name in ("skirmish", "posts", "views"):
             words = ["cargo", "run", "-q", "--offline", "--example", name]
-            folder = os.path.join(TOP, "examples", "rust", "pathserve")
+            folder = os.path.join(RELEASE, "examples", "rust", "pathserve")
             ran = subprocess.run(words, cwd=folder, env=where, input=read("examples/skirmish.script"), capture_output=True)
             self.assertEqual(ran.returncode, 0, ran.stderr.decode())
             if name == "skirmish":
                 self.assertEqual(ran.stdout, read("examples/skirmish.answers"))
+
+
+@needs_release
+class Folder(unittest.TestCase):
+    """A copy of the folder, without the repository."""
+
+    def setUp(self):
+        self.top = os.path.join(self.enterContext(tempfile.TemporaryDirectory()), "release")
+        shutil.copytree(RELEASE, self.top, symlinks=True)
+        self.pages = ["README.md", *sorted(f"docs/{os.path.basename(it)}" for it in glob.glob(f"{self.top}/docs/*.md"))]
+
+    def told(self, commands):
+        """What a shell writes in the folder for these commands, of which none fails."""
+        ran = subprocess.run(["sh", "-e", "-c", commands], cwd=self.top, capture_output=True, timeout=600)
+        self.assertEqual(ran.returncode, 0, f"{commands}\n{ran.stderr.decode()}")
+        return ran.stdout
+
+    def commands(self, page):
+        """The blocks of commands that a page shows."""
+        return re.findall(r"(?m)(?:^    .*\n)+", links.text_of(self.top, page))
+
+    def test_links_lead_somewhere(self):
+        self.assertEqual(links.dead(self.top, self.pages), [])
+
+    def test_files_that_are_named_are_there(self):
+        for page in [*self.pages, "include/pathserve.h"]:
+            for name in re.findall(r"\b(?:docs|examples|include|tools)/[\w./]*\w", links.text_of(self.top, page)):
+                is_elsewhere = name.startswith("tools/tests/")
+                self.assertTrue(is_elsewhere or os.path.exists(os.path.join(self.top, name)), f"{page}: {name}")
+
+    def test_nothing_built_was_copied_and_the_sums_are_right(self):
+        names = [name for _, folders, files in os.walk(self.top) for name in [*folders, *files]]
+        self.assertEqual([it for it in names if it in ("target", "__pycache__", ".gitignore") or it.endswith((".o", ".pyc"))], [])
+        self.told("sha256sum --check --quiet --strict SHA256SUMS")
+        listed = {line.split("  ", 1)[1] for line in links.text_of(self.top, "SHA256SUMS").splitlines()}
+        files = {os.path.relpath(it, self.top) for it in glob.glob(f"{self.top}/**", recursive=True) if os.path.isfile(it)}
+        self.assertLessEqual(files - listed, {"SHA256SUMS", "build.log", "lib/libpathserve.so"})
+
+    @needs_cc
+    def test_the_readme_shows_what_runs(self):
+        blocks = self.commands("README.md")
+        self.assertEqual(len(blocks), 2)
+        told = b"".join(map(self.told, blocks))
+        self.assertTrue(told.startswith(read("examples/first.answers") + b"turn 1 "))
+
+    def test_python(self):
+        told = self.told("PATHSERVE_LIBRARY=lib/libpathserve.so.0 python3 -B examples/python/skirmish.py")
+        self.assertTrue(told.startswith(b"turn 1: "))
+
+    @needs_cc
+    def test_from_a_map_to_a_page(self):
+        lines = self.commands("docs/MAPS.md")[0]
+        self.assertIn("./pathserve replay", lines)
+        self.told("cc -Iinclude examples/c/by_text.c lib/libpathserve.a -o by_text")
+        self.told(lines.replace("./pathserve replay", "./by_text"))
+        self.told("tools/view.py --check valley.script valley.answers")
 
 
 def text_of(turn):

@@ -6,6 +6,7 @@ import subprocess
 import unittest
 
 from places import PROGRAM, TOP, needs_program, read, tool
+import links
 import reading_list
 import specs
 
@@ -16,13 +17,6 @@ def text_of(page):
     return read(page).decode()
 
 
-def anchors(page):
-    """The anchors of a page's headings, as they are made for a page on the web."""
-    text = re.sub(r"(?ms)^```.*?^```", "", text_of(page))
-    heads = re.findall(r"(?m)^#+ (.*)$", text)
-    return {re.sub(r"[^\w -]", "", it.lower()).replace(" ", "-") for it in heads}
-
-
 class Pages(unittest.TestCase):
     def test_those_made_by_scripts_are_current(self):
         for name in ("crates", "definitions", "layers", "reading_list"):
@@ -30,15 +24,7 @@ class Pages(unittest.TestCase):
             self.assertEqual(status, 0, out.decode() + said)
 
     def test_links_lead_somewhere(self):
-        for page in PAGES:
-            for target in re.findall(r"\]\(([^)\s]+)\)", re.sub(r"(?ms)^```.*?^```", "", text_of(page))):
-                file, _, anchor = target.partition("#")
-                if "://" in target:
-                    continue
-                file = os.path.normpath(os.path.join(os.path.dirname(page), file)) if file else page
-                self.assertTrue(os.path.exists(os.path.join(TOP, file)), f"{page}: {target}")
-                if anchor:
-                    self.assertIn(anchor, anchors(file), f"{page}: {target}")
+        self.assertEqual(links.dead(TOP, PAGES), [])
 
     def test_files_that_are_named_are_there(self):
         for page in PAGES:
