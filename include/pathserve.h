@@ -80,7 +80,7 @@ enum {
     PATHSERVE_OTHER = 18,     /* the match was opened by text and the call is one by structs, or the other way round */
     PATHSERVE_ENDED = 19,     /* pathserve_finish has ended the script */
     PATHSERVE_NO_MAP = 20,    /* the map line has not come */
-    PATHSERVE_BAD_VALUE = 21, /* a value is no such kind, number or size, or a field that is not used is not 0 */
+    PATHSERVE_BAD_VALUE = 21, /* a value is no such kind, number or size, or an unused field is not 0. Which, is not told */
     PATHSERVE_SMALL = 22      /* the buffer is too small: nothing was written, and what it takes was told */
 };
 
@@ -92,7 +92,8 @@ enum {
 typedef struct pathserve_match { uint64_t live; void *at; } pathserve_match; /* a match */
 typedef struct pathserve_view { uint64_t live; void *at; } pathserve_view;   /* what stands, to be looked at beside a match */
 
-/* Closes a match of either kind and frees all that it has. A closed one stays closed: closing twice is no harm. */
+/* Closes a match of either kind and frees all that it has; its views stay open, and may be closed later. A closed match
+ * stays closed: closing twice is no harm. */
 void pathserve_close(pathserve_match *match);
 
 /* ======== a match by text: what the program does by `replay`, `profile`, `flow` or `smooth` ======== */
@@ -148,7 +149,7 @@ typedef struct pathserve_cell { uint16_t i, j; } pathserve_cell;
 typedef struct pathserve_map { uint32_t width, height, callers; } pathserve_map;
 
 /* A passability class: its name, 1 to 64 ASCII letters, digits, `-` or `_` and zeros behind them, and how far its units keep
- * from obstructions, 0 to 64 navcells. */
+ * from obstructions, 0 to 64 navcells. So {"infantry", 8, 49152} has a name of 8 letters and a clearance of 0.75. */
 typedef struct pathserve_class { uint8_t name[64]; uint32_t name_length; pathserve_fixed clearance; } pathserve_class;
 
 /* A rectangle of navcells, both corners among them, that is never passable for the classes of the mask: bit k is for class
@@ -156,8 +157,8 @@ typedef struct pathserve_class { uint8_t name[64]; uint32_t name_length; pathser
 typedef struct pathserve_rect { uint16_t i0, j0, i1, j1, mask, zero; } pathserve_rect;
 
 /* Opens a closed handle: a match on this map, before its first turn. There are 1 to 16 classes, whose names differ and whose
- * numbers are their places; the rectangles lie inside the map.
- * DONE, OPEN, BAD_VALUE, NO_MEMORY. */
+ * numbers are their places; the rectangles lie inside the map. The match keeps its posts for its journal, some 150 bytes each,
+ * until it is closed (docs/C.md, "Memory"); a match by text keeps none. DONE, OPEN, BAD_VALUE, NO_MEMORY. */
 pathserve_status pathserve_open_map(pathserve_match *match, const pathserve_map *map, const pathserve_class *classes,
                                     size_t class_count, const pathserve_rect *base, size_t base_count);
 
@@ -166,9 +167,11 @@ enum { /* pathserve_post.kind */
     PATHSERVE_ADD_SQUARE = 2, /* add an obstruction: a rectangle along a unit vector. id, mask, x, z, ux, uz, hw, hh */
     PATHSERVE_REMOVE = 3,     /* remove an obstruction. id */
     PATHSERVE_MOVE = 4,       /* move an obstruction. id, x, z (its new middle) */
-    PATHSERVE_PATH = 5,       /* ask for a path. class_number, x, z (where it starts), goal and what that uses */
+    PATHSERVE_PATH = 5,       /* ask for a path. class_number, x, z (where the unit is), goal and what that uses */
     PATHSERVE_REGION = 6      /* ask for the region and the area at a point. class_number, x, z */
 };
+/* A path starts in the cell of its point or, where that is blocked, in the passable one nearest to it, which may lie across a
+ * wall: a unit that stands as an obstruction for its own class blocks its own start (docs/C.md, "How units ask"). */
 enum { /* pathserve_post.goal of a path; 0 of other posts */
     PATHSERVE_POINT = 1,      /* goal_x, goal_z */
     PATHSERVE_CIRCLE = 2,     /* goal_x, goal_z, radius */
@@ -178,7 +181,8 @@ enum { /* pathserve_post.goal of a path; 0 of other posts */
     PATHSERVE_OBSTRUCTION = 6 /* the cells about an obstruction. id, radius (how far about it) */
 };
 
-/* A post. Each kind uses `kind`, `caller` and the fields named at it; every other field is 0. */
+/* A post. Each kind uses `kind`, `caller` and the fields named at it; every other field is 0. Limits are told in
+ * navcells: past them, and where a middle or a point is not on the map, a reply refuses the post. */
 typedef struct pathserve_post {
     uint8_t kind;
     uint8_t caller;                 /* from 0 */
@@ -189,14 +193,15 @@ typedef struct pathserve_post {
     uint32_t id;                    /* an obstruction's number: all callers share them */
     pathserve_fixed x, z;           /* a middle or a point */
     pathserve_fixed goal_x, goal_z; /* the middle of a goal */
-    pathserve_fixed ux, uz;         /* the unit vector that a rectangle lies along */
-    pathserve_fixed hw, hh;         /* its half sides, along the vector and across it */
-    pathserve_fixed radius;         /* a radius, a half side or a distance: see the kinds */
+    pathserve_fixed ux, uz;         /* the unit vector that a rectangle lies along: |ux*ux + uz*uz - 2^32| <= 2^25 */
+    pathserve_fixed hw, hh;         /* its half sides, along the vector and across it: 0 to 256, of a goal 0 to 4096 */
+    pathserve_fixed radius;         /* a half side, 0 to 256; a radius, 0 to 4096; a distance, 0 to 3840 */
 } pathserve_post;
 
-/* Posts, behind those that the turn has. DONE: all were taken. BAD_VALUE: a kind, a goal, a caller or a class that there is
- * not, or a field that is not used and not 0; none was taken. Other values that break a limit are taken, and refused by a
- * reply. NO_MEMORY: none was taken. CLOSED, OTHER. */
+/* Posts, behind those that the turn has. The edits of a turn are made caller by caller from 0 on, and post by post: never in
+ * the order in which two callers posted. DONE: all were taken. BAD_VALUE: a kind, a goal, a caller or a class that there is
+ * not, or a field that is not used and not 0; none was taken, and posting them one by one finds it. Other values that break a
+ * limit are taken, and refused by a reply. NO_MEMORY: none was taken. CLOSED, OTHER. */
 pathserve_status pathserve_post_all(pathserve_match *match, const pathserve_post *posts, size_t count);
 
 /* What a turn comes to: its number from 1; how many regions, region edges and areas all classes have after it; in how many
@@ -217,7 +222,7 @@ enum { /* pathserve_reply.kind */
     PATHSERVE_ADDED = 1,     /* id */
     PATHSERVE_REMOVED = 2,   /* id */
     PATHSERVE_MOVED = 3,     /* id */
-    PATHSERVE_REFUSED = 4,   /* why */
+    PATHSERVE_REFUSED = 4,   /* why. id is 0, of an edit too: `caller` and `post` tell which post it was */
     PATHSERVE_NOWHERE = 5,   /* no cell of the map is passable for the class */
     PATHSERVE_AT_GOAL = 6,   /* a path that ends at the goal. start, end, cost, waypoints, first_waypoint */
     PATHSERVE_NEAR_GOAL = 7, /* a path that ends as near to the goal as it can. The same */
@@ -260,9 +265,10 @@ size_t pathserve_replies(pathserve_match *match, uint64_t first, pathserve_reply
  * above. */
 size_t pathserve_waypoints(pathserve_match *match, uint64_t first, pathserve_cell *waypoints, size_t count);
 
-/* Writes the match so far as a script, the turns that have ended and no other, in canonical form. A match that is fed with it
- * gets the same map and the same turns. `whole` is how many bytes it has. DONE: it stands at the head of the buffer. SMALL:
- * the buffer holds fewer; nothing was written. NO_MEMORY, CLOSED, OTHER: neither was written. */
+/* Writes the match so far as a script, from the posts that it keeps: the turns that have ended and no other, in canonical
+ * form. A match that is fed with it gets the same map and the same turns. `whole` is how many bytes it has. DONE: it stands at
+ * the head of the buffer. SMALL: the buffer holds fewer; nothing was written. So a first call with (NULL, 0) asks for the
+ * size, and says SMALL. NO_MEMORY, CLOSED, OTHER: neither was written. */
 pathserve_status pathserve_journal(pathserve_match *match, uint8_t *buffer, size_t length, size_t *whole);
 
 /* ======== views: questions between turns, by any thread ======== */
@@ -275,7 +281,7 @@ pathserve_status pathserve_view_of(pathserve_match *match, pathserve_view *view)
 /* Opens a closed view of what another one sees, for another thread. DONE, CLOSED (`from`), OPEN (`view`), NO_MEMORY. */
 pathserve_status pathserve_view_again(pathserve_view *from, pathserve_view *view);
 
-/* Closes a view. A closed one stays closed. */
+/* Closes a view, before or after its match. A closed one stays closed. */
 void pathserve_view_close(pathserve_view *view);
 
 /* Of a cell (i, j) and a class by its number: whether the cell is passable (1 or 0); the number of its region in its chunk,
@@ -310,14 +316,13 @@ pathserve_status pathserve_find(pathserve_view *view, const pathserve_post *post
  *     void rattle_dealloc(void *block);
  */
 
-/* ---- sizes, for programs that are made with this header ---- */
-
 #ifdef __cplusplus
 }
-#define PATHSERVE_HAS_SIZE(type, bytes) static_assert(sizeof(type) == bytes, #type)
-#else
-#define PATHSERVE_HAS_SIZE(type, bytes) _Static_assert(sizeof(type) == bytes, #type)
 #endif
+
+/* ---- sizes, for programs that are made with this header: where one is another, no such array can be ---- */
+
+#define PATHSERVE_HAS_SIZE(type, bytes) typedef char type##_has_size[sizeof(type) == (bytes) ? 1 : -1]
 
 PATHSERVE_HAS_SIZE(pathserve_match, 16);
 PATHSERVE_HAS_SIZE(pathserve_view, 16);

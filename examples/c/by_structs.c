@@ -2,6 +2,7 @@
 #include <inttypes.h>
 #include <stdio.h>
 #include <pathserve.h>
+#include "words.h"
 
 #define NAVCELLS(count) ((pathserve_fixed)((count) * PATHSERVE_NAVCELL))
 
@@ -9,13 +10,11 @@ enum { INFANTRY, SIEGE, CLASSES };
 enum { MOST_REPLIES = 64, MOST_WAYPOINTS = 1024 }; /* of a turn here */
 
 static void print_reply(const pathserve_reply *reply, const pathserve_cell *waypoints) {
-    static const char *const why[] = {"",           "bad-shape",     "duplicate-id",  "store-full",
-                                      "unknown-id", "unknown-class", "start-outside", "goal-outside"};
     static const char *const edit[] = {"", "added", "removed", "moved"};
 
     printf("%u %" PRIu32 " ", reply->caller, reply->post);
     switch (reply->kind) {
-    case PATHSERVE_REFUSED: printf("refused %s\n", why[reply->why]); return;
+    case PATHSERVE_REFUSED: printf("refused %s\n", word_of_refusal(reply->why)); return;
     case PATHSERVE_NOWHERE: puts("nowhere"); return;
     case PATHSERVE_IN_REGION:
         printf("region %u %u %u %" PRIu32 "\n", reply->chunk.i, reply->chunk.j, reply->region, reply->area);
@@ -67,5 +66,6 @@ int main(void) {
     if (status == PATHSERVE_DONE) status = play(&match, (pathserve_post[]){wall, to_the_wall, west, where}, 4);
     if (status == PATHSERVE_DONE) status = play(&match, (pathserve_post[]){west, aside, away}, 3);
     pathserve_close(&match);
+    if (status != PATHSERVE_DONE) fprintf(stderr, "by_structs: %s\n", words_of_status(status));
     return (int)status;
 }

@@ -70,11 +70,12 @@ class Header(unittest.TestCase):
 
     @needs_cc
     def test_it_is_c_and_cpp(self):
-        for language in ("c", "c++"):
-            words = [CC, "-Wall", "-Werror", "-fsyntax-only", "-x", language, HEADER]
+        for language, standards in (("c", ("c99", "c11")), ("c++", ("c++98", "c++11", "c++20"))):
             if language == "c++" and not shutil.which("c++"):
                 continue
-            subprocess.run(words, check=True)
+            for standard in standards:
+                words = [CC, f"-std={standard}", "-pedantic", "-Wall", "-Wextra", "-Werror", "-fsyntax-only", "-x", language, HEADER]
+                subprocess.run(words, check=True)
 
     @needs_cc
     def test_each_size_is_what_the_library_says(self):
@@ -90,6 +91,23 @@ class Header(unittest.TestCase):
             with open(source, "w", encoding="utf-8") as file:
                 file.write(f"#include <pathserve.h>\nint main(void) {{\n{lines}    return (int)pathserve_size_of(0);\n}}\n")
             self.assertEqual(answers(built(folder, source)), (b"", 0))
+
+    @needs_cc
+    def test_each_status_and_each_refusal_has_words(self):
+        with open(HEADER, encoding="utf-8") as file:
+            blocks = re.findall(r"(?ms)^enum \{.*?^\};", file.read())
+        named = [re.findall(r"PATHSERVE_(\w+) = \d+", next(it for it in blocks if name in it)) for name in ("_CLOSED", "_BAD_SHAPE")]
+        with tempfile.TemporaryDirectory() as folder:
+            source = os.path.join(folder, "words.c")
+            calls = zip(("words_of_status", "word_of_refusal"), named)
+            puts = "".join(f"    puts({call}(PATHSERVE_{name}));\n" for call, names in calls for name in names)
+            with open(source, "w", encoding="utf-8") as file:
+                file.write(f'#include <stdio.h>\n#include "words.h"\nint main(void) {{\n{puts}    return 0;\n}}\n')
+            flags = ["-I", os.path.join(RELEASE, "examples", "c")]
+            told = answers(built(folder, source, flags=flags))[0].decode().splitlines()
+        count = len(named[0])
+        self.assertEqual(len({*told[:count], "no such status"}), count + 1)
+        self.assertEqual(told[count:], [it.lower().replace("_", "-") for it in named[1]])
 
     @unittest.skipUnless(shutil.which("nm"), "there is no nm")
     def test_the_shared_object_exports_what_it_declares(self):
@@ -195,6 +213,12 @@ class Folder(unittest.TestCase):
                 is_elsewhere = name.startswith("tools/tests/")
                 self.assertTrue(is_elsewhere or os.path.exists(os.path.join(self.top, name)), f"{page}: {name}")
 
+    def test_sections_that_the_header_names_are_there(self):
+        named = re.findall(r'docs/C\.md, "([^"]*)"', links.text_of(self.top, "include/pathserve.h"))
+        self.assertGreater(len(named), 1)
+        for name in named:
+            self.assertIn(f"\n## {name}\n", links.text_of(self.top, "docs/C.md"))
+
     def test_nothing_built_was_copied_and_the_sums_are_right(self):
         names = [name for _, folders, files in os.walk(self.top) for name in [*folders, *files]]
         self.assertEqual([it for it in names if it in ("target", "__pycache__", ".gitignore") or it.endswith((".o", ".pyc"))], [])
@@ -209,6 +233,23 @@ class Folder(unittest.TestCase):
         self.assertEqual(len(blocks), 2)
         told = b"".join(map(self.told, blocks))
         self.assertTrue(told.startswith(read("examples/first.answers") + b"turn 1 "))
+
+    @needs_cc
+    def test_the_page_shows_what_runs(self):
+        lines = [line for block in self.commands("docs/C.md") for line in block.splitlines() if "by_structs.c" in line]
+        self.assertEqual(len(lines), 3)
+        for line in lines:
+            if "pkg-config" not in line or shutil.which("pkg-config"):
+                self.assertEqual(self.told(line), read("examples/skirmish.answers"), line)
+
+    @needs_cc
+    def test_the_page_begins_with_a_whole_program(self):
+        shown, = re.findall(r"(?ms)^```c\n(.*?)^```", links.text_of(self.top, "docs/C.md"))
+        source = os.path.join(self.top, "shown.c")
+        with open(source, "w", encoding="utf-8") as file:
+            file.write(shown)
+        told, status = answers(built(self.top, source, flags=SANE))
+        self.assertEqual((status, told.splitlines()[-1:]), (0, [b"column 50, row 32"]))
 
     def test_python(self):
         told = self.told("PATHSERVE_LIBRARY=lib/libpathserve.so.0 python3 -B examples/python/skirmish.py")
