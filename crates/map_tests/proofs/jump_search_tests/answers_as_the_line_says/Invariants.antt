@@ -5,6 +5,3 @@ ghosts-answers_counted a = record { name = a.blank.name; parts = a.blank.parts }
 
 abbrev pub ghosts-answers_in_pool : goal.ghosts-answers_in_pool
 ghosts-answers_in_pool a = record { name = a.blank.name; parts = a.blank.parts }
-
-abbrev pub ghosts-answers_by_cells : goal.ghosts-answers_by_cells
-ghosts-answers_by_cells a = record { name = a.blank.name; parts = a.blank.parts }
