@@ -99,27 +99,9 @@ impl HeldLines {
         ensures later { S.faults source.old ≤ S.faults source.new }
         ensures fault { IsErrOf result LineFault.ReadFault → Rose (S.faults source.old) (S.faults source.new) }
     {
-        match self.line_end {
-            Some(_) => Ok(self.line_size()),
-            None => self.take_line(source, room),
+        if self.line_end.is_some() {
+            return Ok(self.line_size());
         }
-    }
-
-    /// Takes the next line from the source.
-    fn take_line<S: Source>(&mut self, source: &mut S, room: u64) -> Result<Option<u64>, LineFault>
-        requires nothing { self.old.line ≡ [] }
-        requires between { self.old.line_end ≡ None }
-        ensures told { NextTold self.old self.new (S.left source.old) (S.left source.new) room result }
-        ensures still { HasLine (bytes_of self.old) → source.new ≡ source.old }
-        ensures reads { ReadsByNeedTold (bytes_of self.old) self.old.rest.ended (S.left source.old)
-            (S.left source.new) }
-        ensures held { HasLine (bytes_of self.old) → OnOk result (bytes_of self.new ≡ bytes_of self.old) }
-        ensures finds { IfOk result (FindsLine self.new) }
-        ensures plain { IsPlain self.new.line }
-        ensures stays { IsTrue self.old.rest.ended → IsTrue self.new.rest.ended }
-        ensures later { S.faults source.old ≤ S.faults source.new }
-        ensures fault { IsErrOf result LineFault.ReadFault → Rose (S.faults source.old) (S.faults source.new) }
-    {
         let end = self.intake.next_line(source, &mut self.line, room)?;
         self.line_end = Some(end);
         Ok(self.line_size())

@@ -1,38 +1,52 @@
-use Rattle.std.proofs.Common.{◌∙◌, Ok, Err, ap, sym, subst}
+use Rattle.std.proofs.Common.{◌≡◌, ◌∙◌, Bool, false, Option, None, Some, Ok, Err, ap, sym, subst}
+use Rattle.std.specs.Option.{is_some}
 use Rattle.std.proofs.lemmas.Result.{err_from_is_err_and}
 use Rattle.input_lines.specs.Held.{Taken, HasLine}
 use Rattle.input_lines.specs.inner.Taking.{LineTold}
 use Rattle.input_lines.proofs.NextLines.{bytes_between, err_told, newline_held, reads_between}
 use Rattle.input_lines.proofs.StillLines.{found_told}
 use Rattle.input_lines.proofs.ToldLines.{same_err}
-use Rattle.input_lines.proofs.held_lines.HeldLines.take_line.Goals as goal
+use Rattle.input_lines.proofs.held_lines.HeldLines.next_line.Goals as goal
+
+-- no line is held
+unset : {A : Type 0} (held found : Option A) (some : Bool) → found ≡ held → some ≡ false → some ≡ is_some found → held ≡ None
+unset held None some is off whether = sym is
+unset held (Some end) some is off whether = absurd (cc)
 
 pub next_line-requires : goal.next_line-requires
-next_line-requires g c = record { empty = ap (λ h. h.line) c.self.view_is ∙ c.requires.nothing }
+next_line-requires g c =
+    let none = unset c.args.self.now.line_end c.self.inside.line_end c.is_some.result (ap (λ h. h.line_end) c.self.view_is) c.if-is_some.false c.is_some.ensures in
+    record { empty = ap (λ h. h.line) c.self.view_is ∙ (c.requires.between none) }
 
 -- ---- no next line came
 
 pub invariant_of-self : goal.invariant_of-self
-invariant_of-self g c = rw (ap (λ h. h.line_end) c.self.view_is ∙ c.requires.between) c.in_err-end.ensures.holds
+invariant_of-self g c =
+    let none = unset c.args.self.now.line_end c.self.inside.line_end c.is_some.result (ap (λ h. h.line_end) c.self.view_is) c.if-is_some.false c.is_some.ensures in
+    rw (ap (λ h. h.line_end) c.self.view_is ∙ none) c.in_err-end.ensures.holds
 
 pub returns-in_err-end-clause-told : goal.returns-in_err-end-clause-told
 returns-in_err-end-clause-told g c =
+    let none = unset c.args.self.now.line_end c.self.inside.line_end c.is_some.result (ap (λ h. h.line_end) c.self.view_is) c.if-is_some.false c.is_some.ensures in
     let left = g.S.Source.left in
     let p = err_from_is_err_and c.from_residual.result c.from_residual.ensures.1 in
     let Told : Taken → Type 0 = λ t. LineTold t c.next_line.new.self (left c.args.source.now) (left c.next_line.new.source) c.next_line.new.line.items c.args.room (Err c.in_err-end.field-0.0) in
     rw (p.1, p.2) (err_told c.args.self.now c.next_line.new.self c.next_line.new.line.items c.self.inside.line_end c.args.room c.in_err-end.field-0.0 (left c.args.source.now)
-    (left c.next_line.new.source) c.requires.nothing c.requires.between (ap (λ h. h.line_end) c.self.view_is ∙ c.requires.between)
+    (left c.next_line.new.source) (c.requires.between none) none (ap (λ h. h.line_end) c.self.view_is ∙ none)
     (subst Told (ap (λ h. h.rest) c.self.view_is) c.in_err-end.ensures.told))
 
 pub returns-in_err-end-clause-still : goal.returns-in_err-end-clause-still
-returns-in_err-end-clause-still g c = λ has.
-    let bytes = bytes_between c.args.self.now c.requires.nothing c.requires.between ∙ ap (λ h. h.rest.bytes) (sym c.self.view_is) in
+returns-in_err-end-clause-still g c =
+    let none = unset c.args.self.now.line_end c.self.inside.line_end c.is_some.result (ap (λ h. h.line_end) c.self.view_is) c.if-is_some.false c.is_some.ensures in
+    λ has.
+    let bytes = bytes_between c.args.self.now (c.requires.between none) none ∙ ap (λ h. h.rest.bytes) (sym c.self.view_is) in
     (c.in_err-end.ensures.held (subst HasLine bytes has)).0
 
 pub returns-in_err-end-clause-reads : goal.returns-in_err-end-clause-reads
 returns-in_err-end-clause-reads g c =
+    let none = unset c.args.self.now.line_end c.self.inside.line_end c.is_some.result (ap (λ h. h.line_end) c.self.view_is) c.if-is_some.false c.is_some.ensures in
     let left = g.S.Source.left in
-    reads_between c.args.self.now c.self.inside.intake (left c.args.source.now) (left c.next_line.new.source) c.requires.nothing c.requires.between (ap (λ h. h.rest) c.self.view_is) c.next_line.ensures.reads
+    reads_between c.args.self.now c.self.inside.intake (left c.args.source.now) (left c.next_line.new.source) (c.requires.between none) none (ap (λ h. h.rest) c.self.view_is) c.next_line.ensures.reads
 
 pub returns-in_err-end-clause-held : goal.returns-in_err-end-clause-held
 returns-in_err-end-clause-held g c = rw (err_from_is_err_and c.from_residual.result c.from_residual.ensures.1).1 (λ has. tt)
@@ -59,28 +73,34 @@ invariant_of-self-2 g c = c.in_ok-end.ensures.holds
 
 pub returns-clause-told : goal.returns-clause-told
 returns-clause-told g c =
+    let none = unset c.args.self.now.line_end c.self.inside.line_end c.is_some.result (ap (λ h. h.line_end) c.self.view_is) c.if-is_some.false c.is_some.ensures in
     let left = g.S.Source.left in
     let Told : Taken → Type 0 = λ t. LineTold t c.next_line.new.self (left c.args.source.now) (left c.next_line.new.source) c.next_line.new.line.items c.args.room (Ok c.in_ok-end.end) in
-    found_told c.args.self.now c.next_line.new.self c.next_line.new.line.items c.in_ok-end.end c.line_size.result c.args.room (left c.args.source.now) (left c.next_line.new.source)
-    c.requires.nothing c.requires.between (subst Told (ap (λ h. h.rest) c.self.view_is) c.in_ok-end.ensures.told)
+    found_told c.args.self.now c.next_line.new.self c.next_line.new.line.items c.in_ok-end.end c.line_size-2.result c.args.room (left c.args.source.now) (left c.next_line.new.source)
+    (c.requires.between none) none (subst Told (ap (λ h. h.rest) c.self.view_is) c.in_ok-end.ensures.told)
 
 pub returns-clause-still : goal.returns-clause-still
-returns-clause-still g c = λ has.
-    let bytes = bytes_between c.args.self.now c.requires.nothing c.requires.between ∙ ap (λ h. h.rest.bytes) (sym c.self.view_is) in
+returns-clause-still g c =
+    let none = unset c.args.self.now.line_end c.self.inside.line_end c.is_some.result (ap (λ h. h.line_end) c.self.view_is) c.if-is_some.false c.is_some.ensures in
+    λ has.
+    let bytes = bytes_between c.args.self.now (c.requires.between none) none ∙ ap (λ h. h.rest.bytes) (sym c.self.view_is) in
     (c.in_ok-end.ensures.held (subst HasLine bytes has)).0
 
 pub returns-clause-reads : goal.returns-clause-reads
 returns-clause-reads g c =
+    let none = unset c.args.self.now.line_end c.self.inside.line_end c.is_some.result (ap (λ h. h.line_end) c.self.view_is) c.if-is_some.false c.is_some.ensures in
     let left = g.S.Source.left in
-    reads_between c.args.self.now c.self.inside.intake (left c.args.source.now) (left c.next_line.new.source) c.requires.nothing c.requires.between (ap (λ h. h.rest) c.self.view_is) c.next_line.ensures.reads
+    reads_between c.args.self.now c.self.inside.intake (left c.args.source.now) (left c.next_line.new.source) (c.requires.between none) none (ap (λ h. h.rest) c.self.view_is) c.next_line.ensures.reads
 
 pub returns-clause-held : goal.returns-clause-held
-returns-clause-held g c = λ has.
-    let bytes = bytes_between c.args.self.now c.requires.nothing c.requires.between ∙ ap (λ h. h.rest.bytes) (sym c.self.view_is) in
+returns-clause-held g c =
+    let none = unset c.args.self.now.line_end c.self.inside.line_end c.is_some.result (ap (λ h. h.line_end) c.self.view_is) c.if-is_some.false c.is_some.ensures in
+    λ has.
+    let bytes = bytes_between c.args.self.now (c.requires.between none) none ∙ ap (λ h. h.rest.bytes) (sym c.self.view_is) in
     newline_held c.self.inside.intake c.next_line.new.self c.next_line.new.line.items c.in_ok-end.end (c.in_ok-end.ensures.held (subst HasLine bytes has)).1 ∙ sym bytes
 
 pub returns-clause-finds : goal.returns-clause-finds
-returns-clause-finds g c = c.line_size.ensures
+returns-clause-finds g c = c.line_size-2.ensures
 
 pub returns-clause-plain : goal.returns-clause-plain
 returns-clause-plain g c = c.next_line.ensures.holds.plain
