@@ -4,11 +4,11 @@
 //!    open list --> jump state (cell, direction) --> its successors' runs --> jump points --> open list
 //! ```
 //!
-//! A [`Question`] is answered by [`JumpSearch`]: `jump_search_in` gives the very walk of `walks::plain_search` and counts all
-//! jump states within its cost, `jump_find_in` gives the walk alone, for less. Both keep their memory in a [`Pool`]. A walk
-//! is traced back from the end by costs, so it does not depend on the order of equal estimates. The rules are those of
-//! Harabor and Grastien, "Online Graph Pruning for Pathfinding on Grid Maps", AAAI 2011, for legal steps, which cut no
-//! corner.
+//! A [`Question`] is answered by [`JumpSearch`]: `trace` gives the very walk of `walks::plain_search` and counts all jump
+//! states within its cost, `find` gives the walk alone, for less. Both keep their memory in a [`Pool`]. `jump_search_in` and
+//! `jump_find_in` are the same for a caller who counts each opened jump state as a tick. A walk is traced back from the end
+//! by costs, so it does not depend on the order of equal estimates. The rules are those of Harabor and Grastien, "Online
+//! Graph Pruning for Pathfinding on Grid Maps", AAAI 2011, for legal steps, which cut no corner.
 #![tactic(auto)]
 
 mod framed;

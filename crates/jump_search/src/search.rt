@@ -4,7 +4,7 @@ ghost use Rattle.nav_types.specs.declared.cells.Cell.{Cell};
 ghost use Rattle.nav_types.specs.declared.cells.Rect.{Rect};
 ghost use Rattle.walks.specs.Chosen.{IsAnswer};
 ghost use Rattle.jump_search.specs.JumpStates.{CanSearch, CountsOpened, IsWithinOpened};
-ghost use Rattle.jump_search.specs.Questions.{Traces};
+ghost use Rattle.jump_search.specs.Questions.{Asked, CountsFor, IsAnswerTo, Traces};
 ghost use Rattle.jump_search.specs.inner.Traced.{IsTraceable};
 
 use crate::framed::Framed;
@@ -16,7 +16,8 @@ use crate::tracing::traced;
 use jump_scan::{CellRuns, Runs};
 use nav_types::{Aim, Cell, Class, Cost, NoMemory, Ticks, View};
 use std::alloc::Global;
-use std::sync::ledger::Ledger;
+use std::marker::Brand;
+use std::sync::ledger::{Blank, Ledger};
 use walks::{Found, waypoints};
 
 /// Room that searches keep from one to the next: what an earlier search in the same pool has taken, a later one does not
@@ -109,12 +110,39 @@ fn answered<R: Runs, A: Aim, L: Ledger>(
     })
 }
 
+/// The same answer for a caller who counts no ticks, which are those of a ledger of its own.
+fn uncounted<R: Runs, A: Aim, L: Ledger>(
+    front: &mut Front,
+    alloc: Global,
+    question: &Question<'_, R, A>,
+    all: bool,
+    blank: Blank,
+) -> Result<Traced, NoMemory>
+    requires name { blank.name ≡ L.name }
+    requires parts { blank.parts ≡ L.parts }
+    requires some { 0 < L.parts }
+    requires class { question.now.class < R.class_count question.now.runs.now }
+    requires search { CanSearch (R.passes question.now.runs.now question.now.class)
+        (A.hit question.now.aim.now (R.extent question.now.runs.now))
+        (A.sound question.now.aim.now (R.extent question.now.runs.now)) question.now.start }
+    ensures { let asked : Asked = record {
+      passes = R.passes question.now.runs.now question.now.class;
+      start = question.now.start;
+      hit = A.hit question.now.aim.now (R.extent question.now.runs.now);
+      framed = A.framed question.now.aim.now (R.extent question.now.runs.now);
+      size = R.extent question.now.runs.now;
+    } in IfOk result (λ traced. IsAnswerTo asked traced.found × (IsTrue all → CountsFor asked traced)) }
+{
+    answered(front, alloc, question, all, &mut Ticks::<L>::new(blank))
+}
+
 /// Jump searches for the answer to a question, which is the chosen walk from its start to the first in cell order of the
 /// nearest cells that its aim hits. The start must be passable, and some hit cell must be joined to it.
 ///
 /// Contracts see the question in the terms of the field (`Asked`).
 pub trait JumpSearch {
-    ghost use Rattle.jump_search.specs.Questions.{Asked, Finds, Traces};
+    ghost use Rattle.std.specs.Prelude.{IfOk};
+    ghost use Rattle.jump_search.specs.Questions.{Asked, CountsFor, Finds, IsAnswerTo, Traces};
 
     ghost can_search: { Self → Type 0 };
 
@@ -146,6 +174,17 @@ pub trait JumpSearch {
     ) -> Result<Found, NoMemory>
         requires { can_search self.now }
         ensures { Finds (asked self.now) ticks.old ticks.new result };
+
+    /// As [`JumpSearch::jump_search_in`], for a caller who counts no ticks.
+    fn trace(&self, pool: &mut Pool, alloc: Global) -> Result<Traced, NoMemory>
+        requires { can_search self.now }
+        ensures answer { IfOk result (λ traced. IsAnswerTo (asked self.now) traced.found) }
+        ensures opened { IfOk result (CountsFor (asked self.now)) };
+
+    /// As [`JumpSearch::jump_find_in`], for a caller who counts no ticks.
+    fn find(&self, pool: &mut Pool, alloc: Global) -> Result<Found, NoMemory>
+        requires { can_search self.now }
+        ensures { IfOk result (IsAnswerTo (asked self.now)) };
 }
 
 impl<'q, R: Runs, A: Aim> JumpSearch for Question<'q, R, A> {
@@ -180,6 +219,15 @@ impl<'q, R: Runs, A: Aim> JumpSearch for Question<'q, R, A> {
         ticks: &mut Ticks<L>,
     ) -> Result<Found, NoMemory> {
         let traced = answered(&mut pool.front, alloc, self, false, ticks)?;
+        Ok(traced.found)
+    }
+
+    fn trace(&self, pool: &mut Pool, alloc: Global) -> Result<Traced, NoMemory> {
+        uncounted::<R, A, Brand>(&mut pool.front, alloc, self, true, Blank::new(1))
+    }
+
+    fn find(&self, pool: &mut Pool, alloc: Global) -> Result<Found, NoMemory> {
+        let traced = uncounted::<R, A, Brand>(&mut pool.front, alloc, self, false, Blank::new(1))?;
         Ok(traced.found)
     }
 }

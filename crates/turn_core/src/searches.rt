@@ -1,15 +1,15 @@
-//! Searches on a version, each with a ledger of its own for the jump states that it opens.
-ghost use Rattle.std.specs.Prelude.{◌≡◌, ◌<◌, IfOk};
-ghost use Rattle.turn_core.specs.inner.Searching.{CanFind, IsFoundTo};
+//! Searches on a version.
+ghost use Rattle.std.specs.Prelude.{IfOk};
+ghost use Rattle.grid_versions.specs.Versions.{passes_of};
+ghost use Rattle.turn_core.specs.Notes.{IsOpenedNumber};
+ghost use Rattle.turn_core.specs.inner.Searching.{CanFind, IsFoundTo, path_by};
 
 use class_planes::PlaneRuns;
 use goal_reach::Target;
 use grid_versions::Version;
-use jump_search::{JumpSearch, Pool, Question};
-use nav_types::{Cell, Class, NoMemory, Ticks};
+use jump_search::{JumpSearch, Pool, Question, Traced};
+use nav_types::{Aim, Cell, Class, NoMemory, View};
 use std::alloc::Global;
-use std::marker::Brand;
-use std::sync::ledger::{Blank, Ledger};
 use walks::Found;
 
 /// A search on a version for the chosen walk of a class from a start cell to a target.
@@ -27,30 +27,34 @@ impl<'a> Search<'a> {
         requires { CanFind self.now.version.now self.now.class self.now.start self.now.target.now }
         ensures { IfOk result (IsFoundTo self.now.version.now self.now.class self.now.start self.now.target.now) }
     {
-        self.find_counted::<Brand>(alloc, pool, Blank::new(1))
-    }
-
-    /// The same walk, with the states of the search counted in a ledger of their own.
-    fn find_counted<L: Ledger>(
-        &self,
-        alloc: Global,
-        pool: &mut Pool,
-        blank: Blank,
-    ) -> Result<Found, NoMemory>
-        requires name { blank.name ≡ L.name }
-        requires parts { blank.parts ≡ L.parts }
-        requires some { 0 < L.parts }
-        requires search { CanFind self.now.version.now self.now.class self.now.start self.now.target.now }
-        ensures { IfOk result (IsFoundTo self.now.version.now self.now.class self.now.start self.now.target.now) }
-    {
         let runs = PlaneRuns::new(self.version, self.version.planes(), self.class);
-        let mut ticks = Ticks::<L>::new(blank);
         let question = Question {
             runs: &runs,
             class: self.class,
             start: self.start,
             aim: self.target,
         };
-        question.jump_find_in(pool, alloc, &mut ticks)
+        question.find(pool, alloc)
+    }
+
+    /// The walk of a search, by the room of the pool, and the opened number of its path.
+    pub(crate) fn trace(&self, alloc: Global, pool: &mut Pool) -> Result<Traced, NoMemory>
+        requires { CanFind self.now.version.now self.now.class self.now.start self.now.target.now }
+        ensures found { IfOk result (λ traced.
+            IsFoundTo self.now.version.now self.now.class self.now.start self.now.target.now traced.found) }
+        ensures opened { IfOk result (λ traced. IsOpenedNumber (passes_of self.now.version.now self.now.class)
+            self.now.version.now.map.size self.now.target.now (path_by self.now.start self.now.target.now traced.found)
+            traced.opened) }
+    {
+        // The rectangle that the jump states are counted by.
+        let _box = self.target.bounds(self.version.size());
+        let runs = PlaneRuns::new(self.version, self.version.planes(), self.class);
+        let question = Question {
+            runs: &runs,
+            class: self.class,
+            start: self.start,
+            aim: self.target,
+        };
+        question.trace(pool, alloc)
     }
 }

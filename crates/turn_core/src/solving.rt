@@ -14,26 +14,24 @@ ghost use Rattle.turn_core.specs.Solving.{is_near, IsPathTo, IsPathFound, IsRegi
 ghost use Rattle.goal_reach.specs.Starts.{IsStartCell};
 ghost use Rattle.goal_reach.specs.Targets.{hit_by};
 ghost use Rattle.turn_core.specs.Solving.{IsAnswerTo, IsImpassable};
-ghost use Rattle.turn_core.specs.Notes.{IsOpenedNumber, IsFlowLine, IsNoteBy, IsNoteTo, IsNote, IsNotedTo, IsPathNote, flow_in};
+ghost use Rattle.turn_core.specs.Notes.{IsFlowLine, IsNoteBy, IsNoteTo, IsNote, IsNotedTo, IsPathNote, flow_in};
 ghost use Rattle.turn_core.specs.inner.Asked.{IsAskedAt, IsRefusedAt};
-ghost use Rattle.turn_core.specs.inner.Searching.{CanFind, IsFoundTo, IsNotedPath, path_by};
+ghost use Rattle.turn_core.specs.inner.Searching.{CanFind, IsNotedPath, path_by};
 
 use crate::last_fields::{LastField, field_for};
 use crate::named_goals::goal_of;
 use crate::searches::Search;
 use class_config::ClassName;
-use class_planes::PlaneRuns;
 use fixed_point::Fixed;
 use goal_reach::{Target, made_reachable, nearest_passable};
 use goal_shapes::{Goal, GoalSpec, cell_of_point};
 use grid_versions::{Refusal, Version};
-use jump_search::{JumpSearch, Pool, Question, Traced};
+use jump_search::{Pool, Traced};
 use line_smooth::smooth;
-use nav_types::{Aim, Areas, Cell, Class, NoMemory, Ticks, View};
+use nav_types::{Areas, Cell, Class, NoMemory};
 use posts::{Answer, FlowLine, Note, Noted, PathAnswer, RegionAnswer, Report, Request};
 use std::alloc::Global;
-use std::marker::{Brand, Model};
-use std::sync::ledger::{Blank, Ledger};
+use std::marker::Model;
 use walks::{Found, Waypoints};
 
 /// The answer to a request on a version (`IsAnswerTo`). It refuses for want of memory alone.
@@ -280,50 +278,6 @@ impl<'a> Solver<'a> {
         let line = last.line(start);
         self.kept = Some(last);
         Ok(line)
-    }
-}
-
-impl<'a> Search<'a> {
-    /// The walk of a search, by the room of the pool, and the opened number of its path.
-    fn trace(&self, alloc: Global, pool: &mut Pool) -> Result<Traced, NoMemory>
-        requires { CanFind self.now.version.now self.now.class self.now.start self.now.target.now }
-        ensures found { IfOk result (λ traced.
-            IsFoundTo self.now.version.now self.now.class self.now.start self.now.target.now traced.found) }
-        ensures opened { IfOk result (λ traced. IsOpenedNumber (passes_of self.now.version.now self.now.class)
-            self.now.version.now.map.size self.now.target.now (path_by self.now.start self.now.target.now traced.found)
-            traced.opened) }
-    {
-        self.trace_counted::<Brand>(alloc, pool, Blank::new(1))
-    }
-
-    /// The same, with the opened jump states counted in a ledger of their own.
-    fn trace_counted<L: Ledger>(
-        &self,
-        alloc: Global,
-        pool: &mut Pool,
-        blank: Blank,
-    ) -> Result<Traced, NoMemory>
-        requires name { blank.name ≡ L.name }
-        requires parts { blank.parts ≡ L.parts }
-        requires some { 0 < L.parts }
-        requires search { CanFind self.now.version.now self.now.class self.now.start self.now.target.now }
-        ensures found { IfOk result (λ traced.
-            IsFoundTo self.now.version.now self.now.class self.now.start self.now.target.now traced.found) }
-        ensures opened { IfOk result (λ traced. IsOpenedNumber (passes_of self.now.version.now self.now.class)
-            self.now.version.now.map.size self.now.target.now (path_by self.now.start self.now.target.now traced.found)
-            traced.opened) }
-    {
-        // The rectangle that the jump states are counted by.
-        let _box = self.target.bounds(self.version.size());
-        let runs = PlaneRuns::new(self.version, self.version.planes(), self.class);
-        let mut ticks = Ticks::<L>::new(blank);
-        let question = Question {
-            runs: &runs,
-            class: self.class,
-            start: self.start,
-            aim: self.target,
-        };
-        question.jump_search_in(pool, alloc, &mut ticks)
     }
 }
 

@@ -12,12 +12,12 @@ use Rattle.grid_versions.specs.Versions.{MapState, passes_of}
 use Rattle.turn_core.specs.Notes.{IsOpenedNumber}
 use Rattle.turn_core.specs.inner.Searching.{IsFoundTo, path_by}
 use Rattle.turn_core.proofs.Searchable.{can_search}
-use Rattle.turn_core.proofs.searches.Search.trace_counted.Goals as goal
+use Rattle.turn_core.proofs.searches.Search.trace.Goals as goal
 
-pub jump_search_in-requires : goal.jump_search_in-requires
-jump_search_in-requires g c =
+pub trace-requires : goal.trace-requires
+trace-requires c =
     let search = c.args.self.now in
-    can_search search.version.now c.new-runs.result search.class search.start search.target.now c.new-runs.ensures c.requires.search
+    can_search search.version.now c.new-runs.result search.class search.start search.target.now c.new-runs.ensures c.requires
 
 -- what is counted by each box is the opened number by the one that is known
 opened_by : (state : MapState) (class : ℕ) (start : Cell) (target : Target) (box : Rect) (result : Result Traced NoMemory)
@@ -28,16 +28,16 @@ opened_by state class start target box (Ok traced) frame counted = record { box 
 opened_by state class start target box (Err refused) frame counted = tt
 
 pub returns-clause-found : goal.returns-clause-found
-returns-clause-found g c =
+returns-clause-found c =
     let search = c.args.self.now in
-    subst (λ (s : MapState). IfOk c.jump_search_in.result (λ (traced : Traced). IsFoundTo s search.class search.start search.target.now traced.found))
-    c.new-runs.ensures c.jump_search_in.ensures.answer
+    subst (λ (s : MapState). IfOk c.trace.result (λ (traced : Traced). IsFoundTo s search.class search.start search.target.now traced.found))
+    c.new-runs.ensures c.trace.ensures.answer
 
 pub returns-clause-opened : goal.returns-clause-opened
-returns-clause-opened g c =
+returns-clause-opened c =
     let search = c.args.self.now in
     let state = search.version.now in
-    opened_by state search.class search.start search.target.now c.bounds-box.result c.jump_search_in.result
+    opened_by state search.class search.start search.target.now c.bounds-box.result c.trace.result
     (subst (λ (s : Size). IsFrame (framed_by search.target.now) s c.bounds-box.result) c.size.ensures c.bounds-box.ensures)
-    (subst (λ (s : MapState). IfOk c.jump_search_in.result (λ (traced : Traced). CountsOpened (passes_of s search.class) (hit_by search.target.now)
-    (framed_by search.target.now) s.map.size search.start traced.found.cost.0 traced.opened)) c.new-runs.ensures c.jump_search_in.ensures.opened)
+    (subst (λ (s : MapState). IfOk c.trace.result (λ (traced : Traced). CountsOpened (passes_of s search.class) (hit_by search.target.now)
+    (framed_by search.target.now) s.map.size search.start traced.found.cost.0 traced.opened)) c.new-runs.ensures c.trace.ensures.opened)
