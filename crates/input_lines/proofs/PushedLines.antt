@@ -1,6 +1,6 @@
 -- What a piece of an input adds to the next line.
-use Rattle.std.proofs.Common.{◌≡◌, ℕ, ◌+◌, ◌-◌, ◌≤◌, List, [], ◌∷◌, ◌++◌, length, take, drop, Bool, true, false, Option, Some, None, Err, ap, sym, subst, ◌∙◌, arith, append_assoc, length-append, length-drop, position}
-use Rattle.std.proofs.lemmas.List.{append-nil, take_all, take-append-drop}
+use Rattle.std.proofs.Common.{◌≡◌, ℕ, ◌+◌, ◌-◌, List, [], ◌∷◌, ◌++◌, length, take, drop, true, false, Some, Err, ap, sym, subst, ◌∙◌, arith, append_assoc, length-append, length-drop, position}
+use Rattle.std.proofs.lemmas.List.{append-nil, take_all}
 use Rattle.input_lines.specs.declared.faults.LineFault.{LineFault}
 use Rattle.input_lines.specs.declared.faults.LineFault.TheVariants.{TooLong, ReadFault, NoMemory}
 use Rattle.input_lines.specs.Lines.{IsPlain}

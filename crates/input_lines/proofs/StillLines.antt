@@ -1,5 +1,5 @@
 -- Where a whole line is held, nothing is read for it.
-use Rattle.std.proofs.Common.{◌≡◌, ◌≢◌, ℕ, ◌+◌, List, [], ◌∷◌, ◌++◌, Option, Some, None, Ok, IsTrue, ap, sym, subst, ◌∙◌}
+use Rattle.std.proofs.Common.{◌≡◌, ◌≢◌, ℕ, List, [], ◌∷◌, ◌++◌, Option, Some, None, Ok, IsTrue, ap, sym, subst, ◌∙◌}
 use Rattle.std.proofs.lemmas.List.{append-nil}
 use Rattle.input_lines.specs.declared.intake.LineEnd.{LineEnd}
 use Rattle.input_lines.specs.declared.intake.LineEnd.TheVariants.{Newline, Input}

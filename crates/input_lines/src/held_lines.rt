@@ -95,6 +95,7 @@ impl HeldLines {
         ensures held { HasLine (bytes_of self.old) → OnOk result (bytes_of self.new ≡ bytes_of self.old) }
         ensures finds { IfOk result (FindsLine self.new) }
         ensures plain { IsPlain self.new.line }
+        ensures behind { length self.new.rest.bytes ≤ READ_SIZE }
         ensures stays { IsTrue self.old.rest.ended → IsTrue self.new.rest.ended }
         ensures later { S.faults source.old ≤ S.faults source.new }
         ensures fault { IsErrOf result LineFault.ReadFault → Rose (S.faults source.old) (S.faults source.new) }

@@ -57,6 +57,9 @@ returns-in_err-end-clause-finds g c = rw (err_from_is_err_and c.from_residual.re
 pub returns-in_err-end-clause-plain : goal.returns-in_err-end-clause-plain
 returns-in_err-end-clause-plain g c = c.next_line.ensures.holds.plain
 
+pub returns-in_err-end-clause-behind : goal.returns-in_err-end-clause-behind
+returns-in_err-end-clause-behind g c = c.next_line.ensures.holds.behind
+
 pub returns-in_err-end-clause-stays : goal.returns-in_err-end-clause-stays
 returns-in_err-end-clause-stays g c = λ ended. c.next_line.ensures.stays (ap (λ h. h.rest.ended) c.self.view_is ∙ ended)
 
@@ -104,6 +107,9 @@ returns-clause-finds g c = c.line_size-2.ensures
 
 pub returns-clause-plain : goal.returns-clause-plain
 returns-clause-plain g c = c.next_line.ensures.holds.plain
+
+pub returns-clause-behind : goal.returns-clause-behind
+returns-clause-behind g c = c.next_line.ensures.holds.behind
 
 pub returns-clause-stays : goal.returns-clause-stays
 returns-clause-stays g c = λ ended. c.next_line.ensures.stays (ap (λ h. h.rest.ended) c.self.view_is ∙ ended)

@@ -1,7 +1,6 @@
-use Rattle.std.proofs.Common.{◌≡◌, ◌∙◌, ◌++◌, [], refl, ap, sym, subst, take, drop, List, ℕ, arith, false}
+use Rattle.std.proofs.Common.{◌≡◌, ◌∙◌, [], refl, ap, sym, take, arith, false}
 use Rattle.std.proofs.lemmas.List.{append-nil}
 use Rattle.std.proofs.lemmas.Result.{err_from_is_err_and}
-use Rattle.input_lines.specs.Lines.{IsPlain}
 use Rattle.input_lines.specs.Held.{HeldLine}
 use Rattle.input_lines.specs.Pushed.{pushed_line}
 use Rattle.input_lines.proofs.Newlines.{at_newline, no_newline}
