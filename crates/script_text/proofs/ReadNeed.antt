@@ -1,52 +1,112 @@
--- Nothing is read ahead: each read is made where no newline is held, and so where no turn is.
-use Rattle.std.proofs.Common.{◌≡◌, ℕ, ◌⊎◌, List, [], ◌++◌, Option, Some, None, IsTrue, refl, ap, sym, subst, inl, inr, ◌∙◌, append_assoc}
+-- Nothing is read ahead: each read is made where no newline is held, and so where the call wants more.
+use Rattle.std.proofs.Common.{◌≡◌, ℕ, ◌⊎◌, List, [], ◌++◌, Option, Some, None, Ok, IsTrue, refl, ap, sym, subst, inl, inr, ◌∙◌, append_assoc}
 use Rattle.std.proofs.lemmas.Bool.{false≢true}
-use Rattle.std.proofs.lemmas.List.{append-nil}
 use Rattle.io_edges.specs.Passing.{HasGiven}
+use Rattle.posts.specs.Maps.{Map}
 use Rattle.input_lines.specs.Lines.{full_lines, unlines}
-use Rattle.script_text.specs.Script.{Place, walk}
-use Rattle.script_text.specs.Reader.{Held, GoesOn, ReadsForTurn, TakesNoneAhead}
-use Rattle.input_lines.specs.Held.{ReadsByNeed, ReadsByNeedTold, HeldLine, bytes_of}
-use Rattle.script_text.specs.inner.Judging.{held_at}
+use Rattle.input_lines.specs.Held.{WhereTold, ReadsByNeed, ReadsByNeedTold, HeldLine, bytes_of}
 use Rattle.input_lines.proofs.LineLists.{full_lines-plain, full_lines-behind}
-use Rattle.input_lines.proofs.ToldLines.{told-same}
-use Rattle.script_text.proofs.ReadCalls.{GoesTold}
+use Rattle.input_lines.proofs.ToldLines.{told-same, told-weaker}
+use Rattle.script_text.specs.declared.parts.Part.{Part}
+use Rattle.script_text.specs.declared.parts.Rules.{Rules}
+use Rattle.script_text.specs.declared.parts.Part.TheVariants.{InBase}
+use Rattle.script_text.specs.Script.{Place, Item, Walk, arrived, beginning, chain, walk}
+use Rattle.script_text.specs.Reader.{Held, GoesOn, IsOfMap, MapTold, ReadsWhile, TakesNoneAhead, WantsMap, WantsTurn}
+use Rattle.script_text.specs.inner.Judging.{held_at}
+use Rattle.script_text.proofs.ReadCalls.{AddsTold, GoesTold}
+use Rattle.script_text.proofs.ReadNext.{not_ended}
+use Rattle.script_text.proofs.ReadWalk.{walk-append}
 
-pub ahead-none : (old : Held) (left : Option (List ℕ)) → TakesNoneAhead old left left
-ahead-none old left = told-same left _ (λ x. inl refl)
+pub ahead-none : (Wants : Walk → Type 0) (old : Held) (left : Option (List ℕ)) → TakesNoneAhead Wants old left left
+ahead-none Wants old left = told-same left _ (λ x. inl refl)
 
-ahead_by : (old : Held) (p : Place) (h : HeldLine) (x y z : List ℕ) → (IsTrue old.ended → IsTrue h.rest.ended) → ((IsTrue old.ended → x ≡ []) → GoesOn old (held_at p h) x y [])
-    → (x ≡ y) ⊎ ReadsForTurn old x y → ReadsByNeed (bytes_of h) h.rest.ended y z → (x ≡ z) ⊎ ReadsForTurn old x z
-ahead_by old p h x y z stays goes before (inl e) = let P : List ℕ → Type 0 = λ l. (x ≡ l) ⊎ ReadsForTurn old x l in subst P e before
-ahead_by old p h x y z stays goes before (inr r) =
-    let g = goes (λ ended. absurd (false≢true (sym r.going ∙ stays ended))) in
-    let u = g.used r.going in
-    let bytes : old.bytes ++ (g.taken ++ r.earlier) ≡ unlines u.lines ++ (bytes_of h ++ r.earlier) =
-    sym (append_assoc old.bytes g.taken r.earlier) ∙ ap (λ l. l ++ r.earlier) u.bytes ∙ append_assoc (unlines u.lines) (bytes_of h) r.earlier in
-    let lines : full_lines (old.bytes ++ (g.taken ++ r.earlier)) ≡ u.lines =
-    ap full_lines bytes ∙ full_lines-behind u.lines (bytes_of h ++ r.earlier) u.plain
-    ∙ ap (λ more. u.lines ++ more) (full_lines-plain (bytes_of h ++ r.earlier) r.plain) ∙ append-nil u.lines in
+-- ---- the next line
+
+line_by : (Wants : Walk → Type 0) (p : Place) (h : HeldLine) (y z : List ℕ) → Wants (arrived [] p) → ReadsByNeed (bytes_of h) h.rest.ended y z → (y ≡ z) ⊎ ReadsWhile Wants (held_at p h) y z
+line_by Wants p h y z wants (inl e) = inl e
+line_by Wants p h y z wants (inr r) =
+    let After : List (List ℕ) → Type 0 = λ lines. Wants (walk lines p) in
     inr (record {
-      earlier = g.taken ++ r.earlier;
+      earlier = r.earlier;
       piece = r.piece;
-      took = g.took ∙ ap (λ l. g.taken ++ l) r.took ∙ sym (append_assoc g.taken r.earlier (r.piece ++ z));
+      took = r.took;
       few = r.few;
-      place = p;
-      no_turn = ap (λ lines. walk lines old.place) lines ∙ u.walked;
+      going = r.going;
+      wants = subst After (sym (full_lines-plain (bytes_of h ++ r.earlier) r.plain)) wants;
     })
 
-pub ahead_on : (old : Held) (p : Place) (h : HeldLine) (a b c : Option (List ℕ)) → (IsTrue old.ended → IsTrue h.rest.ended) → GoesTold old (held_at p h) a b → TakesNoneAhead old a b
-    → ReadsByNeedTold (bytes_of h) h.rest.ended b c → TakesNoneAhead old a c
-ahead_on old p h None b c stays told before next = tt
-ahead_on old p h (Some x) None c stays told before next = absurd told
-ahead_on old p h (Some x) (Some y) None stays told before next = absurd next
-ahead_on old p h (Some x) (Some y) (Some z) stays told before next = ahead_by old p h x y z stays told before next
+pub ahead_line : (Wants : Walk → Type 0) (p : Place) (h : HeldLine) (b c : Option (List ℕ)) → Wants (arrived [] p) → ReadsByNeedTold (bytes_of h) h.rest.ended b c → TakesNoneAhead Wants (held_at p h) b c
+ahead_line Wants p h b c wants = told-weaker b c _ _ (λ y z reads. line_by Wants p h y z wants reads)
+
+-- ---- lines one after another
+
+-- lines were used that give these items, and what is wanted behind them is wanted with them in front
+record LeadsOn (Wants : Walk → Type 0) (old new : Held) (before after : List ℕ) : Type 0 where
+  items : List Item
+  on : GoesOn old new before after items
+  wants : (w : Walk) → Wants w → Wants (chain (arrived items new.place) (λ q. w))
+
+abbrev LeadsTold : (Walk → Type 0) → Held → Held → Option (List ℕ) → Option (List ℕ) → Type 0
+LeadsTold Wants old new left later = WhereTold left later (λ before after. (IsTrue old.ended → before ≡ []) → LeadsOn Wants old new before after)
+
+then_by : (Wants : Walk → Type 0) (old new : Held) (x y z : List ℕ) → (IsTrue old.ended → IsTrue new.ended) → ((IsTrue old.ended → x ≡ []) → LeadsOn Wants old new x y)
+    → (x ≡ y) ⊎ ReadsWhile Wants old x y → (y ≡ z) ⊎ ReadsWhile Wants new y z → (x ≡ z) ⊎ ReadsWhile Wants old x z
+then_by Wants old new x y z stays leads before (inl e) = let P : List ℕ → Type 0 = λ l. (x ≡ l) ⊎ ReadsWhile Wants old x l in subst P e before
+then_by Wants old new x y z stays leads before (inr r) =
+    let going = not_ended old.ended new.ended stays r.going in
+    let l = leads (λ ended. absurd (false≢true (sym going ∙ ended))) in
+    let u = l.on.used r.going in
+    let more = full_lines (new.bytes ++ r.earlier) in
+    let bytes : old.bytes ++ (l.on.taken ++ r.earlier) ≡ unlines u.lines ++ (new.bytes ++ r.earlier) =
+    sym (append_assoc old.bytes l.on.taken r.earlier) ∙ ap (λ b. b ++ r.earlier) u.bytes ∙ append_assoc (unlines u.lines) new.bytes r.earlier in
+    let walked : walk (full_lines (old.bytes ++ (l.on.taken ++ r.earlier))) old.place ≡ chain (arrived l.items new.place) (λ q. walk more new.place) =
+    ap (λ lines. walk lines old.place) (ap full_lines bytes ∙ full_lines-behind u.lines (new.bytes ++ r.earlier) u.plain)
+    ∙ walk-append u.lines more old.place ∙ ap (λ w. chain w (λ q. walk more q)) u.walked in
+    inr (record {
+      earlier = l.on.taken ++ r.earlier;
+      piece = r.piece;
+      took = l.on.took ∙ ap (λ b. l.on.taken ++ b) r.took ∙ sym (append_assoc l.on.taken r.earlier (r.piece ++ z));
+      few = r.few;
+      going = going;
+      wants = subst Wants (sym walked) (l.wants (walk more new.place) r.wants);
+    })
+
+ahead_then : (Wants : Walk → Type 0) (old new : Held) (a b c : Option (List ℕ)) → (IsTrue old.ended → IsTrue new.ended) → LeadsTold Wants old new a b → TakesNoneAhead Wants old a b → TakesNoneAhead Wants new b c
+    → TakesNoneAhead Wants old a c
+ahead_then Wants old new None b c stays leads before next = tt
+ahead_then Wants old new (Some x) None c stays leads before next = absurd leads
+ahead_then Wants old new (Some x) (Some y) None stays leads before next = absurd next
+ahead_then Wants old new (Some x) (Some y) (Some z) stays leads before next = then_by Wants old new x y z stays leads before next
+
+-- the next line of a turn
+pub ahead_on : (old : Held) (p : Place) (h : HeldLine) (a b c : Option (List ℕ)) → (IsTrue old.ended → IsTrue h.rest.ended) → GoesTold old (held_at p h) a b → TakesNoneAhead WantsTurn old a b
+    → ReadsByNeedTold (bytes_of h) h.rest.ended b c → TakesNoneAhead WantsTurn old a c
+ahead_on old p h a b c stays told before next =
+    ahead_then WantsTurn old (held_at p h) a b c stays (told-weaker a b _ _ (λ x y goes end. record { items = []; on = goes end; wants = λ w wants. wants }) told) before
+    (ahead_line WantsTurn p h b c (p, refl) next)
+
+-- the first line of the map
+pub ahead_first : (p : Place) (h : HeldLine) (b c : Option (List ℕ)) → p ≡ beginning → ReadsByNeedTold (bytes_of h) h.rest.ended b c → TakesNoneAhead WantsMap (held_at p h) b c
+ahead_first p h b c first next = let At : Place → Type 0 = λ q. IsOfMap q.part in ahead_line WantsMap p h b c (subst At (sym first) tt) next
+
+-- the next base line
+pub ahead_base : (old : Held) (p : Place) (h : HeldLine) (rules : Rules) (m now : Map) (a b c : Option (List ℕ)) → p.part ≡ InBase rules → (IsTrue old.ended → IsTrue h.rest.ended)
+    → AddsTold old (held_at p h) m now a b → TakesNoneAhead WantsMap old a b → ReadsByNeedTold (bytes_of h) h.rest.ended b c → TakesNoneAhead WantsMap old a c
+ahead_base old p h rules m now a b c part stays told before next =
+    ahead_then WantsMap old (held_at p h) a b c stays (told-weaker a b _ _ (λ x y adds end. record { items = (adds end).items; on = (adds end).on; wants = λ w wants. wants }) told) before
+    (ahead_line WantsMap p h b c (subst IsOfMap (sym part) tt) next)
+
+-- base lines behind the map line
+pub ahead_map : (old new : Held) (m : Map) (a b c : Option (List ℕ)) → (IsTrue old.ended → IsTrue new.ended) → MapTold old new a b (Ok m) → TakesNoneAhead WantsMap old a b → TakesNoneAhead WantsMap new b c
+    → TakesNoneAhead WantsMap old a c
+ahead_map old new m a b c stays told before next =
+    ahead_then WantsMap old new a b c stays (told-weaker a b _ _ (λ x y gives end. record { items = (gives end).items; on = (gives end).on; wants = λ w wants. wants }) told) before next
 
 -- ---- what the source gave
 
-pub given_ahead : (old : Held) (a b : Option (List ℕ)) → TakesNoneAhead old a b → HasGiven a b
-given_ahead old None b ahead = record { given = []; rest = tt }
-given_ahead old (Some x) None ahead = absurd ahead
-given_ahead old (Some x) (Some y) (inl same) = record { given = []; rest = same }
-given_ahead old (Some x) (Some y) (inr r) =
+pub given_ahead : (Wants : Walk → Type 0) (old : Held) (a b : Option (List ℕ)) → TakesNoneAhead Wants old a b → HasGiven a b
+given_ahead Wants old None b ahead = record { given = []; rest = tt }
+given_ahead Wants old (Some x) None ahead = absurd ahead
+given_ahead Wants old (Some x) (Some y) (inl same) = record { given = []; rest = same }
+given_ahead Wants old (Some x) (Some y) (inr r) =
     record { given = r.earlier ++ r.piece; rest = r.took ∙ sym (append_assoc r.earlier r.piece y) }

@@ -9,8 +9,8 @@ use Rattle.script_text.specs.declared.faults.ScriptFault.TheVariants.{BadLine, T
 use Rattle.input_lines.specs.declared.intake.LineEnd.{LineEnd}
 use Rattle.input_lines.specs.declared.intake.LineEnd.TheVariants.{Newline, Input}
 use Rattle.input_lines.specs.Lines.{full_lines, unlines, IsPlain}
-use Rattle.script_text.specs.Script.{Place, Item, ends_turn, arrived, chain, accept, walk}
-use Rattle.script_text.specs.Reader.{Held, HoldsTurn, UsesLines, GoesOn, Refuses, RefusesMap, MapAnswers, MapTold, ReadsForTurn, TakesNoneAhead, TurnAnswers, TurnTold}
+use Rattle.script_text.specs.Script.{Place, Item, Walk, ends_turn, arrived, chain, accept, walk}
+use Rattle.script_text.specs.Reader.{Held, HoldsTurn, UsesLines, GoesOn, Refuses, RefusesMap, MapAnswers, MapTold, ReadsWhile, TakesNoneAhead, TurnAnswers, TurnTold}
 use Rattle.input_lines.specs.Held.{Taken, HasLine, HeldLine, newline_of, bytes_of, HasEnd, IsWholeLine, after_line}
 use Rattle.script_text.specs.inner.Judging.{held_at}
 use Rattle.input_lines.proofs.LineLists.{full_lines-plain, unlines-line, full_lines-behind}
@@ -112,9 +112,9 @@ pub turn_flags : (old new : Held) (a b c d : Bool) (left later : Option (List �
     → TurnTold (with_flags old a b) (with_flags new c d) left later result
 turn_flags old new a b c d left later result = told-weaker left later _ _ (λ x y t end. answers_flags old new a b c d x y result (t end))
 
-ahead_by : (old : Held) (a b : Bool) (x y : List ℕ) → (x ≡ y) ⊎ ReadsForTurn old x y → (x ≡ y) ⊎ ReadsForTurn (with_flags old a b) x y
-ahead_by old a b x y (inl e) = inl e
-ahead_by old a b x y (inr r) = inr (record { earlier = r.earlier; piece = r.piece; took = r.took; few = r.few; place = r.place; no_turn = r.no_turn })
+ahead_by : (Wants : Walk → Type 0) (old : Held) (a b : Bool) (x y : List ℕ) → (x ≡ y) ⊎ ReadsWhile Wants old x y → (x ≡ y) ⊎ ReadsWhile Wants (with_flags old a b) x y
+ahead_by Wants old a b x y (inl e) = inl e
+ahead_by Wants old a b x y (inr r) = inr (record { earlier = r.earlier; piece = r.piece; took = r.took; few = r.few; going = r.going; wants = r.wants })
 
-pub ahead_flags : (old : Held) (a b : Bool) (left later : Option (List ℕ)) → TakesNoneAhead old left later → TakesNoneAhead (with_flags old a b) left later
-ahead_flags old a b left later = told-weaker left later _ _ (λ x y t. ahead_by old a b x y t)
+pub ahead_flags : (Wants : Walk → Type 0) (old : Held) (a b : Bool) (left later : Option (List ℕ)) → TakesNoneAhead Wants old left later → TakesNoneAhead Wants (with_flags old a b) left later
+ahead_flags Wants old a b left later = told-weaker left later _ _ (λ x y t. ahead_by Wants old a b x y t)

@@ -1,19 +1,22 @@
 -- What a reader holds, and how its calls go through an input.
-use Rattle.std.specs.Prelude.{ℕ, ◌≡◌, ◌≢◌, ◌≤◌, ◌⊎◌, List, [], ◌∷◌, ◌++◌, length, Bool, true, false, All, IsFalse, IsTrue, IsSome, Option, Some, None, Result, Ok, Err, ⊤}
+use Rattle.std.specs.Prelude.{ℕ, ◌≡◌, ◌≢◌, ◌+◌, ◌≤◌, ◌⊎◌, List, [], ◌∷◌, ◌++◌, length, Bool, true, false, All, IfErr, IsErrOf, IsFalse, IsTrue, IsSome, Option, Some, None, Result, Ok, Err, is_err, ⊤}
+use Rattle.nav_types.specs.declared.limits.TheConstants.{MAX_INPUT_BYTES}
+use Rattle.io_edges.specs.Faults.{Rose}
+use Rattle.io_edges.specs.Passing.{HasGiven}
 use Rattle.posts.specs.declared.posts.Post.{Post}
 use Rattle.posts.specs.Maps.{Map}
 use Rattle.input_lines.specs.declared.intake.TheConstants.{READ_SIZE}
 use Rattle.input_lines.specs.Held.{WhereTold}
 use Rattle.script_text.specs.declared.faults.ScriptFault.{ScriptFault}
 use Rattle.script_text.specs.declared.faults.ScriptFault.TheVariants.{BadLine, TooLong, ReadFault, NoMemory}
-use Rattle.input_lines.specs.Lines.{full_lines, unlines, IsPlain}
+use Rattle.input_lines.specs.Lines.{first_line, full_lines, unlines, IsPlain}
 use Rattle.script_text.specs.declared.parts.Rules.{Rules}
 use Rattle.script_text.specs.declared.parts.Part.{Part}
 use Rattle.script_text.specs.declared.parts.Part.TheVariants.{BeforeMap, InBase, InTurns}
 use Rattle.script_text.specs.declared.causes.Cause.{Cause}
 use Rattle.script_text.specs.Causes.{next_cause, stop_cause, bad_number}
 use Rattle.script_text.specs.Canon.{HaveLines}
-use Rattle.script_text.specs.Script.{Place, beginning, Item, ends_turn, Stop, whole_input, too_long, bad_line, stuck_by, Walk, arrived, stuck, chain, map_after, turns_of, walk, reading}
+use Rattle.script_text.specs.Script.{Place, beginning, Item, ends_turn, Ends, at_place, Stop, whole_input, too_long, bad_line, stuck_by, Walk, arrived, stuck, chain, map_after, turns_of, walk, reading}
 
 -- The place that the reading has come to, the bytes taken that no line has used yet, whether the end of the input was
 -- met, whether no call may follow, and whether the reader has failed.
@@ -139,19 +142,42 @@ abbrev pub IsWholeMap : Held → Option (List ℕ) → Map → Type 0
 IsWholeMap old None m = ⊤
 IsWholeMap old (Some before) m = (IsTrue old.ended → before ≡ []) → map_after None (reading (old.bytes ++ before) old.place).items ≡ Some m
 
--- The last read of a call took a piece, at most as much as one read takes, where what was held with what was taken earlier
--- ended no turn and did not stop the input.
-pub record ReadsForTurn (old : Held) (before after : List ℕ) : Type 0 where
+-- The last read of a call took a piece, at most as much as one read takes, before the end of the input was met, and the lines
+-- of what was held with what was taken earlier left the call wanting more.
+pub record ReadsWhile (Wants : Walk → Type 0) (old : Held) (before after : List ℕ) : Type 0 where
   pub earlier : List ℕ
   pub piece : List ℕ
   pub took : before ≡ earlier ++ (piece ++ after)
   pub few : length piece ≤ READ_SIZE
-  pub place : Place
-  pub no_turn : walk (full_lines (old.bytes ++ earlier)) old.place ≡ arrived [] place
+  pub going : IsFalse old.ended
+  pub wants : Wants (walk (full_lines (old.bytes ++ earlier)) old.place)
 
--- Nothing is taken ahead: each read is made only where the lines before it neither end the turn nor stop the input.
-abbrev pub TakesNoneAhead : Held → Option (List ℕ) → Option (List ℕ) → Type 0
-TakesNoneAhead old left later = WhereTold left later (λ before after. (before ≡ after) ⊎ ReadsForTurn old before after)
+-- nothing is taken ahead: each read is made only where the lines before it leave the call wanting more
+abbrev pub TakesNoneAhead : (Walk → Type 0) → Held → Option (List ℕ) → Option (List ℕ) → Type 0
+TakesNoneAhead Wants old left later = WhereTold left later (λ before after. (before ≡ after) ⊎ ReadsWhile Wants old before after)
+
+-- more is wanted for a turn: the lines neither end one nor stop the input
+abbrev pub WantsTurn : Walk → Type 0
+WantsTurn w = (place : Place) × (w ≡ arrived [] place)
+
+-- a part of the script before its turns
+abbrev pub IsOfMap : Part → Type 0
+IsOfMap BeforeMap = ⊤
+IsOfMap (InBase rules) = ⊤
+IsOfMap (InTurns rules) = ⊥
+
+-- a walk arrives before the turns
+abbrev pub EndsInMap : Ends → Type 0
+EndsInMap (at_place place) = IsOfMap place.part
+EndsInMap (stuck_by stop) = ⊥
+
+-- more is wanted for the map: the lines are of the map alone, and do not stop the input
+abbrev pub WantsMap : Walk → Type 0
+WantsMap w = EndsInMap w.ends
+
+-- behind the first line that is held stands at most as much as one read takes
+abbrev pub HoldsFew : List ℕ → Type 0
+HoldsFew bytes = length bytes ≤ length (first_line bytes) + 1 + READ_SIZE
 
 -- no call follows an answer without a turn
 abbrev pub is_last : Result (Option (List (List Post))) ScriptFault → Bool
@@ -170,3 +196,24 @@ HoldsRefused h (BadLine n) = HoldsBad n h
 HoldsRefused h (TooLong n) = ⊤
 HoldsRefused h ReadFault = ⊤
 HoldsRefused h NoMemory = ⊤
+
+-- What a call takes from a source: the source gave the first of the bytes that it had left (`before`) and has the rest
+-- (`now`), its count of faults has not fallen, and the answer is ReadFault only where that count rose.
+pub record TakesFrom {A : Type 0} (before now : Option (List ℕ)) (faults_before faults_now : ℕ) (result : Result A ScriptFault) : Type 0 where
+  pub given : HasGiven before now
+  pub later : faults_before ≤ faults_now
+  pub fault : IsErrOf result ReadFault → Rose faults_before faults_now
+
+-- What an answer leaves held: no more was used than an input may have, an end of the input that was met stays met, and what
+-- was refused as bad is still there.
+pub record LeavesHeld {A : Type 0} (old new : Held) (result : Result A ScriptFault) : Type 0 where
+  pub limit : new.place.bytes ≤ MAX_INPUT_BYTES
+  pub stays : IsTrue old.ended → IsTrue new.ended
+  pub bad : IfErr result (HoldsRefused new)
+
+-- What a call leaves behind: that, whether it was the last, after which no call may follow, and that the reader has failed
+-- where it was refused.
+pub record Leaves {A : Type 0} (old new : Held) (last : Bool) (result : Result A ScriptFault) : Type 0 where
+  pub held : LeavesHeld old new result
+  pub over : new.over ≡ last
+  pub failed : new.failed ≡ is_err result

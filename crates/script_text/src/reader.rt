@@ -1,15 +1,13 @@
 //! Scripts, read turn by turn.
-ghost use Rattle.std.specs.Prelude.{◌≡◌, ◌+◌, ◌*◌, ◌≤◌, ℕ, IfErr, IfOk, IfSome, IsErrOf, IsFalse, IsSome, IsTrue, None};
+ghost use Rattle.std.specs.Prelude.{◌≡◌, ◌+◌, ◌*◌, ◌≤◌, ℕ, IfErr, IfOk, IfSome, IsFalse, IsSome, IsTrue, None};
 ghost use Rattle.std.specs.Prelude.{OnErr, OnOk, Some, is_err, length, [], ◌∷◌};
 ghost use Rattle.nav_types.specs.declared.limits.TheConstants.{MAX_INPUT_BYTES, MAX_LINE_BYTES};
-ghost use Rattle.io_edges.specs.Faults.{Rose};
-ghost use Rattle.io_edges.specs.Passing.{HasGiven};
 ghost use Rattle.posts.specs.Posts.{post_count};
 ghost use Rattle.input_lines.specs.declared.intake.TheConstants.{READ_SIZE};
 ghost use Rattle.script_text.specs.declared.parts.Part.TheVariants.{InBase};
 ghost use Rattle.script_text.specs.Script.{accept, beginning, counted, rules_of};
-ghost use Rattle.script_text.specs.Reader.{HaveLinesAt, HoldsRefused, HoldsTurn, IsWholeMap, MapTold, TakesNoneAhead};
-ghost use Rattle.script_text.specs.Reader.{TurnTold};
+ghost use Rattle.script_text.specs.Reader.{HaveLinesAt, HoldsFew, HoldsRefused, HoldsTurn, IsWholeMap, Leaves, LeavesHeld};
+ghost use Rattle.script_text.specs.Reader.{MapTold, TakesFrom, TakesNoneAhead, TurnTold, WantsMap, WantsTurn};
 ghost use Rattle.script_text.specs.Reader.{callers_of, held_cause, is_last, rules_at};
 ghost use Rattle.script_text.specs.inner.Judging.{BaseTold, BeginsMap, CountsPosts, GivesTurn, IsBadAt};
 ghost use Rattle.script_text.specs.inner.Judging.{IsBetweenTurns, IsInTurns, IsNoBaseAt, TakesBase};
@@ -80,6 +78,9 @@ impl ScriptReader {
     /// Reads the map: line 1, and then each line that is a base line. The first line that is none stays unused, and
     /// `next_turn` judges it. It comes first, and once.
     ///
+    /// It reads only while the lines that are held are all of the map and do not stop the script, so behind the line that
+    /// stays unused no more is held than of the read that completed it (`TakesNoneAhead`, `HoldsFew`).
+    ///
     /// The only bad line that it names is line 1. It refuses a line or an input past its limit, and a fault of the
     /// source that comes before the first line that is no base line is whole. No call follows a refusal.
     pub fn read_map<S: Source>(
@@ -91,16 +92,12 @@ impl ScriptReader {
         requires going { IsFalse self.old.over }
         ensures told { MapTold self.old self.new (S.left source.old) (S.left source.new) result }
         ensures whole { IfOk result (λ map. IsWholeMap self.old (S.left source.old) map) }
-        ensures given { HasGiven (S.left source.old) (S.left source.new) }
-        ensures later { S.faults source.old ≤ S.faults source.new }
-        ensures fault { IsErrOf result ScriptFault.ReadFault → Rose (S.faults source.old) (S.faults source.new) }
+        ensures ahead { TakesNoneAhead WantsMap self.old (S.left source.old) (S.left source.new) }
+        ensures takes { TakesFrom (S.left source.old) (S.left source.new) (S.faults source.old) (S.faults source.new) result }
         ensures bad_line { IfErr result (λ fault. (n : ℕ) → fault ≡ ScriptFault.BadLine n → n ≡ 1) }
         ensures rules { IfOk result (λ map. self.new.place.part ≡ InBase (rules_of map)) }
-        ensures limit { self.new.place.bytes ≤ MAX_INPUT_BYTES }
-        ensures stays { IsTrue self.old.ended → IsTrue self.new.ended }
-        ensures over { self.new.over ≡ is_err result }
-        ensures failed { self.new.failed ≡ is_err result }
-        ensures bad { IfErr result (HoldsRefused self.new) }
+        ensures few { OnOk result (HoldsFew self.new.bytes) }
+        ensures leaves { Leaves self.old self.new (is_err result) result }
     {
         let answer = read_lines_of_map(alloc, source, &mut self.lines, &mut self.progress);
         self.failed = answer.is_err();
@@ -126,21 +123,15 @@ impl ScriptReader {
         requires going { IsFalse self.old.over }
         ensures told { TurnTold self.old self.new (S.left source.old) (S.left source.new) result }
         ensures still { HoldsTurn self.old → source.new ≡ source.old }
-        ensures ahead { TakesNoneAhead self.old (S.left source.old) (S.left source.new) }
-        ensures given { HasGiven (S.left source.old) (S.left source.new) }
-        ensures later { S.faults source.old ≤ S.faults source.new }
-        ensures fault { IsErrOf result ScriptFault.ReadFault → Rose (S.faults source.old) (S.faults source.new) }
+        ensures ahead { TakesNoneAhead WantsTurn self.old (S.left source.old) (S.left source.new) }
+        ensures takes { TakesFrom (S.left source.old) (S.left source.new) (S.faults source.old) (S.faults source.new) result }
         ensures rules { rules_at self.new.place.part ≡ rules_at self.old.place.part }
         ensures few { IfOk result (λ next. IfSome next (λ turn. length self.new.bytes ≤ READ_SIZE)) }
         ensures lists { IfOk result (λ next. IfSome next (λ turn. length turn ≡ callers_of self.old.place.part)) }
         ensures lines { IfOk result (λ next. IfSome next (HaveLinesAt self.old.place.part)) }
         ensures used { IfOk result (λ next. IfSome next
             (λ turn. self.old.place.bytes + 2 * post_count turn + 2 ≤ self.new.place.bytes)) }
-        ensures limit { self.new.place.bytes ≤ MAX_INPUT_BYTES }
-        ensures stays { IsTrue self.old.ended → IsTrue self.new.ended }
-        ensures over { self.new.over ≡ is_last result }
-        ensures failed { self.new.failed ≡ is_err result }
-        ensures bad { IfErr result (HoldsRefused self.new) }
+        ensures leaves { Leaves self.old self.new (is_last result) result }
     {
         let answer = read_turn(alloc, source, &mut self.lines, &mut self.progress);
         self.failed = answer.is_err();
@@ -196,15 +187,13 @@ fn read_lines_of_map<S: Source>(
     requires between { lines.old.line_end ≡ None → lines.old.line ≡ [] }
     ensures told { MapTold (held_at progress.old lines.old) (held_at progress.new lines.new) (S.left source.old)
         (S.left source.new) result }
-    ensures given { HasGiven (S.left source.old) (S.left source.new) }
-    ensures later { S.faults source.old ≤ S.faults source.new }
-    ensures fault { IsErrOf result ScriptFault.ReadFault → Rose (S.faults source.old) (S.faults source.new) }
+    ensures ahead { TakesNoneAhead WantsMap (held_at progress.old lines.old) (S.left source.old) (S.left source.new) }
+    ensures takes { TakesFrom (S.left source.old) (S.left source.new) (S.faults source.old) (S.faults source.new) result }
     ensures bad_line { IfErr result (λ fault. (n : ℕ) → fault ≡ ScriptFault.BadLine n → n ≡ 1) }
     ensures rules { IfOk result (λ map. progress.new.part ≡ InBase (rules_of map)) }
     ensures ready { OnOk result (IsBetweenTurns progress.new lines.new) }
-    ensures limit { progress.new.bytes ≤ MAX_INPUT_BYTES }
-    ensures stays { IsTrue lines.old.rest.ended → IsTrue lines.new.rest.ended }
-    ensures bad { IfErr result (HoldsRefused (held_at progress.new lines.new)) }
+    ensures few { OnOk result (HoldsFew (bytes_of lines.new)) }
+    ensures leaves { LeavesHeld (held_at progress.old lines.old) (held_at progress.new lines.new) result }
 {
     let room = progress.room();
     let found = match lines.next_line(source, room) {
@@ -258,14 +247,13 @@ fn read_base_lines<S: Source>(
     requires between { lines.old.line_end ≡ None → lines.old.line ≡ [] }
     ensures told { BaseTold (held_at progress.old lines.old) (held_at progress.new lines.new) map.old map.new
         (S.left source.old) (S.left source.new) result }
-    ensures given { HasGiven (S.left source.old) (S.left source.new) }
-    ensures later { S.faults source.old ≤ S.faults source.new }
-    ensures fault { IsErrOf result ScriptFault.ReadFault → Rose (S.faults source.old) (S.faults source.new) }
+    ensures ahead { TakesNoneAhead WantsMap (held_at progress.old lines.old) (S.left source.old) (S.left source.new) }
+    ensures takes { TakesFrom (S.left source.old) (S.left source.new) (S.faults source.old) (S.faults source.new) result }
     ensures good { IfErr result (λ fault. (n : ℕ) → fault ≡ ScriptFault.BadLine n → ⊥) }
     ensures rules { progress.new.part ≡ InBase (rules_of map.new) }
     ensures ready { OnOk result (IsBetweenTurns progress.new lines.new) }
-    ensures limit { progress.new.bytes ≤ MAX_INPUT_BYTES }
-    ensures stays { IsTrue lines.old.rest.ended → IsTrue lines.new.rest.ended }
+    ensures few { OnOk result (HoldsFew (bytes_of lines.new)) }
+    ensures leaves { LeavesHeld (held_at progress.old lines.old) (held_at progress.new lines.new) result }
 {
     'lines: loop {
         let room = progress.room();
@@ -322,9 +310,8 @@ fn read_turn<S: Source>(
     ensures told { TurnTold (held_at progress.old lines.old) (held_at progress.new lines.new) (S.left source.old)
         (S.left source.new) result }
     ensures still { HoldsTurn (held_at progress.old lines.old) → source.new ≡ source.old }
-    ensures ahead { TakesNoneAhead (held_at progress.old lines.old) (S.left source.old) (S.left source.new) }
-    ensures later { S.faults source.old ≤ S.faults source.new }
-    ensures fault { IsErrOf result ScriptFault.ReadFault → Rose (S.faults source.old) (S.faults source.new) }
+    ensures ahead { TakesNoneAhead WantsTurn (held_at progress.old lines.old) (S.left source.old) (S.left source.new) }
+    ensures takes { TakesFrom (S.left source.old) (S.left source.new) (S.faults source.old) (S.faults source.new) result }
     ensures rules { rules_at progress.new.part ≡ rules_at progress.old.part }
     ensures few { IfOk result (λ next. IfSome next (λ turn. length (bytes_of lines.new) ≤ READ_SIZE)) }
     ensures lists { IfOk result (λ next. IfSome next (λ turn. length turn ≡ callers_of progress.old.part)) }
@@ -332,9 +319,7 @@ fn read_turn<S: Source>(
     ensures used { IfOk result (λ next. IfSome next
         (λ turn. progress.old.bytes + 2 * post_count turn + 2 ≤ progress.new.bytes)) }
     ensures ready { IfOk result (λ next. IfSome next (λ turn. IsBetweenTurns progress.new lines.new)) }
-    ensures limit { progress.new.bytes ≤ MAX_INPUT_BYTES }
-    ensures stays { IsTrue lines.old.rest.ended → IsTrue lines.new.rest.ended }
-    ensures bad { IfErr result (HoldsRefused (held_at progress.new lines.new)) }
+    ensures leaves { LeavesHeld (held_at progress.old lines.old) (held_at progress.new lines.new) result }
 {
     'lines: loop {
         let room = progress.room();

@@ -1,14 +1,13 @@
 use Rattle.std.proofs.Common.{◌≡◌, ◌∙◌, ℕ, ◌+◌, Bool, Option, Ok, IsTrue, refl, ap, sym, subst, arith}
 use Rattle.std.proofs.lemmas.Result.{err_from_is_err_and}
-use Rattle.io_edges.proofs.Passed.{given_none, given_more}
 use Rattle.posts.specs.Posts.{post_count}
 use Rattle.script_text.specs.Script.{rules_of}
-use Rattle.input_lines.specs.Held.{Taken, FindsLine, NextTold}
+use Rattle.script_text.specs.Reader.{HoldsFew, WantsMap}
+use Rattle.input_lines.specs.Held.{Taken, HeldLine, FindsLine, NextTold, bytes_of}
 use Rattle.script_text.specs.inner.Judging.{TakesBase, held_at}
 use Rattle.script_text.proofs.ReadCalls.{adds_nowhere, adds_line, adds_end, adds_kept, adds_refused, adds_fault, used_up_ready, no_base_ready, whole_between}
-use Rattle.input_lines.proofs.ToldLines.{rose-later}
-use Rattle.input_lines.proofs.NeededReads.{given_by_need}
-use Rattle.script_text.proofs.ReadAnswers.{no_bad_line, unread_err}
+use Rattle.script_text.proofs.ReadNeed.{ahead-none, ahead_base, given_ahead}
+use Rattle.script_text.proofs.ReadAnswers.{few_none, few_whole, no_bad_line, refused_base, refused_unread, takes_line, unread_base, unread_err}
 use Rattle.script_text.proofs.reader.read_base_lines.Goals as goal
 
 pub lines-init : goal.lines-init
@@ -18,7 +17,7 @@ lines-init g c = record {
   posts = c.requires.posts;
   between = c.requires.between;
   stays = λ ended. ended;
-  given = given_none _;
+  ahead = ahead-none WantsMap (held_at c.args.progress.now c.args.lines.now) (g.S.Source.left c.args.source.now);
   later = omega arith;
 }
 
@@ -43,7 +42,8 @@ lines-preserved g c =
       posts = ap post_count c.take_base_line.ensures.posts ∙ c.lines.invariant.posts;
       between = λ none. ap (λ h. h.line) uses.line;
       stays = λ ended. subst Ended (sym c.take_base_line.ensures.rest) (c.in-Ok.ensures.stays (c.lines.invariant.stays ended));
-      given = given_more _ _ _ c.lines.invariant.given (given_by_need _ _ _ _ c.next_line.ensures.reads);
+      ahead = ahead_base first c.lines.progress c.lines.lines (rules_of c.lines.map) c.args.map.now c.lines.map (left c.args.source.now) (left c.lines.source) (left c.next_line.new.source)
+          c.lines.invariant.part c.lines.invariant.stays c.lines.invariant.told c.lines.invariant.ahead c.next_line.ensures.reads;
       later = omega (arith, c.lines.invariant.later, c.next_line.ensures.later);
     }
 
@@ -105,76 +105,113 @@ returns-then-not-branch-clause-ready g c =
     no_base_ready c.lines.progress c.take_base_line.new.progress now after c.in-Some.size (rules_of c.lines.map) c.lines.invariant.part c.lines.invariant.posts whole
     c.in-Ok.ensures.plain kept.line.same kept.same kept.line.no_base (whole_between now c.in-Some.size whole)
 
--- ---- what the source gave
+-- ---- nothing was read ahead
 
-pub returns-then-not-branch-clause-given : goal.returns-then-not-branch-clause-given
-returns-then-not-branch-clause-given g c = given_more _ _ _ c.lines.invariant.given (given_by_need _ _ _ _ c.next_line.ensures.reads)
+pub returns-in-Err-clause-ahead : goal.returns-in-Err-clause-ahead
+returns-in-Err-clause-ahead g c =
+    let left = g.S.Source.left in
+    ahead_base (held_at c.args.progress.now c.args.lines.now) c.lines.progress c.lines.lines (rules_of c.lines.map) c.args.map.now c.lines.map (left c.args.source.now) (left c.lines.source) (left c.next_line.new.source)
+    c.lines.invariant.part c.lines.invariant.stays c.lines.invariant.told c.lines.invariant.ahead c.next_line.ensures.reads
 
-pub returns-in_default-clause-given : goal.returns-in_default-clause-given
-returns-in_default-clause-given g c = given_more _ _ _ c.lines.invariant.given (given_by_need _ _ _ _ c.next_line.ensures.reads)
+pub returns-in_default-clause-ahead : goal.returns-in_default-clause-ahead
+returns-in_default-clause-ahead g c =
+    let left = g.S.Source.left in
+    ahead_base (held_at c.args.progress.now c.args.lines.now) c.lines.progress c.lines.lines (rules_of c.lines.map) c.args.map.now c.lines.map (left c.args.source.now) (left c.lines.source) (left c.next_line.new.source)
+    c.lines.invariant.part c.lines.invariant.stays c.lines.invariant.told c.lines.invariant.ahead c.next_line.ensures.reads
 
-pub returns-in_err-take_base_line-clause-given : goal.returns-in_err-take_base_line-clause-given
-returns-in_err-take_base_line-clause-given g c = given_more _ _ _ c.lines.invariant.given (given_by_need _ _ _ _ c.next_line.ensures.reads)
+pub returns-in_err-take_base_line-clause-ahead : goal.returns-in_err-take_base_line-clause-ahead
+returns-in_err-take_base_line-clause-ahead g c =
+    let left = g.S.Source.left in
+    ahead_base (held_at c.args.progress.now c.args.lines.now) c.lines.progress c.lines.lines (rules_of c.lines.map) c.args.map.now c.lines.map (left c.args.source.now) (left c.lines.source) (left c.next_line.new.source)
+    c.lines.invariant.part c.lines.invariant.stays c.lines.invariant.told c.lines.invariant.ahead c.next_line.ensures.reads
 
-pub returns-in-Err-clause-given : goal.returns-in-Err-clause-given
-returns-in-Err-clause-given g c = given_more _ _ _ c.lines.invariant.given (given_by_need _ _ _ _ c.next_line.ensures.reads)
+pub returns-then-not-branch-clause-ahead : goal.returns-then-not-branch-clause-ahead
+returns-then-not-branch-clause-ahead g c =
+    let left = g.S.Source.left in
+    ahead_base (held_at c.args.progress.now c.args.lines.now) c.lines.progress c.lines.lines (rules_of c.lines.map) c.args.map.now c.lines.map (left c.args.source.now) (left c.lines.source) (left c.next_line.new.source)
+    c.lines.invariant.part c.lines.invariant.stays c.lines.invariant.told c.lines.invariant.ahead c.next_line.ensures.reads
+
+-- ---- what was taken
+
+pub returns-in-Err-clause-takes : goal.returns-in-Err-clause-takes
+returns-in-Err-clause-takes g c =
+    rw c.no_line.ensures
+    (takes_line _ _ _ _ _ _ _ _ _ (given_ahead WantsMap _ _ _ c.lines.invariant.ahead) c.lines.invariant.later c.next_line.ensures.reads c.next_line.ensures.later (λ is. c.in-Err.ensures.fault (unread_err (c.lines.progress.lines + 1) c.in-Err.fault is)))
+
+pub returns-in_default-clause-takes : goal.returns-in_default-clause-takes
+returns-in_default-clause-takes g c =
+    takes_line _ _ _ _ _ _ _ _ _ (given_ahead WantsMap _ _ _ c.lines.invariant.ahead) c.lines.invariant.later c.next_line.ensures.reads c.next_line.ensures.later (λ is. absurd (cc))
+
+pub returns-in_err-take_base_line-clause-takes : goal.returns-in_err-take_base_line-clause-takes
+returns-in_err-take_base_line-clause-takes g c =
+    let p = err_from_is_err_and c.from_residual.result c.from_residual.ensures.1 in
+    rw (p.1, p.2)
+    (takes_line _ _ _ _ _ _ _ _ _ (given_ahead WantsMap _ _ _ c.lines.invariant.ahead) c.lines.invariant.later c.next_line.ensures.reads c.next_line.ensures.later
+    (λ is. absurd (unread_base c.lines.progress c.take_base_line.new.progress c.lines.map c.take_base_line.new.map c.next_line.new.self c.take_base_line.new.lines c.in-Some.size c.in_err-take_base_line.field-0.0 c.in_err-take_base_line.ensures.takes is)))
+
+pub returns-then-not-branch-clause-takes : goal.returns-then-not-branch-clause-takes
+returns-then-not-branch-clause-takes g c =
+    takes_line _ _ _ _ _ _ _ _ _ (given_ahead WantsMap _ _ _ c.lines.invariant.ahead) c.lines.invariant.later c.next_line.ensures.reads c.next_line.ensures.later (λ is. absurd (cc))
+
+-- ---- how much is held
+
+pub returns-in_default-clause-few : goal.returns-in_default-clause-few
+returns-in_default-clause-few g c =
+    let Found : Option ℕ → Type 0 = λ found. FindsLine c.next_line.new.self found in
+    few_none c.next_line.new.self (subst Found c.in_default.is c.in-Ok.ensures.finds)
+
+pub returns-then-not-branch-clause-few : goal.returns-then-not-branch-clause-few
+returns-then-not-branch-clause-few g c =
+    let now = c.next_line.new.self in
+    let after = c.take_base_line.new.lines in
+    let Few : HeldLine → Type 0 = λ h. HoldsFew (bytes_of h) in
+    let Found : Option ℕ → Type 0 = λ found. FindsLine now found in
+    let Base : Bool → Type 0 = λ taken. TakesBase c.lines.progress c.take_base_line.new.progress c.lines.map c.take_base_line.new.map now after c.in-Some.size (Ok taken) in
+    let kept = subst Base c.if-not-branch.true c.in_ok-take_base_line.ensures.takes in
+    subst Few (sym kept.same) (few_whole now c.in-Some.size (subst Found c.in-Some.is c.in-Ok.ensures.finds) c.in-Ok.ensures.plain c.next_line.ensures.behind)
+
+-- ---- what is left
+
+pub returns-in-Err-clause-leaves : goal.returns-in-Err-clause-leaves
+returns-in-Err-clause-leaves g c =
+    rw c.no_line.ensures (record {
+      limit = c.room-room.ensures.limit;
+      stays = λ ended. c.next_line.ensures.stays (c.lines.invariant.stays ended);
+      bad = refused_unread (held_at c.lines.progress c.next_line.new.self) (c.lines.progress.lines + 1) c.in-Err.fault;
+    })
+
+pub returns-in_default-clause-leaves : goal.returns-in_default-clause-leaves
+returns-in_default-clause-leaves g c = record { limit = c.room-room.ensures.limit; stays = λ ended. c.next_line.ensures.stays (c.lines.invariant.stays ended); bad = tt }
+
+pub returns-in_err-take_base_line-clause-leaves : goal.returns-in_err-take_base_line-clause-leaves
+returns-in_err-take_base_line-clause-leaves g c =
+    let Ended : Taken → Type 0 = λ rest. IsTrue rest.ended in
+    let p = err_from_is_err_and c.from_residual.result c.from_residual.ensures.1 in
+    rw (p.1, p.2) (record {
+      limit = c.take_base_line.ensures.limit;
+      stays = λ ended. subst Ended (sym c.take_base_line.ensures.rest) (c.next_line.ensures.stays (c.lines.invariant.stays ended));
+      bad = refused_base c.lines.progress c.take_base_line.new.progress c.lines.map c.take_base_line.new.map c.next_line.new.self c.take_base_line.new.lines c.in-Some.size
+          (held_at c.take_base_line.new.progress c.take_base_line.new.lines) c.in_err-take_base_line.field-0.0 c.in_err-take_base_line.ensures.takes;
+    })
+
+pub returns-then-not-branch-clause-leaves : goal.returns-then-not-branch-clause-leaves
+returns-then-not-branch-clause-leaves g c =
+    let Ended : Taken → Type 0 = λ rest. IsTrue rest.ended in
+    record { limit = c.take_base_line.ensures.limit; stays = λ ended. subst Ended (sym c.take_base_line.ensures.rest) (c.next_line.ensures.stays (c.lines.invariant.stays ended)); bad = tt }
 
 -- ---- what is kept
-
-pub returns-in-Err-clause-later : goal.returns-in-Err-clause-later
-returns-in-Err-clause-later g c = omega (arith, c.lines.invariant.later, c.next_line.ensures.later)
 
 pub returns-in-Err-clause-rules : goal.returns-in-Err-clause-rules
 returns-in-Err-clause-rules g c = c.lines.invariant.part
 
-pub returns-in-Err-clause-limit : goal.returns-in-Err-clause-limit
-returns-in-Err-clause-limit g c = c.room-room.ensures.limit
-
-pub returns-in-Err-clause-stays : goal.returns-in-Err-clause-stays
-returns-in-Err-clause-stays g c = λ ended. c.next_line.ensures.stays (c.lines.invariant.stays ended)
-
-pub returns-in_default-clause-later : goal.returns-in_default-clause-later
-returns-in_default-clause-later g c = omega (arith, c.lines.invariant.later, c.next_line.ensures.later)
-
 pub returns-in_default-clause-rules : goal.returns-in_default-clause-rules
 returns-in_default-clause-rules g c = c.lines.invariant.part
-
-pub returns-in_default-clause-limit : goal.returns-in_default-clause-limit
-returns-in_default-clause-limit g c = c.room-room.ensures.limit
-
-pub returns-in_default-clause-stays : goal.returns-in_default-clause-stays
-returns-in_default-clause-stays g c = λ ended. c.next_line.ensures.stays (c.lines.invariant.stays ended)
-
-pub returns-in_err-take_base_line-clause-later : goal.returns-in_err-take_base_line-clause-later
-returns-in_err-take_base_line-clause-later g c = omega (arith, c.lines.invariant.later, c.next_line.ensures.later)
 
 pub returns-in_err-take_base_line-clause-rules : goal.returns-in_err-take_base_line-clause-rules
 returns-in_err-take_base_line-clause-rules g c = c.take_base_line.ensures.rules
 
-pub returns-in_err-take_base_line-clause-limit : goal.returns-in_err-take_base_line-clause-limit
-returns-in_err-take_base_line-clause-limit g c = c.take_base_line.ensures.limit
-
-pub returns-in_err-take_base_line-clause-stays : goal.returns-in_err-take_base_line-clause-stays
-returns-in_err-take_base_line-clause-stays g c =
-    let Ended : Taken → Type 0 = λ rest. IsTrue rest.ended in
-    λ ended. subst Ended (sym c.take_base_line.ensures.rest) (c.next_line.ensures.stays (c.lines.invariant.stays ended))
-
-pub returns-then-not-branch-clause-later : goal.returns-then-not-branch-clause-later
-returns-then-not-branch-clause-later g c = omega (arith, c.lines.invariant.later, c.next_line.ensures.later)
-
 pub returns-then-not-branch-clause-rules : goal.returns-then-not-branch-clause-rules
 returns-then-not-branch-clause-rules g c = c.take_base_line.ensures.rules
-
-pub returns-then-not-branch-clause-limit : goal.returns-then-not-branch-clause-limit
-returns-then-not-branch-clause-limit g c = c.take_base_line.ensures.limit
-
-pub returns-then-not-branch-clause-stays : goal.returns-then-not-branch-clause-stays
-returns-then-not-branch-clause-stays g c =
-    let Ended : Taken → Type 0 = λ rest. IsTrue rest.ended in
-    λ ended. subst Ended (sym c.take_base_line.ensures.rest) (c.next_line.ensures.stays (c.lines.invariant.stays ended))
-
-pub returns-in-Err-clause-fault : goal.returns-in-Err-clause-fault
-returns-in-Err-clause-fault g c = rw c.no_line.ensures (λ is. rose-later _ _ _ c.lines.invariant.later (c.in-Err.ensures.fault (unread_err (c.lines.progress.lines + 1) c.in-Err.fault is)))
 
 pub returns-in-Err-clause-good : goal.returns-in-Err-clause-good
 returns-in-Err-clause-good g c = rw c.no_line.ensures (no_bad_line (c.lines.progress.lines + 1) c.in-Err.fault)

@@ -1,9 +1,9 @@
 -- The lines used so far added their rectangles to the map, and a line is held whole or nothing of one is.
 use Rattle.std.proofs.Common.{◌≡◌, ◌≤◌, ◌-◌, [], None, IsTrue}
-use Rattle.io_edges.specs.Passing.{HasGiven}
 use Rattle.posts.specs.Posts.{post_count}
 use Rattle.script_text.specs.declared.parts.Part.TheVariants.{InBase}
 use Rattle.script_text.specs.Script.{rules_of}
+use Rattle.script_text.specs.Reader.{TakesNoneAhead, WantsMap}
 use Rattle.script_text.specs.inner.Judging.{held_at}
 use Rattle.script_text.proofs.ReadCalls.{AddsTold}
 use Rattle.script_text.proofs.reader.read_base_lines.Given as goal
@@ -15,7 +15,7 @@ invariant-lines g l = record {
   posts : post_count l.progress.posts ≡ 0;
   between : l.lines.line_end ≡ None → l.lines.line ≡ [];
   stays : IsTrue l.initial.lines.rest.ended → IsTrue l.lines.rest.ended;
-  given : HasGiven (g.S.Source.left l.initial.source) (g.S.Source.left l.source);
+  ahead : TakesNoneAhead WantsMap (held_at l.initial.progress l.initial.lines) (g.S.Source.left l.initial.source) (g.S.Source.left l.source);
   later : g.S.Source.faults l.initial.source ≤ g.S.Source.faults l.source;
 }
 

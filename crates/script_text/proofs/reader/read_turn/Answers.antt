@@ -4,21 +4,21 @@ use Rattle.posts.specs.declared.posts.Post.{Post}
 use Rattle.posts.specs.Posts.{post_count}
 use Rattle.script_text.specs.Script.{accept}
 use Rattle.script_text.specs.declared.parts.Rules.{Rules}
-use Rattle.script_text.specs.Reader.{UsesLines, callers_of}
+use Rattle.script_text.specs.Reader.{UsesLines, WantsTurn, callers_of}
 use Rattle.input_lines.specs.Held.{Taken, HeldLine, FindsLine, NextTold}
 use Rattle.script_text.specs.inner.Judging.{CountsPosts, GivesTurn, held_at}
 use Rattle.script_text.proofs.PostVersions.{have_all, have_on, none_have_at}
 use Rattle.script_text.proofs.ReadCalls.{goes_begun, goes_post, turn_told, turn_refused, turn_fault, turn_none, turn_missing, in_turns_next}
-use Rattle.script_text.proofs.ReadNeed.{ahead-none, ahead_on}
-use Rattle.script_text.proofs.ReadAnswers.{no_base_found, refused_unread, same_callers, stuck_unread, unread_err}
-use Rattle.input_lines.proofs.ToldLines.{rose-later}
+use Rattle.script_text.proofs.ReadNeed.{ahead-none, ahead_on, given_ahead}
+use Rattle.script_text.proofs.ReadAnswers.{no_base_found, refused_unread, same_callers, stuck_unread, takes_line, unread_err}
+use Rattle.script_text.proofs.HeldCauses.{holds_missing}
 use Rattle.script_text.proofs.ReadStill.{holds_line, still_unread, uses_held, uses_none}
 use Rattle.script_text.proofs.reader.read_turn.Goals as goal
 
 pub lines-init : goal.lines-init
 lines-init g c = record {
   told = goes_begun (held_at c.args.progress.now c.args.lines.now) (g.S.Source.left c.args.source.now);
-  ahead = ahead-none (held_at c.args.progress.now c.args.lines.now) (g.S.Source.left c.args.source.now);
+  ahead = ahead-none WantsTurn (held_at c.args.progress.now c.args.lines.now) (g.S.Source.left c.args.source.now);
   rules = refl;
   between = c.requires.ready.between;
   no_base = c.requires.ready.no_base;
@@ -192,19 +192,75 @@ returns-in-Err-clause-ahead g c =
     ahead_on (held_at c.args.progress.now c.args.lines.now) c.lines.progress c.lines.lines (left c.args.source.now) (left c.lines.source) (left c.next_line.new.source)
     c.lines.invariant.stays c.lines.invariant.told c.lines.invariant.ahead c.next_line.ensures.reads
 
--- ---- what is kept, and what an answer without a turn owes
+-- ---- what was taken
 
-pub returns-in-Err-clause-later : goal.returns-in-Err-clause-later
-returns-in-Err-clause-later g c = omega (arith, c.lines.invariant.later, c.next_line.ensures.later)
+pub returns-in-Err-clause-takes : goal.returns-in-Err-clause-takes
+returns-in-Err-clause-takes g c =
+    rw c.no_line.ensures
+    (takes_line _ _ _ _ _ _ _ _ _ (given_ahead WantsTurn _ _ _ c.lines.invariant.ahead) c.lines.invariant.later c.next_line.ensures.reads c.next_line.ensures.later (λ is. c.in-Err.ensures.fault (unread_err (c.lines.progress.lines + 1) c.in-Err.fault is)))
+
+pub returns-in_err-finish-clause-takes : goal.returns-in_err-finish-clause-takes
+returns-in_err-finish-clause-takes g c =
+    let p = err_from_is_err_and c.from_residual.result c.from_residual.ensures.1 in
+    rw (p.1, p.2)
+    (takes_line _ _ _ _ _ _ _ _ _ (given_ahead WantsTurn _ _ _ c.lines.invariant.ahead) c.lines.invariant.later c.next_line.ensures.reads c.next_line.ensures.later (λ is. stuck_unread _ c.in_err-finish.field-0.0 c.in_err-finish.ensures.stops is))
+
+pub returns-in_default-clause-takes : goal.returns-in_default-clause-takes
+returns-in_default-clause-takes g c =
+    takes_line _ _ _ _ _ _ _ _ _ (given_ahead WantsTurn _ _ _ c.lines.invariant.ahead) c.lines.invariant.later c.next_line.ensures.reads c.next_line.ensures.later (λ is. absurd (cc))
+
+pub returns-in_err-turn-clause-takes : goal.returns-in_err-turn-clause-takes
+returns-in_err-turn-clause-takes g c =
+    let p = err_from_is_err_and c.from_residual-in_err-turn.result c.from_residual-in_err-turn.ensures.1 in
+    rw (p.1, p.2)
+    (takes_line _ _ _ _ _ _ _ _ _ (given_ahead WantsTurn _ _ _ c.lines.invariant.ahead) c.lines.invariant.later c.next_line.ensures.reads c.next_line.ensures.later (λ is. stuck_unread _ c.in_err-turn.field-0.0 c.in_err-turn.ensures.gives is))
+
+pub returns-in-Some-2-clause-takes : goal.returns-in-Some-2-clause-takes
+returns-in-Some-2-clause-takes g c =
+    takes_line _ _ _ _ _ _ _ _ _ (given_ahead WantsTurn _ _ _ c.lines.invariant.ahead) c.lines.invariant.later c.next_line.ensures.reads c.next_line.ensures.later (λ is. absurd (cc))
+
+-- ---- what is left
+
+pub returns-in-Err-clause-leaves : goal.returns-in-Err-clause-leaves
+returns-in-Err-clause-leaves g c =
+    rw c.no_line.ensures (record {
+      limit = c.room-room.ensures.limit;
+      stays = λ ended. c.next_line.ensures.stays (c.lines.invariant.stays ended);
+      bad = refused_unread (held_at c.lines.progress c.next_line.new.self) (c.lines.progress.lines + 1) c.in-Err.fault;
+    })
+
+pub returns-in_err-finish-clause-leaves : goal.returns-in_err-finish-clause-leaves
+returns-in_err-finish-clause-leaves g c =
+    let Found : Option ℕ → Type 0 = λ found. FindsLine c.next_line.new.self found in
+    let p = err_from_is_err_and c.from_residual.result c.from_residual.ensures.1 in
+    rw (p.1, p.2) (record {
+      limit = c.room-room.ensures.limit;
+      stays = λ ended. c.next_line.ensures.stays (c.lines.invariant.stays ended);
+      bad = holds_missing c.lines.progress c.next_line.new.self c.in_err-finish.field-0.0 (subst Found c.in_default.is c.in-Ok.ensures.finds) c.in_err-finish.ensures.stops;
+    })
+
+pub returns-in_default-clause-leaves : goal.returns-in_default-clause-leaves
+returns-in_default-clause-leaves g c = record { limit = c.room-room.ensures.limit; stays = λ ended. c.next_line.ensures.stays (c.lines.invariant.stays ended); bad = tt }
+
+pub returns-in_err-turn-clause-leaves : goal.returns-in_err-turn-clause-leaves
+returns-in_err-turn-clause-leaves g c =
+    let Ended : Taken → Type 0 = λ rest. IsTrue rest.ended in
+    let p = err_from_is_err_and c.from_residual-in_err-turn.result c.from_residual-in_err-turn.ensures.1 in
+    rw (p.1, p.2) (record {
+      limit = c.take_turn_line.ensures.limit;
+      stays = λ ended. subst Ended (sym c.take_turn_line.ensures.rest) (c.next_line.ensures.stays (c.lines.invariant.stays ended));
+      bad = c.in_err-turn.ensures.bad;
+    })
+
+pub returns-in-Some-2-clause-leaves : goal.returns-in-Some-2-clause-leaves
+returns-in-Some-2-clause-leaves g c =
+    let Ended : Taken → Type 0 = λ rest. IsTrue rest.ended in
+    record { limit = c.take_turn_line.ensures.limit; stays = λ ended. subst Ended (sym c.take_turn_line.ensures.rest) (c.next_line.ensures.stays (c.lines.invariant.stays ended)); bad = tt }
+
+-- ---- what is kept, and what an answer without a turn owes
 
 pub returns-in-Err-clause-rules : goal.returns-in-Err-clause-rules
 returns-in-Err-clause-rules g c = c.lines.invariant.rules
-
-pub returns-in-Err-clause-limit : goal.returns-in-Err-clause-limit
-returns-in-Err-clause-limit g c = c.room-room.ensures.limit
-
-pub returns-in-Err-clause-stays : goal.returns-in-Err-clause-stays
-returns-in-Err-clause-stays g c = λ ended. c.next_line.ensures.stays (c.lines.invariant.stays ended)
 
 pub returns-in-Err-clause-few : goal.returns-in-Err-clause-few
 returns-in-Err-clause-few g c = tt
@@ -221,21 +277,8 @@ returns-in-Err-clause-used g c = tt
 pub returns-in-Err-clause-ready : goal.returns-in-Err-clause-ready
 returns-in-Err-clause-ready g c = tt
 
-pub returns-in-Err-clause-fault : goal.returns-in-Err-clause-fault
-returns-in-Err-clause-fault g c =
-    rw c.no_line.ensures (λ is. rose-later _ _ _ c.lines.invariant.later (c.in-Err.ensures.fault (unread_err (c.lines.progress.lines + 1) c.in-Err.fault is)))
-
-pub returns-in_err-finish-clause-later : goal.returns-in_err-finish-clause-later
-returns-in_err-finish-clause-later g c = omega (arith, c.lines.invariant.later, c.next_line.ensures.later)
-
 pub returns-in_err-finish-clause-rules : goal.returns-in_err-finish-clause-rules
 returns-in_err-finish-clause-rules g c = c.lines.invariant.rules
-
-pub returns-in_err-finish-clause-limit : goal.returns-in_err-finish-clause-limit
-returns-in_err-finish-clause-limit g c = c.room-room.ensures.limit
-
-pub returns-in_err-finish-clause-stays : goal.returns-in_err-finish-clause-stays
-returns-in_err-finish-clause-stays g c = λ ended. c.next_line.ensures.stays (c.lines.invariant.stays ended)
 
 pub returns-in_err-finish-clause-few : goal.returns-in_err-finish-clause-few
 returns-in_err-finish-clause-few g c = rw (err_from_is_err_and c.from_residual.result c.from_residual.ensures.1).1 tt
@@ -252,17 +295,8 @@ returns-in_err-finish-clause-used g c = rw (err_from_is_err_and c.from_residual.
 pub returns-in_err-finish-clause-ready : goal.returns-in_err-finish-clause-ready
 returns-in_err-finish-clause-ready g c = rw (err_from_is_err_and c.from_residual.result c.from_residual.ensures.1).1 tt
 
-pub returns-in_default-clause-later : goal.returns-in_default-clause-later
-returns-in_default-clause-later g c = omega (arith, c.lines.invariant.later, c.next_line.ensures.later)
-
 pub returns-in_default-clause-rules : goal.returns-in_default-clause-rules
 returns-in_default-clause-rules g c = c.lines.invariant.rules
-
-pub returns-in_default-clause-limit : goal.returns-in_default-clause-limit
-returns-in_default-clause-limit g c = c.room-room.ensures.limit
-
-pub returns-in_default-clause-stays : goal.returns-in_default-clause-stays
-returns-in_default-clause-stays g c = λ ended. c.next_line.ensures.stays (c.lines.invariant.stays ended)
 
 pub returns-in_default-clause-few : goal.returns-in_default-clause-few
 returns-in_default-clause-few g c = tt
@@ -279,25 +313,8 @@ returns-in_default-clause-used g c = tt
 pub returns-in_default-clause-ready : goal.returns-in_default-clause-ready
 returns-in_default-clause-ready g c = tt
 
-pub returns-in_default-clause-fault : goal.returns-in_default-clause-fault
-returns-in_default-clause-fault g c = λ is. absurd (cc)
-
-pub returns-in_default-clause-bad : goal.returns-in_default-clause-bad
-returns-in_default-clause-bad g c = tt
-
-pub returns-in_err-turn-clause-later : goal.returns-in_err-turn-clause-later
-returns-in_err-turn-clause-later g c = omega (arith, c.lines.invariant.later, c.next_line.ensures.later)
-
 pub returns-in_err-turn-clause-rules : goal.returns-in_err-turn-clause-rules
 returns-in_err-turn-clause-rules g c = c.take_turn_line.ensures.rules ∙ c.lines.invariant.rules
-
-pub returns-in_err-turn-clause-limit : goal.returns-in_err-turn-clause-limit
-returns-in_err-turn-clause-limit g c = c.take_turn_line.ensures.limit
-
-pub returns-in_err-turn-clause-stays : goal.returns-in_err-turn-clause-stays
-returns-in_err-turn-clause-stays g c =
-    let Ended : Taken → Type 0 = λ rest. IsTrue rest.ended in
-    λ ended. subst Ended (sym c.take_turn_line.ensures.rest) (c.next_line.ensures.stays (c.lines.invariant.stays ended))
 
 pub returns-in_err-turn-clause-few : goal.returns-in_err-turn-clause-few
 returns-in_err-turn-clause-few g c = rw (err_from_is_err_and c.from_residual-in_err-turn.result c.from_residual-in_err-turn.ensures.1).1 tt
@@ -314,42 +331,8 @@ returns-in_err-turn-clause-used g c = rw (err_from_is_err_and c.from_residual-in
 pub returns-in_err-turn-clause-ready : goal.returns-in_err-turn-clause-ready
 returns-in_err-turn-clause-ready g c = rw (err_from_is_err_and c.from_residual-in_err-turn.result c.from_residual-in_err-turn.ensures.1).1 tt
 
-pub returns-in-Some-2-clause-later : goal.returns-in-Some-2-clause-later
-returns-in-Some-2-clause-later g c = omega (arith, c.lines.invariant.later, c.next_line.ensures.later)
-
 pub returns-in-Some-2-clause-rules : goal.returns-in-Some-2-clause-rules
 returns-in-Some-2-clause-rules g c = c.take_turn_line.ensures.rules ∙ c.lines.invariant.rules
-
-pub returns-in-Some-2-clause-limit : goal.returns-in-Some-2-clause-limit
-returns-in-Some-2-clause-limit g c = c.take_turn_line.ensures.limit
-
-pub returns-in-Some-2-clause-stays : goal.returns-in-Some-2-clause-stays
-returns-in-Some-2-clause-stays g c =
-    let Ended : Taken → Type 0 = λ rest. IsTrue rest.ended in
-    λ ended. subst Ended (sym c.take_turn_line.ensures.rest) (c.next_line.ensures.stays (c.lines.invariant.stays ended))
-
-pub returns-in-Some-2-clause-fault : goal.returns-in-Some-2-clause-fault
-returns-in-Some-2-clause-fault g c = λ is. absurd (cc)
-
-pub returns-in-Some-2-clause-bad : goal.returns-in-Some-2-clause-bad
-returns-in-Some-2-clause-bad g c = tt
-
-pub returns-in-Err-clause-bad : goal.returns-in-Err-clause-bad
-returns-in-Err-clause-bad g c =
-    rw c.no_line.ensures (refused_unread (held_at c.lines.progress c.next_line.new.self) (c.lines.progress.lines + 1) c.in-Err.fault)
-
-pub returns-in_err-turn-clause-bad : goal.returns-in_err-turn-clause-bad
-returns-in_err-turn-clause-bad g c = let p = err_from_is_err_and c.from_residual-in_err-turn.result c.from_residual-in_err-turn.ensures.1 in rw (p.1, p.2) c.in_err-turn.ensures.bad
-
-pub returns-in_err-turn-clause-fault : goal.returns-in_err-turn-clause-fault
-returns-in_err-turn-clause-fault g c =
-    let p = err_from_is_err_and c.from_residual-in_err-turn.result c.from_residual-in_err-turn.ensures.1 in
-    rw (p.1, p.2) (λ is. stuck_unread _ c.in_err-turn.field-0.0 c.in_err-turn.ensures.gives is)
-
-pub returns-in_err-finish-clause-fault : goal.returns-in_err-finish-clause-fault
-returns-in_err-finish-clause-fault g c =
-    let p = err_from_is_err_and c.from_residual.result c.from_residual.ensures.1 in
-    rw (p.1, p.2) (λ is. stuck_unread _ c.in_err-finish.field-0.0 c.in_err-finish.ensures.stops is)
 
 -- ---- the turn
 

@@ -1,9 +1,8 @@
 use Rattle.std.proofs.Common.{◌≡◌, ◌∙◌, ◌+◌, ◌*◌, ◌≤◌, length, IfOk, IfSome, IsSome, ap, sym, subst}
 use Rattle.posts.specs.Posts.{post_count}
-use Rattle.script_text.specs.Reader.{HaveLinesAt, Held, HoldsTurn, TakesNoneAhead, TurnTold, callers_of, rules_at}
+use Rattle.script_text.specs.Reader.{HaveLinesAt, Held, HoldsTurn, Leaves, TakesNoneAhead, TurnTold, WantsTurn, callers_of, is_last, rules_at}
 use Rattle.script_text.specs.inner.Judging.{held_at}
-use Rattle.script_text.proofs.ReadNeed.{given_ahead}
-use Rattle.script_text.proofs.ReadAnswers.{refused_flags, where_going}
+use Rattle.script_text.proofs.ReadAnswers.{leaves_flags, where_going}
 use Rattle.script_text.proofs.ReadStill.{turn_flags, ahead_flags, with_flags}
 use Rattle.script_text.proofs.reader.ScriptReader.next_turn.Goals as goal
 
@@ -34,17 +33,13 @@ pub returns-clause-ahead : goal.returns-clause-ahead
 returns-clause-ahead g c =
     let left = g.S.Source.left in
     let turn = c.read_turn-answer in
-    let Said : Held → Type 0 = λ h. TakesNoneAhead h (left c.args.source.now) (left turn.new.source) in
-    subst Said c.self.view_is (ahead_flags (held_at c.self.inside.progress c.self.inside.lines) c.self.inside.over c.self.inside.failed (left c.args.source.now) (left turn.new.source) turn.ensures.ahead)
+    let Said : Held → Type 0 = λ h. TakesNoneAhead WantsTurn h (left c.args.source.now) (left turn.new.source) in
+    subst Said c.self.view_is (ahead_flags WantsTurn (held_at c.self.inside.progress c.self.inside.lines) c.self.inside.over c.self.inside.failed (left c.args.source.now) (left turn.new.source) turn.ensures.ahead)
 
--- what the source gave
-pub returns-clause-given : goal.returns-clause-given
-returns-clause-given g c = given_ahead _ _ _ c.read_turn-answer.ensures.ahead
+pub returns-clause-takes : goal.returns-clause-takes
+returns-clause-takes g c = c.read_turn-answer.ensures.takes
 
 -- what the turn says
-
-pub returns-clause-later : goal.returns-clause-later
-returns-clause-later g c = c.read_turn-answer.ensures.later
 
 pub returns-clause-rules : goal.returns-clause-rules
 returns-clause-rules g c = c.read_turn-answer.ensures.rules ∙ ap (λ h. rules_at h.place.part) c.self.view_is
@@ -70,22 +65,16 @@ returns-clause-used g c =
     let Used : Held → Type 0 = λ h. IfOk turn.result (λ next. IfSome next (λ posts. h.place.bytes + 2 * post_count posts + 2 ≤ turn.new.progress.bytes)) in
     subst Used c.self.view_is turn.ensures.used
 
-pub returns-clause-limit : goal.returns-clause-limit
-returns-clause-limit g c = c.read_turn-answer.ensures.limit
-
-pub returns-clause-stays : goal.returns-clause-stays
-returns-clause-stays g c = λ ended. c.read_turn-answer.ensures.stays (ap (λ h. h.ended) c.self.view_is ∙ ended)
-
-pub returns-clause-over : goal.returns-clause-over
-returns-clause-over g c = c.is_last-self-inside.ensures
-
-pub returns-clause-failed : goal.returns-clause-failed
-returns-clause-failed g c = c.is_err-self-inside.ensures.value
-
-pub returns-clause-bad : goal.returns-clause-bad
-returns-clause-bad g c =
+pub returns-clause-leaves : goal.returns-clause-leaves
+returns-clause-leaves g c =
     let turn = c.read_turn-answer in
-    refused_flags (held_at turn.new.progress turn.new.lines) c.is_last-self-inside.result c.is_err-self-inside.result turn.result turn.ensures.bad
+    let first = held_at c.self.inside.progress c.self.inside.lines in
+    let last = held_at turn.new.progress turn.new.lines in
+    let over = c.is_last-self-inside.result in
+    let failed = c.is_err-self-inside.result in
+    let Left : Held → Type 0 = λ h. Leaves h (with_flags last over failed) (is_last turn.result) turn.result in
+    subst Left c.self.view_is
+    (leaves_flags first last c.self.inside.over c.self.inside.failed over failed (is_last turn.result) turn.result turn.ensures.leaves c.is_last-self-inside.ensures c.is_err-self-inside.ensures.value)
 
 pub invariant_of-self : goal.invariant_of-self
 invariant_of-self g c = λ going. where_going c.read_turn-answer.result c.read_turn-answer.ensures.ready (sym c.is_last-self-inside.ensures ∙ going)
