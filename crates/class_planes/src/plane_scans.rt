@@ -178,59 +178,10 @@ fn has_hit<A: Aim>(
     first_hit(size, from, straight, count, rect, aim).is_some()
 }
 
-/// The stop of the straight run from the cell, where the aim has the rectangle. Each direction has a copy of its own of the
-/// code.
+/// The stop of the straight run from the cell, where the aim has the rectangle. It is small, so that a caller gets code of
+/// its own for each direction that it names.
 #[inline(always)]
 pub fn straight<A: Aim>(
-    plane: &ClassPlane,
-    from: Cell,
-    straight: Straight,
-    rect: Rect,
-    aim: &A,
-) -> Option<Cell>
-    requires start { IsTrue (is_passable plane.now from) }
-    requires aim { A.sound aim.now plane.now.size }
-    requires frame { IsFrame (A.framed aim.now plane.now.size) plane.now.size rect }
-    ensures some { IfSome result
-        (IsStraightStop (is_passable plane.now) (A.hit aim.now plane.now.size) (straight_dir straight) from) }
-    ensures none { IfNone result
-        ((stop : Cell) → ¬ IsStraightStop (is_passable plane.now) (A.hit aim.now plane.now.size) (straight_dir straight) from stop) }
-{
-    match (straight.axis, straight.way) {
-        (Axis::Row, Way::Up) => {
-            let straight = Straight {
-                axis: Axis::Row,
-                way: Way::Up,
-            };
-            straight_to(plane, from, straight, rect, aim)
-        }
-        (Axis::Row, Way::Down) => {
-            let straight = Straight {
-                axis: Axis::Row,
-                way: Way::Down,
-            };
-            straight_to(plane, from, straight, rect, aim)
-        }
-        (Axis::Column, Way::Up) => {
-            let straight = Straight {
-                axis: Axis::Column,
-                way: Way::Up,
-            };
-            straight_to(plane, from, straight, rect, aim)
-        }
-        (Axis::Column, Way::Down) => {
-            let straight = Straight {
-                axis: Axis::Column,
-                way: Way::Down,
-            };
-            straight_to(plane, from, straight, rect, aim)
-        }
-    }
-}
-
-/// The stop of the straight run in this direction.
-#[inline(always)]
-fn straight_to<A: Aim>(
     plane: &ClassPlane,
     from: Cell,
     straight: Straight,
@@ -248,6 +199,26 @@ fn straight_to<A: Aim>(
     if !meets(rect, from, straight.axis) {
         return forced_stop(plane, from, straight);
     }
+    scanned_stop(plane, from, straight, rect, aim)
+}
+
+/// The stop of the straight run from the cell, which is scanned, and looked through for a cell that is hit.
+#[inline(never)]
+fn scanned_stop<A: Aim>(
+    plane: &ClassPlane,
+    from: Cell,
+    straight: Straight,
+    rect: Rect,
+    aim: &A,
+) -> Option<Cell>
+    requires start { IsTrue (is_passable plane.now from) }
+    requires aim { A.sound aim.now plane.now.size }
+    requires frame { IsFrame (A.framed aim.now plane.now.size) plane.now.size rect }
+    ensures some { IfSome result
+        (IsStraightStop (is_passable plane.now) (A.hit aim.now plane.now.size) (straight_dir straight) from) }
+    ensures none { IfNone result
+        ((stop : Cell) → ¬ IsStraightStop (is_passable plane.now) (A.hit aim.now plane.now.size) (straight_dir straight) from stop) }
+{
     let Reach { count, forced } = reach(plane, from, straight);
     match first_hit(plane.size(), from, straight, count, rect, aim) {
         Some(steps) => Some(cell_along(from, straight, steps)),
@@ -468,71 +439,10 @@ fn halts_diagonal<A: Aim>(
     plane.has_stop(cell, along_row) || plane.has_stop(cell, along_column)
 }
 
-/// The stop of the diagonal run from the cell, where the aim has the rectangle. Each direction has a copy of its own of
-/// the code.
+/// The stop of the diagonal run from the cell, where the aim has the rectangle. It is small, so that a caller gets code of
+/// its own for each direction that it names.
 #[inline(always)]
 pub fn diagonal<A: Aim>(
-    plane: &ClassPlane,
-    from: Cell,
-    diagonal: Diagonal,
-    rect: Rect,
-    aim: &A,
-) -> Option<Cell>
-    requires start { IsTrue (is_passable plane.now from) }
-    requires aim { A.sound aim.now plane.now.size }
-    requires frame { IsFrame (A.framed aim.now plane.now.size) plane.now.size rect }
-    ensures some { IfSome result
-        (IsDiagonalStop (is_passable plane.now) (A.hit aim.now plane.now.size) (diagonal_dir diagonal) from) }
-    ensures none { IfNone result
-        ((stop : Cell) → ¬ IsDiagonalStop (is_passable plane.now) (A.hit aim.now plane.now.size) (diagonal_dir diagonal) from stop) }
-{
-    match (diagonal.columns, diagonal.rows) {
-        (Way::Up, Way::Up) => diagonal_to(
-            plane,
-            from,
-            Diagonal {
-                columns: Way::Up,
-                rows: Way::Up,
-            },
-            rect,
-            aim,
-        ),
-        (Way::Up, Way::Down) => diagonal_to(
-            plane,
-            from,
-            Diagonal {
-                columns: Way::Up,
-                rows: Way::Down,
-            },
-            rect,
-            aim,
-        ),
-        (Way::Down, Way::Up) => diagonal_to(
-            plane,
-            from,
-            Diagonal {
-                columns: Way::Down,
-                rows: Way::Up,
-            },
-            rect,
-            aim,
-        ),
-        (Way::Down, Way::Down) => diagonal_to(
-            plane,
-            from,
-            Diagonal {
-                columns: Way::Down,
-                rows: Way::Down,
-            },
-            rect,
-            aim,
-        ),
-    }
-}
-
-/// The stop of the diagonal run in this direction.
-#[inline(always)]
-fn diagonal_to<A: Aim>(
     plane: &ClassPlane,
     from: Cell,
     diagonal: Diagonal,

@@ -4,7 +4,7 @@ use Rattle.jump_scan.specs.Stops.{HaltsDiagonal}
 use Rattle.jump_scan.proofs.Running.{HasPassed, left_over}
 use Rattle.nav_types.specs.Straights.{diagonal_dir}
 use Rattle.class_planes.specs.Planes.{AreFreeBits, is_passable}
-use Rattle.class_planes.proofs.plane_scans.diagonal_to.Given as goal
+use Rattle.class_planes.proofs.plane_scans.diagonal.Given as goal
 
 abbrev pub invariant-run : goal.invariant-run
 invariant-run g l =
