@@ -208,12 +208,12 @@ impl Nodes {
         ensures few { OnOk result (length self.new ≤ 2 ^ 32) }
         ensures kept { OnErr result (self.new ≡ self.old) }
     {
-        let Ok(number) = u32::try_from(self.list.len()) else {
+        let count = self.list.len();
+        if count >= u32::MAX as usize {
             return Err(NoMemory);
-        };
-        let Some(after) = number.checked_add(1) else {
-            return Err(NoMemory);
-        };
+        }
+        let number = count as u32;
+        let after = number + 1;
         self.list.reserve(1)?;
         self.links.reserve(1)?;
         let before = self.pages.replace(node.state.cell, after)?;

@@ -1,4 +1,5 @@
 use Rattle.std.proofs.Common.{rules, ℕ, ◌≡◌, ◌+◌, ◌++◌, ◌∷◌, [], length, ap, sym, subst, ◌∙◌, List, arith}
+use Rattle.nav_types.specs.declared.cells.Cell.{Cell}
 use Rattle.jump_search.specs.declared.nodes.Node.{Node}
 use Rattle.jump_search.specs.inner.Numbered.{AreSlotChains}
 use Rattle.jump_search.specs.inner.Paged.{slot_of, cell_number}
@@ -16,16 +17,17 @@ invariant_of-self-2 c =
     let list = c.push_reserved-2.new.self.items in
     let links = c.push_reserved.new.self.items in
     let set = c.in_ok-before.ensures.set in
-    let number : c.in-Ok.number ≡ length inside.list.items = search rules in
-    let next : c.in-Some.after ≡ c.in-Ok.number + 1 = search rules in
-    let after : c.in-Some.after ≡ length inside.list.items + 1 = omega (arith, number, next) in
+    let counted = c.len-count.ensures in
+    let few = c.if-count.false in
+    let here : (other : Cell) → slot_of other ≡ slot_of node.state.cell → New other ≡ length inside.list.items + 1 =
+    λ other same. (let at = set.here other same in omega (arith, at, counted, few)) in
     let items : list ≡ inside.list.items ++ node ∷ [] =
     c.push_reserved-2.ensures.items ∙ ap (λ (l : List Node). l ++ node ∷ []) c.reserve.ensures.items in
     let linked : links ≡ inside.links.items ++ Head node.state.cell ∷ [] =
     c.push_reserved.ensures.items ∙ ap (λ (l : List ℕ). l ++ c.in_ok-before.before ∷ []) c.reserve-2.ensures.items
     ∙ ap (λ (n : ℕ). inside.links.items ++ n ∷ []) c.in_ok-before.ensures.before in
-    let chained = chained_more slot_of Head New inside.list.items inside.links.items node c.in-Some.after c.self.invariant
-    after set.here set.apart in
+    let chained = chained_more slot_of Head New inside.list.items inside.links.items node (length inside.list.items + 1)
+    c.self.invariant (search rules) here set.apart in
     let one = subst (λ (l : List Node). AreSlotChains slot_of New l (inside.links.items ++ Head node.state.cell ∷ []))
     (sym items) chained in
     subst (λ (l : List ℕ). AreSlotChains slot_of New list l) (sym linked) one
