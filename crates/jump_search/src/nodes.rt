@@ -201,6 +201,7 @@ impl Nodes {
     }
 
     /// Adds a node whose state no node has, and gives its number. There is no memory for more than 2^32 nodes.
+    #[inline(always)]
     pub(crate) fn add(&mut self, node: Node) -> Result<u32, NoMemory>
         requires { LacksState self.old node.state }
         ensures added { OnOk result (self.new ≡ self.old ++ node ∷ []) }

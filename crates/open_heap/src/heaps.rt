@@ -102,6 +102,7 @@ impl OpenHeap {
     }
 
     /// Adds a key that the list does not have, with its estimate. Where there is no memory the list stays.
+    #[inline(always)]
     pub fn push(&mut self, key: u32, estimate: u64) -> Result<(), NoMemory>
         requires { map.get self.old key ≡ None }
         ensures added { OnOk result (self.new ≡ map.insert self.old key estimate) }

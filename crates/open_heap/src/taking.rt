@@ -53,6 +53,7 @@ impl Buckets {
     }
 
     /// Whether the entry can be appended to the current bucket: there is room, and no entry is less.
+    #[inline(always)]
     fn ends_here(&self, entry: Entry) -> bool
         ensures room { IsTrue result → vec_len self.now.here < vec_capacity self.now.here }
         ensures last { IsTrue result → (place : ℕ) (d : Entry) → place + 1 ≡ length self.now.here.items
@@ -68,6 +69,7 @@ impl Buckets {
     }
 
     /// Adds an entry of the current bucket, or of an earlier one.
+    #[inline(always)]
     fn add_here(&mut self, entry: Entry) -> Result<(), NoMemory>
         requires { bucket_of self.old.start entry.estimate < self.old.reached }
         ensures added { OnOk result (Holds self.new entry) }
@@ -81,6 +83,7 @@ impl Buckets {
     }
 
     /// Adds an entry of a later bucket, for which there is room.
+    #[inline(always)]
     fn link(&mut self, bucket: usize, entry: Entry)
         requires bucket { bucket ≡ bucket_of self.old.start entry.estimate }
         requires later { self.old.reached ≤ bucket }
@@ -99,6 +102,7 @@ impl Buckets {
     }
 
     /// Whether there is room for one more entry in the later bucket.
+    #[inline(always)]
     fn has_room(&self, bucket: usize) -> bool
         ensures { IsTrue result → HasRoom self.now bucket }
     {
@@ -142,6 +146,7 @@ impl Buckets {
     }
 
     /// Adds an entry of a later bucket.
+    #[inline(always)]
     fn add_later(&mut self, bucket: usize, entry: Entry) -> Result<(), NoMemory>
         requires bucket { bucket ≡ bucket_of self.old.start entry.estimate }
         requires later { self.old.reached ≤ bucket }
@@ -166,6 +171,7 @@ impl Buckets {
     }
 
     /// Adds an entry. Where there is no memory the others stay.
+    #[inline(always)]
     pub fn add(&mut self, entry: Entry) -> Result<(), NoMemory>
         ensures added { OnOk result (Holds self.new entry) }
         ensures kept { (other : Entry) → Holds self.old other → Holds self.new other }
