@@ -149,7 +149,7 @@ impl Front {
     }
 
     /// Adds a node whose state has none, and lets it wait.
-    #[inline(always)]
+    #[inline(never)]
     pub(crate) fn meet(&mut self, rect: &Rect, node: Node) -> Result<(), NoMemory>
         requires lacks { LacksState self.old.nodes node.state }
         requires waits { map.get self.old.waiting (length self.old.nodes) ≡ None }
@@ -204,7 +204,7 @@ impl Front {
 
     /// Notes that a jump leads to the node's state at its cost and with its last run. Where the search is not for all,
     /// the jump is left if a node of its cell that costs less is found before that of the state.
-    #[inline(never)]
+    #[inline(always)]
     fn note(&mut self, rect: &Rect, dir: Dir, all: bool, node: Node) -> Result<(), NoMemory>
         requires arrived { node.state.arrived ≡ Some dir }
         requires waiting { IsFalse node.opened }
