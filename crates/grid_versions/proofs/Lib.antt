@@ -1,4 +1,3 @@
-pub mod BlockLemmas
 pub mod ChunkLemmas
 pub mod RegionLemmas
 pub mod LinkLemmas

@@ -1,7 +1,6 @@
 -- Definitions that only private contracts cite.
 pub mod ChunkLists
 pub mod Tables
-pub mod Blocks
 pub mod Building
 pub mod Tallying
 pub mod Painting

@@ -13,10 +13,10 @@ ghost use Rattle.grid_versions.specs.inner.Reaching.{is_in_some};
 
 use crate::chunk_cells::ChunkCells;
 use crate::dirty_parts::dirty_part;
-use crate::shared_list::SharedList;
 use class_planes::ChangedPart;
 use nav_types::{Cell, NoMemory, Rect, Size};
 use navcell_grid::Patch;
+use shared_list::SharedList;
 use std::alloc::Global;
 
 /// The parts of the chunks in which cells of the reaches have other numbers than before, with the bits of what has

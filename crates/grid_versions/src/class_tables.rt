@@ -13,12 +13,12 @@ ghost use Rattle.grid_versions.specs.inner.Tallying.{AreTablesOf};
 
 use crate::planes::plane_of;
 use crate::relabelling::Changed;
-use crate::shared_list::SharedList;
 use crate::sites::Site;
 use crate::tables::ClassTables;
 use class_planes::{ClassPlane, Planes};
 use lane_rows::count_bit;
 use nav_types::{Class, NoMemory, Ticks};
+use shared_list::SharedList;
 use std::alloc::Global;
 use std::sync::Arc;
 use std::sync::ledger::Ledger;

@@ -9,12 +9,12 @@ use crate::chunk_cells::ChunkCells;
 use crate::next_cells::{Before, Source, next_patches};
 use crate::painting::{base_patches, painted_patches};
 use crate::reachers::{all_reachers, next_reachers};
-use crate::shared_list::SharedList;
 use crate::sites::Site;
 use crate::standing_edits::{Changes, are_free};
 use nav_types::NoMemory;
 use navcell_grid::Patch;
 use obstruction_store::{Ids, Store};
+use shared_list::SharedList;
 use std::alloc::Global;
 
 /// What a version keeps of its cells chunk by chunk.

@@ -15,13 +15,13 @@ use crate::class_tables::{class_tables, next_tables};
 use crate::ground::Ground;
 use crate::painted_map::PaintedMap;
 use crate::relabelling::marks_below;
-use crate::shared_list::SharedList;
 use crate::sites::Site;
 use crate::standing_edits::Changes;
 use crate::tables::ClassTables;
 use class_planes::Planes;
 use nav_types::{NoMemory, Rect, Ticks};
 use obstruction_store::Store;
+use shared_list::SharedList;
 use std::alloc::Global;
 use std::sync::ledger::Ledger;
 

@@ -30,7 +30,6 @@ mod painting;
 mod planes;
 mod reachers;
 mod relabelling;
-mod shared_list;
 mod sites;
 mod standing_edits;
 mod tables;

@@ -19,11 +19,11 @@ ghost use Rattle.grid_versions.specs.inner.Reaching.{AreBefore, IsCoveredBefore}
 use crate::chunk_cells::ChunkCells;
 use crate::dirty_parts::dirty_part;
 use crate::painting::{Paint, repainted, repainted_below};
-use crate::shared_list::SharedList;
 use crate::sites::Site;
 use nav_types::{NoMemory, Rect};
 use navcell_grid::Patch;
 use obstruction_store::Ids;
+use shared_list::SharedList;
 use std::alloc::Global;
 use std::sync::Arc;
 

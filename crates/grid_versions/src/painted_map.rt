@@ -5,10 +5,10 @@ ghost use Rattle.grid_versions.specs.inner.Painting.{ArePaintedChunks};
 
 use crate::chunk_cells::ChunkCells;
 use crate::chunks;
-use crate::shared_list::SharedList;
 use crate::sites::Site;
 use nav_types::limits::CHUNK_SIDE;
 use nav_types::{Cell, Chunk, Class, Rows, Size, View};
+use shared_list::SharedList;
 use std::marker::Model;
 
 /// A map, its obstructions and the numbers of its chunks' cells. Contracts see the map and the obstructions.

@@ -17,7 +17,6 @@ ghost use Rattle.grid_versions.specs.inner.Reachers.{blocks_under, HaveBlocked, 
 use crate::base_grids::base_grid;
 use crate::chunk_cells::ChunkCells;
 use crate::chunks;
-use crate::shared_list::SharedList;
 use crate::sites::Site;
 use clearance_raster::{raster_in, reach_of};
 use nav_types::{NoMemory, Rect};
@@ -25,6 +24,7 @@ use navcell_grid::{Grid, Patch};
 use obstruction_shapes::Obstruction;
 use obstruction_store::Ids;
 use posts::MapSpec;
+use shared_list::SharedList;
 use std::alloc::Global;
 
 /// After how many obstructions it is looked at first whether others have anything left to set.

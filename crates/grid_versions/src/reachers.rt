@@ -13,11 +13,11 @@ ghost use Rattle.grid_versions.specs.inner.Reachers.{HoldChunkReachers, AreReach
 
 use crate::chunks;
 use crate::dirty_parts::dirty_part;
-use crate::shared_list::SharedList;
 use crate::sites::Site;
 use crate::standing_edits::{Changes, reach_under};
 use nav_types::{NoMemory, Rect, Size};
 use obstruction_store::{Ids, Store};
+use shared_list::SharedList;
 use std::alloc::Global;
 use std::sync::Arc;
 

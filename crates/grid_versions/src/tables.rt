@@ -18,12 +18,12 @@ mod sums;
 
 use crate::chunks;
 use crate::relabelling::Changed;
-use crate::shared_list::SharedList;
 use chunk_regions::Labels;
 use class_planes::ClassPlane;
 use nav_types::{Cell, NoMemory, Size, Ticks};
 use reach_sets::{AreaTable, RegionId};
 use region_edges::{Edges, Side};
+use shared_list::SharedList;
 use std::alloc::Global;
 use std::marker::Model;
 use std::sync::Arc;

@@ -5,11 +5,11 @@ ghost use Rattle.grid_versions.specs.inner.Building.{AreSides};
 ghost use Rattle.grid_versions.specs.inner.Tables.{AreTables, AreFew};
 
 use super::{borders, sums};
-use crate::shared_list::SharedList;
 use chunk_regions::Labels;
 use nav_types::{NoMemory, Size};
 use reach_sets::AreaTable;
 use region_edges::Edges;
+use shared_list::SharedList;
 use std::alloc::Global;
 use std::sync::Arc;
 

@@ -11,11 +11,11 @@ ghost use Rattle.grid_versions.specs.inner.Building.{IsLaidOut, IsSideLink, link
 
 use crate::chunks;
 use crate::relabelling::{Changed, is_marked};
-use crate::shared_list::SharedList;
 use chunk_regions::Labels;
 use nav_types::{NoMemory, Size};
 use reach_sets::{Links, RegionId};
 use region_edges::{Edges, Side, between};
+use shared_list::SharedList;
 use std::alloc::Global;
 
 /// The border between the chunk at a place and its neighbour on that side.

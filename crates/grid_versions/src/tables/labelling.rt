@@ -11,10 +11,10 @@ ghost use Rattle.grid_versions.specs.inner.Tables.{AreAllLabels, label_counts};
 use crate::chunk_bits::passable_cells;
 use crate::chunks;
 use crate::relabelling::{Changed, is_marked};
-use crate::shared_list::SharedList;
 use chunk_regions::{Labels, label_bits};
 use class_planes::ClassPlane;
 use nav_types::{NoMemory, Ticks};
+use shared_list::SharedList;
 use std::alloc::Global;
 use std::sync::ledger::Ledger;
 

@@ -1,10 +1,10 @@
 ghost use Rattle.std.specs.Prelude.{◌≡◌, ◌^◌, ◌<◌, ◌≤◌, length, map, sum_by, IfOk, All};
 ghost use Rattle.nav_types.specs.declared.limits.TheConstants.{CHUNK_CELLS};
 
-use crate::shared_list::SharedList;
 use chunk_regions::Labels;
 use nav_types::NoMemory;
 use region_edges::Edges;
+use shared_list::SharedList;
 use std::alloc::Global;
 
 /// The number of regions of each chunk, at most `CHUNK_CELLS`.

@@ -2,9 +2,7 @@
 ghost use Rattle.std.specs.Prelude.{◌≡◌, ◌++◌, ◌∷◌, ◌<◌, [], length, slice_get, slice_set, Some, IfOk, OnOk, OnErr};
 ghost use Rattle.std.specs.Arc.{arc_value};
 
-mod blocks;
-
-use blocks::{BLOCK, Block, MOST_BLOCKS, replace};
+use crate::blocks::{BLOCK, Block, MOST_BLOCKS, replace};
 use nav_types::NoMemory;
 use std::alloc::Global;
 use std::marker::Model;
@@ -23,7 +21,7 @@ pub struct SharedList<T> {
 impl<T> Model for SharedList<T> {
     ghost use Rattle.std.specs.Prelude.{List, map};
     ghost use Rattle.std.specs.Arc.{arc_value};
-    ghost use Rattle.grid_versions.specs.inner.Blocks.{AreBlocks, in_blocks};
+    ghost use Rattle.shared_list.specs.inner.Blocks.{AreBlocks, in_blocks};
 
     ghost Value = { List T };
 

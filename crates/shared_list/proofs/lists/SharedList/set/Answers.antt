@@ -1,10 +1,10 @@
 use Rattle.std.proofs.Common.{◌*◌, ◌-◌, ◌/◌, ◌%◌, ◌<◌, length, map, set, ap, sym, subst, ◌∙◌, arith}
 use Rattle.std.specs.Arc.{arc_value}
 use Rattle.std.proofs.lemmas.List.{length-map}
-use Rattle.grid_versions.specs.inner.Blocks.{AreBlocks, in_blocks}
-use Rattle.grid_versions.proofs.BlockLemmas.{blocks_length, block_long, block_made, held_set, block_set, set_whole}
-use Rattle.grid_versions.proofs.BlockLemmas.{rest_set}
-use Rattle.grid_versions.proofs.shared_list.SharedList.set.Goals as goal
+use Rattle.shared_list.specs.inner.Blocks.{AreBlocks, in_blocks}
+use Rattle.shared_list.proofs.BlockLemmas.{blocks_length, block_long, block_made, held_set, block_set, set_whole}
+use Rattle.shared_list.proofs.BlockLemmas.{rest_set}
+use Rattle.shared_list.proofs.lists.SharedList.set.Goals as goal
 
 pub set-requires : goal.set-requires
 set-requires g c =

@@ -1,7 +1,7 @@
 use Rattle.std.proofs.Common.{◌∙◌, set, ap}
 use Rattle.std.specs.Arc.{arc_value}
 use Rattle.std.proofs.lemmas.List.{map-set}
-use Rattle.grid_versions.proofs.shared_list.blocks.Block.set.Goals as goal
+use Rattle.shared_list.proofs.blocks.Block.set.Goals as goal
 
 pub returns : goal.returns
 returns g c =

@@ -8,7 +8,7 @@ use Rattle.std.proofs.lemmas.List.Concat.{flat_map-cons}
 use Rattle.std.proofs.lemmas.List.Elements.{All-set, All-push}
 use Rattle.std.proofs.lemmas.Grind.{flat_map-append}
 use Rattle.std.proofs.lemmas.Option.{slice_get_within, slice_get-get_or, get_or_from_slice_get}
-use Rattle.grid_versions.specs.inner.Blocks.{AreBlocks, in_blocks}
+use Rattle.shared_list.specs.inner.Blocks.{AreBlocks, in_blocks}
 use Rattle.nav_types.proofs.Items.{slice_get-append_left}
 
 module _ {A : Type 0} where

@@ -1,8 +1,8 @@
 use Rattle.std.proofs.Common.{map, ap, ◌∙◌, arith}
 use Rattle.std.specs.Arc.{arc_value}
 use Rattle.std.proofs.lemmas.List.{take_all}
-use Rattle.grid_versions.specs.inner.Blocks.{in_blocks}
-use Rattle.grid_versions.proofs.shared_list.SharedList.share.Goals as goal
+use Rattle.shared_list.specs.inner.Blocks.{in_blocks}
+use Rattle.shared_list.proofs.lists.SharedList.share.Goals as goal
 
 pub returns : goal.returns
 returns g c =

@@ -1,9 +1,9 @@
 use Rattle.std.proofs.Common.{◌++◌, ◌∷◌, [], map, ap, sym, ◌∙◌, subst, arith}
 use Rattle.std.specs.Arc.{arc_value}
 use Rattle.std.proofs.lemmas.List.{length-map, map-append}
-use Rattle.grid_versions.specs.inner.Blocks.{AreBlocks, in_blocks}
-use Rattle.grid_versions.proofs.BlockLemmas.{block_more, more_whole}
-use Rattle.grid_versions.proofs.shared_list.SharedList.push_shared.Goals as goal
+use Rattle.shared_list.specs.inner.Blocks.{AreBlocks, in_blocks}
+use Rattle.shared_list.proofs.BlockLemmas.{block_more, more_whole}
+use Rattle.shared_list.proofs.lists.SharedList.push_shared.Goals as goal
 
 pub invariant_of-self-2 : goal.invariant_of-self-2
 invariant_of-self-2 g c =

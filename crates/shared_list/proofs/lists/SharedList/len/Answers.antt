@@ -1,8 +1,8 @@
 use Rattle.std.proofs.Common.{length, map, ap, arith}
 use Rattle.std.specs.Arc.{arc_value}
 use Rattle.std.proofs.lemmas.List.{length-map}
-use Rattle.grid_versions.proofs.BlockLemmas.{blocks_length}
-use Rattle.grid_versions.proofs.shared_list.SharedList.len.Goals as goal
+use Rattle.shared_list.proofs.BlockLemmas.{blocks_length}
+use Rattle.shared_list.proofs.lists.SharedList.len.Goals as goal
 
 pub overflow_mul-result : goal.overflow_mul-result
 overflow_mul-result g c = let few = c.self.invariant.few in omega (
