@@ -141,7 +141,8 @@ fn standing_ids(alloc: Global, shapes: &Store) -> Result<Ids, NoMemory>
         → fin_map.get shapes.now id ≡ Some obstruction → Contains ids id) }
 {
     let mut ids = Ids::new(alloc);
-    for (id, _) in shapes.entries() {
+    let listed = shapes.listed(alloc)?;
+    for (id, _) in listed.entries() {
         ids.push(id)?;
     }
     Ok(ids)

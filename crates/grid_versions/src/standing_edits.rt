@@ -11,7 +11,7 @@ use crate::sites::Site;
 use clearance_raster::reach_of;
 use nav_types::{NoMemory, Rect, Sequence, Size};
 use obstruction_shapes::{Shape, check};
-use obstruction_store::{AddRefusal, Ids, MoveRefusal, Store};
+use obstruction_store::{AddRefusal, Ids, MoveRefusal, RemoveRefusal, Store};
 use posts::{Edit, EditReplies, EditReply, MapSpec, Refusal};
 use std::alloc::Global;
 
@@ -64,12 +64,14 @@ fn apply(map: &MapSpec, shapes: &mut Store, edit: Edit) -> Result<EditReply, NoM
         }
         Edit::Remove { id } => match shapes.remove(id) {
             Ok(_) => Ok(EditReply::Removed(id)),
-            Err(_) => Ok(EditReply::Refused(Refusal::UnknownId)),
+            Err(RemoveRefusal::UnknownId) => Ok(EditReply::Refused(Refusal::UnknownId)),
+            Err(RemoveRefusal::NoMemory) => Err(NoMemory),
         },
         Edit::Move { id, x, z } => match shapes.move_to(id, x, z, map.size()) {
             Ok(()) => Ok(EditReply::Moved(id)),
             Err(MoveRefusal::UnknownId) => Ok(EditReply::Refused(Refusal::UnknownId)),
             Err(MoveRefusal::BadShape) => Ok(EditReply::Refused(Refusal::BadShape)),
+            Err(MoveRefusal::NoMemory) => Err(NoMemory),
         },
     }
 }

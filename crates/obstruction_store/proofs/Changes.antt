@@ -98,21 +98,3 @@ module _ {V : Type 0} where
             let before : keys other ≡ Some found = sym (on_keys.others other differs) ∙ is in
             ap is_some (on_values.others found (λ same. own_key holds at other differs (before ∙ ap (λ k. Some k) same)))
             ∙ holds.full other found before
-
-  module _ (keys : ℕ → Option ℕ) (values values' : ℕ → Option V) (number key : ℕ) (value : V) where
-    pub reads-write : Holds keys values → keys number ≡ Some key → Changes values values' key (Some value)
-        → Changes (reads keys values) (reads keys values') number (Some value)
-    reads-write holds at on_values = record {
-      here = ap (option_and_then values') at ∙ on_values.here;
-      others = λ other differs. kept values values' key (Some value) (keys other) on_values
-          (λ is. differs (holds.apart other number key is at));
-    }
-
-    pub Holds-write : Holds keys values → Changes values values' key (Some value) → Holds keys values'
-    Holds-write holds on_values = record {
-      full = λ other found is. elim (cases_eq found key) [
-        | inl same ↦ ap (λ k. is_some (values' k)) same ∙ ap is_some on_values.here
-        | inr differs ↦ ap is_some (on_values.others found differs) ∙ holds.full other found is
-      ];
-      apart = holds.apart;
-    }

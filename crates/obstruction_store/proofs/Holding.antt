@@ -18,10 +18,10 @@ use Rattle.obstruction_shapes.specs.declared.shapes.Obstruction.{Obstruction}
 use Rattle.slab.specs.Slab.{Slab, Updates}
 use Rattle.obstruction_store.specs.inner.Held.{slot_at, with_entry, held_entries, held_standing, HaveFullSlots, IsHeld}
 use Rattle.obstruction_store.specs.Standing.{Standing, Stands, IsFull}
-use Rattle.obstruction_store.proofs.Changes.{Changes, same_changes, reads, Holds, reads-add, Holds-add, reads-remove, Holds-remove, reads-write, Holds-write}
+use Rattle.obstruction_store.proofs.Changes.{Changes, same_changes, reads, Holds, reads-add, Holds-add, reads-remove, Holds-remove}
 use Rattle.nav_types.proofs.NumberTies.{ties_at, same_at, apart_at}
 
-none_from_test : {A : Type 0} (o : Option A) → is_some o ≡ false → o ≡ None
+pub none_from_test : {A : Type 0} (o : Option A) → is_some o ≡ false → o ≡ None
 none_from_test None is = refl
 none_from_test (Some v) is = absurd (cc)
 
@@ -162,14 +162,14 @@ on_slots : (old new : Slab Obstruction) (key : ℕ) (now : Option Obstruction) �
     → Changes (slot_at old.slots) (slot_at new.slots) key now
 on_slots old new key now updates = record { here = updates.changed; others = updates.others }
 
-on_insert : (m : Standing) (number : ℕ) (v : Obstruction) → Changes (map.get m) (map.get (map.insert m number v)) number (Some v)
+pub on_insert : (m : Standing) (number : ℕ) (v : Obstruction) → Changes (map.get m) (map.get (map.insert m number v)) number (Some v)
 on_insert m number v = record {
   here = map.get-insert nat_cmp_total m number v number ∙ ap (λ b. cond b (Some v) (map.get m number)) (ties_at number number refl);
   others = λ other differs. map.get-insert nat_cmp_total m number v other
       ∙ ap (λ b. cond b (Some v) (map.get m other)) (apart_at other number differs);
 }
 
-on_remove : (m : Standing) (number : ℕ) → Changes (map.get m) (map.get (map.remove m number)) number None
+pub on_remove : (m : Standing) (number : ℕ) → Changes (map.get m) (map.get (map.remove m number)) number None
 on_remove m number = record {
   here = map.get-remove nat_cmp_total m number number ∙ ap (λ b. cond b None (map.get m number)) (ties_at number number refl);
   others = λ other differs. map.get-remove nat_cmp_total m number other
@@ -177,7 +177,7 @@ on_remove m number = record {
 }
 
 -- two maps that change one map alike are equal
-same_standing : (m n n' : Standing) (number : ℕ) (now : Option Obstruction) → Changes (map.get m) (map.get n) number now
+pub same_standing : (m n n' : Standing) (number : ℕ) (now : Option Obstruction) → Changes (map.get m) (map.get n) number now
     → Changes (map.get m) (map.get n') number now → n ≡ n'
 same_standing m n n' number now change change' =
     map.same_map nat_cmp_total map.nat_cmp-IsAntisymmetric n n' (same_changes change change')
@@ -223,18 +223,3 @@ module _ (keys keys' : BTreeMap ℕ ℕ) (s s' : Slab Obstruction) (number key :
         (Holds-held keys s.slots held) at (on_keys keys keys' number None of_keys) (on_slots s s' key None of_slots) in
         same_standing (held_standing keys s.slots) _ _ number None
         (on_standing keys keys' s.slots s'.slots number None held held' change) (on_remove (held_standing keys s.slots) number)
-
-module _ (keys : BTreeMap ℕ ℕ) (s s' : Slab Obstruction) (number key : ℕ) (v : Obstruction) (held : IsHeld keys s.slots)
-    (of_slots : Updates s s' key (Some v)) where
-  pub IsHeld-write : IsHeld keys s'.slots
-  IsHeld-write =
-      let holds = Holds-write (tree.get nat_cmp keys) (slot_at s.slots) (slot_at s'.slots) number key v
-      (Holds-held keys s.slots held) (on_slots s s' key (Some v) of_slots) in
-      record { ordered = held.ordered; full = holds.full; apart = holds.apart; few = held.few }
-
-  pub held-write : tree.get nat_cmp keys number ≡ Some key → held_standing keys s'.slots ≡ map.insert (held_standing keys s.slots) number v
-  held-write at =
-      let change = reads-write (tree.get nat_cmp keys) (slot_at s.slots) (slot_at s'.slots) number key v
-      (Holds-held keys s.slots held) at (on_slots s s' key (Some v) of_slots) in
-      same_standing (held_standing keys s.slots) _ _ number (Some v)
-      (on_standing keys keys s.slots s'.slots number (Some v) held IsHeld-write change) (on_insert (held_standing keys s.slots) number v)

@@ -5,3 +5,5 @@ pub mod Listing
 pub mod TouchingNumbers
 pub mod Reaching
 pub mod Refusing
+pub mod Paging
+pub mod Outcomes

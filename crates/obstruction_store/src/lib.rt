@@ -1,12 +1,15 @@
 //! The standing obstructions of a map, by number: [`Store`].
 //!
 //! They are found, added, moved and removed by their number without a look at the others, and listed in the order of
-//! numbers ([`Store::entries`]). Contracts see a finite map from number to obstruction. Behind it lie a slab and an index
-//! by number. What an obstruction blocks is for other crates to say.
+//! numbers ([`Store::listed`]). Contracts see a finite map from number to obstruction. Behind it lie pages, each a slab
+//! with an index by number; a store and its copy share each page on which none of them has changed anything since, so
+//! that a copy costs a few pointers. What an obstruction blocks is for other crates to say.
 #![tactic(auto)]
 
 mod entries;
 mod laws;
+mod listings;
+mod pages;
 mod refusals;
 mod stores;
 mod touching;
@@ -16,6 +19,7 @@ pub use laws::{
     all_fit_after_add, all_fit_after_move, all_fit_after_remove, all_fit_in_empty,
     entries_are_what_stands, entries_rise, one_list_touches, what_blocks_touches,
 };
-pub use refusals::{AddRefusal, MoveRefusal, UnknownId};
+pub use listings::Listed;
+pub use refusals::{AddRefusal, MoveRefusal, RemoveRefusal};
 pub use stores::Store;
 pub use touching::Ids;

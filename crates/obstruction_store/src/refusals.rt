@@ -1,5 +1,5 @@
 //! Why an edit of the standing obstructions is refused.
-ghost use Rattle.std.specs.Prelude.{Some, codes};
+ghost use Rattle.std.specs.Prelude.{Some};
 
 use std::error::Error;
 use std::fmt;
@@ -22,11 +22,18 @@ pub enum MoveRefusal {
     UnknownId,
     /// The shape does not fit the map at its new place.
     BadShape,
+    /// There was no memory.
+    NoMemory,
 }
 
-/// No obstruction stands under this number.
+/// Why an obstruction was not removed.
 #[derive(Clone, Copy, Debug, PartialEq, Eq)]
-pub struct UnknownId;
+pub enum RemoveRefusal {
+    /// No obstruction stands under this number.
+    UnknownId,
+    /// There was no memory.
+    NoMemory,
+}
 
 impl fmt::Display for AddRefusal {
     ghost use Rattle.obstruction_store.specs.RefusalTexts.{add_refusal_text};
@@ -53,15 +60,21 @@ impl fmt::Display for MoveRefusal {
             MoveRefusal::BadShape => {
                 f.write_str("the shape does not fit the map at its new place")
             }
+            MoveRefusal::NoMemory => f.write_str("out of memory"),
         }
     }
 }
 
-impl fmt::Display for UnknownId {
-    ghost output = { λ _. Some (codes "no obstruction stands under this number") };
+impl fmt::Display for RemoveRefusal {
+    ghost use Rattle.obstruction_store.specs.RefusalTexts.{remove_refusal_text};
+
+    ghost output = { λ refusal. Some (remove_refusal_text refusal) };
 
     fn fmt<W: fmt::Write>(&self, f: &mut fmt::Formatter<W>) -> fmt::Result {
-        f.write_str("no obstruction stands under this number")
+        match *self {
+            RemoveRefusal::UnknownId => f.write_str("no obstruction stands under this number"),
+            RemoveRefusal::NoMemory => f.write_str("out of memory"),
+        }
     }
 }
 
@@ -69,4 +82,4 @@ impl Error for AddRefusal {}
 
 impl Error for MoveRefusal {}
 
-impl Error for UnknownId {}
+impl Error for RemoveRefusal {}

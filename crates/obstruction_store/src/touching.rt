@@ -29,7 +29,8 @@ impl Store {
         ensures { IfOk result (λ ids. AreTouching size rect clearance self.now ids) }
     {
         let mut ids = Ids::new(alloc);
-        for (id, obstruction) in self.entries() {
+        let listed = self.listed(alloc)?;
+        for (id, obstruction) in listed.entries() {
             if touches(&obstruction.shape, rect, clearance, size) {
                 ids.push(id)?;
             }

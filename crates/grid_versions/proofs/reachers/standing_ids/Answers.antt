@@ -1,4 +1,4 @@
-use Rattle.std.proofs.Common.{ℕ, ◌≡◌, List, [], ◌∷◌, ◌++◌, inl, inr, ap, sym, subst}
+use Rattle.std.proofs.Common.{ℕ, ◌≡◌, ◌∙◌, List, [], ◌∷◌, ◌++◌, inl, inr, ap, sym, subst}
 use Rattle.std.specs.List.{Contains}
 use Rattle.std.specs.FinMap as fin_map
 use Rattle.std.proofs.lemmas.List.Elements.{Contains-push, Contains-append_left}
@@ -10,7 +10,8 @@ use Rattle.grid_versions.proofs.reachers.standing_ids.Goals as goal
 pub loop-id-init : goal.loop-id-init
 loop-id-init c =
     let all = fin_map.entries c.args.shapes.now in
-    let same : all ≡ c.into_iter-id-iterator.result = cc in
+    let same : all ≡ c.into_iter-id-iterator.result =
+    sym (c.into_iter-id-iterator.ensures.into_iter_gives ∙ c.entries-id-items.ensures ∙ ap fin_map.entries c.in_ok-listed.ensures) in
     record {
       all = λ entry has. inl (subst (λ (xs : List (ℕ × Obstruction)). Contains xs entry) same has);
     }

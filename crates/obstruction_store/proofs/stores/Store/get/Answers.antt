@@ -1,12 +1,11 @@
-use Rattle.std.proofs.Common.{sym, ◌∙◌}
-use Rattle.obstruction_store.proofs.Holding.{stands_at, none_stands}
+use Rattle.std.proofs.Common.{ap, sym, ◌∙◌}
+use Rattle.std.specs.FinMap as map
+use Rattle.std.specs.Prelude.{slice_get}
+use Rattle.obstruction_store.proofs.Paging.{get_in}
 use Rattle.obstruction_store.proofs.stores.Store.get.Goals as goal
 
-pub returns-in-Some : goal.returns-in-Some
-returns-in-Some c = let at = c.self.inside in
-    c.get-in-Some.ensures
-    ∙ sym (stands_at at.keys at.obstructions.slots c.self.invariant c.args.self.now c.self.view_is c.args.id c.in-Some.field-0.now (sym c.in-Some.ensures.value))
-
-pub returns-in-None : goal.returns-in-None
-returns-in-None c = let at = c.self.inside in
-    sym (none_stands at.keys at.obstructions.slots c.self.invariant c.args.self.now c.self.view_is c.args.id (sym c.in-None.ensures.value))
+pub returns : goal.returns
+returns c = let at = c.self.inside in
+    c.get.ensures
+    ∙ sym (get_in at.pages c.args.id c.at.result.now c.self.invariant.own (ap (λ k. slice_get at.pages k) (sym c.page_of.ensures) ∙ c.at.ensures))
+    ∙ ap (λ m. map.get m c.args.id) c.self.view_is

@@ -2,7 +2,7 @@ use Rattle.std.proofs.Common.{ap, sym, subst, ◌∙◌}
 use Rattle.std.specs.FinMap as map
 use Rattle.obstruction_store.specs.inner.Held.{held_entries, HaveFullSlots}
 use Rattle.obstruction_store.proofs.Holding.{all_full, entries-held}
-use Rattle.obstruction_store.proofs.stores.Store.entries.Goals as goal
+use Rattle.obstruction_store.proofs.pages.Page.entries.Goals as goal
 
 pub new-requires : goal.new-requires
 new-requires c = let at = c.self.inside in
