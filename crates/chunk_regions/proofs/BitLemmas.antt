@@ -1,9 +1,9 @@
 -- The bits of a row: shifted, with one more on top, and without the lowest set one.
-use Rattle.std.proofs.Common.{ℕ, zero, suc, Bool, true, false, ◌≡◌, ◌≢◌, ◌<◌, ◌≤◌, ◌+◌, ◌-◌, ◌*◌, ◌/◌, ◌%◌, ◌^◌, ◌==◌, if◌then◌else◌, bit_and, ap, sym, ◌∙◌, inl, inr, arith}
+use Rattle.std.proofs.Common.{ℕ, zero, suc, Bool, true, false, ◌≡◌, ◌≢◌, ◌<◌, ◌≤◌, ◌+◌, ◌-◌, ◌*◌, ◌/◌, ◌%◌, ◌^◌, ◌==◌, if◌then◌else◌, bit_and, ap, sym, subst, ◌∙◌, inl, inr, arith}
 use Rattle.std.specs.Int.{bit_at, trailing_zeros, w128}
 use Rattle.std.proofs.Math.Nat.{div-add-mod}
 use Rattle.std.proofs.lemmas.Bool.{cases_lt}
-use Rattle.std.proofs.lemmas.Nat.{mod_below, pow-add, pow_below, pow_pos}
+use Rattle.std.proofs.lemmas.Nat.{le-div, mod_below, pow-add, pow_below, pow_pos}
 use Rattle.std.proofs.lemmas.Nat.Bits.{bit_at_cat_low, bit_at_cat_high, bit_at_above, bit_at_and, bit_at_lowest, bit_at-suc, bit_at-zero, bit_at-trailing_zeros, same_from_bits_below}
 
 -- a bit's place one further up
@@ -113,3 +113,16 @@ clear_past bits wide column few past = ap (λ b. b == 1) (bit_at_above bits wide
 -- a row without set bits
 pub clear_row : (column : ℕ) → (bit_at 0 column == 1) ≡ false
 clear_row column = ap (λ b. b == 1) (bit_at-zero column)
+
+-- the set bits of a number that is nothing once shifted stand below the shift
+pub set_below : (n k i : ℕ) → n / 2 ^ k ≡ 0 → bit_at n i ≡ 1 → i < k
+set_below n k i none set = elim (cases_lt i k) [
+  | inl less ↦ less
+  | inr past ↦ elim (cases_lt n (2 ^ k)) [
+    | inl fits ↦ let clear = bit_at_above n k i fits past in absurd (omega (arith, clear, set))
+    | inr large ↦
+        let some : 1 ≤ n / 2 ^ k = le-div 1 n (2 ^ k) (pow_pos k) (omega (arith, large)) in
+        let never : 1 ≤ 0 = subst (λ q. 1 ≤ q) none some in
+        absurd (omega (arith, never))
+  ]
+]

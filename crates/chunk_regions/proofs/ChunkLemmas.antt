@@ -1,8 +1,6 @@
 -- From the bits of a chunk to its spans, and from the spans' regions to the chunk's labels.
-use Rattle.std.proofs.Common.{ℕ, Bool, true, false, ◌≡◌, ◌≤◌, ◌+◌, ◌-◌, ◌*◌, ◌/◌, ◌%◌, ◌⊎◌, ◌==◌, ◌&&◌, List, IsTrue, map, ap, inl, inr, refl, sym, subst, ◌∙◌, arith}
-use Rattle.std.specs.Int.{bit_at}
+use Rattle.std.proofs.Common.{ℕ, Bool, true, false, ◌≡◌, ◌<◌, ◌≤◌, ◌+◌, ◌-◌, ◌*◌, ◌/◌, ◌%◌, ◌⊎◌, ◌==◌, ◌&&◌, List, IsTrue, map, ap, inl, inr, refl, sym, subst, ◌∙◌, arith}
 use Rattle.std.specs.List.{range_with_len}
-use Rattle.std.specs.Prelude.{slice_index}
 use Rattle.std.proofs.lemmas.Bool.{and_from, eqb-true, eq-eqb, cases_Bool, both_ways}
 use Rattle.std.proofs.lemmas.List.FromFn.{get_or-map-range_with_len}
 use Rattle.std.proofs.lemmas.Nat.{div-mul-add, mod-mul-add, mul-add-lt}
@@ -14,7 +12,7 @@ use Rattle.nav_types.specs.declared.cells.Size.{Size}
 use Rattle.nav_types.specs.Cells.{cell_at, IsInRect, IsInside}
 use Rattle.nav_types.specs.Numbering.{Numbering, columns, rows, number_of, place_in}
 use Rattle.nav_types.specs.Regions.{passes_in, HasRegion}
-use Rattle.chunk_regions.specs.Labelling.{AreLabels, AreBitsOf}
+use Rattle.chunk_regions.specs.Labelling.{AreLabels}
 use Rattle.nav_types.specs.Rects.{chunk_rect}
 use Rattle.chunk_regions.specs.declared.flood.Place.{Place}
 use Rattle.chunk_regions.specs.inner.Spans.{Runs, AreRuns, Holds, IsCut, region_at, region_of, number_by}
@@ -35,9 +33,14 @@ shut_past passes size within cell past = elim (cases_Bool (passes cell)) [
   | inr shut ↦ shut
 ]
 
--- the spans of a chunk's set bits hold exactly its passable cells
-pub IsCut-from_bits : (passes : Cell → Bool) (chunk : Chunk) (bits : List ℕ) (runs : Runs) → AreBitsOf passes chunk bits → AreRuns bits runs → IsCut (passes_in passes chunk) chunk runs
-IsCut-from_bits passes chunk bits runs of are = record {
+-- the columns of the chunk's rows are on whose cells are passable
+abbrev pub IsOnWhere : (Cell → Bool) → Chunk → (ℕ → ℕ → ℕ) → Type 0
+IsOnWhere passes chunk on =
+    (r x : ℕ) → r < 96 → x < 96 → (on r x == 1) ≡ passes (cell_at (96 * chunk.ci + x) (96 * chunk.cj + r))
+
+-- the spans of the columns that are on hold exactly the chunk's passable cells
+pub IsCut-from_runs : (passes : Cell → Bool) (chunk : Chunk) (on : ℕ → ℕ → ℕ) (runs : Runs) → IsOnWhere passes chunk on → AreRuns on runs → IsCut (passes_in passes chunk) chunk runs
+IsCut-from_runs passes chunk on runs of are = record {
   are = are.are;
   held = λ cell here.
       let lies = lies_in passes chunk cell here in
@@ -46,8 +49,8 @@ IsCut-from_bits passes chunk bits runs of are = record {
       let r = cell.j - 96 * chunk.cj in
       let x = cell.i - 96 * chunk.ci in
       let same : cell_at (96 * chunk.ci + x) (96 * chunk.cj + r) ≡ cell = same_cell (cell_at (96 * chunk.ci + x) (96 * chunk.cj + r)) cell (omega arith) (omega arith) in
-      let set : (bit_at (slice_index bits r) x == 1) ≡ true = of.set r x (omega arith) (omega arith) ∙ ap passes same ∙ lies.passable in
-      let is = are.holds r x (omega arith) (omega arith) (eqb-true (bit_at (slice_index bits r) x) 1 set) in
+      let set : (on r x == 1) ≡ true = of r x (omega arith) (omega arith) ∙ ap passes same ∙ lies.passable in
+      let is = are.holds r x (omega arith) (omega arith) (eqb-true (on r x) 1 set) in
       let h = is.1 in
       let west = h.west in
       let east = h.east in
@@ -80,8 +83,8 @@ IsCut-from_bits passes chunk bits runs of are = record {
         east = omega arith;
       } in
       let same : cell_at (96 * chunk.ci + x) (96 * chunk.cj + place.row) ≡ cell = same_cell (cell_at (96 * chunk.ci + x) (96 * chunk.cj + place.row)) cell (omega arith) (omega arith) in
-      let set = eq-eqb (bit_at (slice_index bits place.row) x) 1 (are.set place.row place.at x h) in
-      let passes_here : passes cell ≡ true = sym (of.set place.row x in_row (omega arith) ∙ ap passes same) ∙ set in
+      let set = eq-eqb (on place.row x) 1 (are.set place.row place.at x h) in
+      let passes_here : passes cell ≡ true = sym (of place.row x in_row (omega arith) ∙ ap passes same) ∙ set in
       and_from ((cell.i / 96 == chunk.ci) && (cell.j / 96 == chunk.cj)) (passes cell)
       (and_from (cell.i / 96 == chunk.ci) (cell.j / 96 == chunk.cj) (eq-eqb (cell.i / 96) chunk.ci (omega arith)) (eq-eqb (cell.j / 96) chunk.cj (omega arith))) passes_here;
 }
@@ -108,10 +111,10 @@ number_of-numbered_by runs regions rect cell inside =
     ∙ ap (λ x. region_at runs regions row x) rest
 
 -- where each passable cell has its region's number, the numbers are the labels
-pub AreLabels-from_regions : (passes : Cell → Bool) (size : Size) (chunk : Chunk) (runs : Runs) (regions : List ℕ) (firsts : List Cell) (rect : Rect) → rect ≡ chunk_rect size chunk
+pub AreLabels-from_regions : (passes : Cell → Bool) (size : Size) (chunk : Chunk) (runs : Runs) (regions : List ℕ) (firsts : List Cell) (rect : Rect) (known : Bool) → rect ≡ chunk_rect size chunk
     → IsCut (passes_in passes chunk) chunk runs → IsNumbered (passes_in passes chunk) (region_of chunk runs regions) firsts
-    → AreLabels passes size chunk (record { chunk = chunk; cells = numbered_by runs regions rect; firsts = firsts })
-AreLabels-from_regions passes size chunk runs regions firsts rect extent cut numbered = record {
+    → AreLabels passes size chunk (record { chunk = chunk; cells = numbered_by runs regions rect; firsts = firsts; within = known })
+AreLabels-from_regions passes size chunk runs regions firsts rect known extent cut numbered = record {
   of_chunk = refl;
   extent = extent;
   numbers = λ cell inside.

@@ -5,3 +5,5 @@ pub mod SpanLemmas
 pub mod BitLemmas
 pub mod RowLemmas
 pub mod ChunkLemmas
+pub mod CopyLemmas
+pub mod RelabelLemmas

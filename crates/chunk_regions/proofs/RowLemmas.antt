@@ -1,5 +1,5 @@
 -- The spans of a row as far as they are cut, and the spans of all rows.
-use Rattle.std.proofs.Common.{ℕ, zero, suc, ◌≡◌, ◌<◌, ◌≤◌, ◌+◌, ◌-◌, ◌*◌, ◌%◌, ◌^◌, bit_xor, ◌∷◌, [], ◌++◌, List, Some, length, length-append, ap, refl, inl, inr, sym, subst, ◌∙◌, arith}
+use Rattle.std.proofs.Common.{ℕ, zero, suc, ◌≡◌, ◌<◌, ◌≤◌, ◌+◌, ◌-◌, ◌*◌, ◌%◌, ◌^◌, bit_xor, ◌∷◌, [], ◌++◌, List, length, length-append, ap, refl, inl, inr, sym, subst, ◌∙◌, arith}
 use Rattle.std.specs.Int.{bit_at}
 use Rattle.std.specs.List.{slice_get}
 use Rattle.std.specs.Prelude.{slice_index}
@@ -9,12 +9,12 @@ use Rattle.std.proofs.lemmas.Nat.{xor_lt}
 use Rattle.std.proofs.lemmas.Nat.Bits.{bit_at_above, bit_at_lowest, bit_at_xor, bit_at-lt, bit_at-zero}
 use Rattle.std.proofs.lemmas.Option.{slice_get_within}
 use Rattle.chunk_regions.specs.declared.spans.Span.{Span}
-use Rattle.chunk_regions.specs.inner.Spans.{AreRuns, IsRowTo}
+use Rattle.chunk_regions.specs.inner.Spans.{AreRuns, IsCutTo, IsRowTo}
 use Rattle.chunk_regions.proofs.BitLemmas.{IsTaken, bit_at-double}
 use Rattle.nav_types.proofs.Items.{slice_get-append_left, slice_get-push_last, slice_get-push_cases}
 
 -- nothing is cut before the first column
-pub IsRowTo-start : (bits : ℕ) (spans : List Span) → IsRowTo bits (length spans) spans 0
+pub IsRowTo-start : (bits : ℕ) (spans : List Span) → IsRowTo (bit_at bits) (length spans) spans 0
 IsRowTo-start bits spans = record {
   few = omega arith;
   longer = omega arith;
@@ -25,9 +25,9 @@ IsRowTo-start bits spans = record {
 }
 
 -- one more span of set bits, after clear ones and before a clear one
-pub IsRowTo-push : (bits from : ℕ) (spans : List Span) (column : ℕ) (span : Span) → IsRowTo bits from spans column → column ≤ span.first → span.first ≤ span.last → span.last < 96
+pub IsRowTo-push : (bits from : ℕ) (spans : List Span) (column : ℕ) (span : Span) → IsRowTo (bit_at bits) from spans column → column ≤ span.first → span.first ≤ span.last → span.last < 96
     → ((k : ℕ) → column ≤ k → k < span.first → bit_at bits k ≡ 0) → ((k : ℕ) → span.first ≤ k → k < span.last + 1 → bit_at bits k ≡ 1) → bit_at bits (span.last + 1) ≡ 0
-    → IsRowTo bits from (spans ++ span ∷ []) (span.last + 2)
+    → IsRowTo (bit_at bits) from (spans ++ span ∷ []) (span.last + 2)
 IsRowTo-push bits from spans column span r west ordered within before inside after =
     let n = length spans in
     let longer : length (spans ++ span ∷ []) ≡ n + 1 = length-append spans (span ∷ []) in
@@ -74,8 +74,8 @@ IsRowTo-push bits from spans column span r west ordered within before inside aft
     }
 
 -- where no set bit is left, the row is cut
-pub IsRowTo-end : (bits from : ℕ) (spans : List Span) (column : ℕ) → IsRowTo bits from spans column → column ≤ 97 → ((k : ℕ) → column ≤ k → bit_at bits k ≡ 0)
-    → IsRowTo bits from spans 97
+pub IsRowTo-end : (bits from : ℕ) (spans : List Span) (column : ℕ) → IsRowTo (bit_at bits) from spans column → column ≤ 97 → ((k : ℕ) → column ≤ k → bit_at bits k ≡ 0)
+    → IsRowTo (bit_at bits) from spans 97
 IsRowTo-end bits from spans column r within clear =
     let few = r.few in
     record {
@@ -117,7 +117,7 @@ pub record IsCutBelow (bits from : ℕ) (spans : List Span) (edges : ℕ) : Type
   pub column : ℕ
   pub within : column ≤ 97
   pub few : edges < 2 ^ 97
-  pub cut : IsRowTo bits from spans column
+  pub cut : IsRowTo (bit_at bits) from spans column
   pub shut : bit_at (bits * 2) column ≡ 0
   pub none : (k : ℕ) → k < column → bit_at edges k ≡ 0
   pub rest : (k : ℕ) → column ≤ k → bit_at edges k ≡ turns bits k
@@ -235,7 +235,7 @@ IsCutBelow-push bits from spans edges first mid end new few c one other smaller 
             column = end + 1;
             within = omega arith;
             few = let before = c.few in omega arith;
-            cut = subst (λ k. IsRowTo bits from (spans ++ span ∷ []) k) column
+            cut = subst (λ k. IsRowTo (bit_at bits) from (spans ++ span ∷ []) k) column
                 (IsRowTo-push bits from spans c.column span c.cut (omega arith) (omega arith) (omega arith) (λ k low high. o.gap k low (omega arith)) (λ k low high. set k (omega arith) (omega arith)) after);
             shut = let is : end + 1 ≡ suc end = omega arith in ap (λ k. bit_at (bits * 2) k) is ∙ bit_at-double bits end ∙ clear;
             none = λ k less. elim (cases_lt k end) [
@@ -247,47 +247,32 @@ IsCutBelow-push bits from spans edges first mid end new few c one other smaller 
     }
 
 -- where no edge is left, the row is cut
-pub IsCutBelow-end : (bits from : ℕ) (spans : List Span) (edges : ℕ) → edges ≡ 0 → IsCutBelow bits from spans edges → IsRowTo bits from spans 97
+pub IsCutBelow-end : (bits from : ℕ) (spans : List Span) (edges : ℕ) → edges ≡ 0 → IsCutBelow bits from spans edges → IsRowTo (bit_at bits) from spans 97
 IsCutBelow-end bits from spans edges empty c =
     IsRowTo-end bits from spans c.column c.cut c.within (λ k low.
     let is : c.column + (k - c.column) ≡ k = omega arith in
     sym (ap (λ i. bit_at bits i) is)
     ∙ steady bits 0 c.column (k - c.column) c.shut (λ i from to. sym (c.rest i from) ∙ ap (λ m. bit_at m i) empty ∙ bit_at-zero i))
 
--- the spans of the rows before a row, and the places where each row's begin
-pub record IsCutTo (bits starts : List ℕ) (spans : List Span) (row : ℕ) : Type 0 where
-  pub count : length starts ≡ row + 1
-  pub start : slice_index starts 0 ≡ 0
-  pub rising : (r : ℕ) → r < row → slice_index starts r ≤ slice_index starts (r + 1)
-  pub within : (r : ℕ) → r ≤ row → slice_index starts r ≤ length spans
-  pub all : slice_index starts row ≡ length spans
-  pub few : length spans ≤ 48 * row
-  pub ordered : (k : ℕ) (span : Span) → slice_get spans k ≡ Some span → (span.first ≤ span.last) × (span.last < 96)
-  pub apart : (r k l : ℕ) (west east : Span) → r < row → slice_index starts r ≤ k → k < l → l < slice_index starts (r + 1)
-      → slice_get spans k ≡ Some west → slice_get spans l ≡ Some east → west.last + 1 < east.first
-  pub holds : (r x : ℕ) → r < row → x < 96 → bit_at (slice_index bits r) x ≡ 1
-      → (k : ℕ) × (span : Span) × (slice_index starts r ≤ k) × (k < slice_index starts (r + 1)) × (slice_get spans k ≡ Some span) × (span.first ≤ x) × (x ≤ span.last)
-  pub set : (r k x : ℕ) (span : Span) → r < row → slice_index starts r ≤ k → k < slice_index starts (r + 1) → slice_get spans k ≡ Some span
-      → span.first ≤ x → x ≤ span.last → bit_at (slice_index bits r) x ≡ 1
-
-pub IsCutTo-start : (bits : List ℕ) → IsCutTo bits (0 ∷ []) [] 0
-IsCutTo-start bits = record {
+pub IsCutTo-start : (on : ℕ → ℕ → ℕ) → IsCutTo on (0 ∷ []) [] 0
+IsCutTo-start on = record {
   count = refl;
   start = refl;
   rising = λ r less. absurd (omega arith);
   within = λ r less. let first : r ≡ 0 = omega arith in subst (λ k. slice_index (0 ∷ []) k ≤ 0) (sym first) (omega arith);
   all = refl;
   few = omega arith;
+  each_few = λ r less. absurd (omega arith);
   ordered = λ k span found. let within = slice_get_within [] k span found in absurd (omega arith);
   apart = λ r k l west east less. absurd (omega arith);
   holds = λ r x less. absurd (omega arith);
   set = λ r k x span less. absurd (omega arith);
 }
 
-pub IsCutTo-row : (bits starts : List ℕ) (spans new : List Span) (row : ℕ) → IsCutTo bits starts spans row
-    → ((k : ℕ) → k < length spans → slice_get new k ≡ slice_get spans k) → IsRowTo (slice_index bits row) (length spans) new 97
-    → IsCutTo bits (starts ++ length new ∷ []) new (row + 1)
-IsCutTo-row bits starts spans new row c kept r =
+pub IsCutTo-row : (on : ℕ → ℕ → ℕ) (starts : List ℕ) (spans new : List Span) (row : ℕ) → IsCutTo on starts spans row
+    → ((k : ℕ) → k < length spans → slice_get new k ≡ slice_get spans k) → IsRowTo (on row) (length spans) new 97
+    → IsCutTo on (starts ++ length new ∷ []) new (row + 1)
+IsCutTo-row on starts spans new row c kept r =
     let n = length spans in
     let m = length new in
     let later = starts ++ m ∷ [] in
@@ -312,6 +297,11 @@ IsCutTo-row bits starts spans new row c kept r =
       ];
       all = last;
       few = let shorter = c.few in let few = r.few in omega arith;
+      each_few = λ k less. elim (cases_lt k row) [
+        | inl earlier ↦ let was = c.each_few k earlier in let a = old k (omega arith) in let b = old (k + 1) (omega arith) in omega arith
+        | inr newest ↦
+            let same : k ≡ row = omega arith in let a = start_of k same in let b = end_of k same in let few = r.few in omega arith
+      ];
       ordered = λ k span found. elim (cases_lt k n) [
         | inl earlier ↦ c.ordered k span (sym (kept k earlier) ∙ found)
         | inr newest ↦ let was = r.ordered k span newest found in (was.0, was.1)
@@ -332,7 +322,7 @@ IsCutTo-row bits starts spans new row c kept r =
             (was.0, was.1, omega arith, omega arith, kept was.0 (omega arith) ∙ was.4, was.5, was.6)
         | inr newest ↦
             let same : i ≡ row = omega arith in let a = start_of i same in let b = end_of i same in
-            let is = r.holds x (omega arith) (subst (λ j. bit_at (slice_index bits j) x ≡ 1) same set) in
+            let is = r.holds x (omega arith) (subst (λ j. on j x ≡ 1) same set) in
             let from = is.2 in
             let to = slice_get_within new is.0 is.1 is.3 in
             (is.0, is.1, omega arith, omega arith, is.3, is.4, is.5)
@@ -343,15 +333,15 @@ IsCutTo-row bits starts spans new row c kept r =
             c.set i k x span earlier (omega arith) (omega arith) (sym (kept k (omega arith)) ∙ found) first reach
         | inr newest ↦
             let same : i ≡ row = omega arith in let a = start_of i same in
-            subst (λ j. bit_at (slice_index bits j) x ≡ 1) (sym same) (r.set k x span (omega arith) found first reach)
+            subst (λ j. on j x ≡ 1) (sym same) (r.set k x span (omega arith) found first reach)
       ];
     }
 
 -- after the last row all set bits are held
-pub IsCutTo-end : (bits starts : List ℕ) (spans : List Span) (row : ℕ) → row ≡ 96 → IsCutTo bits starts spans row
-    → AreRuns bits (record { starts = starts; spans = spans })
-IsCutTo-end bits starts spans row end c =
-    let d = subst (λ r. IsCutTo bits starts spans r) end c in
+pub IsCutTo-end : (on : ℕ → ℕ → ℕ) (starts : List ℕ) (spans : List Span) (row : ℕ) → row ≡ 96 → IsCutTo on starts spans row
+    → AreRuns on (record { starts = starts; spans = spans })
+IsCutTo-end on starts spans row end c =
+    let d = subst (λ r. IsCutTo on starts spans r) end c in
     record {
       are = record {
         rows = d.count;
@@ -359,6 +349,7 @@ IsCutTo-end bits starts spans row end c =
         rising = d.rising;
         all = d.all;
         few = d.few;
+        each_few = d.each_few;
         ordered = d.ordered;
         apart = d.apart;
       };

@@ -115,6 +115,30 @@ held_by runs k x held = elim (slice_get_cases runs.spans k).1 [
   | inr past ↦ absurd (false≢true (sym (ap (λ s. span_has s x) past.1) ∙ held))
 ]
 
+-- a region's number in a column is that of a span that holds it
+region_from-some : (runs : Runs) (regions : List ℕ) (x count k : ℕ) → 1 ≤ region_from runs regions x count k
+    → (m : ℕ) × (k ≤ m) × (m < k + count) × (span_has (slice_get runs.spans m) x ≡ true)
+region_from-some runs regions x zero k some = absurd (omega (arith, some))
+region_from-some runs regions x (suc count) k some = elim (cases_Bool (span_has (slice_get runs.spans k) x)) [
+  | inl here ↦ (k, omega arith, omega arith, here)
+  | inr shut ↦
+      let next = ap (λ b. if b then slice_index regions k else region_from runs regions x count (k + 1)) shut in
+      let later = region_from-some runs regions x count (k + 1) (subst (λ n. 1 ≤ n) next some) in
+      let from = later.1 in
+      let to = later.2 in
+      (later.0, omega arith, omega arith, later.3)
+]
+
+pub region_at-some : (runs : Runs) (regions : List ℕ) (r x : ℕ) → r < 96 → 1 ≤ region_at runs regions r x → (k : ℕ) × Holds runs r k x
+region_at-some runs regions r x in_row some =
+    let start = slice_index runs.starts r in
+    let end = slice_index runs.starts (r + 1) in
+    let is = region_from-some runs regions x (end - start) start some in
+    let from = is.1 in
+    let to = is.2 in
+    let span = held_by runs is.0 x is.3 in
+    (is.0, record { span = span.0; found = span.1.0; row = in_row; from = from; to = omega arith; west = span.1.1.0; east = span.1.1.1 })
+
 span_has-from : (span : Span) (x : ℕ) → span.first ≤ x → x ≤ span.last → span_has (Some span) x ≡ true
 span_has-from span x west east = and_from (nat_le span.first x) (nat_le x span.last) (le-leb span.first x west) (le-leb x span.last east)
 

@@ -1,8 +1,10 @@
-ghost use Rattle.std.specs.Prelude.{ℕ, ◌≡◌, ◌<◌, ◌≤◌, ◌+◌, ◌-◌, ◌*◌, ◌^◌, ◌==◌, if◌then◌else◌, slice_index};
+ghost use Rattle.std.specs.Prelude.{ℕ, ◌≡◌, ◌<◌, ◌≤◌, ◌+◌, ◌-◌, ◌*◌, ◌^◌, ◌==◌, if◌then◌else◌, IsTrue, slice_index};
 ghost use Rattle.std.specs.Int.{bit_at};
 ghost use Rattle.nav_types.specs.declared.limits.TheConstants.{CHUNK_SIDE};
 ghost use Rattle.nav_types.specs.Cells.{cell_at};
+ghost use Rattle.nav_types.specs.Numbering.{IsPatch, columns, rows};
 ghost use Rattle.chunk_regions.specs.Labelling.{AreBitsOf};
+ghost use Rattle.chunk_regions.specs.inner.Spans.{AreBitsIn};
 
 use nav_types::limits::CHUNK_SIDE;
 use nav_types::{Cell, Chunk, Class, Rect, View};
@@ -96,4 +98,21 @@ pub fn read<V: View>(view: &V, class: Class, chunk: Chunk) -> ChunkBits
         bits.set_row(j - rect.j0, row_bits(view, class, rect.i0, rect.i1, j));
     }
     bits
+}
+
+/// Whether the bits of the rows from one on to before another are set for cells of the chunk's rectangle alone.
+pub fn are_inside(bits: &ChunkBits, rect: Rect, from: u16, to: u16) -> bool
+    requires patch { IsPatch rect }
+    requires within { to ≤ CHUNK_SIDE }
+    ensures { IsTrue result → AreBitsIn (columns rect) (rows rect) from to bits.now }
+{
+    let width = rect.i1 - rect.i0 + 1;
+    let height = rect.j1 - rect.j0 + 1;
+    for row in from..to {
+        let room = if row < height { width } else { 0 };
+        if bits.row(row) >> room != 0 {
+            return false;
+        }
+    }
+    true
 }

@@ -1,13 +1,13 @@
-ghost use Rattle.std.specs.Prelude.{ℕ, Bool, ◌≡◌, ◌≢◌, ◌+◌, ◌-◌, ◌*◌, ◌<◌, ◌≤◌, IfOk, IfSome, IfNone, Some, slice_get, slice_index, length};
+ghost use Rattle.std.specs.Prelude.{ℕ, Bool, ◌≡◌, ◌≢◌, ◌+◌, ◌-◌, ◌*◌, ◌<◌, ◌≤◌, IsTrue, IfOk, IfSome, IfNone, Some, slice_get, slice_index, length};
 ghost use Rattle.nav_types.specs.declared.cells.Cell.{Cell};
 ghost use Rattle.nav_types.specs.declared.limits.TheConstants.{CHUNK_SIDE, CHUNK_CELLS};
 ghost use Rattle.nav_types.specs.Cells.{cell_at, IsInRect};
-ghost use Rattle.chunk_regions.specs.Labelling.{AreLabels, AreBitsOf};
+ghost use Rattle.chunk_regions.specs.Labelling.{AreLabels, AreBitsOf, AreRowBits, AgreeElsewhere};
 ghost use Rattle.chunk_regions.specs.inner.Spans.{AreSpans, Holds, region_at};
 
-use crate::bits::{ChunkBits, read};
+use crate::bits::{ChunkBits, are_inside, read};
 use crate::flood::{Numbered, number_all};
-use crate::spans::{RowSpans, cut};
+use crate::spans::{RowSpans, cut, cut_anew};
 use nav_types::limits::CHUNK_SIDE;
 use nav_types::{Cell, Chunk, Class, NoMemory, Rect, Size, Ticks, View};
 use std::alloc::Global;
@@ -23,15 +23,17 @@ pub struct Labels {
     spans: RowSpans,
     regions: Vec<u16>,
     firsts: Vec<Cell>,
+    /// Whether no span leaves the rectangle, as far as is known.
+    within: bool,
 }
 
 impl Model for Labels {
-    ghost use Rattle.std.specs.Prelude.{ℕ, ◌≡◌, ◌<◌, ◌≤◌, ◌*◌, length, map, slice_index};
+    ghost use Rattle.std.specs.Prelude.{ℕ, ◌≡◌, ◌<◌, ◌≤◌, ◌*◌, IsTrue, length, map, slice_index};
     ghost use Rattle.std.specs.List.{range_with_len};
-    ghost use Rattle.nav_types.specs.declared.limits.TheConstants.{CHUNK_CELLS};
+    ghost use Rattle.nav_types.specs.declared.limits.TheConstants.{CHUNK_CELLS, MAX_CHUNKS_ALONG};
     ghost use Rattle.nav_types.specs.Numbering.{IsPatch, columns, rows};
     ghost use Rattle.chunk_regions.specs.Labelling.{Labelling};
-    ghost use Rattle.chunk_regions.specs.inner.Spans.{number_by};
+    ghost use Rattle.chunk_regions.specs.inner.Spans.{number_by, AreSpansIn};
 
     ghost Value = { Labelling };
 
@@ -43,11 +45,14 @@ impl Model for Labels {
             (range_with_len 0 (columns l.rect * rows l.rect));
       };
       firsts = l.firsts.items;
+      within = l.within;
     } };
 
     ghost invariant = { λ l. IsPatch l.rect × (length l.regions.items ≡ length l.spans.spans)
         × (length l.firsts.items ≤ CHUNK_CELLS)
-        × ((at : ℕ) → at < length l.regions.items → 1 ≤ slice_index l.regions.items at) };
+        × ((at : ℕ) → at < length l.regions.items → 1 ≤ slice_index l.regions.items at)
+        × (l.chunk.ci < MAX_CHUNKS_ALONG) × (l.chunk.cj < MAX_CHUNKS_ALONG)
+        × (IsTrue l.within → AreSpansIn l.rect l.spans) };
 }
 
 /// Cells of one row that lie side by side and have one number.
@@ -165,6 +170,14 @@ impl Labels {
         self.rect
     }
 
+    /// Whether no cell past the map's rim was among the passable ones, as far as is known.
+    #[inline(always)]
+    pub fn is_within(&self) -> bool
+        ensures { result ≡ self.now.within }
+    {
+        self.within
+    }
+
     /// The number of the cell's region, from 1; 0 exactly for an impassable cell (`HasRegion`).
     #[inline(always)]
     pub fn at(&self, cell: Cell) -> u16
@@ -255,6 +268,7 @@ pub fn label_bits<L: Ledger>(
 {
     ticks.tick();
     let rect = Rect::of_chunk(size, chunk);
+    let within = are_inside(bits, rect, 0, CHUNK_SIDE);
     let spans = cut(alloc, bits)?;
     let Numbered { regions, firsts } = number_all(alloc, chunk, &spans)?;
     Ok(Labels {
@@ -263,5 +277,40 @@ pub fn label_bits<L: Ledger>(
         spans,
         regions,
         firsts,
+        within,
+    })
+}
+
+/// The regions of a chunk and class as [`label`] gives them, from the labels of before, where only cells of the chunk's
+/// rows from one on to before another have changed, and the bits say which cells of these are passable. Those of before
+/// must be without cells past the map's rim ([`Labels::is_within`]). It is one tick of work. It refuses for want of memory
+/// alone.
+pub fn relabel<L: Ledger>(
+    alloc: Global,
+    before: &Labels,
+    from: u16,
+    to: u16,
+    bits: &ChunkBits,
+    ticks: &mut Ticks<L>,
+) -> Result<Labels, NoMemory>
+    requires order { from ≤ to }
+    requires within { to ≤ CHUNK_SIDE }
+    requires inside { IsTrue before.now.within }
+    ensures labels { IfOk result (λ labels. (old passes : Cell → Bool) (size : Size) (chunk : Chunk)
+        → AreLabels old size chunk before.now → AgreeElsewhere old passes size chunk from to
+        → AreRowBits passes chunk from to bits.now → AreLabels passes size chunk labels) }
+    ensures ticks { ticks.new ≡ ticks.old + 1 }
+{
+    ticks.tick();
+    let within = are_inside(bits, before.rect, from, to);
+    let spans = cut_anew(alloc, &before.spans, from, to, bits)?;
+    let Numbered { regions, firsts } = number_all(alloc, before.chunk, &spans)?;
+    Ok(Labels {
+        chunk: before.chunk,
+        rect: before.rect,
+        spans,
+        regions,
+        firsts,
+        within,
     })
 }

@@ -18,5 +18,5 @@ mod laws;
 mod spans;
 
 pub use bits::ChunkBits;
-pub use labels::{Labels, Stretch, label, label_bits};
+pub use labels::{Labels, Stretch, label, label_bits, relabel};
 pub use laws::{one_area, one_region, same_area, same_region, straight_steps_join};

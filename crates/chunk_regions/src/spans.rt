@@ -1,7 +1,7 @@
-ghost use Rattle.std.specs.Prelude.{ℕ, ◌≡◌, ◌≢◌, ◌<◌, ◌≤◌, ◌+◌, ◌/◌, ◌^◌, OnOk, IfOk, Some, slice_get, slice_index, length};
+ghost use Rattle.std.specs.Prelude.{ℕ, ◌≡◌, ◌≢◌, ◌<◌, ◌≤◌, ◌+◌, ◌-◌, ◌*◌, ◌/◌, ◌^◌, OnOk, IfOk, Some, slice_get, slice_index, length, take, drop};
 ghost use Rattle.std.specs.Int.{bit_at};
 ghost use Rattle.nav_types.specs.declared.limits.TheConstants.{CHUNK_SIDE, CHUNK_CELLS};
-ghost use Rattle.chunk_regions.specs.inner.Spans.{Runs, AreRuns, IsRowTo};
+ghost use Rattle.chunk_regions.specs.inner.Spans.{Runs, AreRuns, AreSpans, IsCutTo, IsRowTo, bits_at, held_at, set_anew};
 
 use crate::bits::ChunkBits;
 use nav_types::NoMemory;
@@ -37,6 +37,7 @@ impl Model for RowSpans {
 }
 
 impl RowSpans {
+    ghost use Rattle.std.specs.Prelude.{take, drop};
     ghost use Rattle.chunk_regions.specs.inner.Spans.{AreSpans};
 
     /// How many spans there are.
@@ -45,6 +46,25 @@ impl RowSpans {
         ensures are { AreSpans self.now }
     {
         self.spans.len()
+    }
+
+    /// The place of the first span of a row, and the count of all spans for `CHUNK_SIDE`.
+    fn start(&self, row: u16) -> u16
+        requires { row ≤ CHUNK_SIDE }
+        ensures value { result ≡ slice_index self.now.starts row }
+        ensures are { AreSpans self.now }
+        ensures within { result ≤ length self.now.spans }
+    {
+        self.starts[row as usize]
+    }
+
+    /// The spans from a place on to before another.
+    fn between(&self, from: u16, to: u16) -> &[Span]
+        requires order { from ≤ to }
+        requires within { to ≤ length self.now.spans }
+        ensures { result.now ≡ take (to - from) (drop from self.now.spans) }
+    {
+        &self.spans[from as usize..to as usize]
     }
 
     /// The places of a row's spans: from the first to before the second.
@@ -95,7 +115,7 @@ fn cut_row(spans: &mut Vec<Span>, bits: u128) -> Result<(), NoMemory>
     requires few { bits < 2 ^ CHUNK_SIDE }
     ensures kept { (k : ℕ) → k < length spans.old.items
         → slice_get spans.new.items k ≡ slice_get spans.old.items k }
-    ensures cut { OnOk result (IsRowTo bits (length spans.old.items) spans.new.items (CHUNK_SIDE + 1)) }
+    ensures cut { OnOk result (IsRowTo (bit_at bits) (length spans.old.items) spans.new.items (CHUNK_SIDE + 1)) }
 {
     // a bit where a span begins, and one behind where it ends
     let mut edges = bits ^ (bits << 1);
@@ -123,7 +143,7 @@ fn count_spans(bits: &ChunkBits) -> usize {
 
 /// The spans of a chunk's rows.
 pub fn cut(alloc: Global, bits: &ChunkBits) -> Result<RowSpans, NoMemory>
-    ensures { IfOk result (AreRuns bits.now) }
+    ensures { IfOk result (AreRuns (bits_at bits.now)) }
 {
     let mut starts = Vec::with_capacity(alloc, CHUNK_SIDE as usize + 1)?;
     let mut spans = Vec::with_capacity(alloc, count_spans(bits))?;
@@ -132,5 +152,58 @@ pub fn cut(alloc: Global, bits: &ChunkBits) -> Result<RowSpans, NoMemory>
         cut_row(&mut spans, bits.row(row))?;
         starts.push(spans.len() as u16)?;
     }
+    Ok(RowSpans { starts, spans })
+}
+
+/// Takes over the spans of the rows from one on to before another.
+#[inline(always)]
+fn copy_rows(
+    starts: &mut Vec<u16>,
+    spans: &mut Vec<Span>,
+    before: &RowSpans,
+    from: u16,
+    to: u16,
+) -> Result<(), NoMemory>
+    requires order { from ≤ to }
+    requires within { to ≤ CHUNK_SIDE }
+    requires few { length spans.old.items ≤ CHUNK_SIDE / 2 * from }
+    ensures { OnOk result ((on : ℕ → ℕ → ℕ) → IsCutTo on starts.old.items spans.old.items from
+        → ((row column : ℕ) → from ≤ row → row < to → on row column ≡ held_at before.now row column)
+        → IsCutTo on starts.new.items spans.new.items to) }
+{
+    let first = before.start(from);
+    let end = before.start(to);
+    let here = spans.len() as u16;
+    for row in from..to {
+        let next = before.start(row + 1);
+        starts.push(here + (next - first))?;
+    }
+    spans.extend_from_slice(before.between(first, end))?;
+    Ok(())
+}
+
+/// The spans of a chunk's rows by those of before, where the rows from one on to before another have changed: these
+/// have the bits.
+pub fn cut_anew(
+    alloc: Global,
+    before: &RowSpans,
+    from: u16,
+    to: u16,
+    bits: &ChunkBits,
+) -> Result<RowSpans, NoMemory>
+    requires order { from ≤ to }
+    requires within { to ≤ CHUNK_SIDE }
+    ensures runs { IfOk result (AreRuns (set_anew before.now from to bits.now)) }
+    ensures are { IfOk result (λ runs. AreSpans before.now) }
+{
+    let mut starts = Vec::with_capacity(alloc, CHUNK_SIDE as usize + 1)?;
+    let mut spans = Vec::with_capacity(alloc, before.len() + (to - from) as usize)?;
+    starts.push(0)?;
+    copy_rows(&mut starts, &mut spans, before, 0, from)?;
+    for row in from..to {
+        cut_row(&mut spans, bits.row(row))?;
+        starts.push(spans.len() as u16)?;
+    }
+    copy_rows(&mut starts, &mut spans, before, to, CHUNK_SIDE)?;
     Ok(RowSpans { starts, spans })
 }
