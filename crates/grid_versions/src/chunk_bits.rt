@@ -1,8 +1,8 @@
 //! The passable cells of a chunk as bits.
-ghost use Rattle.std.specs.Prelude.{ℕ, ◌≡◌, ◌<◌, ◌≤◌, ◌+◌, ◌*◌, ◌/◌, ◌%◌, ◌^◌, slice_index};
+ghost use Rattle.std.specs.Prelude.{ℕ, ◌≡◌, ◌⊎◌, ◌<◌, ◌≤◌, ◌+◌, ◌*◌, ◌/◌, ◌%◌, ◌^◌, IsTrue, slice_index};
 ghost use Rattle.std.specs.Int.{bit_at};
 ghost use Rattle.nav_types.specs.declared.limits.TheConstants.{CHUNK_SIDE};
-ghost use Rattle.chunk_regions.specs.Labelling.{AreBitsOf};
+ghost use Rattle.chunk_regions.specs.Labelling.{AreBitsOf, AreRowBits, AgreeElsewhere};
 ghost use Rattle.class_planes.specs.Planes.{is_passable};
 ghost use Rattle.grid_versions.specs.inner.ChunkLists.{IsChunkInside};
 
@@ -51,4 +51,77 @@ fn joined(low: u64, high: u64) -> u128
     ensures { result ≡ high * 2 ^ 64 + low }
 {
     (u128::from(high) << 64) + u128::from(low)
+}
+
+/// The rows of a chunk from one on to before another.
+#[derive(Clone, Copy)]
+pub struct RowRange {
+    pub from: u16,
+    pub to: u16,
+}
+
+/// Rows of a chunk between which all that lie in which the planes of before and of now differ.
+pub fn changed_rows(before: &ClassPlane, plane: &ClassPlane, chunk: Chunk) -> RowRange
+    requires size { before.now.size ≡ plane.now.size }
+    requires inside { IsChunkInside plane.now.size chunk }
+    ensures order { result.from ≤ result.to }
+    ensures within { result.to ≤ CHUNK_SIDE }
+    ensures map { CHUNK_SIDE * chunk.cj + result.to ≤ plane.now.size.h }
+    ensures agree { AgreeElsewhere (is_passable before.now) (is_passable plane.now) plane.now.size chunk
+        result.from result.to }
+{
+    let rect = Rect::of_chunk(plane.size(), chunk);
+    let mut rows = RowRange { from: 0, to: 0 };
+    for j in rect.j0..rect.j1 + 1 {
+        let same = same_words(before.row_words(j), plane.row_words(j), rect.i0);
+        rows = with_row(rows, j - rect.j0, same);
+    }
+    rows
+}
+
+/// The rows with one behind them where that is not the same.
+fn with_row(rows: RowRange, row: u16, same: bool) -> RowRange
+    requires order { rows.from ≤ rows.to }
+    requires behind { rows.to ≤ row }
+    requires few { row < CHUNK_SIDE }
+    ensures order { result.from ≤ result.to }
+    ensures behind { result.to ≤ row + 1 }
+    ensures earlier { (k : ℕ) → k < row → (k < result.from) ⊎ (result.to ≤ k) → (k < rows.from) ⊎ (rows.to ≤ k) }
+    ensures own { (row < result.from) ⊎ (result.to ≤ row) → IsTrue same }
+{
+    if same {
+        return rows;
+    }
+    let from = if rows.to == 0 { row } else { rows.from };
+    RowRange { from, to: row + 1 }
+}
+
+/// Whether the words of two lines are the same that hold as many places from one on as a chunk has columns. The first
+/// place lies in the first half of its word.
+fn same_words(old: &[u64], new: &[u64], from: u16) -> bool
+    requires half { from % 64 ≤ 32 }
+    ensures { IsTrue result → (k : ℕ) → k < CHUNK_SIDE
+        → bit_at (slice_index old.now ((from + k) / 64)) ((from + k) % 64)
+        ≡ bit_at (slice_index new.now ((from + k) / 64)) ((from + k) % 64) }
+{
+    let at = usize::from(from) / 64;
+    let near = word_at(old, at) == word_at(new, at);
+    let far = word_at(old, at + 1) == word_at(new, at + 1);
+    near & far
+}
+
+/// The passable cells of a chunk's rows by the plane of a class, as bits.
+pub fn passable_in_rows(plane: &ClassPlane, chunk: Chunk, rows: RowRange) -> ChunkBits
+    requires inside { IsChunkInside plane.now.size chunk }
+    requires order { rows.from ≤ rows.to }
+    requires within { rows.to ≤ CHUNK_SIDE }
+    requires map { CHUNK_SIDE * chunk.cj + rows.to ≤ plane.now.size.h }
+    ensures { AreRowBits (is_passable plane.now) chunk rows.from rows.to result }
+{
+    let rect = Rect::of_chunk(plane.size(), chunk);
+    let mut bits = ChunkBits::new();
+    for row in rows.from..rows.to {
+        bits.set_row(row, bits_from(plane.row_words(rect.j0 + row), rect.i0));
+    }
+    bits
 }

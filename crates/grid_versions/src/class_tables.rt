@@ -49,63 +49,75 @@ pub fn class_tables<L: Ledger>(
     Ok(all)
 }
 
-/// The tables of a class from those of before, its plane and the bits of what has changed: the same tables where no chunk
-/// has changed for the class.
+/// The planes and the tables of all classes of a map before a change.
+#[derive(Drop)]
+pub struct Earlier<'a> {
+    pub planes: &'a Planes,
+    pub tables: &'a SharedList<ClassTables>,
+}
+
+/// The tables of a class from those of before, its plane and what has changed: the same tables where no chunk has changed
+/// for the class.
 fn tables_at<L: Ledger>(
     alloc: Global,
     plane: &ClassPlane,
     before: &SharedList<ClassTables>,
-    changed: &[u16],
-    class: Class,
+    changed: &Changed<'_>,
     ticks: &mut Ticks<L>,
 ) -> Result<Arc<ClassTables, Global>, NoMemory>
-    requires within { class < length before.now }
-    requires before { (old : Cell → Bool) × (((tables : Tables) → slice_get before.now class ≡ Some tables
-        → AreTables old plane.now.size tables)
-        × AreChanges old (is_passable plane.now) plane.now.size class changed.now) }
+    requires within { changed.now.class < length before.now }
+    requires size { changed.now.before.now.size ≡ plane.now.size }
+    requires before { ((tables : Tables) → slice_get before.now changed.now.class ≡ Some tables
+        → AreTables (is_passable changed.now.before.now) plane.now.size tables)
+        × AreChanges (is_passable changed.now.before.now) (is_passable plane.now) plane.now.size changed.now.class
+        changed.now.bits.now }
     ensures tables { IfOk result (λ tables. AreTables (is_passable plane.now) plane.now.size (arc_value tables)) }
-    ensures most { ticks.new ≤ ticks.old + count_by (has_class class) changed.now }
+    ensures most { ticks.new ≤ ticks.old + count_by (has_class changed.now.class) changed.now.bits.now }
 {
-    let place = usize::from(class.number());
-    if count_bit(changed, class.number()) == 0 {
+    let class = changed.class.number();
+    let place = usize::from(class);
+    if count_bit(changed.bits, class) == 0 {
         return before.shared(place);
     }
-    let changed = Changed {
-        bits: changed,
-        class,
-    };
-    let tables = before.at(place).updated(alloc, plane, &changed, ticks)?;
+    let tables = before.at(place).updated(alloc, plane, changed, ticks)?;
     Ok(Arc::new(alloc, tables)?)
 }
 
-/// The tables of all classes of a map, in the order of classes, by their planes, from the tables of before and the bits of
-/// what has changed. Each chunk is labelled once for each class whose bit it has.
+/// The tables of all classes of a map, in the order of classes, by their planes, from the planes and the tables of before
+/// and the bits of what has changed. Each chunk is labelled once for each class whose bit it has.
 pub fn next_tables<L: Ledger>(
     alloc: Global,
     site: &Site<'_>,
     planes: &Planes,
-    before: &SharedList<ClassTables>,
+    before: &Earlier<'_>,
     changed: &[u16],
     ticks: &mut Ticks<L>,
 ) -> Result<SharedList<ClassTables>, NoMemory>
     requires planes { ArePlanes site.now.map.now.size (passable_at site.now.map.now site.now.shapes.now) 65535
         (length site.now.map.now.classes) planes.now }
-    requires few { length before.now ≤ 16 }
+    requires few { length before.now.tables.now ≤ 16 }
     requires before { (old : ℕ → Cell → Bool)
-        × (AreTablesOf (length site.now.map.now.classes) old site.now.map.now.size before.now
-        × ((k : ℕ) → k < length site.now.map.now.classes
-        → AreChanges (old k) (passable_at site.now.map.now site.now.shapes.now k) site.now.map.now.size k changed.now)) }
+        × (AreTablesOf (length site.now.map.now.classes) old site.now.map.now.size before.now.tables.now
+        × (((k : ℕ) → k < length site.now.map.now.classes
+        → AreChanges (old k) (passable_at site.now.map.now site.now.shapes.now k) site.now.map.now.size k changed.now)
+        × ArePlanes site.now.map.now.size old 65535 (length site.now.map.now.classes) before.now.planes.now)) }
     ensures tables { IfOk result (AreTablesOf (length site.now.map.now.classes)
         (passable_at site.now.map.now site.now.shapes.now) site.now.map.now.size) }
     ensures most { ticks.new ≤ ticks.old
         + sum_by (λ k. count_by (has_class k) changed.now) (range_with_len 0 (length site.now.map.now.classes)) }
 {
-    let count = before.len();
+    let count = before.tables.len();
     let mut all = SharedList::with_capacity(alloc, count)?;
     for number in 0..count {
         let class = Class::new(number as u8);
         let plane = plane_of(planes, class);
-        let tables = tables_at(alloc, plane, before, changed, class, ticks)?;
+        let earlier = plane_of(before.planes, class);
+        let changed = Changed {
+            bits: changed,
+            class,
+            before: earlier,
+        };
+        let tables = tables_at(alloc, plane, before.tables, &changed, ticks)?;
         all.push_shared(alloc, tables)?;
     }
     Ok(all)

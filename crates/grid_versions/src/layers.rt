@@ -11,7 +11,7 @@ ghost use Rattle.grid_versions.specs.inner.Reaching.{CoverChanges, NameChanges};
 
 use crate::changed_parts::changed_parts;
 use crate::chunk_cells::ChunkCells;
-use crate::class_tables::{class_tables, next_tables};
+use crate::class_tables::{Earlier, class_tables, next_tables};
 use crate::ground::Ground;
 use crate::painted_map::PaintedMap;
 use crate::relabelling::marks_below;
@@ -86,7 +86,11 @@ impl Layers {
         let (ground, changed) = self.ground.updated(alloc, earlier, site, changes)?;
         let bits = changed.as_slice();
         let planes = self.next_planes(alloc, site, &ground.cells, changes.reaches, bits)?;
-        let tables = next_tables(alloc, site, &planes, &self.tables, bits, ticks)?;
+        let before = Earlier {
+            planes: &self.planes,
+            tables: &self.tables,
+        };
+        let tables = next_tables(alloc, site, &planes, &before, bits, ticks)?;
         let relabelled = marks_below(bits, site.map.classes().count());
         let layers = Layers {
             ground,

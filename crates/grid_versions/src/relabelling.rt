@@ -4,6 +4,7 @@ ghost use Rattle.std.specs.List.{range_with_len};
 ghost use Rattle.nav_types.specs.declared.limits.TheConstants.{MAX_CHUNKS};
 ghost use Rattle.lane_rows.specs.Rows.{has_class};
 
+use class_planes::ClassPlane;
 use nav_types::Class;
 
 /// How many of the bits below `classes` are set in all numbers together.
@@ -19,11 +20,12 @@ pub fn marks_below(bits: &[u16], classes: u8) -> u32
     count
 }
 
-/// Which chunks have changed for a class: those whose number has the bit of the class.
+/// Which chunks have changed for a class since its plane of before: those whose number has the bit of the class.
 #[derive(Drop)]
 pub struct Changed<'a> {
     pub bits: &'a [u16],
     pub class: Class,
+    pub before: &'a ClassPlane,
 }
 
 /// Whether the chunk at a place has changed.

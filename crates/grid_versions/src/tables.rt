@@ -88,8 +88,10 @@ impl ClassTables {
         changed: &Changed<'_>,
         ticks: &mut Ticks<L>,
     ) -> Result<ClassTables, NoMemory>
-        requires before { (old : Cell → Bool) × (AreTables old plane.now.size self.now
-            × AreChanges old (is_passable plane.now) plane.now.size changed.now.class changed.now.bits.now) }
+        requires size { changed.now.before.now.size ≡ plane.now.size }
+        requires before { AreTables (is_passable changed.now.before.now) plane.now.size self.now
+            × AreChanges (is_passable changed.now.before.now) (is_passable plane.now) plane.now.size changed.now.class
+            changed.now.bits.now }
         ensures tables { IfOk result (AreTables (is_passable plane.now) plane.now.size) }
         ensures most { ticks.new ≤ ticks.old + count_by (has_class changed.now.class) changed.now.bits.now }
     {

@@ -1,5 +1,4 @@
 ghost use Rattle.std.specs.Prelude.{Bool, ◌≡◌, ◌+◌, ◌<◌, ◌≤◌, OnOk, IfOk, IsTrue, length, map, cond, count_by, slice_get, Some};
-ghost use Rattle.nav_types.specs.declared.cells.Cell.{Cell};
 ghost use Rattle.lane_rows.specs.Rows.{has_class};
 ghost use Rattle.class_planes.specs.Planes.{is_passable};
 ghost use Rattle.chunk_regions.specs.Labelling.{Labelling, AreLabels};
@@ -8,7 +7,7 @@ ghost use Rattle.grid_versions.specs.inner.ChunkLists.{chunk_numbered, IsRemadeA
 ghost use Rattle.grid_versions.specs.inner.Changing.{AreChanges};
 ghost use Rattle.grid_versions.specs.inner.Tables.{AreAllLabels, label_counts};
 
-use crate::chunk_bits::passable_cells;
+use crate::chunk_bits::{changed_rows, passable_cells, passable_in_rows};
 use crate::chunks;
 use crate::relabelling::{Changed, is_marked};
 use chunk_regions::{Labels, label_bits};
@@ -55,6 +54,32 @@ pub fn all_labels<L: Ledger>(
     Ok(all)
 }
 
+/// The regions of the chunk at a place from those of before: it labels anew by the rows that have changed where it can,
+/// which is one step of work.
+fn rows_labelled<L: Ledger>(
+    alloc: Global,
+    plane: &ClassPlane,
+    labels: &Labels,
+    before: &ClassPlane,
+    place: u32,
+    ticks: &mut Ticks<L>,
+) -> Result<Labels, NoMemory>
+    requires within { place < chunk_count plane.now.size }
+    requires size { before.now.size ≡ plane.now.size }
+    requires before { AreLabels (is_passable before.now) plane.now.size (chunk_numbered plane.now.size place) labels.now }
+    ensures labels { IfOk result (AreLabels (is_passable plane.now) plane.now.size
+        (chunk_numbered plane.now.size place)) }
+    ensures ticks { ticks.new ≡ ticks.old + 1 }
+{
+    if !labels.is_within() {
+        return labels_at(alloc, plane, place, ticks);
+    }
+    let chunk = chunks::numbered(plane.size(), place);
+    let rows = changed_rows(before, plane, chunk);
+    let bits = passable_in_rows(plane, chunk, rows);
+    chunk_regions::relabel(alloc, labels, rows.from, rows.to, &bits, ticks)
+}
+
 /// Labels the chunk at a place anew where the bits say that it has changed for the class, which is one step of work.
 /// It says whether the chunk has as many regions as before.
 fn relabel_at<L: Ledger>(
@@ -67,9 +92,11 @@ fn relabel_at<L: Ledger>(
 ) -> Result<bool, NoMemory>
     requires within { place < chunk_count plane.now.size }
     requires each { length labels.old ≡ chunk_count plane.now.size }
-    requires before { (old : Cell → Bool) × (AreChanges old (is_passable plane.now) plane.now.size changed.now.class changed.now.bits.now
+    requires size { changed.now.before.now.size ≡ plane.now.size }
+    requires before { AreChanges (is_passable changed.now.before.now) (is_passable plane.now) plane.now.size
+        changed.now.class changed.now.bits.now
         × ((item : Labelling) → slice_get labels.old place ≡ Some item
-        → AreLabels old plane.now.size (chunk_numbered plane.now.size place) item)) }
+        → AreLabels (is_passable changed.now.before.now) plane.now.size (chunk_numbered plane.now.size place) item) }
     ensures labels { OnOk result (IsRemadeAt place (AreLabels (is_passable plane.now) plane.now.size
         (chunk_numbered plane.now.size place)) labels.old labels.new) }
     ensures count { IfOk result (λ stays. IsTrue stays → label_counts labels.new ≡ label_counts labels.old) }
@@ -79,7 +106,14 @@ fn relabel_at<L: Ledger>(
     if !is_marked(changed, place) {
         return Ok(true);
     }
-    let made = labels_at(alloc, plane, place, ticks)?;
+    let made = rows_labelled(
+        alloc,
+        plane,
+        labels.at(place as usize),
+        changed.before,
+        place,
+        ticks,
+    )?;
     let stays = made.count() == labels.at(place as usize).count();
     labels.set(alloc, place as usize, made)?;
     Ok(stays)
@@ -94,8 +128,10 @@ fn relabel<L: Ledger>(
     changed: &Changed<'_>,
     ticks: &mut Ticks<L>,
 ) -> Result<bool, NoMemory>
-    requires before { (old : Cell → Bool) × (AreAllLabels old plane.now.size labels.old
-        × AreChanges old (is_passable plane.now) plane.now.size changed.now.class changed.now.bits.now) }
+    requires size { changed.now.before.now.size ≡ plane.now.size }
+    requires before { AreAllLabels (is_passable changed.now.before.now) plane.now.size labels.old
+        × AreChanges (is_passable changed.now.before.now) (is_passable plane.now) plane.now.size changed.now.class
+        changed.now.bits.now }
     ensures labels { OnOk result (AreAllLabels (is_passable plane.now) plane.now.size labels.new) }
     ensures counts { IfOk result (λ stay. IsTrue stay → label_counts labels.new ≡ label_counts labels.old) }
     ensures most { ticks.new ≤ ticks.old + count_by (has_class changed.now.class) changed.now.bits.now }
@@ -118,8 +154,10 @@ pub fn next_labels<L: Ledger>(
     changed: &Changed<'_>,
     ticks: &mut Ticks<L>,
 ) -> Result<(SharedList<Labels>, bool), NoMemory>
-    requires before { (old : Cell → Bool) × (AreAllLabels old plane.now.size before.now
-        × AreChanges old (is_passable plane.now) plane.now.size changed.now.class changed.now.bits.now) }
+    requires size { changed.now.before.now.size ≡ plane.now.size }
+    requires before { AreAllLabels (is_passable changed.now.before.now) plane.now.size before.now
+        × AreChanges (is_passable changed.now.before.now) (is_passable plane.now) plane.now.size changed.now.class
+        changed.now.bits.now }
     ensures labels { IfOk result (λ made. AreAllLabels (is_passable plane.now) plane.now.size made.0) }
     ensures counts { IfOk result (λ made. IsTrue made.1 → label_counts made.0 ≡ label_counts before.now) }
     ensures most { ticks.new ≤ ticks.old + count_by (has_class changed.now.class) changed.now.bits.now }

@@ -1,8 +1,10 @@
-use Rattle.std.proofs.Common.{ℕ, List, ◌≡◌, ◌+◌, ◌≤◌, length, ap, sym, subst, arith}
+use Rattle.std.proofs.Common.{ℕ, List, Bool, ◌∙◌, ◌≡◌, ◌+◌, ◌≤◌, length, ap, sym, subst, arith}
 use Rattle.std.specs.List.{count_by, sum_by, range_with_len}
 use Rattle.std.specs.Arc.{arc_value}
+use Rattle.nav_types.specs.declared.cells.Cell.{Cell}
 use Rattle.nav_types.specs.declared.cells.Size.{Size}
 use Rattle.lane_rows.specs.Rows.{has_class}
+use Rattle.class_planes.specs.Planes.{is_passable}
 use Rattle.class_planes.proofs.PlaneLemmas.{are_of, each_there}
 use Rattle.grid_versions.specs.Passing.{passable_at}
 use Rattle.grid_versions.specs.inner.Changing.{AreChanges}
@@ -27,22 +29,42 @@ plane_of-plane-requires g c =
     each_there map.size (passable_at map c.args.site.now.shapes.now) (length map.classes) c.args.planes.now c.requires.planes
     (omega arith) c.new-class.result (omega (arith, c.new-class.ensures))
 
+pub plane_of-earlier-requires : goal.plane_of-earlier-requires
+plane_of-earlier-requires g c =
+    let map = c.args.site.now.map.now in
+    let each = c.requires.before.1.0.each in
+    let few = c.requires.few in
+    each_there map.size c.requires.before.0 (length map.classes) c.args.before.now.planes.now c.requires.before.1.1.1
+    (omega arith) c.new-class.result (omega (arith, c.new-class.ensures))
+
+pub tables_at-requires-clause-size : goal.tables_at-requires-clause-size
+tables_at-requires-clause-size g c =
+    let map = c.args.site.now.map.now in
+    let class = c.new-class.result in
+    let is = are_of map.size (passable_at map c.args.site.now.shapes.now) 65535 (length map.classes) c.args.planes.now c.requires.planes class
+    c.plane_of-plane.result.now c.plane_of-plane.ensures in
+    let was = are_of map.size c.requires.before.0 65535 (length map.classes) c.args.before.now.planes.now c.requires.before.1.1.1 class
+    c.plane_of-earlier.result.now c.plane_of-earlier.ensures in
+    was.extent ∙ sym is.extent
+
 pub tables_at-requires-clause-before : goal.tables_at-requires-clause-before
 tables_at-requires-clause-before g c =
     let map = c.args.site.now.map.now in
     let passes = passable_at map c.args.site.now.shapes.now in
     let class = c.new-class.result in
     let plane = c.plane_of-plane.result.now in
+    let earlier = c.plane_of-earlier.result.now in
     let each = c.requires.before.1.0.each in
     let old = c.requires.before.0 class in
     let bits = c.args.changed.now in
-    let is = are_of map.size passes 65535 (length map.classes) c.args.planes.now c.requires.planes class plane c.plane_of-plane.ensures in (
-      old,
-      (
-        λ tables at. subst (λ (s : Size). AreTables old s tables) (sym is.extent) (c.requires.before.1.0.are class tables at),
-        to_plane (λ p s. AreChanges old p s class bits) map.size (passes class) plane is
-            (c.requires.before.1.1 class (omega (arith, c.new-class.ensures))),
-      ),
+    let is = are_of map.size passes 65535 (length map.classes) c.args.planes.now c.requires.planes class plane c.plane_of-plane.ensures in
+    let was = are_of map.size c.requires.before.0 65535 (length map.classes) c.args.before.now.planes.now c.requires.before.1.1.1 class earlier
+    c.plane_of-earlier.ensures in (
+      λ tables at. subst (λ (p : Cell → Bool). AreTables p plane.size tables) (sym was.cells)
+          (subst (λ (s : Size). AreTables old s tables) (sym is.extent) (c.requires.before.1.0.are class tables at)),
+      subst (λ (p : Cell → Bool). AreChanges p (is_passable plane) plane.size class bits) (sym was.cells)
+          (to_plane (λ p s. AreChanges old p s class bits) map.size (passes class) plane is
+          (c.requires.before.1.1.0 class (omega (arith, c.new-class.ensures)))),
     )
 
 pub returns-in_err-tables-clause-most : goal.returns-in_err-tables-clause-most

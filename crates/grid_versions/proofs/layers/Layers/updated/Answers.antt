@@ -1,4 +1,5 @@
 use Rattle.std.proofs.Common.{ℕ, List, ◌≡◌, ◌≢◌, ◌∙◌, ◌+◌, ◌<◌, ◌≤◌, Bool, length, refl, ap, sym, subst}
+use Rattle.std.specs.Prelude.{Option}
 use Rattle.std.specs.List.{count_by, sum_by, range_with_len}
 use Rattle.nav_types.specs.declared.cells.Cell.{Cell}
 use Rattle.nav_types.specs.declared.cells.Chunk.{Chunk}
@@ -7,6 +8,7 @@ use Rattle.nav_types.specs.Numbering.{Numbering}
 use Rattle.nav_types.specs.Regions.{HasRelabelled}
 use Rattle.nav_types.proofs.Counting.{Counts-unique}
 use Rattle.lane_rows.specs.Rows.{has_class}
+use Rattle.class_planes.specs.Planes.{PlaneCells, ArePlanes}
 use Rattle.obstruction_store.specs.Standing.{Standing}
 use Rattle.posts.specs.Maps.{Map}
 use Rattle.grid_versions.specs.Passing.{passable_at}
@@ -27,10 +29,12 @@ module _ (map : Map) (old new : Standing) (before now : List Numbering) (items b
   changes_here : (k : ℕ) → k < length map.classes → AreChanges (passable_at map old k) (passable_at map new k) map.size k bits
   changes_here k known = changes_of map old new before now were are bits k differing known
 
-  tables_here : (tables : List Tables) → AreTablesOf (length map.classes) (passable_at map old) map.size tables
+  tables_here : (tables : List Tables) (planes : List (Option PlaneCells)) → AreTablesOf (length map.classes) (passable_at map old) map.size tables
+      → ArePlanes map.size (passable_at map old) 65535 (length map.classes) planes
       → (was : ℕ → Cell → Bool) × (AreTablesOf (length map.classes) was map.size tables
-      × ((k : ℕ) → k < length map.classes → AreChanges (was k) (passable_at map new k) map.size k bits))
-  tables_here tables of = (passable_at map old, (of, changes_here))
+      × (((k : ℕ) → k < length map.classes → AreChanges (was k) (passable_at map new k) map.size k bits)
+      × ArePlanes map.size was 65535 (length map.classes) planes))
+  tables_here tables planes of drawn = (passable_at map old, (of, (changes_here, drawn)))
 
   counted_here : (classes : ℕ) → classes ≡ length map.classes
       → HasRelabelled (length map.classes) (passable_at map old) (passable_at map new)
@@ -66,7 +70,7 @@ pub next_tables-requires-clause-before : goal.next_tables-requires-clause-before
 next_tables-requires-clause-before g c =
     tables_here c.args.site.now.map.now c.args.earlier.now c.args.site.now.shapes.now c.args.self.now.ground.cells c.in_ok-ground.ground.cells
     c.in_ok-ground.changed.items c.as_slice-bits.result.now c.requires.parts.cells_are c.in_ok-ground.ensures.cells
-    c.in_ok-ground.ensures.bits c.as_slice-bits.ensures.value c.args.self.now.tables c.requires.parts.tables_are
+    c.in_ok-ground.ensures.bits c.as_slice-bits.ensures.value c.args.self.now.tables c.args.self.now.planes c.requires.parts.tables_are c.requires.parts.planes_are
 
 pub returns-in_err-tables-clause-most : goal.returns-in_err-tables-clause-most
 returns-in_err-tables-clause-most g c =

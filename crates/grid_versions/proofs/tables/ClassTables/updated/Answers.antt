@@ -56,33 +56,33 @@ next_edges-requires-clause-labels g c =
     let extent = c.args.plane.now.size in
     let own = c.self.inside in
     let before : Tables = record { labels = own.labels; east = own.east; north = own.north; areas = arc_value own.areas } in
-    let old = c.requires.before.0 in
-    let changed = c.requires.before.1.1 in
-    let were = subst (λ (t : Tables). AreTables old extent t) (sym c.self.view_is) c.requires.before.1.0 in
+    let old = is_passable c.args.changed.now.before.now in
+    let changed = c.requires.before.1 in
+    let were = subst (λ (t : Tables). AreTables old extent t) (sym c.self.view_is) c.requires.before.0 in
     laid_here old passes c.size-size.result extent c.args.changed.now.class c.args.changed.now.bits.now before c.size-size.ensures were changed c.in_ok-labels.labels c.in_ok-labels.ensures.labels
 
 pub next_edges-requires-clause-each : goal.next_edges-requires-clause-each
 next_edges-requires-clause-each g c =
     ap (λ (t : Tables). length t.east) c.self.view_is
-    ∙ c.requires.before.1.0.east_are.each
+    ∙ c.requires.before.0.east_are.each
     ∙ ap (λ (s : Size). chunk_count s) (sym c.size-size.ensures)
 
 pub next_edges-requires-clause-changed : goal.next_edges-requires-clause-changed
 next_edges-requires-clause-changed g c =
     sym (length-map c.args.changed.now.bits.now (has_class c.args.changed.now.class))
-    ∙ c.requires.before.1.1.marks.each
+    ∙ c.requires.before.1.marks.each
     ∙ ap (λ (s : Size). chunk_count s) (sym c.size-size.ensures)
 
 pub next_edges-requires-2-clause-each : goal.next_edges-requires-2-clause-each
 next_edges-requires-2-clause-each g c =
     ap (λ (t : Tables). length t.north) c.self.view_is
-    ∙ c.requires.before.1.0.north_are.each
+    ∙ c.requires.before.0.north_are.each
     ∙ ap (λ (s : Size). chunk_count s) (sym c.size-size.ensures)
 
 pub next_edges-requires-2-clause-changed : goal.next_edges-requires-2-clause-changed
 next_edges-requires-2-clause-changed g c =
     sym (length-map c.args.changed.now.bits.now (has_class c.args.changed.now.class))
-    ∙ c.requires.before.1.1.marks.each
+    ∙ c.requires.before.1.marks.each
     ∙ ap (λ (s : Size). chunk_count s) (sym c.size-size.ensures)
 
 pub relabelled-requires-clause-counts : goal.relabelled-requires-clause-counts
@@ -103,9 +103,9 @@ next_edges-requires-2-clause-labels g c =
     let extent = c.args.plane.now.size in
     let own = c.self.inside in
     let before : Tables = record { labels = own.labels; east = own.east; north = own.north; areas = arc_value own.areas } in
-    let old = c.requires.before.0 in
-    let changed = c.requires.before.1.1 in
-    let were = subst (λ (t : Tables). AreTables old extent t) (sym c.self.view_is) c.requires.before.1.0 in
+    let old = is_passable c.args.changed.now.before.now in
+    let changed = c.requires.before.1 in
+    let were = subst (λ (t : Tables). AreTables old extent t) (sym c.self.view_is) c.requires.before.0 in
     laid_here old passes c.size-size.result extent c.args.changed.now.class c.args.changed.now.bits.now before c.size-size.ensures were changed c.in_ok-labels.labels c.in_ok-labels.ensures.labels
 
 pub returns-then-to_north-clause-tables : goal.returns-then-to_north-clause-tables
@@ -114,9 +114,9 @@ returns-then-to_north-clause-tables g c =
     let extent = c.args.plane.now.size in
     let own = c.self.inside in
     let before : Tables = record { labels = own.labels; east = own.east; north = own.north; areas = arc_value own.areas } in
-    let old = c.requires.before.0 in
-    let changed = c.requires.before.1.1 in
-    let were = subst (λ (t : Tables). AreTables old extent t) (sym c.self.view_is) c.requires.before.1.0 in
+    let old = is_passable c.args.changed.now.before.now in
+    let changed = c.requires.before.1 in
+    let were = subst (λ (t : Tables). AreTables old extent t) (sym c.self.view_is) c.requires.before.0 in
     let kept = kept_here old passes c.size-size.result extent c.args.changed.now.class c.args.changed.now.bits.now before c.size-size.ensures were changed c.in_ok-labels.labels c.in_ok-east.east c.in_ok-north.north c.in_ok-labels.ensures.labels c.in_ok-east.ensures.edges c.in_ok-north.ensures.edges
     (c.in_ok-labels.ensures.counts c.if-counts.true) (c.in_ok-east.ensures.stay c.if-to_east.true) (c.in_ok-north.ensures.stay c.if-to_north.true) in
     let here : AreTables passes extent (record { labels = c.in_ok-labels.labels; east = c.in_ok-east.east; north = c.in_ok-north.north; areas = c.args.self.now.areas }) =
@@ -130,9 +130,9 @@ joined-requires g c =
     let extent = c.args.plane.now.size in
     let own = c.self.inside in
     let before : Tables = record { labels = own.labels; east = own.east; north = own.north; areas = arc_value own.areas } in
-    let old = c.requires.before.0 in
-    let changed = c.requires.before.1.1 in
-    let were = subst (λ (t : Tables). AreTables old extent t) (sym c.self.view_is) c.requires.before.1.0 in (
+    let old = is_passable c.args.changed.now.before.now in
+    let changed = c.requires.before.1 in
+    let were = subst (λ (t : Tables). AreTables old extent t) (sym c.self.view_is) c.requires.before.0 in (
       passes,
       sides_here old passes c.size-size.result extent c.args.changed.now.class c.args.changed.now.bits.now before c.size-size.ensures were changed c.in_ok-labels.labels c.in_ok-east.east c.in_ok-north.north c.in_ok-labels.ensures.labels c.in_ok-east.ensures.edges c.in_ok-north.ensures.edges,
     )
@@ -143,9 +143,9 @@ returns-clause-tables g c =
     let extent = c.args.plane.now.size in
     let own = c.self.inside in
     let before : Tables = record { labels = own.labels; east = own.east; north = own.north; areas = arc_value own.areas } in
-    let old = c.requires.before.0 in
-    let changed = c.requires.before.1.1 in
-    let were = subst (λ (t : Tables). AreTables old extent t) (sym c.self.view_is) c.requires.before.1.0 in
+    let old = is_passable c.args.changed.now.before.now in
+    let changed = c.requires.before.1 in
+    let were = subst (λ (t : Tables). AreTables old extent t) (sym c.self.view_is) c.requires.before.0 in
     IfOk-weaker c.joined.result _ _
     (λ tables made.
     subst (λ (s : Size). AreTables passes s tables) c.size-size.ensures

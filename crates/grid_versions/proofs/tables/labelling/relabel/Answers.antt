@@ -21,7 +21,7 @@ bit_below class bits size extent count place many same each low =
 
 pub loop-place-init : goal.loop-place-init
 loop-place-init g c = record {
-  each = c.requires.before.1.0.each;
+  each = c.requires.before.0.each;
   remade = λ old were. record { done = λ k item less at. absurd (omega arith); left = λ k item from at. were.are k item at };
   counts = λ stay. refl;
   ticked = omega arith;
@@ -34,12 +34,9 @@ relabel_at-requires-clause-within g c =
 
 pub relabel_at-requires-clause-before : goal.relabel_at-requires-clause-before
 relabel_at-requires-clause-before g c =
-    let old = c.requires.before.0 in (
-      old,
-      (
-        c.requires.before.1.1,
-        λ item at. (c.loop-place.invariant.remade old c.requires.before.1.0).left c.loop-place.place item (omega arith) at,
-      ),
+    let old = is_passable c.args.changed.now.before.now in (
+      c.requires.before.1,
+      λ item at. (c.loop-place.invariant.remade old c.requires.before.0).left c.loop-place.place item (omega arith) at,
     )
 
 pub returns-in_err-stays-clause-most : goal.returns-in_err-stays-clause-most
@@ -47,7 +44,7 @@ returns-in_err-stays-clause-most g c =
     let bits = c.args.changed.now.bits.now in
     let place = c.loop-place.place in
     let low = bit_below c.args.changed.now.class bits c.size.result c.args.plane.now.size c.count-count.result place c.count-count.ensures.value c.size.ensures
-    c.requires.before.1.1.marks.each (omega arith) in
+    c.requires.before.1.marks.each (omega arith) in
     let now = marks_more c.args.changed.now.class bits place c.loop-place.ticks c.relabel_at.new.ticks c.args.ticks.now low c.relabel_at.ensures.most c.loop-place.invariant.ticked in
     omega (arith, now, marks_most c.args.changed.now.class bits (place + 1))
 
@@ -65,7 +62,7 @@ loop-place-preserved g c =
     let equal : c.count-count.result ≡ chunk_count size = c.count-count.ensures.value ∙ ap (λ (s : Size). chunk_count s) c.size.ensures in
     let within : place < length labels = omega arith in
     let low = bit_below c.args.changed.now.class bits c.size.result size c.count-count.result place c.count-count.ensures.value c.size.ensures
-    c.requires.before.1.1.marks.each (omega arith) in
+    c.requires.before.1.marks.each (omega arith) in
     record {
       each = ap (λ (all : List Labelling). length all) made.set ∙ length-set labels place made.item ∙ each;
       remade = λ old were.
@@ -81,12 +78,12 @@ pub returns-clause-labels : goal.returns-clause-labels
 returns-clause-labels g c =
     let passes = is_passable c.args.plane.now in
     let size = c.args.plane.now.size in
-    let old = c.requires.before.0 in
+    let old = is_passable c.args.changed.now.before.now in
     let here = c.loop-place.invariant in
     let equal : c.count-count.result ≡ chunk_count size = c.count-count.ensures.value ∙ ap (λ (s : Size). chunk_count s) c.size.ensures in
     all_remade size (chunk_count size) c.loop-place.place (λ (chunk : Chunk) (one : Labelling). AreLabels passes size chunk one)
     (λ (k : ℕ) (one : Labelling). AreLabels old size (chunk_numbered size k) one) c.loop-place.labels here.each (omega arith)
-    (here.remade old c.requires.before.1.0)
+    (here.remade old c.requires.before.0)
 
 pub returns-clause-counts : goal.returns-clause-counts
 returns-clause-counts g c = c.loop-place.invariant.counts

@@ -13,17 +13,20 @@ returns-then-not-is_marked-clause-labels g c =
     let size = c.args.plane.now.size in
     let place = c.args.place in
     let chunk = chunk_numbered size place in
-    let old = c.requires.before.0 in
-    let changes = c.requires.before.1.0 in
+    let old = is_passable c.args.changed.now.before.now in
+    let changes = c.requires.before.0 in
     let agree = unmarked_agrees old passes size c.args.changed.now.class c.args.changed.now.bits.now place c.is_marked.result changes c.is_marked.ensures c.if-not-is_marked.true in
     kept_at place (λ (one : Labelling). AreLabels passes size chunk one) c.args.labels.now (omega (arith, c.requires.each, c.requires.within))
-    (λ item at. labels_stay old passes size chunk item agree (c.requires.before.1.1 item at))
+    (λ item at. labels_stay old passes size chunk item agree (c.requires.before.1 item at))
+
+pub rows_labelled-requires-clause-before : goal.rows_labelled-requires-clause-before
+rows_labelled-requires-clause-before g c = c.requires.before.1 c.at.result.now c.at.ensures
 
 pub returns-clause-labels : goal.returns-clause-labels
 returns-clause-labels g c = record { item = c.in_ok-made.made; set = c.in_ok-set.ensures.ok; is = c.in_ok-made.ensures.labels }
 
 pub returns-clause-count : goal.returns-clause-count
 returns-clause-count g c = λ stays.
-    counts_kept (λ (one : Labelling). length one.firsts) c.args.labels.now c.set.new.self c.args.place c.at.result.now c.in_ok-made.made
-    c.at.ensures c.in_ok-set.ensures.ok
+    counts_kept (λ (one : Labelling). length one.firsts) c.args.labels.now c.set.new.self c.args.place c.at-2.result.now c.in_ok-made.made
+    c.at-2.ensures c.in_ok-set.ensures.ok
     (sym c.count.ensures.value ∙ eqb-true c.count.result c.count-2.result stays ∙ c.count-2.ensures.value)
