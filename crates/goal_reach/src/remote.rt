@@ -9,8 +9,8 @@ ghost use Rattle.goal_reach.specs.inner.Remote.{IsLeastBeyond};
 use fixed_point::{Fixed, magnitude, squared};
 use goal_shapes::Goal;
 
-/// A remoteness that no cell is below which lies beyond the goal's box and so many rings round it. A plain goal
-/// only: it is 0 where a goal is turned inside out, since the whole map is the box then.
+/// A remoteness that no cell is below which lies beyond the goal's box and so many rings round it. It is 0 where a goal is
+/// turned inside out, since the whole map is the box then.
 #[tactic(auto, unfolding(goal_shapes::specs::Goals::remoteness))]
 pub(crate) fn least_remoteness(goal: &Goal, rings: u16) -> u128
     requires goal { IsWellFormed goal.now }
@@ -22,8 +22,7 @@ pub(crate) fn least_remoteness(goal: &Goal, rings: u16) -> u128
         // The middle of a cell beyond is further than the radius and half a navcell from the circle's, along an axis.
         Goal::Circle { r, .. } => squared(magnitude(r) + width(rings)),
         Goal::Square(rectangle) => squared_past(rectangle.ux, rectangle.uz, width(rings)),
-        Goal::NotCircle { .. } => 0,
-        Goal::NotSquare(_) => 0,
+        _ => 0,
     }
 }
 

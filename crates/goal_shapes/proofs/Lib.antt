@@ -1,2 +1,3 @@
 pub mod Middles
 pub mod Reaches
+pub mod SameRectangles

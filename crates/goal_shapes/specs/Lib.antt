@@ -1,4 +1,3 @@
-pub mod Framing
 pub mod Goals
 pub mod Limits
 pub mod Words

@@ -1,5 +1,5 @@
 -- Which goals are sound for a map. All numbers are raw: the raw number of a navcell's side is 65536.
-use Rattle.std.specs.Prelude.{ℤ, ◌+ℤ◌}
+use Rattle.std.specs.Prelude.{ℤ, pos, ◌+ℤ◌}
 use Rattle.nav_types.specs.declared.limits.TheConstants.{MAX_GOAL_EXTENT}
 use Rattle.nav_types.specs.declared.cells.Size.{Size}
 use Rattle.fixed_point.specs.declared.plane.Rectangle.{Rectangle}
@@ -7,20 +7,25 @@ use Rattle.fixed_point.specs.Plane.{IsUnitVector, IsOnAxis, IsUpTo}
 use Rattle.goal_shapes.specs.declared.goals.Goal.{Goal}
 use Rattle.goal_shapes.specs.declared.goals.Goal.TheVariants.{Point, Circle, NotCircle, Square, NotSquare}
 
+-- a square along the axes of the map, which is to lie along the vector (1, 0)
+abbrev pub upright : ℤ → ℤ → ℤ → Rectangle
+upright x z half = record { x = x; z = z; ux = pos 65536; uz = pos 0; hw = half; hh = half }
+
+-- The rectangle about a goal's shape: a point's has no sides, and a circle's lies along the axes of the map. A shape that is
+-- turned inside out keeps its own.
+abbrev pub extent : Goal → Rectangle
+extent (Point x z) = upright x z (pos 0)
+extent (Circle x z r) = upright x z r
+extent (NotCircle x z r) = upright x z r
+extent (Square rectangle) = rectangle
+extent (NotSquare rectangle) = rectangle
+
 -- the coordinates of a goal's middle
 abbrev pub middle_x : Goal → ℤ
-middle_x (Point x z) = x
-middle_x (Circle x z r) = x
-middle_x (NotCircle x z r) = x
-middle_x (Square rectangle) = rectangle.x
-middle_x (NotSquare rectangle) = rectangle.x
+middle_x goal = (extent goal).x
 
 abbrev pub middle_z : Goal → ℤ
-middle_z (Point x z) = z
-middle_z (Circle x z r) = z
-middle_z (NotCircle x z r) = z
-middle_z (Square rectangle) = rectangle.z
-middle_z (NotSquare rectangle) = rectangle.z
+middle_z goal = (extent goal).z
 
 -- a square lies along a unit vector, and its half sides are from 0 to 4096 navcells
 pub record IsWellFormedSquare (rectangle : Rectangle) : Type 0 where
@@ -30,11 +35,7 @@ pub record IsWellFormedSquare (rectangle : Rectangle) : Type 0 where
 
 -- the goal's radius or sides are in their limits
 abbrev pub IsWellFormed : Goal → Type 0
-IsWellFormed (Point x z) = Unit {0}
-IsWellFormed (Circle x z r) = IsUpTo MAX_GOAL_EXTENT r
-IsWellFormed (NotCircle x z r) = IsUpTo MAX_GOAL_EXTENT r
-IsWellFormed (Square rectangle) = IsWellFormedSquare rectangle
-IsWellFormed (NotSquare rectangle) = IsWellFormedSquare rectangle
+IsWellFormed goal = IsWellFormedSquare (extent goal)
 
 -- the goal's middle lies on a map of this size
 pub record IsGoalInside (size : Size) (goal : Goal) : Type 0 where

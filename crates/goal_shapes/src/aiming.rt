@@ -4,8 +4,7 @@ use nav_types::{Aim, Cell, Rect, Size};
 
 impl Aim for Goal {
     ghost use Rattle.goal_shapes.specs.Limits.{IsSoundGoal};
-    ghost use Rattle.goal_shapes.specs.Goals.{contains, framed};
-    ghost use Rattle.goal_shapes.specs.Framing.{contains_framed};
+    ghost use Rattle.goal_shapes.specs.Goals.{contains, contains_framed, framed};
 
     ghost sound = { λ goal size. IsSoundGoal size goal };
 

@@ -56,21 +56,15 @@ pub fn check(goal: Goal, size: Size) -> Result<Goal, GoalRefusal>
 fn is_well_formed(goal: &Goal) -> bool
     ensures { IsTrue result ↔ IsWellFormed goal.now }
 {
-    match *goal {
-        Goal::Point { .. } => true,
-        Goal::Circle { r, .. } => is_up_to(MAX_GOAL_EXTENT, r),
-        Goal::NotCircle { r, .. } => is_up_to(MAX_GOAL_EXTENT, r),
-        Goal::Square(rectangle) => is_well_formed_square(&rectangle),
-        Goal::NotSquare(rectangle) => is_well_formed_square(&rectangle),
-    }
+    is_well_formed_square(&goal.extent())
 }
 
 /// Whether the goal's middle lies on a map of this size.
 fn is_inside(goal: &Goal, size: Size) -> bool
     ensures { IsTrue result ↔ IsGoalInside size goal.now }
 {
-    let (x, z) = goal.middle();
-    is_on_axis(x, size.w) && is_on_axis(z, size.h)
+    let extent = goal.extent();
+    is_on_axis(extent.x, size.w) && is_on_axis(extent.z, size.h)
 }
 
 /// Whether a square's unit vector and half sides are in their limits.

@@ -1,5 +1,5 @@
-ghost use Rattle.std.specs.Prelude.{◌≡◌};
-ghost use Rattle.goal_shapes.specs.Limits.{middle_x, middle_z};
+ghost use Rattle.std.specs.Prelude.{◌≡◌, ◌↔◌, IsTrue};
+ghost use Rattle.goal_shapes.specs.Limits.{extent, upright};
 
 use fixed_point::{Fixed, Rectangle};
 
@@ -29,17 +29,74 @@ pub enum GoalSpec {
 }
 
 impl Goal {
-    /// The coordinates of the goal's middle.
-    pub(crate) fn middle(&self) -> (Fixed, Fixed)
-        ensures column { result.0 ≡ middle_x self.now }
-        ensures row { result.1 ≡ middle_z self.now }
+    /// The rectangle about the goal's shape (`extent`), whose middle is the goal's: that of a point has no sides, and that
+    /// of a circle lies along the axes of the map.
+    pub fn extent(&self) -> Rectangle
+        ensures { result ≡ extent self.now }
     {
         match *self {
-            Goal::Point { x, z } => (x, z),
-            Goal::Circle { x, z, .. } => (x, z),
-            Goal::NotCircle { x, z, .. } => (x, z),
-            Goal::Square(rectangle) => (rectangle.x, rectangle.z),
-            Goal::NotSquare(rectangle) => (rectangle.x, rectangle.z),
+            Goal::Point { x, z } => upright(x, z, Fixed::from_raw(0)),
+            Goal::Circle { x, z, r } => upright(x, z, r),
+            Goal::NotCircle { x, z, r } => upright(x, z, r),
+            Goal::Square(rectangle) => rectangle,
+            Goal::NotSquare(rectangle) => rectangle,
         }
+    }
+
+    /// Whether the goals are one. It says what `==` does, in a form by which callers know it.
+    pub fn is_same(&self, other: &Goal) -> bool
+        ensures { IsTrue result ↔ (self.now ≡ other.now) }
+    {
+        match self {
+            Goal::Point { x, z } => match other {
+                Goal::Point { x: i, z: j } => *x == *i && *z == *j,
+                _ => false,
+            },
+            Goal::Circle { x, z, r } => match other {
+                Goal::Circle {
+                    x: i,
+                    z: j,
+                    r: radius,
+                } => *x == *i && *z == *j && *r == *radius,
+                _ => false,
+            },
+            Goal::NotCircle { x, z, r } => match other {
+                Goal::NotCircle {
+                    x: i,
+                    z: j,
+                    r: radius,
+                } => *x == *i && *z == *j && *r == *radius,
+                _ => false,
+            },
+            Goal::Square(square) => match other {
+                Goal::Square(same) => is_same_rectangle(*square, *same),
+                _ => false,
+            },
+            Goal::NotSquare(square) => match other {
+                Goal::NotSquare(same) => is_same_rectangle(*square, *same),
+                _ => false,
+            },
+        }
+    }
+}
+
+/// Whether the rectangles are one.
+fn is_same_rectangle(one: Rectangle, other: Rectangle) -> bool
+    ensures { IsTrue result ↔ (one ≡ other) }
+{
+    one == other
+}
+
+/// A square along the axes of the map.
+fn upright(x: Fixed, z: Fixed, half: Fixed) -> Rectangle
+    ensures { result ≡ upright x z half }
+{
+    Rectangle {
+        x,
+        z,
+        ux: Fixed::from_raw(65_536),
+        uz: Fixed::from_raw(0),
+        hw: half,
+        hh: half,
     }
 }

@@ -76,14 +76,8 @@ fn distance_to(x: Fixed, z: Fixed, goal: &Goal) -> u64
     ensures value { result ≡ distance_to x z goal.now }
     ensures few { result ≤ 65535 }
 {
-    let (column, row) = match *goal {
-        Goal::Point { x, z } => (x, z),
-        Goal::Circle { x, z, .. } => (x, z),
-        Goal::NotCircle { x, z, .. } => (x, z),
-        Goal::Square(rectangle) => (rectangle.x, rectangle.z),
-        Goal::NotSquare(rectangle) => (rectangle.x, rectangle.z),
-    };
-    apart(x, column).max(apart(z, row))
+    let extent = goal.extent();
+    apart(x, extent.x).max(apart(z, extent.z))
 }
 
 /// How many whole navcells two coordinates lie apart.

@@ -12,8 +12,7 @@ use Rattle.fixed_point.proofs.PlaneTests.{Decides-is_on_axis, Decides-is_up_to, 
 use Rattle.obstruction_shapes.specs.declared.shapes.Obstruction.{Obstruction as StandingShape}
 use Rattle.goal_shapes.specs.declared.goals.Goal.{Goal}
 use Rattle.goal_shapes.specs.declared.goals.GoalSpec.TheVariants.{Obstruction}
-use Rattle.goal_shapes.specs.declared.goals.Goal.TheVariants.{Point, Circle, NotCircle, Square, NotSquare}
-use Rattle.goal_shapes.specs.Limits.{middle_x, middle_z, IsWellFormedSquare, IsWellFormed, IsGoalInside, IsSoundGoal}
+use Rattle.goal_shapes.specs.Limits.{extent, middle_x, middle_z, IsWellFormedSquare, IsWellFormed, IsGoalInside, IsSoundGoal}
 use Rattle.posts.specs.declared.edits.Refusal.TheVariants.{BadShape, GoalOutside}
 use Rattle.posts.specs.Maps.{Map}
 use Rattle.turn_core.specs.Words.{Standing}
@@ -36,11 +35,7 @@ well_formed_square_decides s =
 
 pub well_formed_decides : (goal : Goal) → Decides (is_well_formed goal) (IsWellFormed goal)
 unfolding is_well_formed
-well_formed_decides (Point x z) = (λ is. tt, λ is. refl)
-well_formed_decides (Circle x z r) = Decides-is_up_to 4096 r
-well_formed_decides (NotCircle x z r) = Decides-is_up_to 4096 r
-well_formed_decides (Square rectangle) = well_formed_square_decides rectangle
-well_formed_decides (NotSquare rectangle) = well_formed_square_decides rectangle
+well_formed_decides goal = well_formed_square_decides (extent goal)
 
 pub goal_inside_decides : (size : Size) (goal : Goal) → Decides (is_on_map size (middle_x goal) (middle_z goal)) (IsGoalInside size goal)
 goal_inside_decides size goal =

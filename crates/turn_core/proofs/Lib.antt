@@ -6,7 +6,6 @@ pub mod OneNote
 pub mod NotedPaths
 pub mod Searchable
 pub mod KeptFields
-pub mod SameTargets
 pub mod TurnByTurn
 pub mod Threads
 pub mod CallerLists

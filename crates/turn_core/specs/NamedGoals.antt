@@ -1,5 +1,5 @@
 -- What a request names: its class, its point and its goal. All numbers are raw: a unit of length is a navcell's side over 65536.
-use Rattle.std.specs.Prelude.{ℕ, Bool, true, ◌&&◌, not, if◌then◌else◌, List, Option, None, Some, Result, Ok, Err, ℤ, position, bytes_eq}
+use Rattle.std.specs.Prelude.{ℕ, Bool, ◌&&◌, not, if◌then◌else◌, List, Option, None, Some, Result, Ok, Err, ℤ, position, bytes_eq}
 use Rattle.std.specs.FinMap as fin_map
 use Rattle.nav_types.specs.declared.cells.Size.{Size}
 use Rattle.nav_types.specs.declared.limits.TheConstants.{MAX_GOAL_EXTENT, MAX_GROWTH}
@@ -9,10 +9,10 @@ use Rattle.obstruction_shapes.specs.declared.shapes.Shape.{Shape}
 use Rattle.obstruction_shapes.specs.declared.shapes.Obstruction.{Obstruction as StandingShape}
 use Rattle.obstruction_shapes.specs.Shapes.{turned_of}
 use Rattle.goal_shapes.specs.declared.goals.Goal.{Goal}
-use Rattle.goal_shapes.specs.declared.goals.Goal.TheVariants.{Point, Circle, NotCircle, Square, NotSquare}
+use Rattle.goal_shapes.specs.declared.goals.Goal.TheVariants.{Square}
 use Rattle.goal_shapes.specs.declared.goals.GoalSpec.{GoalSpec}
 use Rattle.goal_shapes.specs.declared.goals.GoalSpec.TheVariants.{Plain, Obstruction}
-use Rattle.goal_shapes.specs.Limits.{middle_x, middle_z, grown}
+use Rattle.goal_shapes.specs.Limits.{extent, middle_x, middle_z, grown}
 use Rattle.posts.specs.declared.edits.Refusal.{Refusal}
 use Rattle.posts.specs.declared.edits.Refusal.TheVariants.{BadShape, UnknownId, GoalOutside}
 use Rattle.posts.specs.Maps.{Map}
@@ -33,11 +33,7 @@ is_well_formed_square rectangle =
 
 -- the goal's radius or sides are in their limits
 unfoldable pub is_well_formed : Goal → Bool
-is_well_formed (Point x z) = true
-is_well_formed (Circle x z r) = is_up_to MAX_GOAL_EXTENT r
-is_well_formed (NotCircle x z r) = is_up_to MAX_GOAL_EXTENT r
-is_well_formed (Square rectangle) = is_well_formed_square rectangle
-is_well_formed (NotSquare rectangle) = is_well_formed_square rectangle
+is_well_formed goal = is_well_formed_square (extent goal)
 
 -- a plain goal is itself, where it is well formed and its middle lies on the map
 abbrev pub plain_goal : Size → Goal → Result Goal Refusal

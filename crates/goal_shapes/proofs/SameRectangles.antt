@@ -1,6 +1,6 @@
--- Rectangles whose numbers are equal are one.
+-- Rectangles are one where their numbers are equal, and only there.
 use Rattle.std.proofs.Common.{◌≡◌, ℤ, true, ap, ◌∙◌, ◌&&◌, int_eq}
-use Rattle.std.proofs.lemmas.Bool.{and_parts}
+use Rattle.std.proofs.lemmas.Bool.{and_parts, and_from}
 use Rattle.std.proofs.lemmas.Bool.Decides.{Decides-int_eq}
 use Rattle.fixed_point.specs.declared.plane.Rectangle.{Rectangle}
 
@@ -24,3 +24,13 @@ same_rectangle a b same =
     let sides = and_parts (int_eq a.hw b.hw) (int_eq a.hh b.hh) uz.1 in
     same_fields a b ((Decides-int_eq a.x b.x).0 x.0) ((Decides-int_eq a.z b.z).0 z.0) ((Decides-int_eq a.ux b.ux).0 ux.0)
     ((Decides-int_eq a.uz b.uz).0 uz.0) ((Decides-int_eq a.hw b.hw).0 sides.0) ((Decides-int_eq a.hh b.hh).0 sides.1)
+
+pub equal_numbers : (a b : Rectangle) → a ≡ b
+    → (int_eq a.x b.x && (int_eq a.z b.z && (int_eq a.ux b.ux && (int_eq a.uz b.uz && (int_eq a.hw b.hw && int_eq a.hh b.hh))))) ≡ true
+equal_numbers a b same =
+    and_from (int_eq a.x b.x) _ ((Decides-int_eq a.x b.x).1 (ap (λ (r : Rectangle). r.x) same))
+    (and_from (int_eq a.z b.z) _ ((Decides-int_eq a.z b.z).1 (ap (λ (r : Rectangle). r.z) same))
+    (and_from (int_eq a.ux b.ux) _ ((Decides-int_eq a.ux b.ux).1 (ap (λ (r : Rectangle). r.ux) same))
+    (and_from (int_eq a.uz b.uz) _ ((Decides-int_eq a.uz b.uz).1 (ap (λ (r : Rectangle). r.uz) same))
+    (and_from (int_eq a.hw b.hw) _ ((Decides-int_eq a.hw b.hw).1 (ap (λ (r : Rectangle). r.hw) same))
+    ((Decides-int_eq a.hh b.hh).1 (ap (λ (r : Rectangle). r.hh) same))))))
