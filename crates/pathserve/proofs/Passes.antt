@@ -13,14 +13,14 @@ use Rattle.script_text.specs.Script.{Item, bad_line}
 use Rattle.pathserve.specs.declared.reasons.Reason.{Reason}
 use Rattle.pathserve.specs.declared.reasons.Reason.TheVariants as why_so
 use Rattle.pathserve.specs.declared.status.Status.{Status}
-use Rattle.pathserve.specs.declared.status.Status.TheVariants.{Done, BadLine, ReadFault, WriteFault, NoMemory, TooLong}
+use Rattle.pathserve.specs.declared.status.Status.TheVariants.{Done, Usage, BadLine, ReadFault, WriteFault, NoMemory, TooLong}
 use Rattle.pathserve.specs.Runs.{ReadsFrom, WritesTo, NamesReason, names_line, reason_status}
 use Rattle.pathserve.specs.inner.Stopping.{IsHeldReason}
 use Rattle.pathserve.specs.inner.Writing.{WritesPiece, WritesSome, StopsWith, EndsWith, refused_status, status_after}
 use Rattle.posts.specs.declared.notes.Report.{Report}
 use Rattle.pathserve.specs.Output.{Said, stop_text, ComesByMaking}
 use Rattle.script_text.specs.Reader.{Held}
-use Rattle.pathserve.proofs.Replaying.{Stands, WentTold, refused_no_read}
+use Rattle.pathserve.proofs.Replaying.{Stands, WentTold, refused_no_read, refused_no_usage}
 
 -- what was read for the items so far
 went_given : (start now : Option (List ℕ)) (held : Held) (items : List Item) → WentTold start now held items → HasGiven start now
@@ -73,17 +73,40 @@ no_memory_no_read is = cc
 pub no_memory_no_write : NoMemory ≢ WriteFault
 no_memory_no_write is = cc
 
-bad_no_read : (written : Result (Unit {0}) WriteRefusal) → status_after written BadLine ≢ ReadFault
-bad_no_read (Ok done) is = let other : BadLine ≡ ReadFault = is in cc
-bad_no_read (Err refused) is = refused_no_read refused is
+-- the status after a write is that of a whole one, or of a refused one
+pub after_other : (whole other : Status) → whole ≢ other → ((refused : WriteRefusal) → refused_status refused ≢ other)
+    → (written : Result (Unit {0}) WriteRefusal) → status_after written whole ≢ other
+after_other whole other differs refused_differs (Ok done) is = differs is
+after_other whole other differs refused_differs (Err refused) is = refused_differs refused is
+
+-- what is so of each status that a stop of the input may have
+stop_so : (P : Status → Type 0) (kept now : Option (List ℕ)) (met : ScriptFault) (status : Status) → StopsWith met kept now status
+    → ((written : Result (Unit {0}) WriteRefusal) → P (status_after written BadLine)) → P TooLong → (met ≡ fault.ReadFault → P ReadFault) → P NoMemory → P status
+stop_so P kept now (fault.BadLine n) status (written, (wrote, is)) bad long read none = subst P (sym is) (bad written)
+stop_so P kept now (fault.TooLong n) status (is, wrote) bad long read none = subst P (sym is) long
+stop_so P kept now fault.ReadFault status (is, wrote) bad long read none = subst P (sym is) (read refl)
+stop_so P kept now fault.NoMemory status (is, wrote) bad long read none = subst P (sym is) none
 
 -- a stop of the input has the status ReadFault only where it came by one
 pub stop_read : (reads reading_now : ℕ) (kept now : Option (List ℕ)) (met : ScriptFault) (status : Status) → StopsWith met kept now status
     → (met ≡ fault.ReadFault → Rose reads reading_now) → status ≡ ReadFault → Rose reads reading_now
-stop_read reads reading_now kept now (fault.BadLine n) status (written, (wrote, is)) rose read = absurd (bad_no_read written (sym is ∙ read))
-stop_read reads reading_now kept now (fault.TooLong n) status (is, wrote) rose read = let other : TooLong ≡ ReadFault = sym is ∙ read in cc
-stop_read reads reading_now kept now fault.ReadFault status (is, wrote) rose read = rose refl
-stop_read reads reading_now kept now fault.NoMemory status (is, wrote) rose read = let other : NoMemory ≡ ReadFault = sym is ∙ read in cc
+stop_read reads reading_now kept now met status stops rose =
+    stop_so (λ s. s ≡ ReadFault → Rose reads reading_now) kept now met status stops (λ written is. absurd (after_other BadLine ReadFault (λ same. cc) refused_no_read written is))
+    (λ is. let other : TooLong ≡ ReadFault = is in absurd (cc)) (λ by_fault is. rose by_fault) (λ is. absurd (no_memory_no_read is))
+
+-- ---- statuses that are not Usage
+
+pub done_no_usage : Done ≢ Usage
+done_no_usage is = cc
+
+pub no_memory_no_usage : NoMemory ≢ Usage
+no_memory_no_usage is = cc
+
+-- a stop of the input never has it
+pub stop_no_usage : (kept now : Option (List ℕ)) (met : ScriptFault) (status : Status) → StopsWith met kept now status → status ≢ Usage
+stop_no_usage kept now met status stops =
+    stop_so (λ s. s ≢ Usage) kept now met status stops (after_other BadLine Usage (λ same. cc) refused_no_usage) (λ is. let other : TooLong ≡ Usage = is in cc)
+    (λ by_fault is. let other : ReadFault ≡ Usage = is in cc) no_memory_no_usage
 
 -- ---- the line that is named
 

@@ -36,7 +36,7 @@ use Rattle.pathserve.specs.Serving.{IsJournalOf, IsServed, IsServedTo, IsServedB
 use Rattle.pathserve.specs.inner.Stopping.{IsHeldReason}
 use Rattle.pathserve.specs.inner.WholeScripts.{AllTold, IsTextOfSession, IsWholeScript, RefusedTold, RefusesAll, WholeTold}
 use Rattle.pathserve.specs.inner.Writing.{WritesPiece, WritesSome, StopsWith, EndsWith, refused_status, status_after}
-use Rattle.pathserve.proofs.Passes.{refused_no_line}
+use Rattle.pathserve.proofs.Passes.{after_other, done_no_read, done_no_usage, refused_no_line}
 use Rattle.pathserve.proofs.Progress.{going, walked_taken}
 use Rattle.pathserve.proofs.Replaying.{map_refusal, refused_by_fault, refused_no_read, refused_no_usage, stop_bad_line}
 use Rattle.pathserve.proofs.WholeReadings.{refuses_then}
@@ -233,19 +233,11 @@ ends_so : (P : Status → Type 0) (Is : List ℕ → Type 0) (kept final : Optio
     → ((written : Result (Unit {0}) WriteRefusal) → P (status_after written Done)) → P status
 ends_so P Is kept final status (written, (wrote, is)) each = subst P (sym is) (each written)
 
-no_usage : (written : Result (Unit {0}) WriteRefusal) → status_after written Done ≢ Usage
-no_usage (Ok done) is = let other : Done ≡ Usage = is in cc
-no_usage (Err refused) is = refused_no_usage refused is
-
-no_read_fault : (written : Result (Unit {0}) WriteRefusal) → status_after written Done ≢ ReadFault
-no_read_fault (Ok done) is = let other : Done ≡ ReadFault = is in cc
-no_read_fault (Err refused) is = refused_no_read refused is
-
 pub ends_no_usage : (Is : List ℕ → Type 0) (kept final : Option (List ℕ)) (status : Status) → EndsWith Is kept final status → status ≢ Usage
-ends_no_usage Is kept final status ends = ends_so (λ s. s ≢ Usage) Is kept final status ends no_usage
+ends_no_usage Is kept final status ends = ends_so (λ s. s ≢ Usage) Is kept final status ends (after_other Done Usage done_no_usage refused_no_usage)
 
 pub ends_no_read : (Is : List ℕ → Type 0) (kept final : Option (List ℕ)) (status : Status) → EndsWith Is kept final status → status ≢ ReadFault
-ends_no_read Is kept final status ends = ends_so (λ s. s ≢ ReadFault) Is kept final status ends no_read_fault
+ends_no_read Is kept final status ends = ends_so (λ s. s ≢ ReadFault) Is kept final status ends (after_other Done ReadFault done_no_read refused_no_read)
 
 no_line_named : (written : Result (Unit {0}) WriteRefusal) → names_line (status_after written Done) ≡ false
 no_line_named (Ok done) = refl

@@ -17,6 +17,7 @@ mod laws;
 mod reasons;
 mod replay;
 mod runs;
+mod scripts;
 mod serving;
 mod sessions;
 mod status;

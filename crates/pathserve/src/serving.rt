@@ -1,24 +1,23 @@
 //! Scripts that are served: a script is read whole, a session of its callers is run, and the journal that came of it is
 //! written with the answers.
-ghost use Rattle.std.specs.Prelude.{◌≡◌, ◌≢◌, ◌<◌, ◌≤◌, ◌^◌, ℕ, All, IfErr, IfOk, IfSome, IsErrOf, IsFalse, IsSome, List, OnOk, Some, length, slice_set, ◌++◌};
+ghost use Rattle.std.specs.Prelude.{◌≡◌, ◌<◌, ◌≤◌, ◌^◌, All, IfErr, IfOk, IsErrOf, IsFalse, IsSome, OnOk, length, slice_set, ◌++◌};
 ghost use Rattle.nav_types.specs.declared.limits.TheConstants.{MAX_WORKERS};
 ghost use Rattle.io_edges.specs.Faults.{Rose};
-ghost use Rattle.io_edges.specs.Passing.{HasGiven, HasTaken};
+ghost use Rattle.io_edges.specs.Passing.{HasGiven};
 ghost use Rattle.posts.specs.Callers.{list_of};
 ghost use Rattle.posts.specs.Posts.{post_count};
 ghost use Rattle.turn_core.specs.Effects.{joined_up};
 ghost use Rattle.script_text.specs.Canon.{HaveLines};
 ghost use Rattle.script_text.specs.ReadsBack.{canon_script};
-ghost use Rattle.script_text.specs.Reader.{HaveLinesAt, HoldsRefused, callers_of, rules_at, unread};
-ghost use Rattle.script_text.specs.Script.{reading, beginning};
-ghost use Rattle.pathserve.specs.Output.{ComesByStop, turn_texts};
-ghost use Rattle.pathserve.specs.Runs.{ReadsFrom, WritesTo, NamesReason};
+ghost use Rattle.script_text.specs.Reader.{HaveLinesAt, HoldsRefused, callers_of, rules_at};
+ghost use Rattle.pathserve.specs.Output.{turn_texts};
+ghost use Rattle.pathserve.specs.Runs.{RunsScript};
 ghost use Rattle.pathserve.specs.Serving.{ServesTold, journal_text};
-ghost use Rattle.pathserve.specs.inner.WholeScripts.{AllTold, IsTextOfSession, RefusedTold, WholeTold};
+ghost use Rattle.pathserve.specs.inner.WholeScripts.{AllTold, IsTextOfSession};
 ghost use Rattle.pathserve.specs.inner.Writing.{WritesPiece, WritesSome};
 
 use crate::reasons::Reason;
-use crate::replay::stop_at;
+use crate::scripts::{Opened, open_script, stop_at};
 use crate::sessions::serve_session;
 use crate::status::Status;
 use crate::writing::{status_written, write_text};
@@ -58,46 +57,21 @@ pub fn run_serve<R: Threads + Wait + Sync, S: Source, K: Sink, G: Gate + Sync>(
 ) -> Status
     requires some { 1 ≤ workers }
     requires few { workers ≤ MAX_WORKERS }
+    ensures run { RunsScript (S.left source.old) (S.left source.new) (S.faults source.old) (S.faults source.new)
+        (K.kept sink.old) (K.kept sink.new) (K.faults sink.old) (K.faults sink.new) why.new result }
     ensures told { ServesTold (S.left source.old) (S.left source.new) (K.kept sink.old) (K.kept sink.new) result }
-    ensures stop { (bytes : List ℕ) → S.left source.old ≡ Some bytes
-        → ComesByStop (S.faults source.old) (S.faults source.new) (K.faults sink.old) (K.faults sink.new)
-        (reading bytes beginning).ends result }
-    ensures usage { result ≢ Status.Usage }
-    ensures source { ReadsFrom (S.left source.old) (S.left source.new) (S.faults source.old) (S.faults source.new) result }
-    ensures sink { WritesTo (K.kept sink.old) (K.kept sink.new) (K.faults sink.old) (K.faults sink.new) result }
-    ensures why { NamesReason (S.left source.old) why.new result }
 {
-    *why = None;
-    let mut reader = match ScriptReader::new(alloc) {
-        Ok(reader) => reader,
-        Err(NoMemory) => return Status::NoMemory,
+    let Opened { map, mut reader } = match open_script(alloc, source, sink, why) {
+        Ok(script) => script,
+        Err(status) => return status,
     };
-    match read_script(alloc, source, &mut reader) {
-        Ok(script) => status_written(serve_script(rt, alloc, &script, workers, sink, gate)),
+    match read_posts(alloc, source, &mut reader, map.callers()) {
+        Ok(posts) => {
+            let script = Script { map, posts };
+            status_written(serve_script(rt, alloc, &script, workers, sink, gate))
+        }
         Err(fault) => stop_at(alloc, sink, &reader, fault, why),
     }
-}
-
-/// Reads a script to its end.
-fn read_script<S: Source>(
-    alloc: Global,
-    source: &mut S,
-    reader: &mut ScriptReader,
-) -> Result<Script, ScriptFault>
-    requires { reader.old ≡ unread }
-    ensures whole { IfOk result (λ script. WholeTold script.map script.posts (S.left source.old) (S.left source.new)) }
-    ensures refused { IfErr result (λ fault. RefusedTold reader.new fault (S.left source.old) (S.left source.new)) }
-    ensures wide { IfOk result (λ script. length script.posts ≡ script.map.callers) }
-    ensures count { IfOk result (λ script. post_count script.posts < 2 ^ 32) }
-    ensures lines { IfOk result (λ script. HaveLines script.map.version script.posts) }
-    ensures given { HasGiven (S.left source.old) (S.left source.new) }
-    ensures later { S.faults source.old ≤ S.faults source.new }
-    ensures fault { IsErrOf result ScriptFault.ReadFault → Rose (S.faults source.old) (S.faults source.new) }
-    ensures bad { IfErr result (HoldsRefused reader.new) }
-{
-    let map = reader.read_map(alloc, source)?;
-    let posts = read_posts(alloc, source, reader, map.callers())?;
-    Ok(Script { map, posts })
 }
 
 /// Reads the turns to the end of the script, and gives all posts, caller by caller.

@@ -53,10 +53,10 @@ returns-in_err-turn-clause-told g c =
     c.turns.lists.items c.in_err-turn.field-0.0 c.turns.invariant.stays c.turns.invariant.read c.in_err-turn.ensures.told)
 
 pub returns-in_err-turn-clause-given : goal.returns-in_err-turn-clause-given
-returns-in_err-turn-clause-given g c = given_more _ _ _ c.turns.invariant.given c.next_turn.ensures.given
+returns-in_err-turn-clause-given g c = given_more _ _ _ c.turns.invariant.given c.next_turn.ensures.takes.given
 
 pub returns-in_err-turn-clause-later : goal.returns-in_err-turn-clause-later
-returns-in_err-turn-clause-later g c = omega (arith, c.turns.invariant.later, c.next_turn.ensures.later)
+returns-in_err-turn-clause-later g c = omega (arith, c.turns.invariant.later, c.next_turn.ensures.takes.later)
 
 pub returns-in_err-turn-clause-fault : goal.returns-in_err-turn-clause-fault
 returns-in_err-turn-clause-fault g c =
@@ -65,7 +65,7 @@ returns-in_err-turn-clause-fault g c =
     (λ is.
     let same : c.in_err-turn.field-0.0 ≡ fault.ReadFault = cc in
     rose-later _ _ _ c.turns.invariant.later
-    (c.in_err-turn.ensures.fault (ap (λ (f : ScriptFault). let r : Result (Option (List (List Post))) ScriptFault = Err f in r) same)))
+    (c.in_err-turn.ensures.takes.fault (ap (λ (f : ScriptFault). let r : Result (Option (List (List Post))) ScriptFault = Err f in r) same)))
 
 -- ---- a turn came
 
@@ -77,7 +77,7 @@ append_turn-requires g c =
 pub turns-smaller : goal.turns-smaller
 turns-smaller g c =
     let used = rw c.in-Some.is at c.in_ok-turn.ensures.used in
-    omega (arith, used, c.next_turn.ensures.limit)
+    omega (arith, used, c.next_turn.ensures.leaves.held.limit)
 
 pub turns-preserved : goal.turns-preserved
 turns-preserved g c =
@@ -88,7 +88,7 @@ turns-preserved g c =
     let more = c.append_turn.new.lists.items in
     let joined : more ≡ joined_up lists turn = c.in_ok-append_turn-in-Some.ensures in
     let told = rw c.in-Some.is at c.in_ok-turn.ensures.told in
-    let over = rw c.in-Some.is at c.in_ok-turn.ensures.over in
+    let left_behind = rw c.in-Some.is at c.in_ok-turn.ensures.leaves in
     let used = rw c.in-Some.is at c.in_ok-turn.ensures.used in
     let lines = rw c.in-Some.is at c.in_ok-turn.ensures.lines in
     let long = rw c.in-Some.is at c.in_ok-turn.ensures.lists in
@@ -96,16 +96,16 @@ turns-preserved g c =
     long ∙ same_callers c.turns.reader.place.part c.args.reader.now.place.part before.rules ∙ sym before.wide in
     record {
       read = read_turn c.args.reader.now c.turns.reader c.next_turn.new.self (left c.args.source.now) (left c.turns.source) (left c.next_turn.new.source)
-          lists more turn before.read told c.in_ok-turn.ensures.stays joined;
-      given = given_more _ _ _ before.given c.next_turn.ensures.given;
-      going = over;
+          lists more turn before.read told c.in_ok-turn.ensures.leaves.held.stays joined;
+      given = given_more _ _ _ before.given c.next_turn.ensures.takes.given;
+      going = left_behind.over;
       rules = c.in_ok-turn.ensures.rules ∙ before.rules;
       wide = ap length joined ∙ length-joined lists turn (omega (arith, wide)) ∙ before.wide;
       count = omega (arith, before.count, used, ap post_count joined, count_joined lists turn);
-      fits = omega (arith, before.count, used, c.next_turn.ensures.limit, ap post_count joined, count_joined lists turn);
+      fits = omega (arith, before.count, used, c.next_turn.ensures.leaves.held.limit, ap post_count joined, count_joined lists turn);
       lines = lines_more c.args.reader.now.place.part c.turns.reader.place.part lists more turn before.rules before.lines lines joined;
-      stays = λ ended. c.in_ok-turn.ensures.stays (before.stays ended);
-      later = omega (arith, before.later, c.next_turn.ensures.later);
+      stays = λ ended. c.in_ok-turn.ensures.leaves.held.stays (before.stays ended);
+      later = omega (arith, before.later, c.next_turn.ensures.takes.later);
     }
 
 -- there was no memory for its posts
@@ -121,11 +121,11 @@ returns-in_err-append_turn-in-Some-clause-told g c =
 
 pub returns-in_err-append_turn-in-Some-clause-given :
     goal.returns-in_err-append_turn-in-Some-clause-given
-returns-in_err-append_turn-in-Some-clause-given g c = given_more _ _ _ c.turns.invariant.given c.next_turn.ensures.given
+returns-in_err-append_turn-in-Some-clause-given g c = given_more _ _ _ c.turns.invariant.given c.next_turn.ensures.takes.given
 
 pub returns-in_err-append_turn-in-Some-clause-later :
     goal.returns-in_err-append_turn-in-Some-clause-later
-returns-in_err-append_turn-in-Some-clause-later g c = omega (arith, c.turns.invariant.later, c.next_turn.ensures.later)
+returns-in_err-append_turn-in-Some-clause-later g c = omega (arith, c.turns.invariant.later, c.next_turn.ensures.takes.later)
 
 -- ---- the script has ended
 
@@ -147,7 +147,7 @@ pub returns-in-None-clause-lines : goal.returns-in-None-clause-lines
 returns-in-None-clause-lines g c = rw c.from-in-None.ensures c.turns.invariant.lines
 
 pub returns-in-None-clause-given : goal.returns-in-None-clause-given
-returns-in-None-clause-given g c = given_more _ _ _ c.turns.invariant.given c.next_turn.ensures.given
+returns-in-None-clause-given g c = given_more _ _ _ c.turns.invariant.given c.next_turn.ensures.takes.given
 
 pub returns-in-None-clause-later : goal.returns-in-None-clause-later
-returns-in-None-clause-later g c = omega (arith, c.turns.invariant.later, c.next_turn.ensures.later)
+returns-in-None-clause-later g c = omega (arith, c.turns.invariant.later, c.next_turn.ensures.takes.later)
