@@ -1,9 +1,10 @@
 -- What changes in the planes of a version.
-use Rattle.std.proofs.Common.{◌≡◌, ◌≢◌, ℕ, ◌<◌, ◌≤◌, ◌⊎◌, ◌||◌, ◌==◌, Bool, true, false, not, List, length, map as each_of, get_or, inl, inr, refl, sym, ap, ◌∙◌, subst, ⊎_elim, arith, Some, option_map}
+use Rattle.std.proofs.Common.{◌≡◌, ◌≢◌, ◌↔◌, ℕ, zero, suc, ◌<◌, ◌≤◌, ◌⊎◌, ◌||◌, ◌==◌, Bool, true, false, not, List, length, map as each_of, get_or, inl, inr, refl, sym, ap, ◌∙◌, subst, ⊎_elim, arith, Some, option_map}
 use Rattle.std.specs.Prelude.{IsTrue, IsFalse, slice_get}
+use Rattle.std.specs.Int.{bit_at}
 use Rattle.std.proofs.lemmas.Bool.{cases_Bool, cases_lt, false_from_ne_true}
 use Rattle.std.proofs.lemmas.List.{length-map}
-use Rattle.std.proofs.lemmas.Nat.Bits.{bit_at-zero}
+use Rattle.std.proofs.lemmas.Nat.Bits.{bit_at-zero, bit_at-lt, same_from_bits}
 use Rattle.std.proofs.lemmas.Option.{same_Some, slice_get-map, slice_get-get_or}
 use Rattle.nav_types.specs.declared.cells.Cell.{Cell}
 use Rattle.nav_types.specs.declared.cells.Rect.{Rect}
@@ -11,8 +12,9 @@ use Rattle.nav_types.specs.declared.cells.Chunk.{Chunk}
 use Rattle.nav_types.specs.declared.cells.Size.{Size}
 use Rattle.nav_types.specs.Cells.{IsInside, IsInRect, IsRectInside, chunk_of}
 use Rattle.nav_types.specs.Numbering.{Numbering, number_of}
-use Rattle.nav_types.specs.Rects.{cell_rect, chunk_rect, IsPartOf}
+use Rattle.nav_types.specs.Rects.{chunk_rect, IsPartOf}
 use Rattle.lane_rows.specs.Rows.{has_class}
+use Rattle.navcell_grid.specs.Patches.{DiffersIn}
 use Rattle.class_planes.specs.declared.changed_parts.ChangedPart.{ChangedPart}
 use Rattle.class_planes.specs.Planes.{IsKept}
 use Rattle.chunk_regions.proofs.LabelLemmas.{in_rect}
@@ -61,15 +63,41 @@ one_number a b same = elim (cases_lt a b) [
   ]
 ]
 
--- a cell lies in its own rectangle
-pub in_cell_rect : (rect : Rect) (cell : Cell) → rect ≡ cell_rect cell → IsInRect rect cell
-in_cell_rect rect cell is = subst (λ (r : Rect). IsInRect r cell) (sym is)
-    (record { west = omega arith; east = omega arith; south = omega arith; north = omega arith })
+-- numbers below 2 that are both 1 or both not are one
+same_bit : (x y : ℕ) → x < 2 → y < 2 → (x == 1) ≡ (y == 1) → x ≡ y
+same_bit zero zero x_low y_low same = refl
+same_bit zero (suc zero) x_low y_low same = absurd (cc)
+same_bit (suc zero) zero x_low y_low same = absurd (cc)
+same_bit (suc zero) (suc zero) x_low y_low same = refl
+same_bit (suc (suc x)) y x_low y_low same = absurd (omega arith)
+same_bit x (suc (suc y)) x_low y_low same = absurd (omega arith)
 
--- the rectangle of a cell is a part of each that holds the cell
-pub cell_rect_part : (whole rect : Rect) (cell : Cell) → rect ≡ cell_rect cell → IsInRect whole cell → IsPartOf whole rect
-cell_rect_part whole rect cell is inside = subst (IsPartOf whole) (sym is)
-    (record { first = inside; last = inside; columns = omega arith; rows = omega arith })
+-- where no bit differs in a rectangle, its cells keep their numbers
+pub same_numbers : (bits : ℕ) (rect : Rect) (a b : Numbering) → bits ≡ 0
+    → ((k : ℕ) → (bit_at bits k ≡ 1) ↔ DiffersIn k rect a b)
+    → (cell : Cell) → IsInRect rect cell → number_of a cell ≡ number_of b cell
+same_numbers bits rect a b none means cell inside =
+    let x = number_of a cell in
+    let y = number_of b cell in
+    same_from_bits x y (λ k. same_bit (bit_at x k) (bit_at y k) (bit_at-lt x k) (bit_at-lt y k)
+    (same_unless (has_class k x) (has_class k y) (λ apart.
+    let set : bit_at bits k ≡ 1 = (means k).1 (record { cell = cell; inside = inside; apart = apart }) in
+    let clear : bit_at bits k ≡ 0 = ap (λ n. bit_at n k) none ∙ bit_at-zero k in
+    absurd (omega (arith, set, clear)))))
+
+-- a stretch of a row of a part is a part, too
+pub stretch_part : (whole part : Rect) (first last j : ℕ) → IsPartOf whole part → part.i0 ≤ first → first ≤ last
+    → last ≤ part.i1 → part.j0 ≤ j → j ≤ part.j1
+    → IsPartOf whole (record { i0 = first; j0 = j; i1 = last; j1 = j })
+stretch_part whole part first last j within low ordered high south north =
+    let corner = within.first in let opposite = within.last in
+    let west = corner.west in let east = opposite.east in let bottom = corner.south in let top = opposite.north in
+    record {
+      first = record { west = omega arith; east = omega arith; south = omega arith; north = omega arith };
+      last = record { west = omega arith; east = omega arith; south = omega arith; north = omega arith };
+      columns = ordered;
+      rows = omega arith;
+    }
 
 -- a chunk's cells lie in the map
 pub chunk_in_map : (size : Size) (chunk : Chunk) → IsChunkInside size chunk → IsRectInside size (chunk_rect size chunk)

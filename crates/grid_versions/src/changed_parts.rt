@@ -2,7 +2,7 @@
 ghost use Rattle.std.specs.Prelude.{ℕ, ◌≡◌, ◌≢◌, ◌≤◌, ◌<◌, ◌⊎◌, All, length, slice_index, IsTrue, IsFalse, IfOk, OnOk, IfSome, IsSomeAnd};
 ghost use Rattle.nav_types.specs.declared.cells.Cell.{Cell};
 ghost use Rattle.nav_types.specs.declared.cells.Size.{Size};
-ghost use Rattle.nav_types.specs.Cells.{IsInside, IsInRect, IsRectInside, chunk_of};
+ghost use Rattle.nav_types.specs.Cells.{IsInside, IsInRect, IsRectInside, cell_at, chunk_of};
 ghost use Rattle.nav_types.specs.Numbering.{IsPatch, number_of};
 ghost use Rattle.nav_types.specs.Rects.{IsPartOf};
 ghost use Rattle.lane_rows.specs.Rows.{has_class};
@@ -95,7 +95,7 @@ fn differing_part(reaches: &[Rect], before: &Patch, after: &Patch) -> Option<Rec
 }
 
 /// The least rectangle that holds the first one, if there is one, and the cells of row `j` of the part whose numbers
-/// differ.
+/// differ. A row as before is seen by vectors; in another one its cells are looked at from both sides.
 fn with_row(held: Option<Rect>, before: &Patch, after: &Patch, part: Rect, j: u16) -> Option<Rect>
     requires same { after.now.rect ≡ before.now.rect }
     requires held { IfSome held (IsPartOf before.now.rect) }
@@ -109,32 +109,69 @@ fn with_row(held: Option<Rect>, before: &Patch, after: &Patch, part: Rect, j: u1
     ensures row { (cell : Cell) → IsInRect part cell → cell.j ≡ j
         → number_of before.now cell ≢ number_of after.now cell → IsSomeAnd result (λ rect. IsInRect rect cell) }
 {
-    let mut found = held;
-    for i in part.i0..part.i1 + 1 {
-        found = with_cell(found, before, after, Cell::new(i, j));
-    }
-    found
-}
-
-/// The least rectangle that holds the first one, if there is one, and the cell, if its numbers differ.
-fn with_cell(held: Option<Rect>, before: &Patch, after: &Patch, cell: Cell) -> Option<Rect>
-    requires same { after.now.rect ≡ before.now.rect }
-    requires held { IfSome held (IsPartOf before.now.rect) }
-    requires cell { IsInRect before.now.rect cell }
-    ensures part { IfSome result (IsPartOf before.now.rect) }
-    ensures first { (other : Cell) → IsSomeAnd held (λ rect. IsInRect rect other)
-        → IsSomeAnd result (λ rect. IsInRect rect other) }
-    ensures apart { number_of before.now cell ≢ number_of after.now cell
-        → IsSomeAnd result (λ rect. IsInRect rect cell) }
-{
-    let earlier = before.at(cell);
-    let later = after.at(cell);
-    if earlier == later {
+    let row = Rect {
+        i0: part.i0,
+        j0: j,
+        i1: part.i1,
+        j1: j,
+    };
+    if before.differs_in(after, row) == 0 {
         return held;
     }
-    let only = Rect::of_cell(cell);
+    let first = first_differing(before, after, part, j);
+    let last = last_differing(before, after, part, j, first);
+    let cells = Rect {
+        i0: first,
+        j0: j,
+        i1: last,
+        j1: j,
+    };
     match held {
-        Some(rect) => Some(rect.union(only)),
-        None => Some(only),
+        Some(rect) => Some(rect.union(cells)),
+        None => Some(cells),
     }
+}
+
+/// The first column of the part in which the numbers of row `j` differ, or its last one.
+fn first_differing(before: &Patch, after: &Patch, part: Rect, j: u16) -> u16
+    requires rect { after.now.rect ≡ before.now.rect }
+    requires part { IsPartOf before.now.rect part }
+    requires south { part.j0 ≤ j }
+    requires north { j ≤ part.j1 }
+    ensures low { part.i0 ≤ result }
+    ensures high { result ≤ part.i1 }
+    ensures same { (i : ℕ) → part.i0 ≤ i → i < result
+        → number_of before.now (cell_at i j) ≡ number_of after.now (cell_at i j) }
+{
+    for i in part.i0..part.i1 {
+        let cell = Cell::new(i, j);
+        if before.at(cell) != after.at(cell) {
+            return i;
+        }
+    }
+    part.i1
+}
+
+/// The last column of the part from `first` on in which the numbers of row `j` differ, or that one.
+fn last_differing(before: &Patch, after: &Patch, part: Rect, j: u16, first: u16) -> u16
+    requires rect { after.now.rect ≡ before.now.rect }
+    requires part { IsPartOf before.now.rect part }
+    requires south { part.j0 ≤ j }
+    requires north { j ≤ part.j1 }
+    requires low { part.i0 ≤ first }
+    requires high { first ≤ part.i1 }
+    ensures low { first ≤ result }
+    ensures high { result ≤ part.i1 }
+    ensures same { (i : ℕ) → result < i → i ≤ part.i1
+        → number_of before.now (cell_at i j) ≡ number_of after.now (cell_at i j) }
+{
+    let mut i = part.i1;
+    'columns: while first < i {
+        let cell = Cell::new(i, j);
+        if before.at(cell) != after.at(cell) {
+            return i;
+        }
+        i -= 1;
+    }
+    i
 }
