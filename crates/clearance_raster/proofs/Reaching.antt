@@ -1,9 +1,10 @@
 -- Where an obstruction can block cells: the part of a reach, and the greatest clearance.
-use Rattle.std.proofs.Common.{◌≡◌, ◌≤◌, ◌<◌, ◌+◌, ◌↔◌, ℕ, ℤ, Bool, true, false, List, length, refl, sym, ap, subst, ◌∙◌, ⊎_elim, arith}
+use Rattle.std.proofs.Common.{◌≡◌, ◌≤◌, ◌<◌, ◌+◌, ◌*◌, ◌/◌, ◌^◌, ◌↔◌, ℕ, ℤ, Bool, true, false, List, length, refl, sym, ap, subst, ◌∙◌, ⊎_elim, arith}
 use Rattle.std.specs.Prelude.{unsigned_abs, IsTrue, IfSome, IfNone, Option, Some, None, option_map}
 use Rattle.std.specs.Option.{option_map_or}
 use Rattle.std.proofs.lemmas.Bool.{cases_lt, cases_eq, both_ways, and_parts}
 use Rattle.std.proofs.lemmas.Option.{slice_get_past, none-some}
+use Rattle.std.proofs.Math.Nat.{mul-le-mul_left}
 use Rattle.nav_types.specs.declared.cells.Cell.{Cell}
 use Rattle.nav_types.specs.declared.cells.Rect.{Rect}
 use Rattle.nav_types.specs.declared.cells.Size.{Size}
@@ -12,10 +13,14 @@ use Rattle.lane_rows.specs.Rows.{has_class}
 use Rattle.class_config.specs.declared.table.PassabilityClass.{PassabilityClass}
 use Rattle.class_config.specs.Classes.{clearance_at}
 use Rattle.obstruction_shapes.specs.declared.shapes.Obstruction.{Obstruction}
-use Rattle.obstruction_shapes.specs.Shapes.{HasUnitVector}
+use Rattle.fixed_point.specs.Plane.{from_centre, centre_along, centre_across}
+use Rattle.fixed_point.proofs.TurningBack.{column_back, row_back}
+use Rattle.obstruction_shapes.specs.declared.shapes.Shape.{Shape}
+use Rattle.obstruction_shapes.specs.Shapes.{turned_of, HasUnitVector}
 use Rattle.obstruction_shapes.specs.Blocking.{blocked, IsNear}
 use Rattle.obstruction_shapes.proofs.Near.{blocked_near, IsNear-rises}
 use Rattle.clearance_raster.specs.Rasters.{blocks_class, IsGreatestClearance}
+use Rattle.clearance_raster.proofs.BlockedColumns.{blocked_within}
 
 -- a cell of a part lies in the map that holds the part
 pub inside_map : (size : Size) (part : Rect) (cell : Cell) → IsRectInside size part → IsInRect part cell → IsInside size cell
@@ -23,6 +28,42 @@ inside_map size part cell is inside =
     let east = inside.east in let north = inside.north in
     let last_column = is.last_column in let last_row = is.last_row in
     record { column = omega arith; row = omega arith }
+
+-- ---- how far blocked cells lie from a shape's middle
+
+-- along an axis of the map, from bounds on both lengths
+spread_one : (p u v d e w h : ℕ) → p * (u * u + v * v) ≤ u * d + v * e → 2 ^ 32 ≤ u * u + v * v + 2 ^ 25
+    → d ≤ 65536 * w → e ≤ 65536 * h → p ≤ (u * w + v * h) / 65024
+spread_one p u v d e w h back long near_d near_e =
+    let first : u * d ≤ u * (65536 * w) = mul-le-mul_left u near_d in
+    let second : v * e ≤ v * (65536 * h) = mul-le-mul_left v near_e in
+    let least : p * (65536 * 65024) ≤ p * (u * u + v * v) = mul-le-mul_left p (omega arith) in
+    omega arith
+
+-- the middle of the cell lies within the spread, along both axes
+pub record IsSpread (shape : Shape) (clearance : ℤ) (cell : Cell) : Type 0 where
+  pub column : unsigned_abs (from_centre cell.i (turned_of shape).x)
+      ≤ (unsigned_abs (turned_of shape).ux * (unsigned_abs (turned_of shape).hw + unsigned_abs clearance)
+      + unsigned_abs (turned_of shape).uz * (unsigned_abs (turned_of shape).hh + unsigned_abs clearance)) / 65024
+  pub row : unsigned_abs (from_centre cell.j (turned_of shape).z)
+      ≤ (unsigned_abs (turned_of shape).uz * (unsigned_abs (turned_of shape).hw + unsigned_abs clearance)
+      + unsigned_abs (turned_of shape).ux * (unsigned_abs (turned_of shape).hh + unsigned_abs clearance)) / 65024
+
+pub blocked_spread : (shape : Shape) (clearance : ℤ) (cell : Cell) → HasUnitVector shape
+    → IsTrue (blocked shape clearance cell) → IsSpread shape clearance cell
+blocked_spread shape clearance cell unit hit =
+    let s = turned_of shape in let px = from_centre cell.i s.x in let pz = from_centre cell.j s.z in
+    let u = unsigned_abs s.ux in let v = unsigned_abs s.uz in
+    let d = unsigned_abs (centre_along s cell.i cell.j) in let e = unsigned_abs (centre_across s cell.i cell.j) in
+    let w = unsigned_abs s.hw + unsigned_abs clearance in let h = unsigned_abs s.hh + unsigned_abs clearance in
+    let within = blocked_within shape clearance cell.i cell.j hit in
+    let near_d : d ≤ 65536 * w = omega (arith, within.along) in
+    let near_e : e ≤ 65536 * h = omega (arith, within.across) in
+    let long : 2 ^ 32 ≤ u * u + v * v + 2 ^ 25 = unit.long in
+    record {
+      column = spread_one (unsigned_abs px) u v d e w h (column_back px pz s.ux s.uz) long near_d near_e;
+      row = let along = spread_one (unsigned_abs pz) v u d e w h (row_back px pz s.ux s.uz) (omega (arith, long)) near_d near_e in along;
+    }
 
 -- ---- the common part of two rectangles
 

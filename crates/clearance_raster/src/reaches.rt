@@ -1,5 +1,5 @@
 //! Where an obstruction can block cells at all.
-ghost use Rattle.std.specs.Prelude.{◌≡◌, ◌≤◌, ◌↔◌, ◌⊎◌, ℕ, ℤ, unsigned_abs, IfSome, IfNone, IsTrue, Some};
+ghost use Rattle.std.specs.Prelude.{◌≡◌, ◌≤◌, ◌+◌, ◌*◌, ◌/◌, ◌^◌, ◌↔◌, ◌⊎◌, ℕ, ℤ, unsigned_abs, IfSome, IfNone, IsTrue, Some};
 ghost use Rattle.nav_types.specs.declared.cells.Cell.{Cell};
 ghost use Rattle.nav_types.specs.Cells.{IsInside, IsInRect, IsRectInside};
 ghost use Rattle.lane_rows.specs.Rows.{has_class};
@@ -11,9 +11,12 @@ ghost use Rattle.clearance_raster.specs.Rasters.{blocks_class, IsGreatestClearan
 
 use crate::masks::includes;
 use class_config::ClassTable;
-use fixed_point::{Fixed, magnitude};
+use fixed_point::{Fixed, columns_near, magnitude};
 use nav_types::{Class, Rect, Size};
 use obstruction_shapes::{Obstruction, Shape, reach_rect};
+
+/// The least squared length of a unit vector, 2^32 - 2^25, divided by 65536.
+const LEAST_LENGTH: u64 = 65_024;
 
 /// The cells of a map that an obstruction can block for some class of its mask: those that are near enough to its shape
 /// for the greatest clearance of these classes (`IsGreatestClearance`, `IsNear`). They are a rectangle, and it holds each
@@ -77,5 +80,26 @@ pub fn reach_in(shape: &Shape, clearance: Fixed, part: Rect, size: Size) -> Opti
         → IsTrue (blocked shape.now clearance cell) → IsInRect rect cell) }
     ensures none { IfNone result ((cell : Cell) → IsInRect part cell → ¬ IsTrue (blocked shape.now clearance cell)) }
 {
-    reach_rect(shape, clearance, size)?.intersection(part)
+    let turned = shape.turned();
+    let wide = magnitude(turned.hw) + magnitude(clearance);
+    let high = magnitude(turned.hh) + magnitude(clearance);
+    let east = spread(turned.ux, turned.uz, wide, high);
+    let (i0, i1) = columns_near(turned.x, east, size.w)?;
+    let north = spread(turned.uz, turned.ux, wide, high);
+    let (j0, j1) = columns_near(turned.z, north, size.h)?;
+    Rect { i0, j0, i1, j1 }.intersection(part)
+}
+
+/// How far along an axis of the map a point can lie from a shape's middle that is at most `wide` from it along the shape's
+/// unit vector and at most `high` across it. The vector has the component `same` along that axis and `other` along the
+/// other one.
+fn spread(same: Fixed, other: Fixed, wide: u64, high: u64) -> u64
+    requires same { unsigned_abs same ≤ 65792 }
+    requires other { unsigned_abs other ≤ 65792 }
+    requires wide { wide ≤ 2 ^ 32 }
+    requires high { high ≤ 2 ^ 32 }
+    ensures value { result ≡ (unsigned_abs same * wide + unsigned_abs other * high) / LEAST_LENGTH }
+    ensures bounded { result ≤ 2 ^ 34 }
+{
+    (magnitude(same) * wide + magnitude(other) * high) / LEAST_LENGTH
 }
