@@ -15,6 +15,7 @@ mod changed_parts;
 mod class_plane;
 mod fills;
 mod free_places;
+mod joined_rects;
 mod lines;
 mod plane_runs;
 mod plane_scans;

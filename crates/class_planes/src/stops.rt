@@ -3,6 +3,7 @@ ghost use Rattle.std.specs.Prelude.{ℕ, ⊤, ◌≡◌, ◌<◌, ◌≤◌, ◌
 ghost use Rattle.nav_types.specs.declared.straights.Way.TheVariants as Way;
 ghost use Rattle.class_planes.specs.inner.StopLines.{IsBandStop, IsStopBit, AreAlike, AreMapLines, AreSameOutside, AreBandStops, AreStopsWhere, AreStops, AreStopsBefore, IsFarFrom, IsInTouchedWord, IsRectOf, lanes_of, line_before, turned_rect};
 
+use crate::joined_rects::joined;
 use crate::lines::{BAND, Lines, copied, is_inner};
 use crate::stop_table::{StopTable, blank_stops};
 use crate::stop_words::{renew_down, renew_up};
@@ -55,7 +56,9 @@ pub fn updated_stops(
     ensures down { IfOk result (λ stops. AreStops Way.Down count lines.now stops.down) }
 {
     let tight = tight_rects(alloc, before, lines, count, rects)?;
-    renewed_stops(alloc, &MapLines { lines, count }, old, &tight)
+    let rows = joined(alloc, tight)?;
+    let near = joined(alloc, rows)?;
+    renewed_stops(alloc, &MapLines { lines, count }, old, &near)
 }
 
 /// The stops of the runs along the lines of a map, where those of before are right far from the rectangles.
