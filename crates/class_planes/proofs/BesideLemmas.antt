@@ -1,18 +1,20 @@
 -- The cells beside one, by the bits of its row and of the rows beside it.
-use Rattle.std.proofs.Common.{◌≡◌, ◌↔◌, ◌⊎◌, ◌&&◌, ◌==◌, ◌+◌, ◌-◌, ℕ, Bool, true, false, inl, inr, IsTrue, refl, ap, sym, subst, ◌∙◌, arith}
+use Rattle.std.proofs.Common.{◌≡◌, ◌↔◌, ◌&&◌, ◌==◌, ◌+◌, ◌-◌, ◌/◌, ◌^◌, ◌<◌, ℕ, Bool, true, false, bit_and, IsTrue, refl, ap, sym, subst, ◌∙◌, arith}
 use Rattle.std.specs.Prelude.{nat_lt}
+use Rattle.std.specs.Int.{bit_at}
 use Rattle.std.proofs.lemmas.Bool.{and_parts, and_from, ltb-true, lt-ltb}
+use Rattle.std.proofs.lemmas.Nat.Bits.{bit_at_and, bit_at_ones, bit_at-lt}
 use Rattle.nav_types.specs.declared.cells.Cell.{Cell}
 use Rattle.nav_types.specs.declared.directions.Dir.{Dir}
 use Rattle.nav_types.specs.declared.directions.Dir.TheVariants.{N, E, S, W, NE, SE, SW, NW}
 use Rattle.nav_types.specs.declared.directions.DirSet.{DirSet}
 use Rattle.nav_types.specs.Cells.{cell_at}
 use Rattle.nav_types.specs.Directions.{Leads}
-use Rattle.nav_types.specs.DirSets.{holds}
+use Rattle.nav_types.specs.DirSets.{holds, is_set_towards}
 use Rattle.nav_types.specs.Beside.{IsFreeBeside}
 use Rattle.nav_types.proofs.Walking.{leads_to_same}
 use Rattle.lane_rows.specs.Rows.{one_if}
-use Rattle.jump_scan.proofs.Gathering.{Adds, gathered}
+use Rattle.nav_types.proofs.Bits.{bit_at-shr}
 use Rattle.class_planes.specs.inner.Runs.{is_before}
 use Rattle.class_planes.proofs.PlaneLemmas.{told}
 
@@ -47,20 +49,6 @@ led passes dir cell next leads_on flag is there needs = (
       (subst (λ (c : Cell). IsTrue (passes c)) (leads_to_same dir cell free.0 next free.1.0 (there yes)) free.1.1)),
 )
 
-adds_where : (Wanted : Dir → Type 0) (dir : Dir) (old new : DirSet) (flag : Bool) → IsTrue flag ↔ Wanted dir
-    → ((other : Dir) → IsTrue (holds new other) ↔ (IsTrue (holds old other) ⊎ (IsTrue flag × (other ≡ dir))))
-    → Adds Wanted dir old new
-adds_where Wanted dir old new flag is with_dir other = (
-  (λ has. elim ((with_dir other).0 has) [
-    | inl had ↦ inl had
-    | inr now ↦ inr (subst Wanted (sym now.1) (is.0 now.0), now.1)
-  ]),
-  (λ has. elim has [
-    | inl had ↦ (with_dir other).1 (inl had)
-    | inr now ↦ (with_dir other).1 (inr (is.1 (subst Wanted now.1 now.0), now.1))
-  ]),
-)
-
 both_before : (a b c : Bool) → (a && (b && c)) ≡ ((a && b) && c)
 both_before true b c = refl
 both_before false b c = refl
@@ -72,47 +60,55 @@ up_one : (x i : ℕ) → x + 1 ≡ i → IsTrue (nat_lt 0 i)
 up_one x i is = lt-ltb 0 i (omega (arith, is))
 
 -- the directions in which the cell beside is passable, by what the rows tell
-pub all_beside : (passes : Cell → Bool) (cell : Cell)
-    (up_before up_here up_after mid_before mid_here mid_after down_before down_here down_after : Bool)
-    (none n e s w ne se sw nw : DirSet)
-    → TellsThree (λ k. passes (cell_at k (cell.j + 1))) cell.i up_before up_here up_after
-    → TellsThree (λ k. passes (cell_at k cell.j)) cell.i mid_before mid_here mid_after
-    → TellsThree (is_before (λ n k. passes (cell_at k n)) cell.j) cell.i down_before down_here down_after
-    → ((dir : Dir) → holds none dir ≡ false)
-    → ((dir : Dir) → IsTrue (holds n dir) ↔ (IsTrue (holds none dir) ⊎ (IsTrue up_here × (dir ≡ N))))
-    → ((dir : Dir) → IsTrue (holds e dir) ↔ (IsTrue (holds n dir) ⊎ (IsTrue mid_after × (dir ≡ E))))
-    → ((dir : Dir) → IsTrue (holds s dir) ↔ (IsTrue (holds e dir) ⊎ (IsTrue down_here × (dir ≡ S))))
-    → ((dir : Dir) → IsTrue (holds w dir) ↔ (IsTrue (holds s dir) ⊎ (IsTrue mid_before × (dir ≡ W))))
-    → ((dir : Dir) → IsTrue (holds ne dir) ↔ (IsTrue (holds w dir) ⊎ (IsTrue up_after × (dir ≡ NE))))
-    → ((dir : Dir) → IsTrue (holds se dir) ↔ (IsTrue (holds ne dir) ⊎ (IsTrue down_after × (dir ≡ SE))))
-    → ((dir : Dir) → IsTrue (holds sw dir) ↔ (IsTrue (holds se dir) ⊎ (IsTrue down_before × (dir ≡ SW))))
-    → ((dir : Dir) → IsTrue (holds nw dir) ↔ (IsTrue (holds sw dir) ⊎ (IsTrue up_before × (dir ≡ NW))))
-    → (dir : Dir) → IsTrue (holds nw dir) ↔ IsFreeBeside passes cell dir
-all_beside passes cell up_before up_here up_after mid_before mid_here mid_after down_before down_here down_after none n e s w ne se sw nw
-    up mid down empty with_n with_e with_s with_w with_ne with_se with_sw with_nw =
-    let Wanted = λ (way : Dir). IsFreeBeside passes cell way in
+pub all_beside : (passes : Cell → Bool) (cell : Cell) (up mid down : ℕ) (set : DirSet)
+    → TellsThree (λ k. passes (cell_at k (cell.j + 1))) cell.i (bit_at up 0 == 1) (bit_at up 1 == 1) (bit_at up 2 == 1)
+    → TellsThree (λ k. passes (cell_at k cell.j)) cell.i (bit_at mid 0 == 1) (bit_at mid 1 == 1) (bit_at mid 2 == 1)
+    → TellsThree (is_before (λ n k. passes (cell_at k n)) cell.j) cell.i (bit_at down 0 == 1) (bit_at down 1 == 1) (bit_at down 2 == 1)
+    → ((dir : Dir) → holds set dir ≡ is_set_towards dir up mid down)
+    → (dir : Dir) → IsTrue (holds set dir) ↔ IsFreeBeside passes cell dir
+all_beside passes cell up mid down set north middle south are N =
+    let i = cell.i in let j = cell.j in
+    led passes N cell (cell_at i (j + 1)) true (holds set N) (are N ∙ north.at_here)
+    (λ yes. record { columns = omega arith; rows = omega arith }) (λ x leads. refl)
+all_beside passes cell up mid down set north middle south are E =
+    let i = cell.i in let j = cell.j in
+    led passes E cell (cell_at (i + 1) j) true (holds set E) (are E ∙ middle.at_after)
+    (λ yes. record { columns = omega arith; rows = omega arith }) (λ x leads. refl)
+all_beside passes cell up mid down set north middle south are S =
+    let i = cell.i in let j = cell.j in
+    led passes S cell (cell_at i (j - 1)) (nat_lt 0 j) (holds set S) (are S ∙ south.at_here)
+    (λ yes. record { columns = omega arith; rows = omega (arith, one_up j yes) })
+    (λ x leads. up_one x.j j (let r = leads.rows in omega arith))
+all_beside passes cell up mid down set north middle south are W =
+    let i = cell.i in let j = cell.j in
+    led passes W cell (cell_at (i - 1) j) (nat_lt 0 i) (holds set W) (are W ∙ middle.at_before)
+    (λ yes. record { columns = omega (arith, one_up i yes); rows = omega arith })
+    (λ x leads. up_one x.i i (let c = leads.columns in omega arith))
+all_beside passes cell up mid down set north middle south are NE =
+    let i = cell.i in let j = cell.j in
+    led passes NE cell (cell_at (i + 1) (j + 1)) true (holds set NE) (are NE ∙ north.at_after)
+    (λ yes. record { columns = omega arith; rows = omega arith }) (λ x leads. refl)
+all_beside passes cell up mid down set north middle south are SE =
+    let i = cell.i in let j = cell.j in
+    led passes SE cell (cell_at (i + 1) (j - 1)) (nat_lt 0 j) (holds set SE) (are SE ∙ south.at_after)
+    (λ yes. record { columns = omega arith; rows = omega (arith, one_up j yes) })
+    (λ x leads. up_one x.j j (let r = leads.rows in omega arith))
+all_beside passes cell up mid down set north middle south are SW =
     let i = cell.i in let j = cell.j in
     let left = nat_lt 0 i in let low = nat_lt 0 j in
-    gathered Wanted none n e s w ne se sw nw empty
-    (adds_where Wanted N none n up_here (led passes N cell (cell_at i (j + 1)) true up_here up.at_here
-    (λ yes. record { columns = omega arith; rows = omega arith }) (λ x leads. refl)) with_n)
-    (adds_where Wanted E n e mid_after (led passes E cell (cell_at (i + 1) j) true mid_after mid.at_after
-    (λ yes. record { columns = omega arith; rows = omega arith }) (λ x leads. refl)) with_e)
-    (adds_where Wanted S e s down_here (led passes S cell (cell_at i (j - 1)) low down_here down.at_here
-    (λ yes. record { columns = omega arith; rows = omega (arith, one_up j yes) })
-    (λ x leads. up_one x.j j (let r = leads.rows in omega arith))) with_s)
-    (adds_where Wanted W s w mid_before (led passes W cell (cell_at (i - 1) j) left mid_before mid.at_before
-    (λ yes. record { columns = omega (arith, one_up i yes); rows = omega arith })
-    (λ x leads. up_one x.i i (let c = leads.columns in omega arith))) with_w)
-    (adds_where Wanted NE w ne up_after (led passes NE cell (cell_at (i + 1) (j + 1)) true up_after up.at_after
-    (λ yes. record { columns = omega arith; rows = omega arith }) (λ x leads. refl)) with_ne)
-    (adds_where Wanted SE ne se down_after (led passes SE cell (cell_at (i + 1) (j - 1)) low down_after down.at_after
-    (λ yes. record { columns = omega arith; rows = omega (arith, one_up j yes) })
-    (λ x leads. up_one x.j j (let r = leads.rows in omega arith))) with_se)
-    (adds_where Wanted SW se sw down_before (led passes SW cell (cell_at (i - 1) (j - 1)) (left && low) down_before
-    (down.at_before ∙ both_before left low (passes (cell_at (i - 1) (j - 1))))
+    led passes SW cell (cell_at (i - 1) (j - 1)) (left && low) (holds set SW)
+    (are SW ∙ south.at_before ∙ both_before left low (passes (cell_at (i - 1) (j - 1))))
     (λ yes. let both = and_parts left low yes in record { columns = omega (arith, one_up i both.0); rows = omega (arith, one_up j both.1) })
-    (λ x leads. and_from left low (up_one x.i i (let c = leads.columns in omega arith)) (up_one x.j j (let r = leads.rows in omega arith)))) with_sw)
-    (adds_where Wanted NW sw nw up_before (led passes NW cell (cell_at (i - 1) (j + 1)) left up_before up.at_before
+    (λ x leads. and_from left low (up_one x.i i (let c = leads.columns in omega arith)) (up_one x.j j (let r = leads.rows in omega arith)))
+all_beside passes cell up mid down set north middle south are NW =
+    let i = cell.i in let j = cell.j in
+    led passes NW cell (cell_at (i - 1) (j + 1)) (nat_lt 0 i) (holds set NW) (are NW ∙ north.at_before)
     (λ yes. record { columns = omega (arith, one_up i yes); rows = omega arith })
-    (λ x leads. up_one x.i i (let c = leads.columns in omega arith))) with_nw)
+    (λ x leads. up_one x.i i (let c = leads.columns in omega arith))
+
+-- three bits of a word that was moved down
+pub bit_moved : (word k n : ℕ) → n < 3 → bit_at (bit_and (word / 2 ^ k) 7) n ≡ bit_at word (k + n)
+bit_moved word k n small =
+    let ones : bit_at 7 n ≡ 1 = bit_at_ones 3 n small in
+    let moved = bit_at-shr word k n in
+    omega (arith, bit_at_and (word / 2 ^ k) 7 n, ones, moved, bit_at-lt word (k + n))

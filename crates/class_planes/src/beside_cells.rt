@@ -1,23 +1,13 @@
 //! The passable cells beside a cell, read off a plane.
-ghost use Rattle.std.specs.Prelude.{◌≡◌, ◌<◌, ◌≤◌, ◌+◌, ◌-◌, ◌/◌, ◌==◌, ◌&&◌, ◌↔◌, ◌⊎◌, nat_lt, length, IsTrue};
+ghost use Rattle.std.specs.Prelude.{◌≡◌, ◌<◌, ◌≤◌, ◌+◌, ◌-◌, ◌/◌, ◌==◌, ◌&&◌, nat_lt, length, IsTrue};
 ghost use Rattle.std.specs.Int.{bit_at};
-ghost use Rattle.nav_types.specs.declared.directions.Dir.{Dir};
-ghost use Rattle.nav_types.specs.DirSets.{holds};
 ghost use Rattle.jump_scan.specs.Successors.{AreFreeBeside};
 ghost use Rattle.class_planes.specs.Planes.{is_passable};
 ghost use Rattle.class_planes.specs.inner.Runs.{bit_in};
 
 use crate::class_plane::ClassPlane;
 use crate::word_scans::is_set;
-use nav_types::{Axis, Cell, Dir, DirSet};
-
-/// Whether three neighbouring places of a line are free: the one before a place, that place, and the one after it.
-#[derive(Drop)]
-struct Three {
-    before: bool,
-    here: bool,
-    after: bool,
-}
+use nav_types::{Axis, Cell, DirSet};
 
 /// Whether the place before `i` of the line is set. There is none before the first.
 #[inline(always)]
@@ -31,61 +21,57 @@ fn is_set_before(line: &[u64], i: u16) -> bool
     is_set(line, i - 1)
 }
 
-/// Whether the bit of a word is set.
+/// Three bits, from the lowest on.
 #[inline(always)]
-fn is_bit(word: u64, k: u16) -> bool
-    requires { k < 64 }
-    ensures { result ≡ (bit_at word k == 1) }
+fn three_bits(first: bool, second: bool, third: bool) -> u16
+    ensures first { (bit_at result 0 == 1) ≡ first }
+    ensures second { (bit_at result 1 == 1) ≡ second }
+    ensures third { (bit_at result 2 == 1) ≡ third }
 {
-    (word >> k) & 1 == 1
+    u16::from(first) | u16::from(second) << 1 | u16::from(third) << 2
 }
 
-/// Whether the places about `i` of the line are set, wherever it lies in its word.
-fn three_anywhere(line: &[u64], i: u16) -> Three
+/// The bits of the places about `i` of the line, wherever it lies in its word.
+fn bits_anywhere(line: &[u64], i: u16) -> u16
     requires within { (i + 1) / 64 < length line.now }
     requires few { length line.now ≤ 33 }
-    ensures before { result.before ≡ (nat_lt 0 i && (bit_in line.now (i - 1) == 1)) }
-    ensures here { result.here ≡ (bit_in line.now i == 1) }
-    ensures after { result.after ≡ (bit_in line.now (i + 1) == 1) }
+    ensures before { (bit_at result 0 == 1) ≡ (nat_lt 0 i && (bit_in line.now (i - 1) == 1)) }
+    ensures here { (bit_at result 1 == 1) ≡ (bit_in line.now i == 1) }
+    ensures after { (bit_at result 2 == 1) ≡ (bit_in line.now (i + 1) == 1) }
 {
-    Three {
-        before: is_set_before(line, i),
-        here: is_set(line, i),
-        after: is_set(line, i + 1),
-    }
+    let before = is_set_before(line, i);
+    let here = is_set(line, i);
+    let after = is_set(line, i + 1);
+    three_bits(before, here, after)
 }
 
-/// Whether the places about `i` of the line are set. Mostly they lie in one word.
+/// The bits about bit `k` of a word: the one below it, its own and the one above it.
 #[inline(always)]
-fn three_about(line: &[u64], i: u16) -> Three
+fn bits_in_word(word: u64, k: u16) -> u16
+    requires inner { 0 < k }
+    requires below { k < 63 }
+    ensures before { bit_at result 0 ≡ bit_at word (k - 1) }
+    ensures here { bit_at result 1 ≡ bit_at word k }
+    ensures after { bit_at result 2 ≡ bit_at word (k + 1) }
+{
+    ((word >> (k - 1)) & 7) as u16
+}
+
+/// The bits of three neighbouring places of a line: the one before `i`, its own and the one after it. There is none
+/// before the first. Mostly they lie in one word.
+#[inline(always)]
+fn bits_about(line: &[u64], i: u16) -> u16
     requires within { (i + 1) / 64 < length line.now }
     requires few { length line.now ≤ 33 }
-    ensures before { result.before ≡ (nat_lt 0 i && (bit_in line.now (i - 1) == 1)) }
-    ensures here { result.here ≡ (bit_in line.now i == 1) }
-    ensures after { result.after ≡ (bit_in line.now (i + 1) == 1) }
+    ensures before { (bit_at result 0 == 1) ≡ (nat_lt 0 i && (bit_in line.now (i - 1) == 1)) }
+    ensures here { (bit_at result 1 == 1) ≡ (bit_in line.now i == 1) }
+    ensures after { (bit_at result 2 == 1) ≡ (bit_in line.now (i + 1) == 1) }
 {
     let k = i % 64;
     if k == 0 || k == 63 {
-        return three_anywhere(line, i);
+        return bits_anywhere(line, i);
     }
-    let word = line[usize::from(i) / 64];
-    let before = is_bit(word, k - 1);
-    let here = is_bit(word, k);
-    let after = is_bit(word, k + 1);
-    Three {
-        before,
-        here,
-        after,
-    }
-}
-
-/// The set, with one direction more where that is wanted.
-#[inline(always)]
-fn with_where(set: DirSet, dir: Dir, wanted: bool) -> DirSet
-    ensures { (other : Dir) → IsTrue (holds result other)
-        ↔ (IsTrue (holds set other) ⊎ (IsTrue wanted × (other ≡ dir))) }
-{
-    if wanted { set.with(dir) } else { set }
+    bits_in_word(line[usize::from(i) / 64], k)
 }
 
 /// The directions in which the cell beside is passable.
@@ -95,16 +81,8 @@ pub fn beside(plane: &ClassPlane, cell: Cell) -> DirSet
     ensures { AreFreeBeside (is_passable plane.now) cell result }
 {
     let lanes = plane.lanes_at(Axis::Row, cell);
-    let up = three_about(lanes.left, cell.i);
-    let mid = three_about(lanes.mid, cell.i);
-    let down = three_about(lanes.right, cell.i);
-    let none = DirSet::new();
-    let n = with_where(none, Dir::N, up.here);
-    let e = with_where(n, Dir::E, mid.after);
-    let s = with_where(e, Dir::S, down.here);
-    let w = with_where(s, Dir::W, mid.before);
-    let ne = with_where(w, Dir::NE, up.after);
-    let se = with_where(ne, Dir::SE, down.after);
-    let sw = with_where(se, Dir::SW, down.before);
-    with_where(sw, Dir::NW, up.before)
+    let north = bits_about(lanes.left, cell.i);
+    let middle = bits_about(lanes.mid, cell.i);
+    let south = bits_about(lanes.right, cell.i);
+    DirSet::of_rows(north, middle, south)
 }

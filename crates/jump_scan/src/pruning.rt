@@ -63,15 +63,6 @@ fn is_legal_between<V: View>(view: &V, class: Class, cell: Cell, dir: Dir, parts
     parts && is_free_beside(view, class, cell, dir)
 }
 
-/// The set, with one direction more where that is wanted.
-#[inline(always)]
-fn with_where(set: DirSet, dir: Dir, wanted: bool) -> DirSet
-    ensures { (other : Dir) → IsTrue (holds result other)
-        ↔ (IsTrue (holds set other) ⊎ (IsTrue wanted × (other ≡ dir))) }
-{
-    if wanted { set.with(dir) } else { set }
-}
-
 /// The successors after a diagonal step: the legal natural ones.
 #[inline(always)]
 fn after_diagonal<V: View>(view: &V, class: Class, cell: Cell, arrived: Dir) -> DirSet
@@ -87,9 +78,9 @@ fn after_diagonal<V: View>(view: &V, class: Class, cell: Cell, arrived: Dir) -> 
     let is_row = is_free_beside(view, class, cell, row);
     let is_column = is_free_beside(view, class, cell, column);
     let is_onward = is_legal_between(view, class, cell, arrived, is_row && is_column);
-    let along_row = with_where(DirSet::new(), row, is_row);
-    let along_both = with_where(along_row, column, is_column);
-    with_where(along_both, arrived, is_onward)
+    let along_row = DirSet::new().with_where(row, is_row);
+    let along_both = along_row.with_where(column, is_column);
+    along_both.with_where(arrived, is_onward)
 }
 
 /// A cell, and the direction of the step that came to it.
@@ -123,7 +114,7 @@ fn with_turns<V: View>(
     }
     let ahead = ahead_to(side, dir);
     let legal = is_legal_between(view, class, cell, ahead, onward);
-    with_where(set.with(aside_to(side, dir)), ahead, legal)
+    set.with(aside_to(side, dir)).with_where(ahead, legal)
 }
 
 /// The successors after a straight step: the one straight on, and the forced ones.
@@ -138,7 +129,7 @@ fn after_straight<V: View>(view: &V, class: Class, cell: Cell, arrived: Dir) -> 
 {
     let arrival = Arrival { cell, dir: arrived };
     let onward = is_free_beside(view, class, cell, arrived);
-    let ahead = with_where(DirSet::new(), arrived, onward);
+    let ahead = DirSet::new().with_where(arrived, onward);
     let left = with_turns(view, class, arrival, Side::Left, onward, ahead);
     with_turns(view, class, arrival, Side::Right, onward, left)
 }
@@ -194,7 +185,7 @@ fn with_free<V: View>(view: &V, class: Class, cell: Cell, dir: Dir, set: DirSet)
     requires inside { IsInside (V.extent view.now) cell }
     ensures { AddsFree (V.passes view.now class) cell dir set result }
 {
-    with_where(set, dir, is_free_beside(view, class, cell, dir))
+    set.with_where(dir, is_free_beside(view, class, cell, dir))
 }
 
 /// The directions in which the cell beside is passable. Off the map no cell is.
@@ -220,7 +211,7 @@ fn is_legal_among(free: DirSet, dir: Dir) -> bool
     ensures { (passes : Cell → Bool) (cell : Cell) → IsTrue (passes cell) → AreFreeBeside passes cell free
         → IsTrue result ↔ IsLegalFrom passes cell dir }
 {
-    free.has(dir) && free.has(dir.row_part()) && free.has(dir.column_part())
+    free.has_parts(dir)
 }
 
 /// Whether the steps to that side are forced, and one of them is legal.
@@ -249,8 +240,8 @@ fn with_turns_among(free: DirSet, arrived: Dir, side: Side, set: DirSet) -> DirS
     let aside = aside_to(side, arrived);
     let forced = is_forced_among(free, arrived, side);
     let legal = is_legal_among(free, ahead);
-    let turned = with_where(set, aside, forced);
-    with_where(turned, ahead, forced & legal)
+    let turned = set.with_where(aside, forced);
+    turned.with_where(ahead, forced & legal)
 }
 
 /// The successors after a straight step.
@@ -261,7 +252,7 @@ fn straight_among(free: DirSet, arrived: Dir) -> DirSet
 {
     let onward = free.has(arrived);
     let none = DirSet::new();
-    let ahead = with_where(none, arrived, onward);
+    let ahead = none.with_where(arrived, onward);
     let left = with_turns_among(free, arrived, Side::Left, ahead);
     with_turns_among(free, arrived, Side::Right, left)
 }
@@ -278,9 +269,9 @@ fn diagonal_among(free: DirSet, arrived: Dir) -> DirSet
     let is_column = free.has(column);
     let is_onward = is_legal_among(free, arrived);
     let none = DirSet::new();
-    let along_row = with_where(none, row, is_row);
-    let along_both = with_where(along_row, column, is_column);
-    with_where(along_both, arrived, is_onward)
+    let along_row = none.with_where(row, is_row);
+    let along_both = along_row.with_where(column, is_column);
+    along_both.with_where(arrived, is_onward)
 }
 
 /// The successors of a passable cell after a step, as [`successors`] gives them, where `free` is the directions in which

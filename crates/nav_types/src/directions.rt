@@ -1,4 +1,5 @@
-ghost use Rattle.std.specs.Prelude.{◌≡◌, ◌≤◌, IsTrue, false, ◌&&◌};
+ghost use Rattle.std.specs.Prelude.{◌≡◌, ◌<◌, ◌≤◌, IsTrue, false, ◌&&◌};
+ghost use Rattle.nav_types.specs.DirSets.{spot_of};
 ghost use Rattle.nav_types.specs.declared.limits.TheConstants.{STRAIGHT_COST, DIAGONAL_COST};
 
 use crate::cells::Cost;
@@ -123,58 +124,87 @@ impl Dir {
     }
 }
 
-/// A set of directions.
+/// A set of directions: the bits of the nine cells about one, row by row.
 #[derive(Clone, Copy, Debug, PartialEq, Eq)]
 pub struct DirSet {
-    pub(crate) n: bool,
-    pub(crate) e: bool,
-    pub(crate) s: bool,
-    pub(crate) w: bool,
-    pub(crate) ne: bool,
-    pub(crate) se: bool,
-    pub(crate) sw: bool,
-    pub(crate) nw: bool,
+    pub(crate) bits: u16,
+}
+
+/// Where the cell in that direction stands among the nine about one, row by row from the north-west.
+#[inline(always)]
+fn spot_of(dir: Dir) -> u16
+    ensures spot { result ≡ spot_of dir }
+    ensures few { result < 9 }
+{
+    match dir {
+        Dir::NW => 0,
+        Dir::N => 1,
+        Dir::NE => 2,
+        Dir::W => 3,
+        Dir::E => 5,
+        Dir::SW => 6,
+        Dir::S => 7,
+        Dir::SE => 8,
+    }
 }
 
 impl DirSet {
-    ghost use Rattle.std.specs.Prelude.{◌≢◌};
+    ghost use Rattle.std.specs.Prelude.{◌≢◌, ◌↔◌, ◌⊎◌};
     ghost use Rattle.nav_types.specs.declared.directions.Dir.{Dir};
-    ghost use Rattle.nav_types.specs.DirSets.{holds};
+    ghost use Rattle.nav_types.specs.DirSets.{holds, is_set_towards};
     ghost use Rattle.nav_types.specs.Directions.{row_part, column_part};
 
     /// The set of no direction.
     pub fn new() -> DirSet
         ensures { (dir : Dir) → holds result dir ≡ false }
     {
+        DirSet { bits: 0 }
+    }
+
+    /// The directions in which the cell is set in three rows of three cells about one, which are the lowest bits of
+    /// these numbers, from the west on. The cell itself, in the middle, counts for nothing.
+    #[inline(always)]
+    pub fn of_rows(north: u16, middle: u16, south: u16) -> DirSet
+        ensures { (dir : Dir) → holds result dir ≡ is_set_towards dir north middle south }
+    {
+        let northern = north & 7;
+        let beside = (middle & 5) << 3;
+        let southern = (south & 7) << 6;
         DirSet {
-            n: false,
-            e: false,
-            s: false,
-            w: false,
-            ne: false,
-            se: false,
-            sw: false,
-            nw: false,
+            bits: northern | beside | southern,
         }
     }
 
     /// The set with one direction more.
+    #[inline(always)]
     pub fn with(self, dir: Dir) -> DirSet
         ensures added { IsTrue (holds result dir) }
         ensures others { (other : Dir) → other ≢ dir → holds result other ≡ holds self other }
     {
-        let mut set = self;
-        match dir {
-            Dir::N => set.n = true,
-            Dir::E => set.e = true,
-            Dir::S => set.s = true,
-            Dir::W => set.w = true,
-            Dir::NE => set.ne = true,
-            Dir::SE => set.se = true,
-            Dir::SW => set.sw = true,
-            Dir::NW => set.nw = true,
+        let spot = spot_of(dir);
+        DirSet {
+            bits: self.bits | 1 << spot,
         }
-        set
+    }
+
+    /// The set, with one direction more where that is wanted.
+    #[inline(always)]
+    pub fn with_where(self, dir: Dir, wanted: bool) -> DirSet
+        ensures { (other : Dir) → IsTrue (holds result other)
+            ↔ (IsTrue (holds self other) ⊎ (IsTrue wanted × (other ≡ dir))) }
+    {
+        if wanted { self.with(dir) } else { self }
+    }
+
+    /// Whether the direction is in the set, and its straight parts, too.
+    #[inline(always)]
+    pub fn has_parts(self, dir: Dir) -> bool
+        ensures { result ≡ (holds self dir && (holds self (row_part dir) && holds self (column_part dir))) }
+    {
+        let is_there = self.has(dir);
+        let is_row = self.has(dir.row_part());
+        let is_column = self.has(dir.column_part());
+        all_three(is_there, is_row, is_column)
     }
 
     /// The directions of the set whose straight parts are in it, too.
@@ -182,29 +212,23 @@ impl DirSet {
         ensures { (dir : Dir) → holds result dir
             ≡ (holds self dir && (holds self (row_part dir) && holds self (column_part dir))) }
     {
-        DirSet {
-            ne: all_three(self.ne, self.e, self.n),
-            se: all_three(self.se, self.e, self.s),
-            sw: all_three(self.sw, self.w, self.s),
-            nw: all_three(self.nw, self.w, self.n),
-            ..self
-        }
+        let none = DirSet::new();
+        let n = none.with_where(Dir::N, self.has_parts(Dir::N));
+        let e = n.with_where(Dir::E, self.has_parts(Dir::E));
+        let s = e.with_where(Dir::S, self.has_parts(Dir::S));
+        let w = s.with_where(Dir::W, self.has_parts(Dir::W));
+        let ne = w.with_where(Dir::NE, self.has_parts(Dir::NE));
+        let se = ne.with_where(Dir::SE, self.has_parts(Dir::SE));
+        let sw = se.with_where(Dir::SW, self.has_parts(Dir::SW));
+        sw.with_where(Dir::NW, self.has_parts(Dir::NW))
     }
 
     /// Whether the direction is in the set.
+    #[inline(always)]
     pub fn has(self, dir: Dir) -> bool
         ensures { result ≡ holds self dir }
     {
-        match dir {
-            Dir::N => self.n,
-            Dir::E => self.e,
-            Dir::S => self.s,
-            Dir::W => self.w,
-            Dir::NE => self.ne,
-            Dir::SE => self.se,
-            Dir::SW => self.sw,
-            Dir::NW => self.nw,
-        }
+        (self.bits >> spot_of(dir)) & 1 == 1
     }
 }
 

@@ -219,14 +219,13 @@ fn free_beside<V: View>(view: &V, class: Class, cell: Cell) -> DirSet
     requires inside { IsInside (V.extent view.now) cell }
     ensures { (dir : Dir) → IsTrue (holds result dir) ↔ IsFreeBeside (V.passes view.now class) cell dir }
 {
-    DirSet {
-        n: is_free_beside(view, class, cell, Dir::N),
-        e: is_free_beside(view, class, cell, Dir::E),
-        s: is_free_beside(view, class, cell, Dir::S),
-        w: is_free_beside(view, class, cell, Dir::W),
-        ne: is_free_beside(view, class, cell, Dir::NE),
-        se: is_free_beside(view, class, cell, Dir::SE),
-        sw: is_free_beside(view, class, cell, Dir::SW),
-        nw: is_free_beside(view, class, cell, Dir::NW),
-    }
+    let none = DirSet::new();
+    let n = none.with_where(Dir::N, is_free_beside(view, class, cell, Dir::N));
+    let e = n.with_where(Dir::E, is_free_beside(view, class, cell, Dir::E));
+    let s = e.with_where(Dir::S, is_free_beside(view, class, cell, Dir::S));
+    let w = s.with_where(Dir::W, is_free_beside(view, class, cell, Dir::W));
+    let ne = w.with_where(Dir::NE, is_free_beside(view, class, cell, Dir::NE));
+    let se = ne.with_where(Dir::SE, is_free_beside(view, class, cell, Dir::SE));
+    let sw = se.with_where(Dir::SW, is_free_beside(view, class, cell, Dir::SW));
+    sw.with_where(Dir::NW, is_free_beside(view, class, cell, Dir::NW))
 }

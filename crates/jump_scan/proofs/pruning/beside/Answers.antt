@@ -1,6 +1,6 @@
 use Rattle.nav_types.specs.declared.directions.Dir.{Dir}
 use Rattle.nav_types.specs.Beside.{IsFreeBeside}
-use Rattle.jump_scan.proofs.Gathering.{gathered}
+use Rattle.nav_types.proofs.DirSetLemmas.{gathered}
 use Rattle.jump_scan.proofs.pruning.beside.Goals as goal
 
 pub returns : goal.returns
