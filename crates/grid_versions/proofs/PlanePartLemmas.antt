@@ -85,20 +85,6 @@ same_numbers bits rect a b none means cell inside =
     let clear : bit_at bits k ≡ 0 = ap (λ n. bit_at n k) none ∙ bit_at-zero k in
     absurd (omega (arith, set, clear)))))
 
--- a stretch of a row of a part is a part, too
-pub stretch_part : (whole part : Rect) (first last j : ℕ) → IsPartOf whole part → part.i0 ≤ first → first ≤ last
-    → last ≤ part.i1 → part.j0 ≤ j → j ≤ part.j1
-    → IsPartOf whole (record { i0 = first; j0 = j; i1 = last; j1 = j })
-stretch_part whole part first last j within low ordered high south north =
-    let corner = within.first in let opposite = within.last in
-    let west = corner.west in let east = opposite.east in let bottom = corner.south in let top = opposite.north in
-    record {
-      first = record { west = omega arith; east = omega arith; south = omega arith; north = omega arith };
-      last = record { west = omega arith; east = omega arith; south = omega arith; north = omega arith };
-      columns = ordered;
-      rows = omega arith;
-    }
-
 -- a chunk's cells lie in the map
 pub chunk_in_map : (size : Size) (chunk : Chunk) → IsChunkInside size chunk → IsRectInside size (chunk_rect size chunk)
 chunk_in_map size chunk lies =

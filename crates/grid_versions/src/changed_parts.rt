@@ -95,7 +95,8 @@ fn differing_part(reaches: &[Rect], before: &Patch, after: &Patch) -> Option<Rec
 }
 
 /// The least rectangle that holds the first one, if there is one, and the cells of row `j` of the part whose numbers
-/// differ. A row as before is seen by vectors; in another one its cells are looked at from both sides.
+/// differ. A row as before is seen by vectors; in another one the cells beside the first rectangle are looked at from both
+/// sides.
 fn with_row(held: Option<Rect>, before: &Patch, after: &Patch, part: Rect, j: u16) -> Option<Rect>
     requires same { after.now.rect ≡ before.now.rect }
     requires held { IfSome held (IsPartOf before.now.rect) }
@@ -118,22 +119,39 @@ fn with_row(held: Option<Rect>, before: &Patch, after: &Patch, part: Rect, j: u1
     if before.differs_in(after, row) == 0 {
         return held;
     }
-    let first = first_differing(before, after, part, j);
-    let last = last_differing(before, after, part, j, first);
-    let cells = Rect {
+    match held {
+        Some(rect) => {
+            let cells = differing_cells(before, after, part, j, rect.i0, rect.i1);
+            Some(rect.union(cells))
+        }
+        None => Some(differing_cells(before, after, part, j, part.i1, part.i0)),
+    }
+}
+
+/// The cells of row `j` of the part from the first whose numbers differ to the last one. Those from column `west` to
+/// column `east` are not looked at, and are among them.
+fn differing_cells(before: &Patch, after: &Patch, part: Rect, j: u16, west: u16, east: u16) -> Rect
+    requires same { after.now.rect ≡ before.now.rect }
+    requires part { IsPartOf before.now.rect part }
+    requires south { part.j0 ≤ j }
+    requires north { j ≤ part.j1 }
+    ensures part { IsPartOf before.now.rect result }
+    ensures row { (cell : Cell) → IsInRect part cell → cell.j ≡ j
+        → number_of before.now cell ≢ number_of after.now cell → IsInRect result cell }
+{
+    let first = first_differing(before, after, part, j, west);
+    let last = last_differing(before, after, part, j, first.max(east).min(part.i1));
+    Rect {
         i0: first,
         j0: j,
         i1: last,
         j1: j,
-    };
-    match held {
-        Some(rect) => Some(rect.union(cells)),
-        None => Some(cells),
     }
 }
 
-/// The first column of the part in which the numbers of row `j` differ, or its last one.
-fn first_differing(before: &Patch, after: &Patch, part: Rect, j: u16) -> u16
+/// The first column of the part in which the numbers of row `j` differ, if it lies before column `to`. Else that column,
+/// or the part's nearest to it.
+fn first_differing(before: &Patch, after: &Patch, part: Rect, j: u16, to: u16) -> u16
     requires rect { after.now.rect ≡ before.now.rect }
     requires part { IsPartOf before.now.rect part }
     requires south { part.j0 ≤ j }
@@ -143,13 +161,14 @@ fn first_differing(before: &Patch, after: &Patch, part: Rect, j: u16) -> u16
     ensures same { (i : ℕ) → part.i0 ≤ i → i < result
         → number_of before.now (cell_at i j) ≡ number_of after.now (cell_at i j) }
 {
-    for i in part.i0..part.i1 {
+    let end = to.max(part.i0).min(part.i1);
+    for i in part.i0..end {
         let cell = Cell::new(i, j);
         if before.at(cell) != after.at(cell) {
             return i;
         }
     }
-    part.i1
+    end
 }
 
 /// The last column of the part from `first` on in which the numbers of row `j` differ, or that one.

@@ -2,7 +2,7 @@ use Rattle.std.proofs.Common.{Option, subst, arith}
 use Rattle.std.specs.Prelude.{IfSome}
 use Rattle.nav_types.specs.declared.cells.Rect.{Rect}
 use Rattle.nav_types.specs.Rects.{IsPartOf}
-use Rattle.grid_versions.proofs.PlanePartLemmas.{same_numbers, stretch_part}
+use Rattle.grid_versions.proofs.PlanePartLemmas.{same_numbers}
 use Rattle.grid_versions.proofs.changed_parts.with_row.Goals as goal
 
 pub returns-then-differs_in-eq0-clause-row : goal.returns-then-differs_in-eq0-clause-row
@@ -15,8 +15,5 @@ returns-then-differs_in-eq0-clause-row c = λ cell inside here apart.
 pub returns-in-Some-clause-part : goal.returns-in-Some-clause-part
 returns-in-Some-clause-part c =
     let whole : Rect = c.args.before.now.rect in
-    let first = c.first_differing-first in
-    let last = c.last_differing-last in
     c.union.ensures.least whole (subst (λ (o : Option Rect). IfSome o (IsPartOf whole)) c.in-Some.is c.requires.held)
-    (stretch_part whole c.args.part first.result last.result c.args.j c.requires.part first.ensures.low last.ensures.low
-    last.ensures.high c.requires.south c.requires.north)
+    c.differing_cells-cells.ensures.part
