@@ -14,6 +14,7 @@ pub mod ReacherLemmas
 pub mod VersionLemmas
 pub mod ChangeLemmas
 pub mod RemakeLemmas
+pub mod PassedLemmas
 pub mod BitLemmas
 pub mod NextLemmas
 pub mod PlanePartLemmas

@@ -10,3 +10,4 @@ pub mod Reachers
 pub mod Parts
 pub mod Changing
 pub mod SameNumbers
+pub mod Marks

@@ -12,7 +12,7 @@ ghost use Rattle.grid_versions.specs.inner.Tables.{Tables, AreTables};
 ghost use Rattle.grid_versions.specs.inner.Tallying.{AreTablesOf};
 
 use crate::planes::plane_of;
-use crate::relabelling::Changed;
+use crate::relabelling::{Changed, Marks};
 use crate::sites::Site;
 use crate::tables::ClassTables;
 use class_planes::{ClassPlane, Planes};
@@ -76,7 +76,7 @@ fn tables_at<L: Ledger>(
 {
     let class = changed.class.number();
     let place = usize::from(class);
-    if count_bit(changed.bits, class) == 0 {
+    if count_bit(changed.bits.bits(), class) == 0 {
         return before.shared(place);
     }
     let tables = before.at(place).updated(alloc, plane, changed, ticks)?;
@@ -90,7 +90,7 @@ pub fn next_tables<L: Ledger>(
     site: &Site<'_>,
     planes: &Planes,
     before: &Earlier<'_>,
-    changed: &[u16],
+    changed: &Marks<'_>,
     ticks: &mut Ticks<L>,
 ) -> Result<SharedList<ClassTables>, NoMemory>
     requires planes { ArePlanes site.now.map.now.size (passable_at site.now.map.now site.now.shapes.now) 65535
@@ -113,7 +113,7 @@ pub fn next_tables<L: Ledger>(
         let plane = plane_of(planes, class);
         let earlier = plane_of(before.planes, class);
         let changed = Changed {
-            bits: changed,
+            bits: &*changed,
             class,
             before: earlier,
         };

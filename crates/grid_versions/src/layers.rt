@@ -14,7 +14,7 @@ use crate::chunk_cells::ChunkCells;
 use crate::class_tables::{Earlier, class_tables, next_tables};
 use crate::ground::Ground;
 use crate::painted_map::PaintedMap;
-use crate::relabelling::marks_below;
+use crate::relabelling::{Marks, marks_below};
 use crate::sites::Site;
 use crate::standing_edits::Changes;
 use crate::tables::ClassTables;
@@ -86,11 +86,12 @@ impl Layers {
         let (ground, changed) = self.ground.updated(alloc, earlier, site, changes)?;
         let bits = changed.as_slice();
         let planes = self.next_planes(alloc, site, &ground.cells, changes.reaches, bits)?;
+        let marks = Marks::new(alloc, bits)?;
         let before = Earlier {
             planes: &self.planes,
             tables: &self.tables,
         };
-        let tables = next_tables(alloc, site, &planes, &before, bits, ticks)?;
+        let tables = next_tables(alloc, site, &planes, &before, &marks, ticks)?;
         let relabelled = marks_below(bits, site.map.classes().count());
         let layers = Layers {
             ground,

@@ -10,7 +10,7 @@ ghost use Rattle.grid_versions.specs.inner.Tables.{AreAllLabels, AreAllEdges};
 ghost use Rattle.grid_versions.specs.inner.Building.{IsLaidOut, IsSideLink, link_between};
 
 use crate::chunks;
-use crate::relabelling::{Changed, is_marked};
+use crate::relabelling::{Changed, is_marked, next_marked};
 use chunk_regions::Labels;
 use nav_types::{NoMemory, Size};
 use reach_sets::{Links, RegionId};
@@ -86,10 +86,27 @@ fn is_touched(size: Size, changed: &Changed<'_>, border: Border) -> bool
     }
     // Where the map has such a neighbour, this is its place.
     let next = border.place + chunks::step_to(size, border.side);
-    if next as usize >= changed.bits.len() {
+    if next as usize >= changed.bits.bits().len() {
         return false;
     }
     is_marked(changed, next)
+}
+
+/// A place from the border's on, and before it no chunk from there on, nor its neighbour on that side, has changed for the
+/// class.
+fn next_touched(size: Size, changed: &Changed<'_>, border: Border) -> u32
+    requires within { border.place ≤ chunk_count size }
+    requires each { length changed.now.bits.now ≡ chunk_count size }
+    ensures from { border.place ≤ result }
+    ensures none { (place : ℕ) → border.place ≤ place → place < result → place < chunk_count size
+        → (old now : Cell → Bool) → AreChanges old now size changed.now.class changed.now.bits.now
+        → AgreeInChunk old now (chunk_numbered size place) × AgreeInChunk old now (neighbour_on border.side (chunk_numbered size place)) }
+{
+    let step = chunks::step_to(size, border.side);
+    let own = next_marked(changed, border.place);
+    // Where the map has such a neighbour, it lies a step further.
+    let beside = next_marked(changed, border.place + step) - step;
+    own.min(beside)
 }
 
 /// Finds anew the region edges of the chunk at a place to its neighbour on that side, where one of the two has changed
@@ -145,9 +162,12 @@ fn reconnect(
 {
     let count = chunks::count(size);
     let mut stay = true;
-    for place in 0..count {
+    let mut place = next_touched(size, changed, Border { place: 0, side });
+    'places: while place < count {
         let stays = reconnect_at(alloc, size, labels, all, changed, Border { place, side })?;
         stay &= stays;
+        let next = place + 1;
+        place = next_touched(size, changed, Border { place: next, side });
     }
     Ok(stay)
 }

@@ -9,7 +9,7 @@ ghost use Rattle.grid_versions.specs.inner.Tables.{AreAllLabels, label_counts};
 
 use crate::chunk_bits::{changed_rows, passable_cells, passable_in_rows};
 use crate::chunks;
-use crate::relabelling::{Changed, is_marked};
+use crate::relabelling::{Changed, is_marked, next_marked};
 use chunk_regions::{Labels, label_bits};
 use class_planes::ClassPlane;
 use nav_types::{NoMemory, Ticks};
@@ -138,9 +138,11 @@ fn relabel<L: Ledger>(
 {
     let count = chunks::count(plane.size());
     let mut stay = true;
-    for place in 0..count {
+    let mut place = next_marked(changed, 0);
+    'places: while place < count {
         let stays = relabel_at(alloc, plane, labels, changed, place, ticks)?;
         stay &= stays;
+        place = next_marked(changed, place + 1);
     }
     Ok(stay)
 }

@@ -1,4 +1,4 @@
-use Rattle.std.proofs.Common.{ℕ, ◌∙◌, ap, sym}
+use Rattle.std.proofs.Common.{ℕ, List, ◌∙◌, ap, sym}
 use Rattle.std.specs.Prelude.{slice_get}
 use Rattle.std.specs.List.{count_by}
 use Rattle.std.specs.Arc.{arc_value}
@@ -13,7 +13,8 @@ returns-then-count_bit-eq0-clause-tables g c =
     let class = c.args.changed.now.class in
     let bits = c.args.changed.now.bits.now in
     let place = c.from-place.ensures ∙ c.number-class.ensures.value in
-    let none = ap (λ (k : ℕ). count_by (has_class k) bits) (sym c.number-class.ensures.value) ∙ sym c.count_bit.ensures ∙ c.if-count_bit-eq0.true in
+    let none = ap (λ (k : ℕ). count_by (has_class k) bits) (sym c.number-class.ensures.value)
+    ∙ ap (λ (all : List ℕ). count_by (has_class c.number-class.result) all) (sym c.bits.ensures) ∙ sym c.count_bit.ensures ∙ c.if-count_bit-eq0.true in
     IfOk-weaker c.shared.result _ _
     (λ tables at. tables_stay (is_passable c.args.changed.now.before.now) (is_passable c.args.plane.now) c.args.plane.now.size class bits (arc_value tables) c.requires.before.1 none
     (c.requires.before.0 (arc_value tables) (ap (λ (i : ℕ). slice_get c.args.before.now i) (sym place) ∙ at)))

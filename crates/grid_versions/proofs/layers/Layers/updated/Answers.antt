@@ -69,20 +69,21 @@ next_planes-requires-clause-before g c = record {
 pub next_tables-requires-clause-before : goal.next_tables-requires-clause-before
 next_tables-requires-clause-before g c =
     tables_here c.args.site.now.map.now c.args.earlier.now c.args.site.now.shapes.now c.args.self.now.ground.cells c.in_ok-ground.ground.cells
-    c.in_ok-ground.changed.items c.as_slice-bits.result.now c.requires.parts.cells_are c.in_ok-ground.ensures.cells
-    c.in_ok-ground.ensures.bits c.as_slice-bits.ensures.value c.args.self.now.tables c.args.self.now.planes c.requires.parts.tables_are c.requires.parts.planes_are
+    c.in_ok-ground.changed.items c.in_ok-marks.marks c.requires.parts.cells_are c.in_ok-ground.ensures.cells
+    c.in_ok-ground.ensures.bits (c.in_ok-marks.ensures ∙ c.as_slice-bits.ensures.value) c.args.self.now.tables c.args.self.now.planes c.requires.parts.tables_are
+    c.requires.parts.planes_are
 
 pub returns-in_err-tables-clause-most : goal.returns-in_err-tables-clause-most
 returns-in_err-tables-clause-most g c =
     most_here c.args.site.now.map.now c.args.earlier.now c.args.site.now.shapes.now c.args.self.now.ground.cells c.in_ok-ground.ground.cells
-    c.in_ok-ground.changed.items c.as_slice-bits.result.now c.requires.parts.cells_are c.in_ok-ground.ensures.cells
-    c.in_ok-ground.ensures.bits c.as_slice-bits.ensures.value c.args.ticks.now c.next_tables.new.ticks c.next_tables.ensures.most
+    c.in_ok-ground.changed.items c.in_ok-marks.marks c.requires.parts.cells_are c.in_ok-ground.ensures.cells
+    c.in_ok-ground.ensures.bits (c.in_ok-marks.ensures ∙ c.as_slice-bits.ensures.value) c.args.ticks.now c.next_tables.new.ticks c.next_tables.ensures.most
 
 pub returns-clause-most : goal.returns-clause-most
 returns-clause-most g c =
     most_here c.args.site.now.map.now c.args.earlier.now c.args.site.now.shapes.now c.args.self.now.ground.cells c.in_ok-ground.ground.cells
-    c.in_ok-ground.changed.items c.as_slice-bits.result.now c.requires.parts.cells_are c.in_ok-ground.ensures.cells
-    c.in_ok-ground.ensures.bits c.as_slice-bits.ensures.value c.args.ticks.now c.next_tables.new.ticks c.next_tables.ensures.most
+    c.in_ok-ground.changed.items c.in_ok-marks.marks c.requires.parts.cells_are c.in_ok-ground.ensures.cells
+    c.in_ok-ground.ensures.bits (c.in_ok-marks.ensures ∙ c.as_slice-bits.ensures.value) c.args.ticks.now c.next_tables.new.ticks c.next_tables.ensures.most
 
 pub returns-clause-relabelled : goal.returns-clause-relabelled
 returns-clause-relabelled g c =

@@ -1,4 +1,4 @@
-use Rattle.std.proofs.Common.{ℕ, Bool, List, ◌≡◌, IsTrue, length}
+use Rattle.std.proofs.Common.{ℕ, Bool, List, ◌≡◌, ◌-◌, IsTrue, length}
 use Rattle.nav_types.specs.declared.cells.Cell.{Cell}
 use Rattle.region_edges.specs.Edges.{AreEdges}
 use Rattle.grid_versions.specs.Chunks.{chunk_count}
@@ -8,8 +8,8 @@ use Rattle.grid_versions.specs.inner.Tables.{AreAllLabels, AreAllEdges}
 use Rattle.grid_versions.proofs.RemakeLemmas.{AreRemade}
 use Rattle.grid_versions.proofs.tables.borders.reconnect.Given as goal
 
-abbrev pub invariant-loop-place : goal.invariant-loop-place
-invariant-loop-place l = record {
+abbrev pub invariant-places : goal.invariant-places
+invariant-places l = record {
   each : length l.all ≡ chunk_count l.size;
   remade : (old now : Cell → Bool) → AreChanges old now l.size l.changed.class l.changed.bits.now → AreAllLabels now l.size l.labels
       → AreAllEdges l.side old l.size l.initial.all
@@ -19,3 +19,6 @@ invariant-loop-place l = record {
       l.place l.all;
   stay : IsTrue l.stay → l.all ≡ l.initial.all;
 }
+
+abbrev pub decreases-places : goal.decreases-places
+decreases-places l = l.count - l.place
