@@ -1,5 +1,5 @@
 //! Searches on a version.
-ghost use Rattle.std.specs.Prelude.{IfOk};
+ghost use Rattle.std.specs.Prelude.{◌≡◌, IfOk};
 ghost use Rattle.grid_versions.specs.Versions.{passes_of};
 ghost use Rattle.turn_core.specs.Notes.{IsOpenedNumber};
 ghost use Rattle.turn_core.specs.inner.Searching.{CanFind, IsFoundTo, path_by};
@@ -27,14 +27,7 @@ impl<'a> Search<'a> {
         requires { CanFind self.now.version.now self.now.class self.now.start self.now.target.now }
         ensures { IfOk result (IsFoundTo self.now.version.now self.now.class self.now.start self.now.target.now) }
     {
-        let runs = PlaneRuns::new(self.version, self.version.planes(), self.class);
-        let question = Question {
-            runs: &runs,
-            class: self.class,
-            start: self.start,
-            aim: self.target,
-        };
-        question.find(pool, alloc)
+        self.question(&self.runs()).find(pool, alloc)
     }
 
     /// The walk of a search, by the room of the pool, and the opened number of its path.
@@ -48,13 +41,31 @@ impl<'a> Search<'a> {
     {
         // The rectangle that the jump states are counted by.
         let _box = self.target.bounds(self.version.size());
-        let runs = PlaneRuns::new(self.version, self.version.planes(), self.class);
-        let question = Question {
-            runs: &runs,
+        self.question(&self.runs()).trace(pool, alloc)
+    }
+
+    /// The runs of the class over the version, by its planes.
+    fn runs(&self) -> PlaneRuns<'_, Version>
+        ensures { result ≡ self.now.version.now }
+    {
+        PlaneRuns::new(self.version, self.version.planes(), self.class)
+    }
+
+    /// What the jump search is asked over these runs.
+    fn question<'q>(
+        &'q self,
+        runs: &'q PlaneRuns<'q, Version>,
+    ) -> Question<'q, PlaneRuns<'q, Version>, Target>
+        ensures runs { result.runs.now ≡ runs.now }
+        ensures class { result.class ≡ self.now.class }
+        ensures start { result.start ≡ self.now.start }
+        ensures aim { result.aim.now ≡ self.now.target.now }
+    {
+        Question {
+            runs,
             class: self.class,
             start: self.start,
             aim: self.target,
-        };
-        question.trace(pool, alloc)
+        }
     }
 }

@@ -1,16 +1,13 @@
-use Rattle.std.proofs.Common.{IfOk, subst}
-use Rattle.grid_versions.specs.Versions.{MapState}
+use Rattle.std.proofs.Common.{IfOk, ◌∙◌}
 use Rattle.turn_core.specs.inner.Searching.{IsFoundTo}
-use Rattle.turn_core.proofs.Searchable.{can_search}
+use Rattle.turn_core.proofs.Searchable.{can_search, same_search}
 use Rattle.turn_core.proofs.searches.Search.find.Goals as goal
 
 pub find-requires : goal.find-requires
 find-requires c =
-    let search = c.args.self.now in
-    can_search search.version.now c.new-runs.result search.class search.start search.target.now c.new-runs.ensures c.requires
+    can_search (c.question.ensures.runs ∙ c.runs.ensures) c.question.ensures.class c.question.ensures.start c.question.ensures.aim c.requires
 
 pub returns : goal.returns
 returns c =
-    let search = c.args.self.now in
-    subst (λ (s : MapState). IfOk c.find.result (IsFoundTo s search.class search.start search.target.now)) c.new-runs.ensures
-    c.find.ensures
+    same_search (λ s n from t. IfOk c.find.result (IsFoundTo s n from t))
+    (c.question.ensures.runs ∙ c.runs.ensures) c.question.ensures.class c.question.ensures.start c.question.ensures.aim c.find.ensures

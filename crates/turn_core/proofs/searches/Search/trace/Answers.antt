@@ -1,4 +1,4 @@
-use Rattle.std.proofs.Common.{ℕ, Result, Ok, Err, IfOk, subst}
+use Rattle.std.proofs.Common.{ℕ, Result, Ok, Err, IfOk, subst, ◌∙◌}
 use Rattle.nav_types.specs.declared.cells.Cell.{Cell}
 use Rattle.nav_types.specs.declared.cells.Rect.{Rect}
 use Rattle.nav_types.specs.declared.cells.Size.{Size}
@@ -11,13 +11,12 @@ use Rattle.jump_search.specs.JumpStates.{CountsOpened}
 use Rattle.grid_versions.specs.Versions.{MapState, passes_of}
 use Rattle.turn_core.specs.Notes.{IsOpenedNumber}
 use Rattle.turn_core.specs.inner.Searching.{IsFoundTo, path_by}
-use Rattle.turn_core.proofs.Searchable.{can_search}
+use Rattle.turn_core.proofs.Searchable.{can_search, same_search}
 use Rattle.turn_core.proofs.searches.Search.trace.Goals as goal
 
 pub trace-requires : goal.trace-requires
 trace-requires c =
-    let search = c.args.self.now in
-    can_search search.version.now c.new-runs.result search.class search.start search.target.now c.new-runs.ensures c.requires
+    can_search (c.question.ensures.runs ∙ c.runs.ensures) c.question.ensures.class c.question.ensures.start c.question.ensures.aim c.requires
 
 -- what is counted by each box is the opened number by the one that is known
 opened_by : (state : MapState) (class : ℕ) (start : Cell) (target : Target) (box : Rect) (result : Result Traced NoMemory)
@@ -29,15 +28,14 @@ opened_by state class start target box (Err refused) frame counted = tt
 
 pub returns-clause-found : goal.returns-clause-found
 returns-clause-found c =
-    let search = c.args.self.now in
-    subst (λ (s : MapState). IfOk c.trace.result (λ (traced : Traced). IsFoundTo s search.class search.start search.target.now traced.found))
-    c.new-runs.ensures c.trace.ensures.answer
+    same_search (λ s n from t. IfOk c.trace.result (λ (traced : Traced). IsFoundTo s n from t traced.found))
+    (c.question.ensures.runs ∙ c.runs.ensures) c.question.ensures.class c.question.ensures.start c.question.ensures.aim c.trace.ensures.answer
 
 pub returns-clause-opened : goal.returns-clause-opened
 returns-clause-opened c =
     let search = c.args.self.now in
-    let state = search.version.now in
-    opened_by state search.class search.start search.target.now c.bounds-box.result c.trace.result
+    opened_by search.version.now search.class search.start search.target.now c.bounds-box.result c.trace.result
     (subst (λ (s : Size). IsFrame (framed_by search.target.now) s c.bounds-box.result) c.size.ensures c.bounds-box.ensures)
-    (subst (λ (s : MapState). IfOk c.trace.result (λ (traced : Traced). CountsOpened (passes_of s search.class) (hit_by search.target.now)
-    (framed_by search.target.now) s.map.size search.start traced.found.cost.0 traced.opened)) c.new-runs.ensures c.trace.ensures.opened)
+    (same_search (λ s n from t. IfOk c.trace.result (λ (traced : Traced). CountsOpened (passes_of s n) (hit_by t) (framed_by t) s.map.size from
+    traced.found.cost.0 traced.opened))
+    (c.question.ensures.runs ∙ c.runs.ensures) c.question.ensures.class c.question.ensures.start c.question.ensures.aim c.trace.ensures.opened)
