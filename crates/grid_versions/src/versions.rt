@@ -23,9 +23,9 @@ use obstruction_store::Store;
 use posts::{EditReplies, Edits, MapSpec, Tallies};
 use reach_sets::RegionId;
 use std::alloc::Global;
-use std::marker::Model;
+use std::marker::{Brand, Model};
 use std::sync::Arc;
-use std::sync::ledger::Ledger;
+use std::sync::ledger::{Blank, Ledger};
 
 /// A map with the obstructions that stand on it: which cells are passable for each class, and the regions, region
 /// edges and areas. Contracts see the map and the standing obstructions (`MapState`).
@@ -125,6 +125,32 @@ impl Version {
         })
     }
 
+    /// As [`Version::build`], for a caller who counts no ticks.
+    pub fn new(alloc: Global, map: &MapSpec, shapes: &Store) -> Result<Version, NoMemory>
+        requires { AllFit map.now.size shapes.now }
+        ensures map { IfOk result (λ version. version.map ≡ map.now) }
+        ensures standing { IfOk result (λ version. version.standing ≡ shapes.now) }
+    {
+        Version::build_counted::<Brand>(alloc, map, shapes, Blank::new(1))
+    }
+
+    /// The same version, with the ticks counted in a ledger of their own.
+    fn build_counted<L: Ledger>(
+        alloc: Global,
+        map: &MapSpec,
+        shapes: &Store,
+        blank: Blank,
+    ) -> Result<Version, NoMemory>
+        requires name { blank.name ≡ L.name }
+        requires parts { blank.parts ≡ L.parts }
+        requires some { 0 < L.parts }
+        requires fit { AllFit map.now.size shapes.now }
+        ensures map { IfOk result (λ version. version.map ≡ map.now) }
+        ensures standing { IfOk result (λ version. version.standing ≡ shapes.now) }
+    {
+        Version::build(alloc, map, shapes, &mut Ticks::<L>::new(blank))
+    }
+
     /// The version after the edits, which are applied in their order, each with its reply (`edit_reply`, `after_edit`).
     /// This version stays as it is. It refuses for want of memory alone.
     ///
@@ -173,6 +199,40 @@ impl Version {
         })
     }
 
+    /// As [`Version::next`], for a caller who counts no ticks.
+    pub fn after(&self, alloc: Global, edits: &Edits) -> Result<Next, NoMemory>
+        ensures map { IfOk result (λ next. next.version.map ≡ self.now.map) }
+        ensures standing { IfOk result (λ next. next.version.standing
+            ≡ after_edits self.now.map self.now.standing edits.now) }
+        ensures replies { IfOk result (λ next. next.replies
+            ≡ edit_replies self.now.map self.now.standing edits.now) }
+        ensures relabelled { IfOk result (λ next. HasRelabelled (length self.now.map.classes)
+            (passes_of self.now) (passes_of next.version) next.relabelled) }
+    {
+        self.next_counted::<Brand>(alloc, edits, Blank::new(1))
+    }
+
+    /// The same, with the ticks counted in a ledger of their own.
+    fn next_counted<L: Ledger>(
+        &self,
+        alloc: Global,
+        edits: &Edits,
+        blank: Blank,
+    ) -> Result<Next, NoMemory>
+        requires name { blank.name ≡ L.name }
+        requires parts { blank.parts ≡ L.parts }
+        requires some { 0 < L.parts }
+        ensures map { IfOk result (λ next. next.version.map ≡ self.now.map) }
+        ensures standing { IfOk result (λ next. next.version.standing
+            ≡ after_edits self.now.map self.now.standing edits.now) }
+        ensures replies { IfOk result (λ next. next.replies
+            ≡ edit_replies self.now.map self.now.standing edits.now) }
+        ensures relabelled { IfOk result (λ next. HasRelabelled (length self.now.map.classes)
+            (passes_of self.now) (passes_of next.version) next.relabelled) }
+    {
+        self.next(alloc, edits, &mut Ticks::<L>::new(blank))
+    }
+
     /// The version of this map and other obstructions, all of which fit the map, and in how many pairs of chunk and class
     /// it differs from this one. Only the cells of the changes' rectangles are painted, each pair that differs is labelled
     /// once, and what lies elsewhere is shared.
@@ -209,6 +269,15 @@ impl Version {
             parts: Arc::new(alloc, next)?,
         };
         Ok((version, relabelled))
+    }
+
+    /// The same version once more, which shares all that this one has. It refuses for want of memory alone.
+    pub fn share(&self) -> Result<Version, NoMemory>
+        ensures { IfOk result (λ same. same ≡ self.now) }
+    {
+        Ok(Version {
+            parts: Arc::try_clone(&self.parts)?,
+        })
     }
 
     /// The version after no edits, which shares all that this one has.
