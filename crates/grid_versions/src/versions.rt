@@ -287,9 +287,7 @@ impl Version {
         ensures relabelled { IfOk result (λ next. next.relabelled ≡ 0) }
     {
         Ok(Next {
-            version: Version {
-                parts: Arc::try_clone(&self.parts)?,
-            },
+            version: self.share()?,
             replies: EditReplies::new(alloc),
             relabelled: 0,
         })
