@@ -1,9 +1,9 @@
 -- The areas of all regions under all edges are the areas of the map.
-use Rattle.std.proofs.Common.{ℕ, ◌≡◌, ◌-◌, ◌≤◌, Bool, List, [], IsTrue, IsFalse, map, get_or, refl, ap, inl, inr, sym, subst, ◌∙◌, arith, Option, None, Some, option_map}
+use Rattle.std.proofs.Common.{ℕ, ◌≡◌, ◌-◌, ◌<◌, ◌≤◌, Bool, List, [], length, IsTrue, IsFalse, map, get_or, refl, ap, inl, inr, sym, subst, ◌∙◌, arith, Option, None, Some, option_map}
 use Rattle.std.specs.List.{Contains, slice_get}
 use Rattle.std.proofs.lemmas.List.{length-map}
 use Rattle.std.proofs.lemmas.Bool.{cases_Bool, both_ways}
-use Rattle.std.proofs.lemmas.Option.{slice_get-map, slice_get_within, get_or_from_slice_get, same_Some}
+use Rattle.std.proofs.lemmas.Option.{slice_get-map, slice_get_within, slice_get-get_or, get_or_from_slice_get, same_Some}
 use Rattle.nav_types.specs.declared.cells.Cell.{Cell}
 use Rattle.nav_types.specs.declared.cells.Chunk.{Chunk}
 use Rattle.nav_types.specs.declared.cells.Size.{Size}
@@ -21,6 +21,7 @@ use Rattle.reach_sets.specs.RegionOrder.{IsRegionBefore}
 use Rattle.reach_sets.specs.AreaNumbers.{area_of, AreJoined, IsFirstRegion}
 use Rattle.reach_sets.proofs.UniqueLemmas.{IsRegionBefore-cases}
 use Rattle.grid_versions.specs.Chunks.{chunk_place}
+use Rattle.grid_versions.specs.Versions.{HasPassable}
 use Rattle.grid_versions.specs.inner.ChunkLists.{chunk_numbered}
 use Rattle.grid_versions.specs.inner.Tables.{Tables, AreTables, region_counts, region_in}
 use Rattle.nav_types.proofs.Items.{from_map, Contains-map, AllPairs-map}
@@ -212,3 +213,19 @@ module _ (passes : Cell → Bool) (size : Size) (tables : Tables) (inside : Pass
       length-map are.areas_are.firsts (λ id. first_cell tables id) ∙ sym are.areas_are.count_is,
     ),
   )
+
+  -- a class with a passable cell has an area
+  pub area_of_passable : HasPassable passes → 0 < tables.areas.count
+  area_of_passable some =
+      let exists = region_exists passes size tables are some.0 (inside some.0 some.1) some.1 in
+      let number = are.areas_are.numbers (region_in size tables some.0) exists in
+      omega (arith, slice_get_within are.areas_are.firsts number.place number.first number.at, are.areas_are.count_is)
+
+  -- the first cell of an area is passable
+  pub passable_of_area : 0 < tables.areas.count → HasPassable passes
+  passable_of_area some =
+      let first = get_or area_firsts 0 (cell_at 0 0) in
+      let many : length area_firsts ≡ tables.areas.count =
+      length-map are.areas_are.firsts (λ id. first_cell tables id) ∙ sym are.areas_are.count_is in
+      let at = slice_get-get_or area_firsts 0 (cell_at 0 0) (omega (arith, some, many)) in
+      (first, (area_firsts_are.each first (Contains-from_slice_get area_firsts 0 first at)).passable)

@@ -37,16 +37,15 @@ number_bit map standing cell found k inside class painted =
 
 -- the numbers of the chunk of row j in a column of chunks
 pub row_chunk : (map : Map) (standing : Standing) (cells : List Numbering) (size : Size) (j ci place : ℕ)
-    (at found : Numbering) → ArePaintedChunks map standing cells → size ≡ map.size → j < map.size.h → ci < chunk_columns size
-    → place ≡ chunk_place size (chunk_at ci (j / 96)) → slice_get cells place ≡ Some at → found ≡ at
+    (found : Numbering) → ArePaintedChunks map standing cells → size ≡ map.size → j < map.size.h → ci < chunk_columns size
+    → place ≡ chunk_place size (chunk_at ci (j / 96)) → slice_get cells place ≡ Some found
     → IsPaintedChunk map standing (chunk_at ci (j / 96)) found
-row_chunk map standing cells size j ci place at found are same high below is there read =
+row_chunk map standing cells size j ci place found are same high below is there =
     let columns_same = ap (λ (s : Size). chunk_columns s) same in
     let chunk : Chunk = chunk_at ci (j / 96) in
     let inside : IsChunkInside map.size chunk = record { column = omega arith; row = omega arith } in
-    subst (λ (n : Numbering). IsPaintedChunk map standing chunk n) (sym read)
-    (AreOfChunks-at map.size (chunk_count map.size) (IsPaintedChunk map standing) cells chunk at are inside
-    (ap (λ p. slice_get cells p) (sym (is ∙ ap (λ (s : Size). chunk_place s chunk) same)) ∙ there))
+    AreOfChunks-at map.size (chunk_count map.size) (IsPaintedChunk map standing) cells chunk found are inside
+    (ap (λ p. slice_get cells p) (sym (is ∙ ap (λ (s : Size). chunk_place s chunk) same)) ∙ there)
 
 -- where a row lies in the rectangle of a chunk's numbers, and the rectangle in the map
 pub record HoldsRow (size : Size) (j ci : ℕ) (rect : Rect) : Type 0 where

@@ -1,9 +1,9 @@
 -- What the parts of a version say of its map and its obstructions.
 use Rattle.std.proofs.Common.{◌≡◌, ℕ, zero, suc, ◌+◌, ◌-◌, ◌<◌, ◌≤◌, ◌↔◌, Bool, true, false, ◌&&◌, not, cond, List, [], ◌∷◌, ◌++◌, length, map as each_of, get_or, refl, sym, ap, subst, ◌∙◌, inl, inr, arith, Option, Some, option_map, length-append}
-use Rattle.std.specs.Prelude.{nat_lt, IsTrue, IsFalse, slice_get}
+use Rattle.std.specs.Prelude.{nat_lt, slice_get}
 use Rattle.std.specs.List.{count_by, sum_by, range_with_len}
 use Rattle.std.specs.Int.{bit_at}
-use Rattle.std.proofs.lemmas.Bool.{and_parts, and_from, not-true, not_from_false, lt-ltb, eqb-true, eq-eqb}
+use Rattle.std.proofs.lemmas.Bool.{and_parts, and_from, lt-ltb, eqb-true, eq-eqb}
 use Rattle.std.proofs.lemmas.Option.{same_Some, slice_get-map, slice_get_within, slice_get-get_or, get_or_from_slice_get}
 use Rattle.std.proofs.lemmas.List.{length-map}
 use Rattle.std.proofs.lemmas.List.FromFn.{length-map-range_with_len, get_or-map-range_with_len, sum_by-map-range_with_len_more}
@@ -13,10 +13,9 @@ use Rattle.nav_types.specs.declared.cells.Chunk.{Chunk}
 use Rattle.nav_types.specs.declared.cells.Rect.{Rect}
 use Rattle.nav_types.specs.declared.cells.Size.{Size}
 use Rattle.nav_types.specs.Cells.{IsInside, IsInRect, chunk_of}
-use Rattle.nav_types.specs.Counting.{Counts}
 use Rattle.nav_types.specs.Regions.{HasRelabelled}
 use Rattle.lane_rows.specs.Rows.{has_class}
-use Rattle.navcell_grid.specs.Patches.{DiffersIn, free_count}
+use Rattle.navcell_grid.specs.Patches.{DiffersIn}
 use Rattle.nav_types.specs.Numbering.{Numbering, number_of}
 use Rattle.nav_types.specs.Rects.{chunk_rect}
 use Rattle.nav_types.proofs.CellOrder.{same_chunk}
@@ -28,17 +27,15 @@ use Rattle.posts.specs.Maps.{Map}
 use Rattle.grid_versions.specs.Passing.{passable_at, is_inside}
 use Rattle.grid_versions.specs.inner.Painting.{is_covered, IsPaintedChunk, ArePaintedChunks, AreDiffering}
 use Rattle.grid_versions.specs.Chunks.{chunk_count, chunk_place}
-use Rattle.grid_versions.specs.inner.ChunkLists.{chunk_numbered, IsChunkInside}
+use Rattle.grid_versions.specs.inner.ChunkLists.{chunk_numbered}
 use Rattle.grid_versions.specs.inner.Tables.{Tables, AreTables}
 use Rattle.grid_versions.specs.inner.Tallying.{AreTablesOf, Differs, AreMarks}
 use Rattle.grid_versions.specs.inner.Changing.{AreChanges}
 use Rattle.grid_versions.specs.inner.Parts.{AreParts}
-use Rattle.nav_types.proofs.Items.{same_pair, slice_get-push_cases}
-use Rattle.nav_types.proofs.Counting.{Counts-carried}
-use Rattle.grid_versions.proofs.ChunkLemmas.{AreOfChunks-at, chunk_inside, item_at, numbered_inside}
-use Rattle.grid_versions.proofs.TallyLemmas.{Counts-chunks, all_relabelled, differing_inside}
+use Rattle.nav_types.proofs.Items.{slice_get-push_cases}
+use Rattle.grid_versions.proofs.ChunkLemmas.{AreOfChunks-at, chunk_inside, item_at}
+use Rattle.grid_versions.proofs.TallyLemmas.{all_relabelled, differing_inside}
 use Rattle.grid_versions.proofs.PassingLemmas.{inside_from, inside_to}
-use Rattle.navcell_grid.proofs.PatchCells.{free_counted}
 
 -- ---- one more table
 
@@ -94,59 +91,6 @@ module _ (map : Map) (standing : Standing) where
   chunk-passes chunk cells k cell painted class inside =
       ap not (painted.bits k cell (subst (λ (r : Rect). IsInRect r cell) (sym painted.extent) inside))
       ∙ sym (passable-inside k cell class (rect_inside map.size chunk cell inside))
-
-  -- ---- how many cells are passable
-
-  free_passable : (chunk : Chunk) (cells : Numbering) (k : ℕ) → IsPaintedChunk map standing chunk cells → IsChunkInside map.size chunk → k < length map.classes
-      → Counts (λ (cell : Cell). (chunk_of cell ≡ chunk) × IsTrue (passable_at map standing k cell)) (free_count k cells.numbers)
-  free_passable chunk cells k painted lies class =
-      let column = lies.column in let row = lies.row in
-      let wide = map.size.wide.some in let high = map.size.high.some in
-      let rect = chunk_rect map.size chunk in
-      let ordered : rect.i0 ≤ rect.i1 = omega arith in
-      let upright : rect.j0 ≤ rect.j1 = omega arith in
-      let Free : Cell → Type 0 = λ cell. IsInRect cells.rect cell × IsFalse (has_class k (number_of cells cell)) in
-      Counts-carried Free (λ (cell : Cell). (chunk_of cell ≡ chunk) × IsTrue (passable_at map standing k cell)) (λ cell. cell) (free_count k cells.numbers)
-      (λ cell is.
-      let inside = subst (λ (r : Rect). IsInRect r cell) painted.extent is.0 in
-      let place = in_chunk map.size chunk cell inside in (
-        same_chunk (chunk_of cell) chunk place.0 place.1,
-        sym (chunk-passes chunk cells k cell painted class inside) ∙ not_from_false (has_class k (number_of cells cell)) is.1,
-      ))
-      (λ cell is.
-      let inside : IsInRect rect cell = subst (λ (c : Chunk). IsInRect (chunk_rect map.size c) cell) is.0 (own_rect cell (passable_within k cell is.1)) in (
-        cell,
-        (
-          (
-            subst (λ (r : Rect). IsInRect r cell) (sym painted.extent) inside,
-            not-true (has_class k (number_of cells cell)) (chunk-passes chunk cells k cell painted class inside ∙ is.1),
-          ),
-          refl,
-        ),
-      ))
-      (λ a b is_a is_b same. same)
-      (free_counted cells k
-      (subst (λ (r : Rect). r.i0 ≤ r.i1) (sym painted.extent) ordered)
-      (subst (λ (r : Rect). r.j0 ≤ r.j1) (sym painted.extent) upright)
-      painted.whole)
-
-  numbered_low : (all : List Numbering) → length all ≡ chunk_count map.size → (place : ℕ) (item : Numbering) → slice_get all place ≡ Some item
-      → IsChunkInside map.size (chunk_numbered map.size place)
-  numbered_low all long place item at = numbered_inside map.size place (omega (arith, slice_get_within all place item at))
-
-  pub passable_counted : (all : List Numbering) (k : ℕ) → ArePaintedChunks map standing all → k < length map.classes
-      → Counts (λ (cell : Cell). IsTrue (passable_at map standing k cell)) (sum_by (λ (cells : Numbering). free_count k cells.numbers) all)
-  passable_counted all k painted class =
-      let Is : Chunk → Numbering → Type 0 = λ chunk cells. IsPaintedChunk map standing chunk cells × IsChunkInside map.size chunk in
-      let count : Numbering → ℕ = λ cells. free_count k cells.numbers in
-      let Kind : Chunk → Cell → Type 0 = λ chunk cell. (chunk_of cell ≡ chunk) × IsTrue (passable_at map standing k cell) in
-      Counts-carried (λ (p : Chunk × Cell). IsChunkInside map.size p.0 × Kind p.0 p.1) (λ (cell : Cell). IsTrue (passable_at map standing k cell)) (λ p. p.1) (sum_by count all)
-      (λ p is. is.1.1)
-      (λ cell is. ((chunk_of cell, cell), ((chunk_inside map.size cell (passable_within k cell is), (refl, is)), refl)))
-      (λ a b is_a is_b same. same_pair a b (sym is_a.1.0 ∙ ap (λ (cell : Cell). chunk_of cell) same ∙ is_b.1.0) same)
-      (Counts-chunks map.size Is Kind count all
-      (record { each = painted.each; are = λ place item at. (painted.are place item at, numbered_low all painted.each place item at) })
-      (λ chunk cells is. free_passable chunk cells k is.0 is.1 class))
 
 -- ---- what differs between two versions
 

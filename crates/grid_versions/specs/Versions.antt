@@ -1,5 +1,5 @@
 -- A version of a map.
-use Rattle.std.specs.Prelude.{ℕ, Bool, refl}
+use Rattle.std.specs.Prelude.{ℕ, Bool, IsTrue, refl}
 use Rattle.std.specs.Coded.{Coded, code_by, coded×}
 use Rattle.nav_types.specs.declared.cells.Cell.{Cell}
 use Rattle.obstruction_store.specs.Standing.{Standing}
@@ -24,3 +24,7 @@ state_code map_code standing_code =
 -- whether the cell is passable for class k
 abbrev pub passes_of : MapState → ℕ → Cell → Bool
 passes_of state k cell = passable_at state.map state.standing k cell
+
+-- some cell is passable
+abbrev pub HasPassable : (Cell → Bool) → Type 0
+HasPassable passes = (cell : Cell) × IsTrue (passes cell)

@@ -11,7 +11,6 @@ ghost use Rattle.grid_versions.specs.Chunks.{chunk_count, chunk_place};
 ghost use Rattle.grid_versions.specs.inner.SameNumbers.{AreChunksOf, IsSameAt};
 ghost use Rattle.grid_versions.specs.inner.Reaching.{is_in_some};
 
-use crate::chunk_cells::ChunkCells;
 use crate::dirty_parts::dirty_part;
 use class_planes::ChangedPart;
 use nav_types::{Cell, NoMemory, Rect, Size};
@@ -26,8 +25,8 @@ pub fn changed_parts(
     size: Size,
     reaches: &[Rect],
     changed: &[u16],
-    before: &SharedList<ChunkCells>,
-    after: &SharedList<ChunkCells>,
+    before: &SharedList<Patch>,
+    after: &SharedList<Patch>,
 ) -> Result<Vec<ChangedPart>, NoMemory>
     requires each { length changed.now ≡ chunk_count size }
     requires before { AreChunksOf size before.now }
@@ -40,10 +39,8 @@ pub fn changed_parts(
 {
     let mut parts = Vec::new(alloc);
     for place in 0..changed.len() {
-        let earlier = before.at(place);
-        let old = earlier.patch();
-        let later = after.at(place);
-        let new = later.patch();
+        let old = before.at(place);
+        let new = after.at(place);
         push_part(reaches, old, new, changed[place], &mut parts)?;
     }
     Ok(parts)

@@ -5,7 +5,6 @@ ghost use Rattle.grid_versions.specs.inner.Painting.{AreBaseChunks, ArePaintedCh
 ghost use Rattle.grid_versions.specs.inner.Reachers.{AreReachers};
 ghost use Rattle.grid_versions.specs.inner.Reaching.{CoverChanges, NameChanges};
 
-use crate::chunk_cells::ChunkCells;
 use crate::next_cells::{Before, Source, next_patches};
 use crate::painting::{base_patches, painted_patches};
 use crate::reachers::{all_reachers, next_reachers};
@@ -25,7 +24,7 @@ pub struct Ground {
     /// The numbers of the obstructions that reach into the chunk.
     pub reachers: SharedList<Ids>,
     /// The numbers of the cells.
-    pub cells: SharedList<ChunkCells>,
+    pub cells: SharedList<Patch>,
 }
 
 impl Ground {

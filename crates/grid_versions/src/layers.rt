@@ -10,7 +10,6 @@ ghost use Rattle.grid_versions.specs.inner.Parts.{AreParts, ArePlanesBefore};
 ghost use Rattle.grid_versions.specs.inner.Reaching.{CoverChanges, NameChanges};
 
 use crate::changed_parts::changed_parts;
-use crate::chunk_cells::ChunkCells;
 use crate::class_tables::{Earlier, class_tables, next_tables};
 use crate::ground::Ground;
 use crate::painted_map::PaintedMap;
@@ -20,6 +19,7 @@ use crate::standing_edits::Changes;
 use crate::tables::ClassTables;
 use class_planes::Planes;
 use nav_types::{NoMemory, Rect, Ticks};
+use navcell_grid::Patch;
 use obstruction_store::Store;
 use shared_list::SharedList;
 use std::alloc::Global;
@@ -108,7 +108,7 @@ impl Layers {
         &self,
         alloc: Global,
         site: &Site<'_>,
-        cells: &SharedList<ChunkCells>,
+        cells: &SharedList<Patch>,
         reaches: &[Rect],
         changed: &[u16],
     ) -> Result<Planes, NoMemory>
@@ -127,11 +127,7 @@ impl Layers {
 }
 
 /// The planes of all classes of a map whose cells have these numbers.
-fn planes_of(
-    alloc: Global,
-    site: &Site<'_>,
-    cells: &SharedList<ChunkCells>,
-) -> Result<Planes, NoMemory>
+fn planes_of(alloc: Global, site: &Site<'_>, cells: &SharedList<Patch>) -> Result<Planes, NoMemory>
     requires { ArePaintedChunks site.now.map.now site.now.shapes.now cells.now }
     ensures { IfOk result (ArePlanes site.now.map.now.size (passable_at site.now.map.now site.now.shapes.now) 65535 (length site.now.map.now.classes)) }
 {

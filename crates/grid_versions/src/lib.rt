@@ -16,7 +16,6 @@
 mod base_grids;
 mod changed_parts;
 mod chunk_bits;
-mod chunk_cells;
 mod chunks;
 mod class_tables;
 mod class_views;

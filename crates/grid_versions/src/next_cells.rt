@@ -16,7 +16,6 @@ ghost use Rattle.grid_versions.specs.inner.Painting.{is_covered, AreBaseChunks, 
 ghost use Rattle.grid_versions.specs.inner.Reachers.{AreReachers, HoldReachers};
 ghost use Rattle.grid_versions.specs.inner.Reaching.{AreBefore, IsCoveredBefore};
 
-use crate::chunk_cells::ChunkCells;
 use crate::dirty_parts::dirty_part;
 use crate::painting::{Paint, repainted, repainted_below};
 use crate::sites::Site;
@@ -39,7 +38,7 @@ pub struct Source<'a> {
 /// The numbers of before, with the rectangles that cover what has changed since, and with the numbers of what has.
 #[derive(Drop)]
 pub struct Before<'a> {
-    pub cells: &'a SharedList<ChunkCells>,
+    pub cells: &'a SharedList<Patch>,
     pub reaches: &'a [Rect],
     pub ids: &'a [u32],
     /// Whether nothing was but added.
@@ -100,7 +99,7 @@ fn next_patch(
     source: &Source<'_>,
     before: &Before<'_>,
     place: usize,
-) -> Result<(Arc<ChunkCells, Global>, u16), NoMemory>
+) -> Result<(Arc<Patch, Global>, u16), NoMemory>
     requires fit { AllFit source.now.site.now.map.now.size source.now.site.now.shapes.now }
     requires base { AreBaseChunks source.now.site.now.map.now source.now.base.now }
     requires reachers { AreReachers source.now.site.now.map.now source.now.site.now.shapes.now source.now.reachers.now }
@@ -111,8 +110,7 @@ fn next_patch(
     ensures bits { IfOk result (λ next. (old : Numbering) → slice_get before.now.cells.now place ≡ Some old
         → (k : ℕ) → (bit_at next.1 k ≡ 1) ↔ DiffersIn k (arc_value next.0).rect old (arc_value next.0)) }
 {
-    let cells = before.cells.at(place);
-    let old = cells.patch();
+    let old = before.cells.at(place);
     let Some(part) = dirty_part(before.reaches, old.rect()) else {
         return Ok((before.cells.shared(place)?, 0));
     };
@@ -127,8 +125,7 @@ fn next_patch(
     if bits == 0 {
         return Ok((before.cells.shared(place)?, 0));
     }
-    let made = ChunkCells::new(alloc, patch, site.map.classes().count())?;
-    Ok((Arc::new(alloc, made)?, bits))
+    Ok((Arc::new(alloc, patch)?, bits))
 }
 
 /// The numbers of all chunks' cells under the obstructions of now, and for each chunk the bits that differ from those
@@ -137,7 +134,7 @@ pub fn next_patches(
     alloc: Global,
     source: &Source<'_>,
     before: &Before<'_>,
-) -> Result<(SharedList<ChunkCells>, Vec<u16>), NoMemory>
+) -> Result<(SharedList<Patch>, Vec<u16>), NoMemory>
     requires fit { AllFit source.now.site.now.map.now.size source.now.site.now.shapes.now }
     requires base { AreBaseChunks source.now.site.now.map.now source.now.base.now }
     requires reachers { AreReachers source.now.site.now.map.now source.now.site.now.shapes.now source.now.reachers.now }

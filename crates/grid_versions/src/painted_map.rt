@@ -3,11 +3,11 @@ ghost use Rattle.std.specs.Prelude.{ℕ, ◌≡◌, ◌+◌, ◌≤◌, ◌<◌,
 ghost use Rattle.grid_versions.specs.Versions.{map_state};
 ghost use Rattle.grid_versions.specs.inner.Painting.{ArePaintedChunks};
 
-use crate::chunk_cells::ChunkCells;
 use crate::chunks;
 use crate::sites::Site;
 use nav_types::limits::CHUNK_SIDE;
 use nav_types::{Cell, Chunk, Class, Rows, Size, View};
+use navcell_grid::Patch;
 use shared_list::SharedList;
 use std::marker::Model;
 
@@ -15,7 +15,7 @@ use std::marker::Model;
 #[derive(Drop)]
 pub struct PaintedMap<'a> {
     site: &'a Site<'a>,
-    cells: &'a SharedList<ChunkCells>,
+    cells: &'a SharedList<Patch>,
 }
 
 impl<'a> Model for PaintedMap<'a> {
@@ -37,7 +37,7 @@ impl<'a> Model for PaintedMap<'a> {
 
 impl<'a> PaintedMap<'a> {
     /// The map with these obstructions, where the cells have their numbers.
-    pub fn new(site: &'a Site<'a>, cells: &'a SharedList<ChunkCells>) -> PaintedMap<'a>
+    pub fn new(site: &'a Site<'a>, cells: &'a SharedList<Patch>) -> PaintedMap<'a>
         requires { ArePaintedChunks site.now.map.now site.now.shapes.now cells.now }
         ensures { result ≡ map_state site.now.map.now site.now.shapes.now }
     {
@@ -78,7 +78,7 @@ impl<'a> Rows for PaintedMap<'a> {
         for ci in 0..chunks::columns(size) {
             let cj = j / CHUNK_SIDE;
             let place = chunks::place_of(size, Chunk { cj, ci });
-            let row = self.cells.at(place as usize).patch().row(j);
+            let row = self.cells.at(place as usize).row(j);
             write_numbers(out, usize::from(ci * CHUNK_SIDE), row);
         }
     }

@@ -15,7 +15,6 @@ ghost use Rattle.grid_versions.specs.inner.Painting.{AreBaseChunks, ArePaintedCh
 ghost use Rattle.grid_versions.specs.inner.Reachers.{blocks_under, HaveBlocked, HoldUnpainted, AreReachers};
 
 use crate::base_grids::base_grid;
-use crate::chunk_cells::ChunkCells;
 use crate::chunks;
 use crate::sites::Site;
 use clearance_raster::{raster_in, reach_of};
@@ -61,7 +60,7 @@ pub fn painted_patches(
     site: &Site<'_>,
     reachers: &SharedList<Ids>,
     base: &SharedList<Patch>,
-) -> Result<SharedList<ChunkCells>, NoMemory>
+) -> Result<SharedList<Patch>, NoMemory>
     requires fit { AllFit site.now.map.now.size site.now.shapes.now }
     requires reachers { AreReachers site.now.map.now site.now.shapes.now reachers.now }
     requires base { AreBaseChunks site.now.map.now base.now }
@@ -79,10 +78,7 @@ pub fn painted_patches(
             near: near.as_slice(),
         };
         let patch = repainted(alloc, site, &paint, under, rect)?;
-        all.push(
-            alloc,
-            ChunkCells::new(alloc, patch, site.map.classes().count())?,
-        )?;
+        all.push(alloc, patch)?;
     }
     Ok(all)
 }

@@ -1,9 +1,7 @@
 //! Versions of a map.
-ghost use Rattle.std.specs.Prelude.{ℕ, ◌≡◌, ◌+◌, ◌*◌, ◌<◌, ◌≤◌, [], None, length, slice_index_or, IfOk, OnOk, IsSome, IsTrue};
+ghost use Rattle.std.specs.Prelude.{ℕ, ◌≡◌, ◌↔◌, ◌+◌, ◌*◌, ◌<◌, ◌≤◌, [], None, length, slice_index_or, IfOk, OnOk, IsSome, IsTrue};
 ghost use Rattle.std.specs.Arc.{arc_value};
-ghost use Rattle.nav_types.specs.declared.cells.Cell.{Cell};
 ghost use Rattle.nav_types.specs.Cells.{IsInside, chunk_of};
-ghost use Rattle.nav_types.specs.Counting.{Counts};
 ghost use Rattle.nav_types.specs.Regions.{HasRegion, HasTallies, HasRelabelled};
 ghost use Rattle.class_planes.specs.Planes.{AreOf, is_passable};
 ghost use Rattle.obstruction_store.specs.Standing.{AllFit};
@@ -94,7 +92,7 @@ impl Model for Version {
 
 impl Version {
     ghost use Rattle.grid_versions.specs.Editing.{after_edits, edit_replies};
-    ghost use Rattle.grid_versions.specs.Versions.{map_state, passes_of};
+    ghost use Rattle.grid_versions.specs.Versions.{map_state, passes_of, HasPassable};
     ghost use Rattle.grid_versions.specs.inner.Reaching.{CoverChanges, NameChanges};
 
     /// The version of this map and these obstructions, all of which fit the map. It is made from nothing: each chunk is
@@ -324,17 +322,13 @@ impl Version {
         tallies
     }
 
-    /// How many cells are passable for the class. The number is kept per chunk, so no cell is looked at.
-    pub fn passable_cells(&self, class: Class) -> u32
+    /// Whether some cell is passable for the class (`HasPassable`): exactly then the class has an area. No cell is looked
+    /// at.
+    pub fn has_passable(&self, class: Class) -> bool
         requires { class < length self.now.map.classes }
-        ensures { Counts (λ (cell : Cell). IsTrue (passes_of self.now class cell)) result }
+        ensures { IsTrue result ↔ HasPassable (passes_of self.now class) }
     {
-        let parts = self.kept();
-        let mut count = 0;
-        for place in 0..parts.layers.ground.cells.len() {
-            count += u32::from(parts.layers.ground.cells.at(place).free(class));
-        }
-        count
+        self.tables(class).areas() > 0
     }
 
     /// The planes of all classes of the map, for searches that look at 64 cells at once. They are of this version

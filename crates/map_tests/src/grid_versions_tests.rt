@@ -183,10 +183,22 @@ fn all_numbers_of(next: &Next) -> [u64; 4] {
     [u64::from(next.relabelled), regions, edges, areas]
 }
 
-/// How many cells are passable for the class; none where the map has no such class.
+/// How many cells are passable for the class, by asking for each; none where the map has no such class, or where the version
+/// says otherwise whether there are any.
 fn passable_in(version: &Version, class: u8) -> Option<u32> {
-    if class < version.classes() {
-        Some(version.passable_cells(Class::new(class)))
+    if class >= version.classes() {
+        return None;
+    }
+    let (class, size) = (Class::new(class), version.size());
+    let mut count: u32 = 0;
+    for j in 0..size.h {
+        for i in 0..size.w {
+            let passable = version.passable(class, Cell::new(i, j));
+            count = count.saturating_add(u32::from(passable));
+        }
+    }
+    if version.has_passable(class) == (count > 0) {
+        Some(count)
     } else {
         None
     }

@@ -322,8 +322,8 @@ fn path_of(search: &Search<'_>, found: Found) -> PathAnswer
     }
 }
 
-/// The start cell of a point on the map. None exactly where no cell is passable for the class, which the number of passable
-/// cells tells without a search.
+/// The start cell of a point on the map. None exactly where no cell is passable for the class, which the version tells
+/// without a search.
 fn start_cell(version: &Version, class: Class, x: Fixed, z: Fixed) -> Option<Cell>
     requires class { class < length version.now.map.classes }
     requires column { IsOnAxis version.now.map.size.w x }
@@ -331,7 +331,7 @@ fn start_cell(version: &Version, class: Class, x: Fixed, z: Fixed) -> Option<Cel
     ensures start { IfSome result (IsStartCell (passes_of version.now class) x z) }
     ensures none { IfNone result (IsImpassable (passes_of version.now class)) }
 {
-    if version.passable_cells(class) == 0 {
+    if !version.has_passable(class) {
         return None;
     }
     nearest_passable(version, class, x, z)

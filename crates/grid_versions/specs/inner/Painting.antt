@@ -1,12 +1,12 @@
 -- The numbers of a map's cells: bit k is set where the cell is impassable for class k.
-use Rattle.std.specs.Prelude.{ℕ, ◌≡◌, ◌↔◌, ◌*◌, ◌<◌, Bool, ◌||◌, List, length, slice_get, slice_index, Some}
+use Rattle.std.specs.Prelude.{ℕ, ◌≡◌, ◌↔◌, ◌*◌, Bool, ◌||◌, List, length, slice_get, Some}
 use Rattle.std.specs.Int.{bit_at}
 use Rattle.nav_types.specs.declared.cells.Cell.{Cell}
 use Rattle.nav_types.specs.declared.cells.Chunk.{Chunk}
 use Rattle.nav_types.specs.Cells.{IsInRect}
 use Rattle.nav_types.specs.Numbering.{Numbering, columns, rows, number_of}
 use Rattle.lane_rows.specs.Rows.{has_class}
-use Rattle.navcell_grid.specs.Patches.{DiffersIn, free_count}
+use Rattle.navcell_grid.specs.Patches.{DiffersIn}
 use Rattle.nav_types.specs.Rects.{chunk_rect}
 use Rattle.obstruction_store.specs.Standing.{Standing}
 use Rattle.posts.specs.Maps.{Map}
@@ -39,10 +39,6 @@ pub record IsPaintedChunk (map : Map) (standing : Standing) (chunk : Chunk) (cel
 -- the numbers of all chunks
 abbrev pub ArePaintedChunks : Map → Standing → List Numbering → Type 0
 ArePaintedChunks map standing all = AreOfChunks map.size (chunk_count map.size) (IsPaintedChunk map standing) all
-
--- how many of the numbers leave their cells free for each of the first classes
-pub record AreFree (numbers free : List ℕ) : Type 0 where
-  pub are : (k : ℕ) → k < length free → slice_index free k ≡ free_count k numbers
 
 -- one number a place, whose bit k is set exactly where bit k differs in some cell there
 pub record AreDiffering (before now : List Numbering) (bits : List ℕ) : Type 0 where

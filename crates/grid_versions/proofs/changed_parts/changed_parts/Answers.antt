@@ -1,9 +1,8 @@
-use Rattle.std.proofs.Common.{ℕ, ◌≡◌, ◌∙◌, ◌⊎◌, Some, get_or, inl, inr, ap, sym, subst, arith}
+use Rattle.std.proofs.Common.{ℕ, ◌≡◌, ◌∙◌, ◌⊎◌, Some, get_or, inl, inr, sym, subst, arith}
 use Rattle.std.specs.Prelude.{IsFalse, slice_get}
 use Rattle.std.proofs.lemmas.Bool.{cases_lt}
 use Rattle.nav_types.specs.declared.cells.Rect.{Rect}
 use Rattle.nav_types.specs.Cells.{IsInRect, IsRectInside, chunk_of}
-use Rattle.nav_types.specs.Numbering.{Numbering}
 use Rattle.lane_rows.specs.Rows.{has_class}
 use Rattle.nav_types.specs.Rects.{chunk_rect}
 use Rattle.grid_versions.specs.Chunks.{chunk_place}
@@ -16,22 +15,19 @@ use Rattle.grid_versions.proofs.changed_parts.changed_parts.Goals as goal
 pub push_part-requires : goal.push_part-requires
 push_part-requires c =
     let place : ℕ = c.loop-place.place in
-    c.requires.after.are place c.patch-new.result.now (c.at-later.ensures ∙ ap (λ (n : Numbering). Some n) (sym c.patch-new.ensures))
-    ∙ sym (c.requires.before.are place c.patch-old.result.now
-    (c.at-earlier.ensures ∙ ap (λ (n : Numbering). Some n) (sym c.patch-old.ensures)))
+    c.requires.after.are place c.at-new.result.now c.at-new.ensures
+    ∙ sym (c.requires.before.are place c.at-old.result.now c.at-old.ensures)
 
 pub loop-place-preserved : goal.loop-place-preserved
 loop-place-preserved c =
     let size = c.args.size in
     let place : ℕ = c.loop-place.place in
     let chunk = chunk_numbered size place in
-    let a = c.patch-old.result.now in
-    let b = c.patch-new.result.now in
+    let a = c.at-old.result.now in
+    let b = c.at-new.result.now in
     let each = c.requires.each in
-    let at_a : slice_get c.args.before.now place ≡ Some a =
-    c.at-earlier.ensures ∙ ap (λ (n : Numbering). Some n) (sym c.patch-old.ensures) in
-    let at_b : slice_get c.args.after.now place ≡ Some b =
-    c.at-later.ensures ∙ ap (λ (n : Numbering). Some n) (sym c.patch-new.ensures) in
+    let at_a : slice_get c.args.before.now place ≡ Some a = c.at-old.ensures in
+    let at_b : slice_get c.args.after.now place ≡ Some b = c.at-new.ensures in
     let rect_is : a.rect ≡ chunk_rect size chunk = c.requires.before.are place a at_a in
     record {
       inside = c.in_ok-push_part.ensures.inside size

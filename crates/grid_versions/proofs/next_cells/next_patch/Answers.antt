@@ -1,4 +1,4 @@
-use Rattle.std.proofs.Common.{ℕ, List, ◌≡◌, ◌↔◌, ◌∙◌, Some, ap, sym, subst}
+use Rattle.std.proofs.Common.{ℕ, List, ◌≡◌, ◌↔◌, ◌∙◌, sym, subst}
 use Rattle.std.specs.Int.{bit_at}
 use Rattle.std.specs.Arc.{arc_value}
 use Rattle.std.proofs.lemmas.Option.{same_Some}
@@ -22,12 +22,12 @@ returns-in_default-clause-painted c =
     let map = c.args.source.now.site.now.map.now in let now = c.args.source.now.site.now.shapes.now in
     let chunk = chunk_numbered map.size c.args.place in
     let before = c.requires.before in
-    let old = c.patch-old.result.now in
+    let old = c.at-old.result.now in
     let same : old ≡ arc_value c.in_ok-shared.field-0 =
-    same_Some old (arc_value c.in_ok-shared.field-0) (sym (c.at-cells.ensures ∙ ap (λ (n : Numbering). Some n) (sym c.patch-old.ensures)) ∙ c.in_ok-shared.ensures) in
+    same_Some old (arc_value c.in_ok-shared.field-0) (sym c.at-old.ensures ∙ c.in_ok-shared.ensures) in
     subst (λ (n : Numbering). IsPaintedChunk map now chunk n) same
     (chunk_stays map before.earlier now c.args.before.now.reaches.now before.covered chunk old
-    (before.painted.are c.args.place old (c.at-cells.ensures ∙ ap (λ (n : Numbering). Some n) (sym c.patch-old.ensures)))
+    (before.painted.are c.args.place old c.at-old.ensures)
     (λ cell inside is. c.in_default.ensures.held cell
     (subst (λ (r : Rect). IsInRect r cell) (sym c.rect.ensures.rect) inside) is))
 
@@ -37,7 +37,7 @@ next_numbers-requires-clause-near c =
     let chunk = chunk_numbered map.size c.args.place in
     let part = c.in-Some.part in
     let before = c.requires.before in
-    let was = before.painted.are c.args.place c.patch-old.result.now (c.at-cells.ensures ∙ ap (λ (n : Numbering). Some n) (sym c.patch-old.ensures)) in
+    let was = before.painted.are c.args.place c.at-old.result.now c.at-old.ensures in
     let within = subst (λ (r : Rect). IsPartOf r part) (c.rect.ensures.rect ∙ was.extent) c.in-Some.ensures.part in
     subst (λ (ids : List ℕ). HoldReachers map now part ids) (sym c.as_slice.ensures)
     (HoldReachers-part map now (chunk_rect map.size chunk) part c.at-near.result.now
@@ -46,7 +46,7 @@ next_numbers-requires-clause-near c =
 pub next_numbers-requires-clause-same : goal.next_numbers-requires-clause-same
 next_numbers-requires-clause-same c =
     let before = c.requires.before in
-    let was = before.painted.are c.args.place c.patch-old.result.now (c.at-cells.ensures ∙ ap (λ (n : Numbering). Some n) (sym c.patch-old.ensures)) in
+    let was = before.painted.are c.args.place c.at-old.result.now c.at-old.ensures in
     let under = c.requires.base.are c.args.place c.at.result.now c.at.ensures in
     under.extent ∙ sym was.extent
 
@@ -54,7 +54,7 @@ pub next_numbers-requires-clause-base : goal.next_numbers-requires-clause-base
 next_numbers-requires-clause-base c = λ k cell inside.
     let before = c.requires.before in
     let part = c.in-Some.part in
-    let was = before.painted.are c.args.place c.patch-old.result.now (c.at-cells.ensures ∙ ap (λ (n : Numbering). Some n) (sym c.patch-old.ensures)) in
+    let was = before.painted.are c.args.place c.at-old.result.now c.at-old.ensures in
     let under = c.requires.base.are c.args.place c.at.result.now c.at.ensures in
     let within = subst (λ (r : Rect). IsPartOf r part) (c.rect.ensures.rect ∙ was.extent ∙ sym under.extent) c.in-Some.ensures.part in
     under.bits k cell (in_whole c.at.result.now.rect part cell within inside)
@@ -63,8 +63,8 @@ pub next_numbers-requires-clause-before : goal.next_numbers-requires-clause-befo
 next_numbers-requires-clause-before c =
     let before = c.requires.before in
     let part = c.in-Some.part in
-    let old = c.patch-old.result.now in
-    let was = before.painted.are c.args.place old (c.at-cells.ensures ∙ ap (λ (n : Numbering). Some n) (sym c.patch-old.ensures)) in
+    let old = c.at-old.result.now in
+    let was = before.painted.are c.args.place old c.at-old.ensures in
     let within = subst (λ (r : Rect). IsPartOf r part) c.rect.ensures.rect c.in-Some.ensures.part in
     record {
       earlier = before.earlier;
@@ -78,7 +78,7 @@ pub next_numbers-requires-clause-inside : goal.next_numbers-requires-clause-insi
 next_numbers-requires-clause-inside c =
     let map = c.args.source.now.site.now.map.now in
     let before = c.requires.before in
-    let was = before.painted.are c.args.place c.patch-old.result.now (c.at-cells.ensures ∙ ap (λ (n : Numbering). Some n) (sym c.patch-old.ensures)) in
+    let was = before.painted.are c.args.place c.at-old.result.now c.at-old.ensures in
     let chunk = chunk_numbered map.size c.args.place in
     part_in_map map.size (chunk_rect map.size chunk) c.in-Some.part
     (subst (λ (r : Rect). IsPartOf r c.in-Some.part) (c.rect.ensures.rect ∙ was.extent) c.in-Some.ensures.part)
@@ -89,13 +89,13 @@ returns-then-bits-eq0-clause-painted c =
     let map = c.args.source.now.site.now.map.now in let now = c.args.source.now.site.now.shapes.now in
     let chunk = chunk_numbered map.size c.args.place in
     let before = c.requires.before in
-    let old = c.patch-old.result.now in
+    let old = c.at-old.result.now in
     let part = c.in-Some.part in
     let patch = c.in_ok-patch.patch in
-    let was = before.painted.are c.args.place old (c.at-cells.ensures ∙ ap (λ (n : Numbering). Some n) (sym c.patch-old.ensures)) in
+    let was = before.painted.are c.args.place old c.at-old.ensures in
     let within = subst (λ (r : Rect). IsPartOf r part) c.rect.ensures.rect c.in-Some.ensures.part in
     let same : old ≡ arc_value c.in_ok-shared-2.field-0 =
-    same_Some old (arc_value c.in_ok-shared-2.field-0) (sym (c.at-cells.ensures ∙ ap (λ (n : Numbering). Some n) (sym c.patch-old.ensures)) ∙ c.in_ok-shared-2.ensures) in
+    same_Some old (arc_value c.in_ok-shared-2.field-0) (sym c.at-old.ensures ∙ c.in_ok-shared-2.ensures) in
     subst (λ (n : Numbering). IsPaintedChunk map now chunk n) same
     (chunk_kept map before.earlier now c.args.before.now.reaches.now before.covered chunk old was part patch within
     (λ cell inside is. c.in-Some.ensures.held cell (subst (λ (r : Rect). IsInRect r cell) (sym c.rect.ensures.rect) inside) is)
@@ -107,12 +107,12 @@ returns-clause-painted c =
     let map = c.args.source.now.site.now.map.now in let now = c.args.source.now.site.now.shapes.now in
     let chunk = chunk_numbered map.size c.args.place in
     let before = c.requires.before in
-    let old = c.patch-old.result.now in
+    let old = c.at-old.result.now in
     let part = c.in-Some.part in
     let patch = c.in_ok-patch.patch in
-    let was = before.painted.are c.args.place old (c.at-cells.ensures ∙ ap (λ (n : Numbering). Some n) (sym c.patch-old.ensures)) in
+    let was = before.painted.are c.args.place old c.at-old.ensures in
     let within = subst (λ (r : Rect). IsPartOf r part) c.rect.ensures.rect c.in-Some.ensures.part in
-    subst (λ (n : Numbering). IsPaintedChunk map now chunk n) (sym (c.in_ok-new.ensures.ok ∙ c.in_ok-made.ensures))
+    subst (λ (n : Numbering). IsPaintedChunk map now chunk n) (sym c.in_ok-new.ensures.ok)
     (chunk_repainted map before.earlier now c.args.before.now.reaches.now before.covered chunk old was part patch within
     (λ cell inside is. c.in-Some.ensures.held cell (subst (λ (r : Rect). IsInRect r cell) (sym c.rect.ensures.rect) inside) is)
     c.in_ok-patch.ensures.rect c.in_ok-patch.ensures.whole c.in_ok-patch.ensures.bits c.in_ok-patch.ensures.others)
@@ -122,14 +122,14 @@ returns-clause-bits c = λ found at k.
     let map = c.args.source.now.site.now.map.now in let now = c.args.source.now.site.now.shapes.now in
     let chunk = chunk_numbered map.size c.args.place in
     let before = c.requires.before in
-    let old = c.patch-old.result.now in
+    let old = c.at-old.result.now in
     let part = c.in-Some.part in
     let patch = c.in_ok-patch.patch in
     let set = c.differs_in-bits.result in
-    let was = before.painted.are c.args.place old (c.at-cells.ensures ∙ ap (λ (n : Numbering). Some n) (sym c.patch-old.ensures)) in
+    let was = before.painted.are c.args.place old c.at-old.ensures in
     let within = subst (λ (r : Rect). IsPartOf r part) c.rect.ensures.rect c.in-Some.ensures.part in
-    let same : old ≡ found = same_Some old found (sym (c.at-cells.ensures ∙ ap (λ (n : Numbering). Some n) (sym c.patch-old.ensures)) ∙ at) in
-    subst (λ (n : Numbering). (bit_at set k ≡ 1) ↔ DiffersIn k n.rect found n) (sym (c.in_ok-new.ensures.ok ∙ c.in_ok-made.ensures))
+    let same : old ≡ found = same_Some old found (sym c.at-old.ensures ∙ at) in
+    subst (λ (n : Numbering). (bit_at set k ≡ 1) ↔ DiffersIn k n.rect found n) (sym c.in_ok-new.ensures.ok)
     (subst (λ (n : Numbering). (bit_at set k ≡ 1) ↔ DiffersIn k patch.rect n patch) same
     (differs_in_part map before.earlier now c.args.before.now.reaches.now before.covered chunk old was part patch within
     (λ cell inside is. c.in-Some.ensures.held cell (subst (λ (r : Rect). IsInRect r cell) (sym c.rect.ensures.rect) inside) is)

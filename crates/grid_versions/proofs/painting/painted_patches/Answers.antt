@@ -50,7 +50,6 @@ loop-place-preserved c =
     let place = c.loop-place.place in
     let rect = c.of_chunk-rect.result in
     let patch = c.in_ok-patch.patch in
-    let cells = c.in_ok-new.field-0 in
     let base = c.at-under.result.now in
     let under = subst (λ (s : Size). IsBaseChunk map (chunk_numbered s place) base) (sym c.size-size.ensures)
     (c.requires.base.are place base c.at-under.ensures) in
@@ -66,8 +65,7 @@ loop-place-preserved c =
           ∙ ap (λ b. b || is_blocked map now k cell) (under.bits k cell in_base);
     } in
     subst (λ (all : List Numbering). AreOfChunks size (place + 1) (IsPaintedChunk map now) all) (sym c.in_ok-push.ensures.ok)
-    (AreOfChunks-push size place (IsPaintedChunk map now) c.loop-place.all cells c.loop-place.invariant
-    (subst (λ (n : Numbering). IsPaintedChunk map now (chunk_numbered size place) n) (sym c.in_ok-new.ensures) own))
+    (AreOfChunks-push size place (IsPaintedChunk map now) c.loop-place.all patch c.loop-place.invariant own)
 
 pub returns : goal.returns
 returns c =

@@ -14,9 +14,9 @@ row-row-requires-clause-south c =
     let high = subst (λ (s : MapState). c.args.j < s.map.size.h) (sym c.self.view_is) c.requires.row in
     let columns = c.columns-ci-end.ensures.value in
     let painted = row_chunk map standing c.self.inside.cells.now size c.args.j c.loop-ci.ci c.place_of-place.result
-    c.at.result.now c.patch.result.now c.self.invariant c.size-size.ensures high (omega arith) c.place_of-place.ensures.value
-    c.at.ensures c.patch.ensures in
-    (holds_row map standing size c.args.j c.loop-ci.ci c.patch.result.now c.size-size.ensures high (omega arith) painted).south
+    c.at.result.now c.self.invariant c.size-size.ensures high (omega arith) c.place_of-place.ensures.value
+    c.at.ensures in
+    (holds_row map standing size c.args.j c.loop-ci.ci c.at.result.now c.size-size.ensures high (omega arith) painted).south
 
 pub row-row-requires-clause-north : goal.row-row-requires-clause-north
 row-row-requires-clause-north c =
@@ -26,9 +26,9 @@ row-row-requires-clause-north c =
     let high = subst (λ (s : MapState). c.args.j < s.map.size.h) (sym c.self.view_is) c.requires.row in
     let columns = c.columns-ci-end.ensures.value in
     let painted = row_chunk map standing c.self.inside.cells.now size c.args.j c.loop-ci.ci c.place_of-place.result
-    c.at.result.now c.patch.result.now c.self.invariant c.size-size.ensures high (omega arith) c.place_of-place.ensures.value
-    c.at.ensures c.patch.ensures in
-    (holds_row map standing size c.args.j c.loop-ci.ci c.patch.result.now c.size-size.ensures high (omega arith) painted).north
+    c.at.result.now c.self.invariant c.size-size.ensures high (omega arith) c.place_of-place.ensures.value
+    c.at.ensures in
+    (holds_row map standing size c.args.j c.loop-ci.ci c.at.result.now c.size-size.ensures high (omega arith) painted).north
 
 pub write_numbers-requires : goal.write_numbers-requires
 write_numbers-requires c =
@@ -38,9 +38,9 @@ write_numbers-requires c =
     let high = subst (λ (s : MapState). c.args.j < s.map.size.h) (sym c.self.view_is) c.requires.row in
     let columns = c.columns-ci-end.ensures.value in
     let painted = row_chunk map standing c.self.inside.cells.now size c.args.j c.loop-ci.ci c.place_of-place.result
-    c.at.result.now c.patch.result.now c.self.invariant c.size-size.ensures high (omega arith) c.place_of-place.ensures.value
-    c.at.ensures c.patch.ensures in
-    let lies = holds_row map standing size c.args.j c.loop-ci.ci c.patch.result.now c.size-size.ensures high (omega arith) painted in
+    c.at.result.now c.self.invariant c.size-size.ensures high (omega arith) c.place_of-place.ensures.value
+    c.at.ensures in
+    let lies = holds_row map standing size c.args.j c.loop-ci.ci c.at.result.now c.size-size.ensures high (omega arith) painted in
     let east = lies.east in
     let wide : length c.loop-ci.out ≡ map.size.w =
     c.loop-ci.auto.out ∙ c.requires.width ∙ sym (ap (λ (s : MapState). s.map.size.w) c.self.view_is) in
@@ -60,14 +60,13 @@ loop-ci-preserved c = λ k i known below within.
     let column = subst (λ (s : MapState). i < s.map.size.w) (sym c.self.view_is) within in
     let columns = c.columns-ci-end.ensures.value in
     let painted = row_chunk map standing c.self.inside.cells.now size j ci c.place_of-place.result c.at.result.now
-    c.patch.result.now c.self.invariant c.size-size.ensures high (omega arith) c.place_of-place.ensures.value c.at.ensures
-    c.patch.ensures in
+    c.self.invariant c.size-size.ensures high (omega arith) c.place_of-place.ensures.value c.at.ensures in
     let from = c.from.ensures in
     let from_is : c.from.result ≡ 96 * ci = omega arith in
     let old = c.loop-ci.out in
     let new = c.write_numbers.new.out in
     subst (λ (s : MapState). bit_at (get_or new i 0) k ≡ bit_of (passes_of s k (cell_at i j))) c.self.view_is
-    (row_more map standing j ci c.from.result (96 * (ci + 1)) k i c.patch.result.now c.row-row.result.now old new high painted
+    (row_more map standing j ci c.from.result (96 * (ci + 1)) k i c.at.result.now c.row-row.result.now old new high painted
     from_is refl class c.row-row.ensures.width c.row-row.ensures.cells c.write_numbers.ensures.inside
     c.write_numbers.ensures.before
     (λ early. subst (λ (s : MapState). bit_at (get_or old i 0) k ≡ bit_of (passes_of s k (cell_at i j))) (sym c.self.view_is)
