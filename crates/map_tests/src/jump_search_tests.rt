@@ -97,19 +97,13 @@ const TABLE: &str = "\
 #....../.####../###..../###.#../.#....#/....###/....###;5,0;2,4;2,4;458752;5,4 2,4;7
 ";
 
-/// Whether the search in a pool that has served other maps answers as it should, where its jump states are counted in a
-/// ledger.
-fn answers_in_pool<L: Ledger>(
+/// Whether the search in a pool that has served other maps answers as it should.
+fn answers_in_pool(
     pool: &mut Pool,
     alloc: Global,
     map: &Grid,
     search: &Search<'_>,
-    blank: Blank,
-) -> Result<bool, NoMemory>
-    requires name { blank.name ≡ L.name }
-    requires parts { blank.parts ≡ L.parts }
-    requires some { 0 < L.parts }
-{
+) -> Result<bool, NoMemory> {
     let class = Class::new(0);
     let (start, aim) = (search.start, &search.targets);
     let runs = CellRuns::new(map);
@@ -122,8 +116,7 @@ fn answers_in_pool<L: Ledger>(
         start,
         aim,
     };
-    let mut ticks = Ticks::<L>::new(blank);
-    let found = question.jump_find_in(pool, alloc, &mut ticks)?;
+    let found = question.find(pool, alloc)?;
     Ok(is_found(search, &found))
 }
 
@@ -156,7 +149,7 @@ fn answers_as_the_line_says(alloc: Global, pool: &mut Pool, line: &str) -> Optio
     let opened = opened.parse().ok()?;
     let search = search_of(alloc, [start, targets, end, cost, points])?;
     let map = drawn(alloc, map)?;
-    let again = answers_in_pool::<Brand>(pool, alloc, &map, &search, Blank::new(1)).ok()?;
+    let again = answers_in_pool(pool, alloc, &map, &search).ok()?;
     let anew = answers_counted::<Brand>(alloc, &map, &search, opened, Blank::new(1)).ok()?;
     Some(again && anew)
 }
@@ -174,17 +167,13 @@ fn answers_as_the_table_says(rt: HostRuntime) -> Result<(), Fail> {
 }
 
 /// Whether both searches for class 1 answer as they should over planes of some classes.
-fn answers_by_planes<L: Ledger>(
+fn answers_by_planes(
     alloc: Global,
     version: &Version,
     planes: &Planes,
     search: &Search<'_>,
-    blank: Blank,
 ) -> Result<bool, NoMemory>
-    requires name { blank.name ≡ L.name }
-    requires parts { blank.parts ≡ L.parts }
-    requires some { 0 < L.parts }
-    requires planes { AreOf version.now.map.size (passes_of version.now) planes.now }
+    requires { AreOf version.now.map.size (passes_of version.now) planes.now }
 {
     let class = Class::new(1);
     let (start, aim) = (search.start, &search.targets);
@@ -201,10 +190,9 @@ fn answers_by_planes<L: Ledger>(
         start,
         aim,
     };
-    let mut ticks = Ticks::<L>::new(blank);
     let mut pool = Pool::new(alloc)?;
-    let found = question.jump_find_in(&mut pool, alloc, &mut ticks)?;
-    let traced = question.jump_search_in(&mut pool, alloc, &mut ticks)?;
+    let found = question.find(&mut pool, alloc)?;
+    let traced = question.trace(&mut pool, alloc)?;
     Ok(is_found(search, &found) && is_found(search, &traced.found))
 }
 
@@ -218,13 +206,7 @@ fn answers_with_some_planes(alloc: Global, line: &str, mask: u16) -> Option<bool
         return None;
     };
     let is_wanted = planes.plane(Class::new(1)).is_some() == (mask & 2 == 2);
-    let answers = answers_by_planes::<Brand>(
-        alloc,
-        &version,
-        &planes,
-        &search,
-        Blank::new(1),
-    ).ok()?;
+    let answers = answers_by_planes(alloc, &version, &planes, &search).ok()?;
     Some(is_wanted && answers)
 }
 

@@ -12,7 +12,6 @@ mod finds;
 mod handles;
 mod held;
 mod raw_box;
-mod shared_versions;
 mod states;
 mod statuses;
 mod struct_matches;

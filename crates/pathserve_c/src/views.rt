@@ -10,7 +10,6 @@ ghost use Rattle.pathserve_c.specs.Calls.{IsViewed, version_in};
 ghost use Rattle.pathserve_c.specs.Handles.{IsHandle, passes_seen, state_of, words_of, words_of_row};
 
 use crate::handles::Handle;
-use crate::shared_versions::shared;
 use crate::states::State;
 use crate::statuses::{CLOSED, DONE, NO_MAP, NO_MEMORY, OPEN};
 use grid_versions::Version;
@@ -189,11 +188,11 @@ fn version_in(alloc: Global, state: &State) -> Result<Option<Version>, NoMemory>
 {
     match state {
         State::Text(text) => text.view(alloc),
-        State::Structs(structs) => match shared(alloc, structs.version()) {
+        State::Structs(structs) => match structs.version().share() {
             Ok(version) => Ok(Some(version)),
             Err(NoMemory) => Err(NoMemory),
         },
-        State::View(version) => match shared(alloc, version) {
+        State::View(version) => match version.share() {
             Ok(version) => Ok(Some(version)),
             Err(NoMemory) => Err(NoMemory),
         },

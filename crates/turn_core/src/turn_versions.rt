@@ -1,20 +1,17 @@
 //! Versions under turns: all that the machine asks of maps.
-ghost use Rattle.std.specs.Prelude.{◌≡◌, ◌<◌, ◌++◌, IfOk, OnOk, filter_map, flat_map, length};
+ghost use Rattle.std.specs.Prelude.{◌≡◌, ◌++◌, IfOk, OnOk, filter_map, flat_map, length};
 ghost use Rattle.nav_types.specs.Regions.{HasRelabelled};
 ghost use Rattle.posts.specs.Posts.{edit_of, jobs, requests};
-ghost use Rattle.grid_versions.specs.Editing.{after_edits, edit_replies};
 ghost use Rattle.grid_versions.specs.Versions.{passes_of};
 ghost use Rattle.turn_core.specs.Words.{bare};
 ghost use Rattle.turn_core.specs.Turns.{after_turn};
 ghost use Rattle.turn_core.specs.inner.ReplyLists.{edits_told_in};
 
 use grid_versions::{EditReplies, Edits, MapSpec, Next, Version};
-use nav_types::{NoMemory, Sequence, Ticks};
+use nav_types::{NoMemory, Sequence};
 use obstruction_store::{Store, all_fit_in_empty};
 use posts::{Jobs, Post, TurnPosts, push_some};
 use std::alloc::Global;
-use std::marker::Brand;
-use std::sync::ledger::{Blank, Ledger};
 
 /// A version after a turn, the replies to the turn's edits, caller by caller, and the number of pairs of class and
 /// chunk that they changed.
@@ -31,25 +28,9 @@ pub fn bare_version(alloc: Global, map: &MapSpec) -> Result<Version, NoMemory>
     ensures map { IfOk result (λ version. version.map ≡ map.now) }
     ensures standing { IfOk result (λ version. version.standing ≡ bare) }
 {
-    bare_version_counted::<Brand>(alloc, map, Blank::new(1))
-}
-
-/// The same version, with the ticks counted in a ledger of their own.
-#[tactic(auto, unfolding(crate::specs::Words::bare))]
-fn bare_version_counted<L: Ledger>(
-    alloc: Global,
-    map: &MapSpec,
-    blank: Blank,
-) -> Result<Version, NoMemory>
-    requires name { blank.name ≡ L.name }
-    requires parts { blank.parts ≡ L.parts }
-    requires some { 0 < L.parts }
-    ensures map { IfOk result (λ version. version.map ≡ map.now) }
-    ensures standing { IfOk result (λ version. version.standing ≡ bare) }
-{
     all_fit_in_empty();
     let nothing = Store::new(alloc)?;
-    Version::build(alloc, map, &nothing, &mut Ticks::<L>::new(blank))
+    Version::new(alloc, map, &nothing)
 }
 
 /// The version after a turn.
@@ -70,32 +51,12 @@ pub(crate) fn after_turn(
         version,
         replies,
         relabelled,
-    } = next_counted::<Brand>(alloc, version, &edits, Blank::new(1))?;
+    } = version.after(alloc, &edits)?;
     Ok(Advanced {
         version,
         edits: replies,
         relabelled,
     })
-}
-
-/// The version after edits, with the ticks counted in a ledger of their own.
-fn next_counted<L: Ledger>(
-    alloc: Global,
-    version: &Version,
-    edits: &Edits,
-    blank: Blank,
-) -> Result<Next, NoMemory>
-    requires name { blank.name ≡ L.name }
-    requires parts { blank.parts ≡ L.parts }
-    requires some { 0 < L.parts }
-    ensures map { IfOk result (λ next. next.version.map ≡ version.now.map) }
-    ensures standing { IfOk result (λ next. next.version.standing
-        ≡ after_edits version.now.map version.now.standing edits.now) }
-    ensures replies { IfOk result (λ next. next.replies ≡ edit_replies version.now.map version.now.standing edits.now) }
-    ensures relabelled { IfOk result (λ next. HasRelabelled (length version.now.map.classes) (passes_of version.now)
-        (passes_of next.version) next.relabelled) }
-{
-    version.next(alloc, edits, &mut Ticks::<L>::new(blank))
 }
 
 /// The edits of a turn, caller by caller.

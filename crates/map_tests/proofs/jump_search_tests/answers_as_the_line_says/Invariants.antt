@@ -2,6 +2,3 @@ use Rattle.map_tests.proofs.jump_search_tests.answers_as_the_line_says.Given as 
 
 abbrev pub ghosts-answers_counted : goal.ghosts-answers_counted
 ghosts-answers_counted a = record { name = a.blank.name; parts = a.blank.parts }
-
-abbrev pub ghosts-answers_in_pool : goal.ghosts-answers_in_pool
-ghosts-answers_in_pool a = record { name = a.blank.name; parts = a.blank.parts }
