@@ -1,8 +1,8 @@
 #!/usr/bin/env python3
 """measure.py PROGRAM [PART ..]: what the program costs, in instructions counted by valgrind (Debian's package `valgrind`).
 
-The parts are basics, near, growth, classes, paths, profile, fields, smoothing, edits and crowd; all of them where none is
-named. A count is the difference of two scripts that differ by the work that is counted, so starting up, reading the map
+The parts are basics, near, growth, classes, paths, profile, fields, smoothing, edits, standing and crowd; all of them where
+none is named. A count is the difference of two scripts that differ by the work that is counted, so starting up, reading the map
 and building it are not in it unless it says so. Counts are in thousands of instructions with one worker. The maps and
 queries are drawn from fixed seeds, so that each run counts the same. `times.py` has milliseconds and memory.
 """
@@ -265,6 +265,22 @@ def edits(bench):
         told(f"{side} by {side}, {len(places)} others (and setting them up)", (bench.count(lines) - bare) / 40, bare)
 
 
+def scattered_squares():
+    """The middles of squares of 2 by 2, one on each 8 by 8 navcells of 2048 by 2048, but for a corner of 192 by 192."""
+    return [(x, z) for z in range(4, 2048, 8) for x in range(4, 2048, 8) if max(x, z) >= 192]
+
+
+def standing(bench):
+    print("standing: an edit of one 6 by 6 building in an empty corner of 2048 by 2048, 8 classes, by what stands elsewhere")
+    for many in (0, 1000, 65000):
+        places = scattered_squares()[-many:] if many else []
+        script = [map_line(2048, [f"{k / 2}" for k in range(8)]), *(add(k, x, z, 1) for k, (x, z) in enumerate(places)), end(1)]
+        lines = [*script]
+        for turn in range(2, 42):
+            lines += [add(99999, 49, 45, 3) if turn % 2 == 0 else remove(99999), end(turn)]
+        told(f"{len(places)} squares of 2 by 2", (bench.count(lines) - bench.count(script)) / 40)
+
+
 def crowd(bench):
     print("crowd: setting up an open map of 2048 by 2048 with 8 classes and so many obstructions spread over it")
     for many in (1024, 4096, 16384):
@@ -274,7 +290,7 @@ def crowd(bench):
         told(f"{many}", bench.count([map_line(2048, ["0"] * 8), *lines, end(1)]))
 
 
-PARTS = [basics, near, growth, classes, paths, profile, fields, smoothing, edits, crowd]
+PARTS = [basics, near, growth, classes, paths, profile, fields, smoothing, edits, standing, crowd]
 
 
 def main(words):

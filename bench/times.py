@@ -1,7 +1,7 @@
 #!/usr/bin/env python3
 """times.py PROGRAM [PART ..]: milliseconds and memory of the program, as a game sees them over its pipes.
 
-The parts are maps, steps, turns, workers, dearest and memory; all of them where none is named. Each is of one match or a
+The parts are maps, steps, turns, workers, dearest, memory and course; all of them where none is named. Each is of one match or a
 few: a turn is timed from its first post, or its end line, to its last answer. What else runs on the machine is in these
 times, which is why most parts say the least of several turns; `measure.py` counts what does not vary. The maps and posts
 are drawn from fixed seeds.
@@ -13,7 +13,7 @@ import sys
 import time
 
 import beside_0ad
-from measure import add, bases, blobs, drawn, end, largest_area, map_line, path, remove, scattered
+from measure import add, bases, blobs, drawn, end, largest_area, map_line, path, remove, scattered, scattered_squares
 
 
 class Match:
@@ -227,7 +227,18 @@ def memory(program):
     told("three paths in rooms of 2048 by 2048 (and with fields)", *figures, unit="10.1f")
 
 
-PARTS = [maps, steps, turns, workers, dearest, memory]
+def course(program):
+    print("course: 50,000 turns of one edit each on 2048 by 2048 with 8 classes, mean of the first 1,000 and of the last 1,000")
+    for many in (1000, 65000):
+        match = opened(program, [map_line(2048, [f"{k / 2}" for k in range(8)])])
+        places = scattered_squares()[-many:]
+        match.play([add(k, x, z, 1) for k, (x, z) in enumerate(places)])
+        times = [match.play([add(99999, 49, 45, 3) if turn % 2 else remove(99999)]) for turn in range(1, 50001)]
+        told(f"among {len(places)} squares of 2 by 2", sum(times[:1000]) / 1000, sum(times[-1000:]) / 1000)
+        match.close()
+
+
+PARTS = [maps, steps, turns, workers, dearest, memory, course]
 
 
 def main(words):
