@@ -1,8 +1,8 @@
 #!/usr/bin/env python3
 """measure.py PROGRAM [PART ..]: what the program costs, in instructions counted by valgrind (Debian's package `valgrind`).
 
-The parts are basics, near, growth, classes, paths, profile, fields, smoothing, edits, standing and crowd; all of them where
-none is named. A count is the difference of two scripts that differ by the work that is counted, so starting up, reading the map
+The parts are basics, reading, near, growth, classes, paths, profile, fields, smoothing, edits, standing and crowd; all of them
+where none is named. A count is the difference of two scripts that differ by the work that is counted, so starting up, reading the map
 and building it are not in it unless it says so. Counts are in thousands of instructions with one worker. The maps and
 queries are drawn from fixed seeds, so that each run counts the same. `times.py` has milliseconds and memory.
 """
@@ -177,6 +177,27 @@ def basics(bench):
     told("turn", (bench.count([map_line(64), *map(end, range(1, 102))]) - bare) / 100)
 
 
+def filled(line):
+    """Lines of 1 MB in all, each made by a call."""
+    lines, size = [], 0
+    while size < 1 << 20:
+        lines.append(line())
+        size += len(lines[-1]) + 1
+    return lines
+
+
+def reading(bench):
+    print("reading: 1 MB of base rectangles of single navcells, painting included; 1 MB of paths that are refused; less the map alone")
+    draw = random.Random("reading")
+    place = lambda: draw.randrange(2048)
+    cell = lambda i, j: f"[{i},{j},{i},{j},1]"
+    base = lambda: f'{{"base":[{",".join(cell(place(), place()) for _ in range(40))}]}}'
+    bare = bench.count([map_line(2048), end(1)])
+    told("base rectangles", bench.count([map_line(2048), *filled(base), end(1)]) - bare)
+    refused = lambda: path((place(), place()), (place(), 2048))
+    told("paths", bench.count([map_line(2048), *filled(refused), end(1)]) - bare)
+
+
 def near(bench):
     print("near: to a goal, to a circle of half that radius, and from a start, in the middle of a blocked square so far from its rim, less the same to and from the rim")
     for far in (2, 8, 32, 128):
@@ -290,7 +311,7 @@ def crowd(bench):
         told(f"{many}", bench.count([map_line(2048, ["0"] * 8), *lines, end(1)]))
 
 
-PARTS = [basics, near, growth, classes, paths, profile, fields, smoothing, edits, standing, crowd]
+PARTS = [basics, reading, near, growth, classes, paths, profile, fields, smoothing, edits, standing, crowd]
 
 
 def main(words):
