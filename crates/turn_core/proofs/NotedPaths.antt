@@ -14,7 +14,7 @@ use Rattle.posts.specs.declared.replies.PathAnswer.{PathAnswer}
 use Rattle.grid_versions.specs.Versions.{MapState, passes_of}
 use Rattle.turn_core.specs.Solving.{IsPathAnswer}
 use Rattle.turn_core.specs.Notes.{IsTold, IsNoteTo}
-use Rattle.turn_core.specs.declared.solving.NotedPath.{NotedPath}
+use Rattle.turn_core.specs.declared.searches.NotedPath.{NotedPath}
 use Rattle.turn_core.specs.inner.Searching.{IsFoundTo, IsNotedPath, path_by}
 
 -- the waypoints of a walk that was found are the corners of a legal one

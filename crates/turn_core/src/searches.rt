@@ -2,15 +2,25 @@
 ghost use Rattle.std.specs.Prelude.{◌≡◌, IfOk};
 ghost use Rattle.grid_versions.specs.Versions.{passes_of};
 ghost use Rattle.turn_core.specs.Notes.{IsOpenedNumber};
-ghost use Rattle.turn_core.specs.inner.Searching.{CanFind, IsFoundTo, path_by};
+ghost use Rattle.posts.specs.declared.notes.Report.TheVariants.{OpenedNumbers};
+ghost use Rattle.turn_core.specs.Solving.{is_near};
+ghost use Rattle.turn_core.specs.inner.Searching.{CanFind, IsFoundTo, IsNotedPath, path_by};
 
 use class_planes::PlaneRuns;
 use goal_reach::Target;
 use grid_versions::Version;
 use jump_search::{JumpSearch, Pool, Question, Traced};
 use nav_types::{Aim, Cell, Class, NoMemory, View};
+use posts::{Note, PathAnswer};
 use std::alloc::Global;
 use walks::Found;
+
+/// A path, and what a report tells of it.
+#[derive(Drop)]
+pub(crate) struct NotedPath {
+    pub path: PathAnswer,
+    pub note: Note,
+}
 
 /// A search on a version for the chosen walk of a class from a start cell to a target.
 #[derive(Drop)]
@@ -30,8 +40,39 @@ impl<'a> Search<'a> {
         self.question(&self.runs()).find(pool, alloc)
     }
 
+    /// The path of the chosen walk, by the room of the pool, with its opened number.
+    pub(crate) fn counted(&self, alloc: Global, pool: &mut Pool) -> Result<NotedPath, NoMemory>
+        requires { CanFind self.now.version.now self.now.class self.now.start self.now.target.now }
+        ensures { IfOk result (IsNotedPath self.now.version.now OpenedNumbers self.now.class self.now.start self.now.target.now) }
+    {
+        let Traced { found, opened } = self.trace(alloc, pool)?;
+        let path = self.path_of(found);
+        Ok(NotedPath {
+            path,
+            note: Note::Opened(opened),
+        })
+    }
+
+    /// The path of a walk that this search found.
+    pub(crate) fn path_of(&self, found: Found) -> PathAnswer
+        ensures { result ≡ path_by self.now.start self.now.target.now found }
+    {
+        let Found {
+            end,
+            cost,
+            waypoints,
+        } = found;
+        PathAnswer {
+            start: self.start,
+            end,
+            near: is_near(self.target),
+            cost,
+            waypoints,
+        }
+    }
+
     /// The walk of a search, by the room of the pool, and the opened number of its path.
-    pub(crate) fn trace(&self, alloc: Global, pool: &mut Pool) -> Result<Traced, NoMemory>
+    fn trace(&self, alloc: Global, pool: &mut Pool) -> Result<Traced, NoMemory>
         requires { CanFind self.now.version.now self.now.class self.now.start self.now.target.now }
         ensures found { IfOk result (λ traced.
             IsFoundTo self.now.version.now self.now.class self.now.start self.now.target.now traced.found) }
@@ -67,5 +108,15 @@ impl<'a> Search<'a> {
             start: self.start,
             aim: self.target,
         }
+    }
+}
+
+/// Whether the target is a near cell.
+fn is_near(target: &Target) -> bool
+    ensures { result ≡ is_near target.now }
+{
+    match target {
+        Target::Goal(_) => false,
+        Target::Near(_) => true,
     }
 }

@@ -10,29 +10,29 @@ ghost use Rattle.posts.specs.declared.notes.Report.TheVariants.{Flows};
 ghost use Rattle.grid_versions.specs.Passing.{passable_at};
 ghost use Rattle.grid_versions.specs.Versions.{passes_of};
 ghost use Rattle.turn_core.specs.NamedGoals.{class_named, is_on_map, goal_found};
-ghost use Rattle.turn_core.specs.Solving.{is_near, IsPathTo, IsPathFound, IsRegionAnswer, IsRegionAt, IsAnswerAt};
+ghost use Rattle.turn_core.specs.Solving.{IsPathTo, IsPathFound, IsRegionAnswer, IsRegionAt, IsAnswerAt};
 ghost use Rattle.goal_reach.specs.Starts.{IsStartCell};
 ghost use Rattle.goal_reach.specs.Targets.{hit_by};
 ghost use Rattle.turn_core.specs.Solving.{IsAnswerTo, IsImpassable};
 ghost use Rattle.turn_core.specs.Notes.{IsFlowLine, IsNoteBy, IsNoteTo, IsNote, IsNotedTo, IsPathNote, flow_in};
 ghost use Rattle.turn_core.specs.inner.Asked.{IsAskedAt, IsRefusedAt};
-ghost use Rattle.turn_core.specs.inner.Searching.{CanFind, IsNotedPath, path_by};
+ghost use Rattle.turn_core.specs.inner.Searching.{CanFind, IsNotedPath};
 
 use crate::last_fields::{LastField, field_for};
 use crate::named_goals::goal_of;
-use crate::searches::Search;
+use crate::searches::{NotedPath, Search};
 use class_config::ClassName;
 use fixed_point::Fixed;
 use goal_reach::{Target, made_reachable, nearest_passable};
 use goal_shapes::{Goal, GoalSpec, cell_of_point};
 use grid_versions::{Refusal, Version};
-use jump_search::{Pool, Traced};
+use jump_search::Pool;
 use line_smooth::smooth;
 use nav_types::{Areas, Cell, Class, NoMemory};
-use posts::{Answer, FlowLine, Note, Noted, PathAnswer, RegionAnswer, Report, Request};
+use posts::{Answer, FlowLine, Note, Noted, RegionAnswer, Report, Request};
 use std::alloc::Global;
 use std::marker::Model;
-use walks::{Found, Waypoints};
+use walks::Waypoints;
 
 /// The answer to a request on a version (`IsAnswerTo`). It refuses for want of memory alone.
 ///
@@ -81,7 +81,7 @@ fn flow_in(note: &Note) -> Option<FlowLine>
 {
     match note {
         Note::Flow(line) => Some(*line),
-        Note::Nothing | Note::Opened(_) | Note::Smoothed(_) => None,
+        _ => None,
     }
 }
 
@@ -228,22 +228,15 @@ impl<'a> Solver<'a> {
         };
         match self.report {
             Report::Answers => {
-                let path = path_of(&search, search.find(alloc, &mut self.pool)?);
+                let path = search.path_of(search.find(alloc, &mut self.pool)?);
                 Ok(NotedPath {
                     path,
                     note: Note::Nothing,
                 })
             }
-            Report::OpenedNumbers => {
-                let Traced { found, opened } = search.trace(alloc, &mut self.pool)?;
-                let path = path_of(&search, found);
-                Ok(NotedPath {
-                    path,
-                    note: Note::Opened(opened),
-                })
-            }
+            Report::OpenedNumbers => search.counted(alloc, &mut self.pool),
             Report::Flows => {
-                let path = path_of(&search, search.find(alloc, &mut self.pool)?);
+                let path = search.path_of(search.find(alloc, &mut self.pool)?);
                 let line = self.flow_line(alloc, class, start, target)?;
                 Ok(NotedPath {
                     path,
@@ -251,7 +244,7 @@ impl<'a> Solver<'a> {
                 })
             }
             Report::Smoothed => {
-                let path = path_of(&search, search.find(alloc, &mut self.pool)?);
+                let path = search.path_of(search.find(alloc, &mut self.pool)?);
                 let points = smoothed(alloc, self.version, class, start, &path.waypoints)?;
                 Ok(NotedPath {
                     path,
@@ -297,31 +290,6 @@ fn smoothed(
     smooth(alloc, &view, class, start, corners)
 }
 
-/// A path, and what a report tells of it.
-#[derive(Drop)]
-pub(crate) struct NotedPath {
-    pub path: PathAnswer,
-    pub note: Note,
-}
-
-/// The path of a search that found this.
-fn path_of(search: &Search<'_>, found: Found) -> PathAnswer
-    ensures { result ≡ path_by search.now.start search.now.target.now found }
-{
-    let Found {
-        end,
-        cost,
-        waypoints,
-    } = found;
-    PathAnswer {
-        start: search.start,
-        end,
-        near: is_near(search.target),
-        cost,
-        waypoints,
-    }
-}
-
 /// The start cell of a point on the map. None exactly where no cell is passable for the class, which the version tells
 /// without a search.
 fn start_cell(version: &Version, class: Class, x: Fixed, z: Fixed) -> Option<Cell>
@@ -356,16 +324,6 @@ fn asked_at(version: &Version, name: &ClassName, x: Fixed, z: Fixed) -> Result<A
         return Err(Refusal::StartOutside);
     };
     Ok(Asked { class, cell })
-}
-
-/// Whether the target is a near cell.
-fn is_near(target: &Target) -> bool
-    ensures { result ≡ is_near target.now }
-{
-    match target {
-        Target::Goal(_) => false,
-        Target::Near(_) => true,
-    }
 }
 
 /// The answer to a region query of a class by its name, at the point (`x`, `z`).

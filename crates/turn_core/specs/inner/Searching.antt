@@ -14,7 +14,7 @@ use Rattle.grid_versions.specs.Versions.{MapState, passes_of}
 use Rattle.turn_core.specs.Notes.{IsTold}
 use Rattle.turn_core.specs.Solving.{is_near}
 use Rattle.turn_core.specs.declared.last_fields.LastField.{LastField}
-use Rattle.turn_core.specs.declared.solving.NotedPath.{NotedPath}
+use Rattle.turn_core.specs.declared.searches.NotedPath.{NotedPath}
 
 -- the start is passable for a class of the map, and the target is sound and can be reached from it
 pub record CanFind (state : MapState) (class : ℕ) (start : Cell) (target : Target) : Type 0 where
