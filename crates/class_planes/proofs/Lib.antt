@@ -6,6 +6,7 @@ mod UpdateLemmas
 pub mod PlaneLemmas
 mod WordLemmas
 mod FarLemmas
+mod OpeningLemmas
 mod TrackLemmas
 mod ReadLemmas
 mod StopLemmas

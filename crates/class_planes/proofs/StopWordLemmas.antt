@@ -1,9 +1,9 @@
 -- Words of stops that are made anew.
-use Rattle.std.proofs.Common.{◌≡◌, ◌≢◌, ℕ, zero, suc, ◌+◌, ◌-◌, ◌*◌, ◌/◌, ◌%◌, ◌^◌, ◌<◌, ◌≤◌, min, max, bit_and, bit_or, List, length, get_or, set, inl, inr, refl, sym, ap, ap₂, ◌∙◌, subst, arith, w64}
+use Rattle.std.proofs.Common.{◌≡◌, ◌≢◌, ℕ, zero, suc, ◌+◌, ◌-◌, ◌*◌, ◌/◌, ◌%◌, ◌^◌, ◌<◌, ◌≤◌, min, max, bit_and, bit_or, List, length, get_or, set, inl, inr, refl, sym, ap, ap₂, ◌∙◌, subst, arith}
 use Rattle.std.specs.Int.{bit_at}
 use Rattle.std.proofs.lemmas.Bool.{cases_lt}
 use Rattle.std.proofs.lemmas.List.{get_or-set_same, get_or-set_other}
-use Rattle.std.proofs.lemmas.Nat.Bits.{bit_at_or, bit_at_and, bit_at_not, bit_at_above, bit_at_lowest}
+use Rattle.std.proofs.lemmas.Nat.Bits.{bit_at_or, bit_at_and, bit_at_above, bit_at_lowest}
 use Rattle.nav_types.specs.declared.straights.Way.{Way}
 use Rattle.nav_types.specs.declared.straights.Way.TheVariants.{Up, Down}
 use Rattle.class_planes.specs.inner.Runs.{bit_in, opening, LaneWords}
@@ -12,21 +12,6 @@ use Rattle.nav_types.proofs.Bits.{bit_at-shr}
 use Rattle.class_planes.proofs.WordLemmas.{in_word, of_word}
 
 -- ---- one word
-
--- the free places where a side is free that was not before
-pub opened_bit : (free left lb right rb k : ℕ) → k < 64 → lb < 18446744073709551616 → rb < 18446744073709551616
-    → bit_at (bit_and free (bit_or (bit_and left (18446744073709551615 - lb))
-    (bit_and right (18446744073709551615 - rb)))) k
-    ≡ min (bit_at free k) (max (opening (bit_at lb k) (bit_at left k)) (opening (bit_at rb k) (bit_at right k)))
-opened_bit free left lb right rb k below lb_fits rb_fits =
-    let not_lb : bit_at (18446744073709551615 - lb) k ≡ 1 - bit_at lb k = bit_at_not w64 lb k lb_fits below in
-    let not_rb : bit_at (18446744073709551615 - rb) k ≡ 1 - bit_at rb k = bit_at_not w64 rb k rb_fits below in
-    bit_at_and free (bit_or (bit_and left (18446744073709551615 - lb)) (bit_and right (18446744073709551615 - rb))) k
-    ∙ ap (min (bit_at free k))
-    (bit_at_or (bit_and left (18446744073709551615 - lb)) (bit_and right (18446744073709551615 - rb)) k
-    ∙ ap₂ max
-    (bit_at_and left (18446744073709551615 - lb) k ∙ ap (min (bit_at left k)) not_lb)
-    (bit_at_and right (18446744073709551615 - rb) k ∙ ap (min (bit_at right k)) not_rb))
 
 -- a bit that is spread, where that of the next place is
 spread_on : (r b f n o x t : ℕ) → r ≡ max b (min f n) → b ≡ max o (min f t) → t ≡ 0 → o ≡ min f x → r ≡ min f (max x n)

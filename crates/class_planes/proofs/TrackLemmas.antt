@@ -1,5 +1,5 @@
 -- A run of cells whose bits are known.
-use Rattle.std.proofs.Common.{◌≡◌, ℕ, suc, ◌+◌, ◌-◌, ◌/◌, ◌%◌, ◌<◌, ◌⊎◌, Bool, true, false, ◌&&◌, ltb, IsTrue, List, get_or, inl, inr, refl, sym, ◌∙◌, subst, arith}
+use Rattle.std.proofs.Common.{◌≡◌, ℕ, suc, ◌+◌, ◌-◌, ◌/◌, ◌%◌, ◌<◌, ◌≤◌, ◌⊎◌, Bool, true, false, ◌&&◌, ltb, IsTrue, List, get_or, inl, inr, refl, sym, ◌∙◌, subst, arith}
 use Rattle.std.proofs.lemmas.Bool.{cases_lt, false≢true, lt-ltb, ltb-true, and_parts, and_from}
 use Rattle.std.proofs.lemmas.Nat.Bits.{bit_at-lt}
 use Rattle.nav_types.specs.declared.cells.Cell.{Cell}
@@ -23,7 +23,7 @@ use Rattle.jump_scan.proofs.Turning.{HasForced-from_side, side_from_HasForced}
 use Rattle.lane_rows.specs.Rows.{one_if}
 use Rattle.nav_types.specs.declared.straights.Way.{Way}
 use Rattle.nav_types.specs.declared.straights.Way.TheVariants.{Up, Down}
-use Rattle.class_planes.specs.inner.Runs.{opening, LaneWords, bits_along, opens_after, Far, GoesFar, cell_along, RunsFar, HasRoom, AreLanesOf, bit_in, place_along, is_before}
+use Rattle.class_planes.specs.inner.Runs.{opening, LaneWords, bits_along, opens_after, OpensFirst, Far, GoesFar, cell_along, RunsFar, HasRoom, AreLanesOf, bit_in, place_along, is_before}
 use Rattle.class_planes.proofs.FarLemmas.{down_at, down_past, down_small}
 
 -- a run along an axis is straight
@@ -374,3 +374,71 @@ lanes_far passes straight from lanes far are goes =
     far_runs passes straight from (bits_along way lanes.mid first) (bits_along way lanes.left first)
     (bits_along way lanes.right first) far (track_of passes straight from lanes are)
     (run_room way (bits_along way lanes.left first) (bits_along way lanes.right first) lanes.mid first far goes) goes
+
+-- ---- the first side that opens along it
+
+less_room : (way : Way) (from n count : ℕ) → n ≤ count → HasRoom way from count → HasRoom way from n
+less_room Up from n count within room = tt
+less_room Down from n count within room = omega (arith, within, room)
+
+opens_small : (passes : Cell → Bool) (straight : Straight) (from : Cell) (mid left right : ℕ → ℕ) (n : ℕ)
+    → IsTrack passes straight from mid left right → opens_after left right n < 2
+opens_small passes straight from mid left right n track =
+    let one = opening_small (left n) (left (suc n)) (track.at_one.small (suc n)) in
+    let two = opening_small (right n) (right (suc n)) (track.at_two.small (suc n)) in
+    omega (arith, one, two)
+
+opens_from : (passes : Cell → Bool) (straight : Straight) (from : Cell) (mid left right : ℕ → ℕ) (n : ℕ)
+    → IsTrack passes straight from mid left right
+    → mid n ≡ 1 → mid (suc n) ≡ 1 → HasForced passes (cell_along straight from (suc n)) (straight_dir straight)
+    → opens_after left right n ≡ 1
+opens_from passes straight from mid left right n track here there forced =
+    let small = opens_small passes straight from mid left right n track in
+    elim (cases_lt (opens_after left right n) 1) [
+      | inl low ↦ absurd (plain_from passes straight from mid left right n track here there (omega (arith, low)) forced)
+      | inr high ↦ omega (arith, high, small)
+    ]
+
+shut_from : (passes : Cell → Bool) (straight : Straight) (from : Cell) (mid left right : ℕ → ℕ) (n : ℕ)
+    → IsTrack passes straight from mid left right
+    → mid n ≡ 1 → mid (suc n) ≡ 1 → (HasForced passes (cell_along straight from (suc n)) (straight_dir straight) → ⊥)
+    → opens_after left right n ≡ 0
+shut_from passes straight from mid left right n track here there plain =
+    let small = opens_small passes straight from mid left right n track in
+    elim (cases_lt (opens_after left right n) 1) [
+      | inl low ↦ omega (arith, low)
+      | inr high ↦ absurd (plain (forced_from passes straight from mid left right n track here there
+          (omega (arith, high, small))))
+    ]
+
+-- where a run ends at a cell at which a side opens, that is the first one that opens along its lines
+pub forced_first : (passes : Cell → Bool) (straight : Straight) (from : Cell) (lanes : LaneWords) (far : Far)
+    → AreLanesOf (λ n k. passes (cell_on straight.axis n k)) (line_on straight.axis from) lanes
+    → RunsFar passes straight from far → IsTrue far.forced
+    → OpensFirst (bits_along straight.way lanes.left (place_on straight.axis from))
+    (bits_along straight.way lanes.right (place_on straight.axis from)) far.count
+forced_first passes straight from lanes far are runs is =
+    let way = straight.way in
+    let first : ℕ = place_on straight.axis from in
+    let mid : ℕ → ℕ = bits_along way lanes.mid first in
+    let left : ℕ → ℕ = bits_along way lanes.left first in
+    let right : ℕ → ℕ = bits_along way lanes.right first in
+    let track = track_of passes straight from lanes are in
+    let there = λ (n : ℕ) (within : n ≤ far.count).
+    bit_there way lanes.mid first n (less_room way first n far.count within runs.room)
+    ∙ are.mid (place_along way first n) ∙ flag_one (passes (cell_along straight from n)) (runs.free n within) in
+    let end = runs.forced is in
+    let m : ℕ = end.0 in
+    let last : suc m ≡ far.count = end.1.0 in
+    record {
+      opens = (
+        m,
+        (
+          last,
+          opens_from passes straight from mid left right m track (there m (omega (arith, last)))
+              (there (suc m) (omega (arith, last))) end.1.1,
+        ),
+      );
+      shut = λ n less. shut_from passes straight from mid left right n track (there n (omega (arith, less)))
+          (there (suc n) (omega (arith, less))) (runs.plain n less);
+    }

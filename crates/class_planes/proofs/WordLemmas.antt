@@ -143,23 +143,24 @@ down_bit line w y k below fits carry = elim (cases_lt k 63) [
       ∙ down_top (get_or line w 0) y fits ∙ carry ∙ ap (bit_in line) same
 ]
 
--- the bits of the places where a run halts
-pub halting_bit : (mid left lb right rb k : ℕ) → k < 64 → mid < 18446744073709551616 → lb < 18446744073709551616
-    → rb < 18446744073709551616
-    → bit_at (bit_or (18446744073709551615 - mid)
-    (bit_or (bit_and left (18446744073709551615 - lb)) (bit_and right (18446744073709551615 - rb)))) k
-    ≡ max (1 - bit_at mid k) (max (opening (bit_at lb k) (bit_at left k)) (opening (bit_at rb k) (bit_at right k)))
-halting_bit mid left lb right rb k below mid_fits lb_fits rb_fits =
+-- the bits of the places where a side opens
+pub openings_bit : (left lb right rb k : ℕ) → k < 64 → lb < 18446744073709551616 → rb < 18446744073709551616
+    → bit_at (bit_or (bit_and left (18446744073709551615 - lb)) (bit_and right (18446744073709551615 - rb))) k
+    ≡ max (opening (bit_at lb k) (bit_at left k)) (opening (bit_at rb k) (bit_at right k))
+openings_bit left lb right rb k below lb_fits rb_fits =
     let not_lb : bit_at (18446744073709551615 - lb) k ≡ 1 - bit_at lb k = bit_at_not w64 lb k lb_fits below in
     let not_rb : bit_at (18446744073709551615 - rb) k ≡ 1 - bit_at rb k = bit_at_not w64 rb k rb_fits below in
-    let not_mid : bit_at (18446744073709551615 - mid) k ≡ 1 - bit_at mid k = bit_at_not w64 mid k mid_fits below in
-    bit_at_or (18446744073709551615 - mid)
-    (bit_or (bit_and left (18446744073709551615 - lb)) (bit_and right (18446744073709551615 - rb))) k
-    ∙ ap₂ max not_mid
-    (bit_at_or (bit_and left (18446744073709551615 - lb)) (bit_and right (18446744073709551615 - rb)) k
+    bit_at_or (bit_and left (18446744073709551615 - lb)) (bit_and right (18446744073709551615 - rb)) k
     ∙ ap₂ max
     (bit_at_and left (18446744073709551615 - lb) k ∙ ap (min (bit_at left k)) not_lb)
-    (bit_at_and right (18446744073709551615 - rb) k ∙ ap (min (bit_at right k)) not_rb))
+    (bit_at_and right (18446744073709551615 - rb) k ∙ ap (min (bit_at right k)) not_rb)
+
+-- the bits of the places where a run halts
+pub halting_bit : (mid sides k : ℕ) → k < 64 → mid < 18446744073709551616
+    → bit_at (bit_or (18446744073709551615 - mid) sides) k ≡ max (1 - bit_at mid k) (bit_at sides k)
+halting_bit mid sides k below mid_fits =
+    let not_mid : bit_at (18446744073709551615 - mid) k ≡ 1 - bit_at mid k = bit_at_not w64 mid k mid_fits below in
+    bit_at_or (18446744073709551615 - mid) sides k ∙ ap (λ b. max b (bit_at sides k)) not_mid
 
 -- the bits of a word that is moved down
 pub bit_after : (word k m : ℕ) → bit_at (word / 2 ^ k / 2) m ≡ bit_at word (k + 1 + m)
@@ -198,6 +199,17 @@ ends_bit mid left right w k p lb rb r below is before_left before_right =
     is
     ∙ ap₂ (λ a b. max (1 - a) b) (here mid)
     (ap₂ max (ap₂ opening before_left (here left)) (ap₂ opening before_right (here right)))
+
+-- the bits of a word of openings, where the sides' bits of the cell before are known
+pub sides_bit : (left right : List ℕ) (w k p lb rb r : ℕ) → k < 64
+    → bit_at r k ≡ max (opening (bit_at lb k) (bit_at (get_or left w 0) k))
+    (opening (bit_at rb k) (bit_at (get_or right w 0) k))
+    → bit_at lb k ≡ bit_in left p → bit_at rb k ≡ bit_in right p
+    → bit_at r k ≡ max (opening (bit_in left p) (bit_in left (64 * w + k)))
+    (opening (bit_in right p) (bit_in right (64 * w + k)))
+sides_bit left right w k p lb rb r below is before_left before_right =
+    let here = λ (line : List ℕ). of_word line w k (64 * w + k) below refl in
+    is ∙ ap₂ max (ap₂ opening before_left (here left)) (ap₂ opening before_right (here right))
 
 -- the first place with a bit, where the words before have none
 pub next_in : (bit : ℕ → ℕ) (from w t word : ℕ) → t < 64 → from < 64 * w → ((i : ℕ) → from < i → i < 64 * w → bit i ≡ 0)

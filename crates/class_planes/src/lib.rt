@@ -17,6 +17,7 @@ mod fills;
 mod free_places;
 mod joined_rects;
 mod lines;
+mod openings;
 mod plane_runs;
 mod plane_scans;
 mod plane_sets;

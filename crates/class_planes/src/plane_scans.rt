@@ -1,5 +1,5 @@
 //! Runs over the plane of one class.
-ghost use Rattle.std.specs.Prelude.{◌≡◌, ◌<◌, ◌≤◌, ◌+◌, ◌-◌, ◌/◌, ◌==◌, ◌&&◌, ◌↔◌, ◌⊎◌, ℕ, IsTrue, IsFalse, IfSome, IfNone, length};
+ghost use Rattle.std.specs.Prelude.{◌≡◌, ◌<◌, ◌≤◌, ◌+◌, ◌-◌, ◌/◌, ◌==◌, ◌&&◌, ◌↔◌, ◌⊎◌, ℕ, IsTrue, IsFalse, Some, IfSome, IfNone, length};
 ghost use Rattle.nav_types.specs.declared.cells.Cell.{Cell};
 ghost use Rattle.nav_types.specs.declared.limits.TheConstants.{MAX_SIDE};
 ghost use Rattle.nav_types.specs.Cells.{IsInside, IsInRect, cell_at};
@@ -13,6 +13,7 @@ ghost use Rattle.class_planes.specs.Planes.{AreFreeBits, is_passable};
 ghost use Rattle.class_planes.specs.inner.Runs.{Far, bit_in, cell_along, place_along, RunsFar, IsFirstHit, HasRoom, HoldsSteps};
 
 use crate::class_plane::ClassPlane;
+use crate::openings::first_opening;
 use crate::word_scans::{Reach, is_set};
 use nav_types::{Aim, Axis, Cell, Diagonal, Dir, Rect, Size, Straight, Way, place_on};
 use std::marker::Model;
@@ -27,6 +28,21 @@ fn reach(plane: &ClassPlane, from: Cell, straight: Straight) -> Reach
     plane
         .lanes_at(axis, from)
         .reach(straight.way, place_on(axis, from))
+}
+
+/// The steps of the straight run from the cell to the one at which a side opens, where it ends at such a cell.
+#[inline(always)]
+fn steps_to_opening(plane: &ClassPlane, from: Cell, straight: Straight) -> Option<u16>
+    requires { IsTrue (is_passable plane.now from) }
+    ensures { (far : Far) → RunsFar (is_passable plane.now) straight from far → IsTrue far.forced
+        → result ≡ Some far.count }
+{
+    let axis = straight.axis;
+    first_opening(
+        &plane.lanes_at(axis, from),
+        straight.way,
+        place_on(axis, from),
+    )
 }
 
 /// The cell so many steps away.
@@ -226,7 +242,8 @@ fn scanned_stop<A: Aim>(
     }
 }
 
-/// The cell at which a side opens for the straight run from the cell. The run is scanned only where there is one.
+/// The cell at which a side opens for the straight run from the cell. It is sought only where there is one, and then the
+/// first opening along the run is there.
 #[inline(always)]
 fn forced_stop(plane: &ClassPlane, from: Cell, straight: Straight) -> Option<Cell>
     requires start { IsTrue (is_passable plane.now from) }
@@ -237,8 +254,10 @@ fn forced_stop(plane: &ClassPlane, from: Cell, straight: Straight) -> Option<Cel
     if !plane.has_stop(from, straight) {
         return None;
     }
-    let Reach { count, forced } = reach(plane, from, straight);
-    end_of(from, straight, count, forced)
+    let Some(steps) = steps_to_opening(plane, from, straight) else {
+        return None;
+    };
+    Some(cell_along(from, straight, steps))
 }
 
 /// The last cell of the run, where a side opens there.

@@ -7,14 +7,14 @@ ghost use Rattle.class_planes.specs.inner.Runs.{bit_in, opening};
 ghost use Rattle.class_planes.specs.inner.StopLines.{stop_bit, IsStopBit};
 
 use crate::fills::{filled_down, filled_up};
-use crate::word_scans::{Lanes, moved_down, moved_up, top_before, word_at};
+use crate::word_scans::{Lanes, moved_down, moved_up, openings, top_before, word_at};
 
 /// Of the free places those where a side is free that was not before.
 fn opened(free: u64, left: u64, left_before: u64, right: u64, right_before: u64) -> u64
     ensures { (k : ℕ) → k < 64 → bit_at result k ≡ min (bit_at free k)
         (max (opening (bit_at left_before k) (bit_at left k)) (opening (bit_at right_before k) (bit_at right k))) }
 {
-    free & (left & !left_before | right & !right_before)
+    free & openings(left, left_before, right, right_before)
 }
 
 /// The lowest bit of the word, at the highest place.

@@ -50,7 +50,7 @@ impl<'a> Model for Lanes<'a> {
 }
 
 /// Word `w` of the line, with each bit a place up, and nothing said of the lowest place.
-fn shifted_up(line: &[u64], w: usize) -> u64
+pub fn shifted_up(line: &[u64], w: usize) -> u64
     requires { w < length line.now }
     ensures { (k : ℕ) → 0 < k → k < 64 → bit_at result k ≡ bit_in line.now (64 * w + k - 1) }
 {
@@ -58,7 +58,7 @@ fn shifted_up(line: &[u64], w: usize) -> u64
 }
 
 /// Word `w` of the line, with each bit a place down, and nothing said of the highest place.
-fn shifted_down(line: &[u64], w: usize) -> u64
+pub fn shifted_down(line: &[u64], w: usize) -> u64
     requires { w < length line.now }
     ensures { (k : ℕ) → k < 63 → bit_at result k ≡ bit_in line.now (64 * w + k + 1) }
 {
@@ -120,7 +120,7 @@ pub fn bits_after(word: u64, k: u16) -> u64
 }
 
 /// The bits before bit `k`.
-fn bits_before(word: u64, k: u16) -> u64
+pub fn bits_before(word: u64, k: u16) -> u64
     requires { k < 64 }
     ensures kept { (m : ℕ) → m < k → bit_at result m ≡ bit_at word m }
     ensures none { (m : ℕ) → k ≤ m → bit_at result m ≡ 0 }
@@ -128,12 +128,20 @@ fn bits_before(word: u64, k: u16) -> u64
     word & ((1 << k) - 1)
 }
 
+/// The places where a side is free that was not before.
+pub fn openings(left: u64, left_before: u64, right: u64, right_before: u64) -> u64
+    ensures { (k : ℕ) → k < 64 → bit_at result k
+        ≡ max (opening (bit_at left_before k) (bit_at left k)) (opening (bit_at right_before k) (bit_at right k)) }
+{
+    left & !left_before | right & !right_before
+}
+
 /// The places where a run halts: those that are not free, and those where a side is free that was not before.
 fn halting(mid: u64, left: u64, left_before: u64, right: u64, right_before: u64) -> u64
     ensures { (k : ℕ) → k < 64 → bit_at result k ≡ max (1 - bit_at mid k)
         (max (opening (bit_at left_before k) (bit_at left k)) (opening (bit_at right_before k) (bit_at right k))) }
 {
-    !mid | (left & !left_before | right & !right_before)
+    !mid | openings(left, left_before, right, right_before)
 }
 
 impl<'a> Lanes<'a> {
@@ -344,7 +352,7 @@ pub fn lowest(word: u64) -> u16
 }
 
 /// The place of the highest set bit.
-fn highest(word: u64) -> u16
+pub fn highest(word: u64) -> u16
     requires { 0 < word }
     ensures small { result < 64 }
     ensures set { bit_at word result ≡ 1 }

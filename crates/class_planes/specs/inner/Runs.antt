@@ -31,17 +31,22 @@ pub record AreLanes (lanes : LaneWords) : Type 0 where
   pub right : length lanes.right ≡ length lanes.mid
   pub few : length lanes.mid ≤ 33
 
+-- 1 where a side opens for an upward run at the place
+abbrev pub open_up : List ℕ → List ℕ → ℕ → ℕ
+open_up left right i = max (opening (bit_in left (i - 1)) (bit_in left i)) (opening (bit_in right (i - 1)) (bit_in right i))
+
+-- 1 where a side opens for a downward run at the place
+abbrev pub open_down : List ℕ → List ℕ → ℕ → ℕ
+open_down left right i =
+    max (opening (bit_in left (i + 1)) (bit_in left i)) (opening (bit_in right (i + 1)) (bit_in right i))
+
 -- 1 where an upward run halts at the place: it is not free, or a side opens there
 abbrev pub end_up : LaneWords → ℕ → ℕ
-end_up lanes i = max (1 - bit_in lanes.mid i)
-    (max (opening (bit_in lanes.left (i - 1)) (bit_in lanes.left i))
-    (opening (bit_in lanes.right (i - 1)) (bit_in lanes.right i)))
+end_up lanes i = max (1 - bit_in lanes.mid i) (open_up lanes.left lanes.right i)
 
 -- 1 where a downward run halts at the place
 abbrev pub end_down : LaneWords → ℕ → ℕ
-end_down lanes i = max (1 - bit_in lanes.mid i)
-    (max (opening (bit_in lanes.left (i + 1)) (bit_in lanes.left i))
-    (opening (bit_in lanes.right (i + 1)) (bit_in lanes.right i)))
+end_down lanes i = max (1 - bit_in lanes.mid i) (open_down lanes.left lanes.right i)
 
 -- the first place after another whose bit is 1
 pub record IsNext (bit : ℕ → ℕ) (from to : ℕ) : Type 0 where
@@ -68,6 +73,11 @@ pub record Far : Type 0 where
 -- 1 where a side opens with the step after so many
 abbrev pub opens_after : (ℕ → ℕ) → (ℕ → ℕ) → ℕ → ℕ
 opens_after left right n = max (opening (left n) (left (suc n))) (opening (right n) (right (suc n)))
+
+-- of the sides with these bits the first one opens with the last of so many steps
+pub record OpensFirst (left right : ℕ → ℕ) (count : ℕ) : Type 0 where
+  pub opens : (n : ℕ) × ((suc n ≡ count) × (opens_after left right n ≡ 1))
+  pub shut : (n : ℕ) → suc n < count → opens_after left right n ≡ 0
 
 -- the run along these bits goes so far: to the first opening, or to its last free place
 pub record GoesFar (mid left right : ℕ → ℕ) (far : Far) : Type 0 where

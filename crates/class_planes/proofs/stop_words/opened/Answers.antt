@@ -1,7 +1,8 @@
-use Rattle.class_planes.proofs.StopWordLemmas.{opened_bit}
+use Rattle.std.proofs.Common.{min, ap, ◌∙◌}
+use Rattle.std.specs.Int.{bit_at}
+use Rattle.std.proofs.lemmas.Nat.Bits.{bit_at_and}
 use Rattle.class_planes.proofs.stop_words.opened.Goals as goal
 
 pub returns : goal.returns
 returns c k below =
-    opened_bit c.args.free c.args.left c.args.left_before c.args.right c.args.right_before k below
-    c.ranges.left_before.fits c.ranges.right_before.fits
+    bit_at_and c.args.free c.openings.result k ∙ ap (min (bit_at c.args.free k)) (c.openings.ensures k below)
