@@ -1,5 +1,5 @@
 //! Runs over a view that has planes.
-ghost use Rattle.std.specs.Prelude.{IsTrue, IsFalse, IfSome, IfNone};
+ghost use Rattle.std.specs.Prelude.{◌<◌, IsTrue, IsFalse, IfSome, IfNone};
 ghost use Rattle.nav_types.specs.declared.cells.Cell.{Cell};
 ghost use Rattle.nav_types.specs.Directions.{is_straight};
 ghost use Rattle.jump_scan.specs.Stops.{IsStraightStop, IsDiagonalStop};
@@ -104,7 +104,7 @@ impl<'a, V: View> Runs for PlaneRuns<'a, V> {
     fn straight<A: Aim>(&self, class: Class, from: Cell, dir: Dir, aim: &A) -> Option<Cell> {
         match self.plane(class) {
             Some(plane) => straight_stop(plane, from, dir, aim),
-            None => jump_scan::straight(self.view, class, from, dir, aim),
+            None => straight_by_cells(self.view, class, from, dir, aim),
         }
     }
 
@@ -112,9 +112,52 @@ impl<'a, V: View> Runs for PlaneRuns<'a, V> {
     fn diagonal<A: Aim>(&self, class: Class, from: Cell, dir: Dir, aim: &A) -> Option<Cell> {
         match self.plane(class) {
             Some(plane) => diagonal_stop(plane, from, dir, aim),
-            None => jump_scan::diagonal(self.view, class, from, dir, aim),
+            None => diagonal_by_cells(self.view, class, from, dir, aim),
         }
     }
+}
+
+/// The stop of the straight run from the cell, scanned cell by cell. Its answer is kept apart from that of a plane, which
+/// then needs no memory.
+#[inline(always)]
+fn straight_by_cells<V: View, A: Aim>(
+    view: &V,
+    class: Class,
+    from: Cell,
+    dir: Dir,
+    aim: &A,
+) -> Option<Cell>
+    requires class { class < V.class_count view.now }
+    requires start { IsTrue (V.passes view.now class from) }
+    requires straight { IsTrue (is_straight dir) }
+    requires aim { A.sound aim.now (V.extent view.now) }
+    ensures some { IfSome result
+        (IsStraightStop (V.passes view.now class) (A.hit aim.now (V.extent view.now)) dir from) }
+    ensures none { IfNone result
+        ((stop : Cell) → ¬ IsStraightStop (V.passes view.now class) (A.hit aim.now (V.extent view.now)) dir from stop) }
+{
+    jump_scan::straight(view, class, from, dir, aim)
+}
+
+/// The stop of the diagonal run from the cell, scanned cell by cell.
+#[inline(always)]
+fn diagonal_by_cells<V: View, A: Aim>(
+    view: &V,
+    class: Class,
+    from: Cell,
+    dir: Dir,
+    aim: &A,
+) -> Option<Cell>
+    requires class { class < V.class_count view.now }
+    requires start { IsTrue (V.passes view.now class from) }
+    requires diagonal { IsFalse (is_straight dir) }
+    requires aim { A.sound aim.now (V.extent view.now) }
+    ensures some { IfSome result
+        (IsDiagonalStop (V.passes view.now class) (A.hit aim.now (V.extent view.now)) dir from) }
+    ensures none { IfNone result
+        ((stop : Cell) → ¬ IsDiagonalStop (V.passes view.now class) (A.hit aim.now (V.extent view.now)) dir from stop) }
+{
+    jump_scan::diagonal(view, class, from, dir, aim)
 }
 
 /// The stop of the straight run from the cell.

@@ -219,7 +219,7 @@ pub fn straight<A: Aim>(
 }
 
 /// The stop of the straight run from the cell, which is scanned, and looked through for a cell that is hit.
-#[inline(never)]
+#[inline(always)]
 fn scanned_stop<A: Aim>(
     plane: &ClassPlane,
     from: Cell,
@@ -235,10 +235,35 @@ fn scanned_stop<A: Aim>(
     ensures none { IfNone result
         ((stop : Cell) → ¬ IsStraightStop (is_passable plane.now) (A.hit aim.now plane.now.size) (straight_dir straight) from stop) }
 {
+    let Some(steps) = scanned_steps(plane, from, straight, rect, aim) else {
+        return None;
+    };
+    Some(cell_along(from, straight, steps))
+}
+
+/// The steps of the straight run from the cell to its stop. Few runs come here, and a number alone is handed back, so that
+/// the others are not slowed.
+#[inline(never)]
+fn scanned_steps<A: Aim>(
+    plane: &ClassPlane,
+    from: Cell,
+    straight: Straight,
+    rect: Rect,
+    aim: &A,
+) -> Option<u16>
+    requires start { IsTrue (is_passable plane.now from) }
+    requires aim { A.sound aim.now plane.now.size }
+    requires frame { IsFrame (A.framed aim.now plane.now.size) plane.now.size rect }
+    ensures some { IfSome result (λ steps. IsStraightStop (is_passable plane.now) (A.hit aim.now plane.now.size)
+        (straight_dir straight) from (cell_along straight from steps)) }
+    ensures inside { IfSome result (λ steps. IsInside plane.now.size (cell_along straight from steps)) }
+    ensures none { IfNone result
+        ((stop : Cell) → ¬ IsStraightStop (is_passable plane.now) (A.hit aim.now plane.now.size) (straight_dir straight) from stop) }
+{
     let Reach { count, forced } = reach(plane, from, straight);
     match first_hit(plane.size(), from, straight, count, rect, aim) {
-        Some(steps) => Some(cell_along(from, straight, steps)),
-        None => end_of(from, straight, count, forced),
+        Some(steps) => Some(steps),
+        None => end_of(count, forced),
     }
 }
 
@@ -260,18 +285,12 @@ fn forced_stop(plane: &ClassPlane, from: Cell, straight: Straight) -> Option<Cel
     Some(cell_along(from, straight, steps))
 }
 
-/// The last cell of the run, where a side opens there.
-fn end_of(from: Cell, straight: Straight, count: u16, forced: bool) -> Option<Cell>
-    requires column { (cell_along straight from count).i < MAX_SIDE }
-    requires row { (cell_along straight from count).j < MAX_SIDE }
-    ensures some { IfSome result (λ cell. IsTrue forced × (cell ≡ cell_along straight from count)) }
+/// The steps to the last cell of the run, where a side opens there.
+fn end_of(count: u16, forced: bool) -> Option<u16>
+    ensures some { IfSome result (λ steps. IsTrue forced × (steps ≡ count)) }
     ensures none { IfNone result (IsFalse forced) }
 {
-    if forced {
-        Some(cell_along(from, straight, count))
-    } else {
-        None
-    }
+    if forced { Some(count) } else { None }
 }
 
 /// Whether the straight run from the cell, which is scanned, has a stop.

@@ -1,57 +1,25 @@
-use Rattle.std.proofs.Common.{Option, Some, None, IfSome, IfNone, Bool, IsTrue, IsFalse, ◌≡◌, sym, subst}
-use Rattle.nav_types.specs.declared.cells.Cell.{Cell}
+use Rattle.std.proofs.Common.{sym, subst, arith}
 use Rattle.nav_types.specs.declared.cells.Size.{Size}
-use Rattle.jump_scan.specs.Stops.{IsStraightStop}
 use Rattle.nav_types.specs.Straights.{straight_dir}
+use Rattle.jump_scan.specs.Stops.{IsStraightStop}
 use Rattle.class_planes.specs.Planes.{is_passable}
-use Rattle.class_planes.specs.inner.Runs.{Far, RunsFar, cell_along}
-use Rattle.class_planes.proofs.StopLemmas.{stop_hit, stop_end, stop_none}
 use Rattle.class_planes.proofs.plane_scans.scanned_stop.Goals as goal
 
-end_some : (answer : Option Cell) (Is : Cell → Type 0) (forced : Bool) (at : Cell) → IfSome answer (λ cell. IsTrue forced × (cell ≡ at)) → (IsTrue forced → Is at) → IfSome answer Is
-end_some None Is forced at found is = found
-end_some (Some cell) Is forced at found is = subst Is (sym found.1) (is found.0)
+pub cell_along-requires-clause-column : goal.cell_along-requires-clause-column
+cell_along-requires-clause-column g c =
+    let size : Size = c.args.plane.now.size in
+    let at = c.in-Some.ensures.inside.column in
+    let few = size.wide.few in
+    omega (arith, at, few)
 
-end_none : (answer : Option Cell) (Not : Type 0) (forced : Bool) → IfNone answer (IsFalse forced) → (IsFalse forced → Not) → IfNone answer Not
-end_none None Not forced found is = is found
-end_none (Some cell) Not forced found is = found
+pub cell_along-requires-clause-row : goal.cell_along-requires-clause-row
+cell_along-requires-clause-row g c =
+    let size : Size = c.args.plane.now.size in
+    let at = c.in-Some.ensures.inside.row in
+    let few = size.high.few in
+    omega (arith, at, few)
 
-pub returns-in-Some-clause-some : goal.returns-in-Some-clause-some
-returns-in-Some-clause-some g c =
-    let passes = is_passable c.args.plane.now in
-    let hit = λ (size : Size). g.A.Aim.hit c.args.aim.now size in
-    let far : Far = record { count = c.count.inside.count; forced = c.count.inside.forced } in
-    let runs : RunsFar passes c.args.straight c.args.from far = subst (λ (f : Far). RunsFar passes c.args.straight c.args.from f)
-    (sym c.count.view_is) c.reach.ensures in
-    subst (λ (cell : Cell). IsStraightStop passes (hit c.args.plane.now.size) (straight_dir c.args.straight) c.args.from cell)
-    (sym c.cell_along.ensures)
-    (subst (λ (size : Size). IsStraightStop passes (hit size) (straight_dir c.args.straight) c.args.from
-    (cell_along c.args.straight c.args.from c.in-Some.steps)) c.size.ensures
-    (stop_hit passes (hit c.size.result) c.args.straight c.args.from far c.in-Some.steps runs c.in-Some.ensures.some))
-
-pub returns-in-None-clause-some : goal.returns-in-None-clause-some
-returns-in-None-clause-some g c =
-    let passes = is_passable c.args.plane.now in
-    let hit = λ (size : Size). g.A.Aim.hit c.args.aim.now size in
-    let far : Far = record { count = c.count.inside.count; forced = c.count.inside.forced } in
-    let runs : RunsFar passes c.args.straight c.args.from far = subst (λ (f : Far). RunsFar passes c.args.straight c.args.from f)
-    (sym c.count.view_is) c.reach.ensures in
-    end_some c.end_of.result (IsStraightStop passes (hit c.args.plane.now.size) (straight_dir c.args.straight) c.args.from) far.forced
-    (cell_along c.args.straight c.args.from far.count) c.end_of.ensures.some
-    (λ is. subst (λ (size : Size). IsStraightStop passes (hit size) (straight_dir c.args.straight) c.args.from
-    (cell_along c.args.straight c.args.from far.count)) c.size.ensures
-    (stop_end passes (hit c.size.result) c.args.straight c.args.from far runs c.in-None.ensures.none is))
-
-pub returns-in-None-clause-none : goal.returns-in-None-clause-none
-returns-in-None-clause-none g c =
-    let passes = is_passable c.args.plane.now in
-    let hit = λ (size : Size). g.A.Aim.hit c.args.aim.now size in
-    let far : Far = record { count = c.count.inside.count; forced = c.count.inside.forced } in
-    let runs : RunsFar passes c.args.straight c.args.from far = subst (λ (f : Far). RunsFar passes c.args.straight c.args.from f)
-    (sym c.count.view_is) c.reach.ensures in
-    end_none c.end_of.result
-    ((stop : Cell) → IsStraightStop passes (hit c.args.plane.now.size) (straight_dir c.args.straight) c.args.from stop → ⊥) far.forced
-    c.end_of.ensures.none
-    (λ is. subst (λ (size : Size). (stop : Cell) → IsStraightStop passes (hit size) (straight_dir c.args.straight) c.args.from stop → ⊥)
-    c.size.ensures
-    (stop_none passes (hit c.size.result) c.args.straight c.args.from far runs c.in-None.ensures.none is))
+pub returns-clause-some : goal.returns-clause-some
+returns-clause-some g c =
+    subst (IsStraightStop (is_passable c.args.plane.now) (g.A.Aim.hit c.args.aim.now c.args.plane.now.size)
+    (straight_dir c.args.straight) c.args.from) (sym c.cell_along.ensures) c.in-Some.ensures.some

@@ -19,7 +19,7 @@ returns-in-Some-clause-none g c =
 
 pub returns-in-None-clause-none : goal.returns-in-None-clause-none
 returns-in-None-clause-none g c =
-    subst (λ v. IfNone c.diagonal.result
+    subst (λ v. IfNone c.diagonal_by_cells.result
     ((stop : Cell) → IsDiagonalStop (g.V.View.passes v c.args.class)
     (g.A.Aim.hit c.args.aim.now (g.V.View.extent v)) c.args.dir c.args.from stop → ⊥)) c.self.view_is
-    c.diagonal.ensures.none
+    c.diagonal_by_cells.ensures.none

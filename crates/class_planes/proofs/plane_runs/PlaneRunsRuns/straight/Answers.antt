@@ -19,7 +19,7 @@ returns-in-Some-clause-none g c =
 
 pub returns-in-None-clause-none : goal.returns-in-None-clause-none
 returns-in-None-clause-none g c =
-    subst (λ v. IfNone c.straight.result
+    subst (λ v. IfNone c.straight_by_cells.result
     ((stop : Cell) → IsStraightStop (g.V.View.passes v c.args.class)
     (g.A.Aim.hit c.args.aim.now (g.V.View.extent v)) c.args.dir c.args.from stop → ⊥)) c.self.view_is
-    c.straight.ensures.none
+    c.straight_by_cells.ensures.none
