@@ -128,7 +128,7 @@ fn unchanged_ids(alloc: Global, ids: &[u32], changed: &[u32]) -> Result<Ids, NoM
     ensures { IfOk result (λ kept. (id : ℕ) → Contains ids.now id
         → Contains changed.now id ⊎ Contains kept id) }
 {
-    let mut kept = Ids::new(alloc);
+    let mut kept = Ids::from(Vec::with_capacity(alloc, ids.len())?);
     for id in ids {
         keep_id(*id, changed, &mut kept)?;
     }

@@ -249,7 +249,9 @@ pub fn all_links(
         → Contains links link
         ↔ (IsSideLink size Side.East east.now link ⊎ IsSideLink size Side.North north.now link)) }
 {
-    let mut links = Links::new(alloc);
+    // room for the links of most maps
+    let room = 8 * chunks::count(size) as usize;
+    let mut links = Links::from(Vec::with_capacity(alloc, room)?);
     push_side(&mut links, size, east, Side::East)?;
     push_side(&mut links, size, north, Side::North)?;
     Ok(links)
