@@ -25,8 +25,8 @@ use Rattle.grid_versions.specs.Passing.{has_base, passable_at}
 use Rattle.grid_versions.specs.inner.ChunkLists.{chunk_numbered, IsChunkInside}
 use Rattle.grid_versions.specs.inner.Painting.{IsPaintedChunk, ArePaintedChunks}
 use Rattle.grid_versions.specs.inner.SameNumbers.{AreChunksOf, IsSameAt}
-use Rattle.grid_versions.specs.inner.Changing.{AreChanges}
-use Rattle.grid_versions.specs.inner.Reaching.{is_in_some, CoverChanges}
+use Rattle.grid_versions.specs.inner.Changing.{AreChanges, CoverPassable}
+use Rattle.grid_versions.specs.inner.Reaching.{Reached, is_in_some, CoverChanges}
 use Rattle.grid_versions.proofs.ChangeLemmas.{same_unless, unmarked_agrees}
 use Rattle.grid_versions.proofs.ChunkLemmas.{chunk_inside, place_below, numbered-place, item_at, AreOfChunks-at, AreOfChunks-weaker}
 use Rattle.grid_versions.proofs.PassingLemmas.{passable_in_words}
@@ -131,6 +131,21 @@ passable_same map old new rects k cell covers known inside out =
     passable-inside map old k cell known inside
     ∙ ap (λ b. not (has_base map k cell || b)) (covers.same k cell inside out)
     ∙ sym (passable-inside map new k cell known inside)
+
+-- the rectangles that cover what edits change hold each cell that is passable before and not now, or now and not before
+pub covers_passable : (map : Map) (old new : Standing) (bits : List ℕ) (reached : Reached) → CoverChanges map old new reached.rects
+    → reached.size ≡ map.size → (k : ℕ) → k < length map.classes
+    → AreChanges (passable_at map old k) (passable_at map new k) map.size k bits
+    → CoverPassable (passable_at map old k) (passable_at map new k) map.size reached
+covers_passable map old new bits reached covers sized k known change = record {
+  sized = sized;
+  same = λ cell out.
+      let before = passable_at map old k in
+      let now = passable_at map new k in
+      same_unless (before cell) (now cell) (λ apart.
+      apart (passable_same map old new reached.rects k cell covers known
+      (differing_inside before now map.size change.before_inside change.now_inside cell apart) out));
+}
 
 -- a chunk whose bit is clear has the same passable cells
 agrees_unmarked : (before now : Cell → Bool) (map : Map) (k : ℕ) (bits : List ℕ) (cell : Cell)

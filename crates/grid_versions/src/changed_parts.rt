@@ -11,29 +11,30 @@ ghost use Rattle.grid_versions.specs.Chunks.{chunk_count, chunk_place};
 ghost use Rattle.grid_versions.specs.inner.SameNumbers.{AreChunksOf, IsSameAt};
 ghost use Rattle.grid_versions.specs.inner.Reaching.{is_in_some};
 
-use crate::dirty_parts::dirty_part;
+use crate::dirty_parts::DirtyParts;
 use class_planes::ChangedPart;
 use nav_types::{Cell, NoMemory, Rect, Size};
 use navcell_grid::Patch;
 use shared_list::SharedList;
 use std::alloc::Global;
 
-/// The parts of the chunks in which cells of the reaches have other numbers than before, with the bits of what has
+/// The parts of the chunks in which cells of their dirty parts have other numbers than before, with the bits of what has
 /// changed in each chunk. A chunk without bits has none.
 pub fn changed_parts(
     alloc: Global,
     size: Size,
-    reaches: &[Rect],
+    dirty: &DirtyParts<'_>,
     changed: &[u16],
     before: &SharedList<Patch>,
     after: &SharedList<Patch>,
 ) -> Result<Vec<ChangedPart>, NoMemory>
+    requires sized { dirty.now.size ≡ size }
     requires each { length changed.now ≡ chunk_count size }
     requires before { AreChunksOf size before.now }
     requires after { AreChunksOf size after.now }
     ensures inside { IfOk result (λ parts. All (λ part. IsRectInside size part.rect) parts.items) }
     ensures held { IfOk result (λ parts. (class : ℕ) (cell : Cell) → IsKept parts.items class cell
-        → IsInside size cell → IsTrue (is_in_some reaches.now cell)
+        → IsInside size cell → IsTrue (is_in_some dirty.now.rects cell)
         → IsFalse (has_class class (slice_index changed.now (chunk_place size (chunk_of cell))))
         ⊎ IsSameAt before.now after.now (chunk_place size (chunk_of cell)) cell) }
 {
@@ -41,47 +42,50 @@ pub fn changed_parts(
     for place in 0..changed.len() {
         let old = before.at(place);
         let new = after.at(place);
-        push_part(reaches, old, new, changed[place], &mut parts)?;
+        push_part(dirty.part_at(place), old, new, changed[place], &mut parts)?;
     }
     Ok(parts)
 }
 
-/// Appends the part of a chunk in which cells of the reaches have other numbers than before, with these bits.
+/// Appends the part of a chunk in which cells of its dirty part have other numbers than before, with these bits.
 fn push_part(
-    reaches: &[Rect],
+    dirty: Option<Rect>,
     before: &Patch,
     after: &Patch,
     classes: u16,
     parts: &mut Vec<ChangedPart>,
 ) -> Result<(), NoMemory>
-    requires { after.now.rect ≡ before.now.rect }
+    requires same { after.now.rect ≡ before.now.rect }
+    requires dirty { IfSome dirty (IsPartOf before.now.rect) }
     ensures inside { OnOk result ((size : Size) → IsRectInside size before.now.rect
         → All (λ part. IsRectInside size part.rect) parts.old.items
         → All (λ part. IsRectInside size part.rect) parts.new.items) }
     ensures before { OnOk result ((class : ℕ) (cell : Cell) → IsKept parts.new.items class cell
         → IsKept parts.old.items class cell) }
     ensures held { OnOk result ((class : ℕ) (cell : Cell) → IsKept parts.new.items class cell
-        → IsInRect before.now.rect cell → IsTrue (is_in_some reaches.now cell)
+        → IsSomeAnd dirty (λ part. IsInRect part cell)
         → IsFalse (has_class class classes) ⊎ (number_of before.now cell ≡ number_of after.now cell)) }
 {
     if classes == 0 {
         return Ok(());
     }
-    let Some(rect) = differing_part(reaches, before, after) else {
+    let Some(rect) = differing_part(dirty, before, after) else {
         return Ok(());
     };
     parts.push(ChangedPart { rect, classes })?;
     Ok(())
 }
 
-/// The least rectangle that holds all cells of the reaches whose numbers differ. None only where there is no such cell.
-fn differing_part(reaches: &[Rect], before: &Patch, after: &Patch) -> Option<Rect>
-    requires { after.now.rect ≡ before.now.rect }
+/// The least rectangle that holds all cells of the dirty part whose numbers differ. None only where there is no such cell.
+fn differing_part(dirty: Option<Rect>, before: &Patch, after: &Patch) -> Option<Rect>
+    requires same { after.now.rect ≡ before.now.rect }
+    requires dirty { IfSome dirty (IsPartOf before.now.rect) }
     ensures part { IfSome result (IsPartOf before.now.rect) }
-    ensures held { (cell : Cell) → IsInRect before.now.rect cell → IsTrue (is_in_some reaches.now cell)
+    ensures held { (cell : Cell) → IsSomeAnd dirty (λ part. IsInRect part cell)
         → number_of before.now cell ≢ number_of after.now cell → IsSomeAnd result (λ rect. IsInRect rect cell) }
 {
-    let Some(part) = dirty_part(reaches, before.rect()) else {
+    let _ = before.rect();
+    let Some(part) = dirty else {
         return None;
     };
     let mut found = None;

@@ -1,7 +1,10 @@
 //! The passable cells of a chunk as bits.
-ghost use Rattle.std.specs.Prelude.{ℕ, ◌≡◌, ◌⊎◌, ◌<◌, ◌≤◌, ◌+◌, ◌*◌, ◌/◌, ◌%◌, ◌^◌, IsTrue, slice_index};
+ghost use Rattle.std.specs.Prelude.{ℕ, ◌≡◌, ◌⊎◌, ◌<◌, ◌≤◌, ◌+◌, ◌*◌, ◌/◌, ◌%◌, ◌^◌, IfSome, IsSomeAnd, IsTrue, slice_index};
 ghost use Rattle.std.specs.Int.{bit_at};
 ghost use Rattle.nav_types.specs.declared.limits.TheConstants.{CHUNK_SIDE};
+ghost use Rattle.nav_types.specs.declared.cells.Cell.{Cell};
+ghost use Rattle.nav_types.specs.Cells.{IsInRect};
+ghost use Rattle.nav_types.specs.Rects.{IsPartOf, chunk_rect};
 ghost use Rattle.chunk_regions.specs.Labelling.{AreBitsOf, AreRowBits, AgreeElsewhere};
 ghost use Rattle.class_planes.specs.Planes.{is_passable};
 ghost use Rattle.grid_versions.specs.inner.ChunkLists.{IsChunkInside};
@@ -60,10 +63,20 @@ pub struct RowRange {
     pub to: u16,
 }
 
-/// Rows of a chunk between which all that lie in which the planes of before and of now differ.
-pub fn changed_rows(before: &ClassPlane, plane: &ClassPlane, chunk: Chunk) -> RowRange
+/// Rows of a chunk between which all that lie in which the planes of before and of now differ. They differ only in cells of
+/// the dirty part.
+pub fn changed_rows(
+    before: &ClassPlane,
+    plane: &ClassPlane,
+    chunk: Chunk,
+    dirty: Option<Rect>,
+) -> RowRange
     requires size { before.now.size ≡ plane.now.size }
     requires inside { IsChunkInside plane.now.size chunk }
+    requires part { IfSome dirty (IsPartOf (chunk_rect plane.now.size chunk)) }
+    requires same { (cell : Cell) → IsInRect (chunk_rect plane.now.size chunk) cell
+        → ¬ IsSomeAnd dirty (λ part. IsInRect part cell)
+        → is_passable before.now cell ≡ is_passable plane.now cell }
     ensures order { result.from ≤ result.to }
     ensures within { result.to ≤ CHUNK_SIDE }
     ensures map { CHUNK_SIDE * chunk.cj + result.to ≤ plane.now.size.h }
@@ -72,7 +85,10 @@ pub fn changed_rows(before: &ClassPlane, plane: &ClassPlane, chunk: Chunk) -> Ro
 {
     let rect = Rect::of_chunk(plane.size(), chunk);
     let mut rows = RowRange { from: 0, to: 0 };
-    for j in rect.j0..rect.j1 + 1 {
+    let Some(part) = dirty else {
+        return rows;
+    };
+    for j in part.j0..part.j1 + 1 {
         let same = same_words(before.row_words(j), plane.row_words(j), rect.i0);
         rows = with_row(rows, j - rect.j0, same);
     }

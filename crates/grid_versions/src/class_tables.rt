@@ -7,10 +7,11 @@ ghost use Rattle.lane_rows.specs.Rows.{has_class};
 ghost use Rattle.class_planes.specs.Planes.{ArePlanes, is_passable};
 ghost use Rattle.grid_versions.specs.Chunks.{chunk_count};
 ghost use Rattle.grid_versions.specs.Passing.{passable_at};
-ghost use Rattle.grid_versions.specs.inner.Changing.{AreChanges};
+ghost use Rattle.grid_versions.specs.inner.Changing.{AreChanges, CoverPassable};
 ghost use Rattle.grid_versions.specs.inner.Tables.{Tables, AreTables};
 ghost use Rattle.grid_versions.specs.inner.Tallying.{AreTablesOf};
 
+use crate::dirty_parts::DirtyParts;
 use crate::planes::plane_of;
 use crate::relabelling::{Changed, Marks};
 use crate::sites::Site;
@@ -49,11 +50,13 @@ pub fn class_tables<L: Ledger>(
     Ok(all)
 }
 
-/// The planes and the tables of all classes of a map before a change.
+/// The planes and the tables of all classes of a map before a change, and the parts of its chunks that cover what has
+/// changed since.
 #[derive(Drop)]
 pub struct Earlier<'a> {
     pub planes: &'a Planes,
     pub tables: &'a SharedList<ClassTables>,
+    pub dirty: &'a DirtyParts<'a>,
 }
 
 /// The tables of a class from those of before, its plane and what has changed: the same tables where no chunk has changed
@@ -67,6 +70,8 @@ fn tables_at<L: Ledger>(
 ) -> Result<Arc<ClassTables, Global>, NoMemory>
     requires within { changed.now.class < length before.now }
     requires size { changed.now.before.now.size ≡ plane.now.size }
+    requires dirty { CoverPassable (is_passable changed.now.before.now) (is_passable plane.now) plane.now.size
+        changed.now.dirty.now }
     requires before { ((tables : Tables) → slice_get before.now changed.now.class ≡ Some tables
         → AreTables (is_passable changed.now.before.now) plane.now.size tables)
         × AreChanges (is_passable changed.now.before.now) (is_passable plane.now) plane.now.size changed.now.class
@@ -100,7 +105,9 @@ pub fn next_tables<L: Ledger>(
         × (AreTablesOf (length site.now.map.now.classes) old site.now.map.now.size before.now.tables.now
         × (((k : ℕ) → k < length site.now.map.now.classes
         → AreChanges (old k) (passable_at site.now.map.now site.now.shapes.now k) site.now.map.now.size k changed.now)
-        × ArePlanes site.now.map.now.size old 65535 (length site.now.map.now.classes) before.now.planes.now)) }
+        × (ArePlanes site.now.map.now.size old 65535 (length site.now.map.now.classes) before.now.planes.now
+        × ((k : ℕ) → k < length site.now.map.now.classes
+        → CoverPassable (old k) (passable_at site.now.map.now site.now.shapes.now k) site.now.map.now.size before.now.dirty.now)))) }
     ensures tables { IfOk result (AreTablesOf (length site.now.map.now.classes)
         (passable_at site.now.map.now site.now.shapes.now) site.now.map.now.size) }
     ensures most { ticks.new ≤ ticks.old
@@ -116,6 +123,7 @@ pub fn next_tables<L: Ledger>(
             bits: &*changed,
             class,
             before: earlier,
+            dirty: before.dirty,
         };
         let tables = tables_at(alloc, plane, before.tables, &changed, ticks)?;
         all.push_shared(alloc, tables)?;

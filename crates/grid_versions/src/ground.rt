@@ -1,5 +1,5 @@
 //! What a version keeps of its cells chunk by chunk: their numbers, and which obstructions reach into them.
-ghost use Rattle.std.specs.Prelude.{IfOk};
+ghost use Rattle.std.specs.Prelude.{◌≡◌, IfOk};
 ghost use Rattle.obstruction_store.specs.Standing.{AllFit};
 ghost use Rattle.grid_versions.specs.inner.Painting.{AreBaseChunks, ArePaintedChunks, AreDiffering};
 ghost use Rattle.grid_versions.specs.inner.Reachers.{AreReachers};
@@ -59,8 +59,9 @@ impl Ground {
         requires reachers { AreReachers site.now.map.now earlier.now self.now.reachers }
         requires cells { ArePaintedChunks site.now.map.now earlier.now self.now.cells }
         requires fit { AllFit site.now.map.now.size site.now.shapes.now }
-        requires covers { CoverChanges site.now.map.now earlier.now site.now.shapes.now changes.now.reaches.now }
-        requires names { NameChanges site.now.map.now earlier.now site.now.shapes.now changes.now.reaches.now changes.now.ids.now }
+        requires sized { changes.now.dirty.now.size ≡ site.now.map.now.size }
+        requires covers { CoverChanges site.now.map.now earlier.now site.now.shapes.now changes.now.dirty.now.rects }
+        requires names { NameChanges site.now.map.now earlier.now site.now.shapes.now changes.now.dirty.now.rects changes.now.ids.now }
         ensures base { IfOk result (λ next. AreBaseChunks site.now.map.now next.0.base) }
         ensures reachers { IfOk result (λ next. AreReachers site.now.map.now site.now.shapes.now next.0.reachers) }
         ensures cells { IfOk result (λ next. ArePaintedChunks site.now.map.now site.now.shapes.now next.0.cells) }
@@ -77,7 +78,7 @@ impl Ground {
         };
         let before = Before {
             cells: &self.cells,
-            reaches: changes.reaches,
+            dirty: changes.dirty,
             ids: changes.ids,
             adds,
             removes,

@@ -11,6 +11,7 @@ ghost use Rattle.grid_versions.specs.inner.Reaching.{CoverChanges, NameChanges};
 
 use crate::changed_parts::changed_parts;
 use crate::class_tables::{Earlier, class_tables, next_tables};
+use crate::dirty_parts::DirtyParts;
 use crate::ground::Ground;
 use crate::painted_map::PaintedMap;
 use crate::relabelling::{Marks, marks_below};
@@ -18,7 +19,7 @@ use crate::sites::Site;
 use crate::standing_edits::Changes;
 use crate::tables::ClassTables;
 use class_planes::Planes;
-use nav_types::{NoMemory, Rect, Ticks};
+use nav_types::{NoMemory, Ticks};
 use navcell_grid::Patch;
 use obstruction_store::Store;
 use shared_list::SharedList;
@@ -74,8 +75,9 @@ impl Layers {
         requires parts { AreParts site.now.map.now earlier.now self.now.ground.base self.now.ground.reachers
             self.now.ground.cells self.now.planes self.now.tables }
         requires fit { AllFit site.now.map.now.size site.now.shapes.now }
-        requires covers { CoverChanges site.now.map.now earlier.now site.now.shapes.now changes.now.reaches.now }
-        requires names { NameChanges site.now.map.now earlier.now site.now.shapes.now changes.now.reaches.now changes.now.ids.now }
+        requires sized { changes.now.dirty.now.size ≡ site.now.map.now.size }
+        requires covers { CoverChanges site.now.map.now earlier.now site.now.shapes.now changes.now.dirty.now.rects }
+        requires names { NameChanges site.now.map.now earlier.now site.now.shapes.now changes.now.dirty.now.rects changes.now.ids.now }
         ensures parts { IfOk result (λ next. AreParts site.now.map.now site.now.shapes.now next.0.ground.base next.0.ground.reachers
             next.0.ground.cells next.0.planes next.0.tables) }
         ensures relabelled { IfOk result (λ next. HasRelabelled (length site.now.map.now.classes)
@@ -85,11 +87,12 @@ impl Layers {
     {
         let (ground, changed) = self.ground.updated(alloc, earlier, site, changes)?;
         let bits = changed.as_slice();
-        let planes = self.next_planes(alloc, site, &ground.cells, changes.reaches, bits)?;
+        let planes = self.next_planes(alloc, site, &ground.cells, changes.dirty, bits)?;
         let marks = Marks::new(alloc, bits)?;
         let before = Earlier {
             planes: &self.planes,
             tables: &self.tables,
+            dirty: changes.dirty,
         };
         let tables = next_tables(alloc, site, &planes, &before, &marks, ticks)?;
         let relabelled = marks_below(bits, site.map.classes().count());
@@ -102,26 +105,27 @@ impl Layers {
     }
 
     /// The planes of all classes of the map under the obstructions of now, whose cells have these numbers, from the planes
-    /// and the numbers of these layers. The rectangles cover what has changed, and the bits say in which chunks; what lies
+    /// and the numbers of these layers. The parts cover what has changed, and the bits say in which chunks; what lies
     /// elsewhere is shared.
     fn next_planes(
         &self,
         alloc: Global,
         site: &Site<'_>,
         cells: &SharedList<Patch>,
-        reaches: &[Rect],
+        dirty: &DirtyParts<'_>,
         changed: &[u16],
     ) -> Result<Planes, NoMemory>
         requires cells { ArePaintedChunks site.now.map.now site.now.shapes.now cells.now }
+        requires sized { dirty.now.size ≡ site.now.map.now.size }
         requires each { length changed.now ≡ chunk_count site.now.map.now.size }
         requires before { ArePlanesBefore site.now.map.now site.now.shapes.now self.now.planes self.now.ground.cells
-            reaches.now changed.now }
+            dirty.now.rects changed.now }
         ensures { IfOk result (ArePlanes site.now.map.now.size (passable_at site.now.map.now site.now.shapes.now) 65535
             (length site.now.map.now.classes)) }
     {
         let painted = PaintedMap::new(site, cells);
         let earlier = &self.ground.cells;
-        let parts = changed_parts(alloc, site.map.size(), reaches, changed, earlier, cells)?;
+        let parts = changed_parts(alloc, site.map.size(), dirty, changed, earlier, cells)?;
         self.planes.updated(alloc, &painted, &parts)
     }
 }

@@ -16,7 +16,7 @@ ghost use Rattle.grid_versions.specs.inner.Painting.{is_covered, AreBaseChunks, 
 ghost use Rattle.grid_versions.specs.inner.Reachers.{AreReachers, HoldReachers};
 ghost use Rattle.grid_versions.specs.inner.Reaching.{AreBefore, IsCoveredBefore};
 
-use crate::dirty_parts::dirty_part;
+use crate::dirty_parts::DirtyParts;
 use crate::painting::{Paint, repainted, repainted_below};
 use crate::sites::Site;
 use nav_types::{NoMemory, Rect};
@@ -35,11 +35,11 @@ pub struct Source<'a> {
     pub reachers: &'a SharedList<Ids>,
 }
 
-/// The numbers of before, with the rectangles that cover what has changed since, and with the numbers of what has.
+/// The numbers of before, with the parts of the chunks that cover what has changed since, and with the numbers of what has.
 #[derive(Drop)]
 pub struct Before<'a> {
     pub cells: &'a SharedList<Patch>,
-    pub reaches: &'a [Rect],
+    pub dirty: &'a DirtyParts<'a>,
     pub ids: &'a [u32],
     /// Whether nothing was but added.
     pub adds: bool,
@@ -103,7 +103,8 @@ fn next_patch(
     requires fit { AllFit source.now.site.now.map.now.size source.now.site.now.shapes.now }
     requires base { AreBaseChunks source.now.site.now.map.now source.now.base.now }
     requires reachers { AreReachers source.now.site.now.map.now source.now.site.now.shapes.now source.now.reachers.now }
-    requires before { AreBefore source.now.site.now.map.now source.now.site.now.shapes.now before.now.cells.now before.now.reaches.now before.now.ids.now before.now.adds before.now.removes }
+    requires sized { before.now.dirty.now.size ≡ source.now.site.now.map.now.size }
+    requires before { AreBefore source.now.site.now.map.now source.now.site.now.shapes.now before.now.cells.now before.now.dirty.now.rects before.now.ids.now before.now.adds before.now.removes }
     requires place { place < chunk_count source.now.site.now.map.now.size }
     ensures painted { IfOk result (λ next. IsPaintedChunk source.now.site.now.map.now source.now.site.now.shapes.now (chunk_numbered source.now.site.now.map.now.size place)
         (arc_value next.0)) }
@@ -111,7 +112,7 @@ fn next_patch(
         → (k : ℕ) → (bit_at next.1 k ≡ 1) ↔ DiffersIn k (arc_value next.0).rect old (arc_value next.0)) }
 {
     let old = before.cells.at(place);
-    let Some(part) = dirty_part(before.reaches, old.rect()) else {
+    let Some(part) = before.dirty.part_at(place) else {
         return Ok((before.cells.shared(place)?, 0));
     };
     let near = source.reachers.at(place);
@@ -138,7 +139,8 @@ pub fn next_patches(
     requires fit { AllFit source.now.site.now.map.now.size source.now.site.now.shapes.now }
     requires base { AreBaseChunks source.now.site.now.map.now source.now.base.now }
     requires reachers { AreReachers source.now.site.now.map.now source.now.site.now.shapes.now source.now.reachers.now }
-    requires before { AreBefore source.now.site.now.map.now source.now.site.now.shapes.now before.now.cells.now before.now.reaches.now before.now.ids.now before.now.adds before.now.removes }
+    requires sized { before.now.dirty.now.size ≡ source.now.site.now.map.now.size }
+    requires before { AreBefore source.now.site.now.map.now source.now.site.now.shapes.now before.now.cells.now before.now.dirty.now.rects before.now.ids.now before.now.adds before.now.removes }
     ensures painted { IfOk result (λ next. ArePaintedChunks source.now.site.now.map.now source.now.site.now.shapes.now next.0) }
     ensures bits { IfOk result (λ next. AreDiffering before.now.cells.now next.0 next.1.items) }
 {

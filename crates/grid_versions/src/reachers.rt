@@ -12,7 +12,6 @@ ghost use Rattle.grid_versions.specs.inner.ChunkLists.{chunk_numbered};
 ghost use Rattle.grid_versions.specs.inner.Reachers.{HoldChunkReachers, AreReachers, AreReachersBefore, AreReachersSince, IsReachNoted, HoldReached};
 
 use crate::chunks;
-use crate::dirty_parts::dirty_part;
 use crate::sites::Site;
 use crate::standing_edits::{Changes, reach_under};
 use nav_types::{NoMemory, Rect, Size};
@@ -166,7 +165,7 @@ pub fn all_reachers(alloc: Global, site: &Site<'_>) -> Result<SharedList<Ids>, N
     Ok(all)
 }
 
-/// The numbers of the obstructions of now that reach into the chunk at a place. The rectangles hold what the changed
+/// The numbers of the obstructions of now that reach into the chunk at a place. The changes' parts hold what the changed
 /// obstructions can block; the list of a chunk outside them is shared.
 fn reachers_at(
     alloc: Global,
@@ -176,24 +175,25 @@ fn reachers_at(
     changed: &[Reacher],
     place: u32,
 ) -> Result<Arc<Ids, Global>, NoMemory>
+    requires sized { changes.now.dirty.now.size ≡ size }
     requires place { place < chunk_count size }
     requires each { length before.now ≡ chunk_count size }
     ensures { IfOk result (λ made. (map : Map) (now : Standing) → map.size ≡ size
-        → AreReachersSince map now before.now changes.now.reaches.now changes.now.ids.now changed.now
+        → AreReachersSince map now before.now changes.now.dirty.now.rects changes.now.ids.now changed.now
         → HoldChunkReachers map now (chunk_numbered size place) (arc_value made)) }
 {
-    let rect = Rect::of_chunk(size, chunks::numbered(size, place));
-    let Some(_) = dirty_part(changes.reaches, rect) else {
+    let Some(_) = changes.dirty.part_at(place as usize) else {
         let shared = before.shared(place as usize)?;
         return Ok(shared);
     };
+    let rect = Rect::of_chunk(size, chunks::numbered(size, place));
     let old = before.at(place as usize).as_slice();
     let mut made = unchanged_ids(alloc, old, changes.ids)?;
     list_reachers(rect, changed, &mut made)?;
     Ok(Arc::new(alloc, made)?)
 }
 
-/// For each chunk of the map the numbers of the obstructions of now that reach into it. The rectangles hold what the
+/// For each chunk of the map the numbers of the obstructions of now that reach into it. The changes' parts hold what the
 /// obstructions of the changed numbers can block.
 pub fn next_reachers(
     alloc: Global,
@@ -202,13 +202,14 @@ pub fn next_reachers(
     changes: &Changes<'_>,
 ) -> Result<SharedList<Ids>, NoMemory>
     requires fit { AllFit site.now.map.now.size site.now.shapes.now }
-    requires before { AreReachersBefore site.now.map.now site.now.shapes.now before.now changes.now.reaches.now changes.now.ids.now }
+    requires sized { changes.now.dirty.now.size ≡ site.now.map.now.size }
+    requires before { AreReachersBefore site.now.map.now site.now.shapes.now before.now changes.now.dirty.now.rects changes.now.ids.now }
     ensures { IfOk result (AreReachers site.now.map.now site.now.shapes.now) }
 {
     let size = site.map.size();
     let rising = rising_ids(alloc, changes.ids)?;
     let named = Changes {
-        reaches: changes.reaches,
+        dirty: changes.dirty,
         ids: &rising,
     };
     let changed = reachers_of(alloc, site, named.ids)?;

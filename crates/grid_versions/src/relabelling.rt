@@ -5,6 +5,7 @@ ghost use Rattle.nav_types.specs.declared.limits.TheConstants.{MAX_CHUNKS};
 ghost use Rattle.lane_rows.specs.Rows.{has_class};
 ghost use Rattle.grid_versions.specs.inner.Marks.{AreNext};
 
+use crate::dirty_parts::DirtyParts;
 use class_planes::ClassPlane;
 use nav_types::{Class, NoMemory};
 use std::alloc::Global;
@@ -98,12 +99,14 @@ fn first_of(number: u16, place: usize, found: u32) -> u32
     if number == 0 { found } else { place as u32 }
 }
 
-/// Which chunks have changed for a class since its plane of before: those whose number has the bit of the class.
+/// Which chunks have changed for a class since its plane of before: those whose number has the bit of the class. The dirty
+/// parts cover what has changed.
 #[derive(Drop)]
 pub struct Changed<'a> {
     pub bits: &'a Marks<'a>,
     pub class: Class,
     pub before: &'a ClassPlane,
+    pub dirty: &'a DirtyParts<'a>,
 }
 
 /// A place from this one on, and before it no other from this one on has changed.

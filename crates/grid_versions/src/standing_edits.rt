@@ -7,6 +7,7 @@ ghost use Rattle.grid_versions.specs.Editing.{edit_reply, after_edit};
 ghost use Rattle.grid_versions.specs.Editing.{after_edits, edit_replies};
 ghost use Rattle.grid_versions.specs.inner.Reaching.{CoverChanges, HoldsReach, NameChanges};
 
+use crate::dirty_parts::DirtyParts;
 use crate::sites::Site;
 use clearance_raster::reach_of;
 use nav_types::{NoMemory, Rect, Sequence, Size};
@@ -31,10 +32,11 @@ pub struct Edited {
     pub ids: Ids,
 }
 
-/// What has changed of the standing obstructions: rectangles that cover it, and the numbers under which it stands.
+/// What has changed of the standing obstructions: the parts of the chunks that cover it, and the numbers under which it
+/// stands.
 #[derive(Drop)]
 pub struct Changes<'a> {
-    pub reaches: &'a [Rect],
+    pub dirty: &'a DirtyParts<'a>,
     pub ids: &'a [u32],
 }
 

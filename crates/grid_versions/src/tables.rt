@@ -7,7 +7,7 @@ ghost use Rattle.class_planes.specs.Planes.{is_passable};
 ghost use Rattle.reach_sets.specs.AreaNumbers.{area_of};
 ghost use Rattle.grid_versions.specs.Chunks.{chunk_count};
 ghost use Rattle.grid_versions.specs.inner.Building.{AreSides};
-ghost use Rattle.grid_versions.specs.inner.Changing.{AreChanges};
+ghost use Rattle.grid_versions.specs.inner.Changing.{AreChanges, CoverPassable};
 ghost use Rattle.grid_versions.specs.inner.Tables.{AreTables, AreOfMap, label_counts, region_counts, region_in};
 ghost use Rattle.grid_versions.specs.inner.Tables.{region_total, edge_total};
 
@@ -89,6 +89,8 @@ impl ClassTables {
         ticks: &mut Ticks<L>,
     ) -> Result<ClassTables, NoMemory>
         requires size { changed.now.before.now.size ≡ plane.now.size }
+        requires dirty { CoverPassable (is_passable changed.now.before.now) (is_passable plane.now) plane.now.size
+            changed.now.dirty.now }
         requires before { AreTables (is_passable changed.now.before.now) plane.now.size self.now
             × AreChanges (is_passable changed.now.before.now) (is_passable plane.now) plane.now.size changed.now.class
             changed.now.bits.now }

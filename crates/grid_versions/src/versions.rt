@@ -9,6 +9,7 @@ ghost use Rattle.grid_versions.specs.Chunks.{chunk_count, chunk_place};
 ghost use Rattle.grid_versions.specs.inner.Tables.{AreTables};
 
 use crate::class_views::ClassView;
+use crate::dirty_parts::DirtyParts;
 use crate::layers::Layers;
 use crate::painted_map::PaintedMap;
 use crate::planes::plane_of;
@@ -185,8 +186,9 @@ impl Version {
             reaches,
             ids,
         } = edited_copy(alloc, &site, edits.as_slice())?;
+        let dirty = DirtyParts::new(alloc, site.map.size(), reaches.as_slice())?;
         let changes = Changes {
-            reaches: reaches.as_slice(),
+            dirty: &dirty,
             ids: ids.as_slice(),
         };
         let (version, relabelled) = self.updated(alloc, shapes, &changes, ticks)?;
@@ -242,8 +244,9 @@ impl Version {
         ticks: &mut Ticks<L>,
     ) -> Result<(Version, u32), NoMemory>
         requires fit { AllFit self.now.map.size shapes }
-        requires covers { CoverChanges self.now.map self.now.standing shapes changes.now.reaches.now }
-        requires names { NameChanges self.now.map self.now.standing shapes changes.now.reaches.now changes.now.ids.now }
+        requires sized { changes.now.dirty.now.size ≡ self.now.map.size }
+        requires covers { CoverChanges self.now.map self.now.standing shapes changes.now.dirty.now.rects }
+        requires names { NameChanges self.now.map self.now.standing shapes changes.now.dirty.now.rects changes.now.ids.now }
         ensures version { IfOk result (λ next. next.0 ≡ map_state self.now.map shapes) }
         ensures relabelled { IfOk result (λ next. HasRelabelled (length self.now.map.classes) (passes_of self.now)
             (passes_of (map_state self.now.map shapes)) next.1) }

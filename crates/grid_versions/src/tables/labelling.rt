@@ -4,7 +4,7 @@ ghost use Rattle.class_planes.specs.Planes.{is_passable};
 ghost use Rattle.chunk_regions.specs.Labelling.{Labelling, AreLabels};
 ghost use Rattle.grid_versions.specs.Chunks.{chunk_count};
 ghost use Rattle.grid_versions.specs.inner.ChunkLists.{chunk_numbered, IsRemadeAt};
-ghost use Rattle.grid_versions.specs.inner.Changing.{AreChanges};
+ghost use Rattle.grid_versions.specs.inner.Changing.{AreChanges, CoverPassable};
 ghost use Rattle.grid_versions.specs.inner.Tables.{AreAllLabels, label_counts};
 
 use crate::chunk_bits::{changed_rows, passable_cells, passable_in_rows};
@@ -60,13 +60,15 @@ fn rows_labelled<L: Ledger>(
     alloc: Global,
     plane: &ClassPlane,
     labels: &Labels,
-    before: &ClassPlane,
+    changed: &Changed<'_>,
     place: u32,
     ticks: &mut Ticks<L>,
 ) -> Result<Labels, NoMemory>
     requires within { place < chunk_count plane.now.size }
-    requires size { before.now.size ≡ plane.now.size }
-    requires before { AreLabels (is_passable before.now) plane.now.size (chunk_numbered plane.now.size place) labels.now }
+    requires size { changed.now.before.now.size ≡ plane.now.size }
+    requires dirty { CoverPassable (is_passable changed.now.before.now) (is_passable plane.now) plane.now.size
+        changed.now.dirty.now }
+    requires before { AreLabels (is_passable changed.now.before.now) plane.now.size (chunk_numbered plane.now.size place) labels.now }
     ensures labels { IfOk result (AreLabels (is_passable plane.now) plane.now.size
         (chunk_numbered plane.now.size place)) }
     ensures ticks { ticks.new ≡ ticks.old + 1 }
@@ -75,7 +77,12 @@ fn rows_labelled<L: Ledger>(
         return labels_at(alloc, plane, place, ticks);
     }
     let chunk = chunks::numbered(plane.size(), place);
-    let rows = changed_rows(before, plane, chunk);
+    let rows = changed_rows(
+        changed.before,
+        plane,
+        chunk,
+        changed.dirty.part_at(place as usize),
+    );
     let bits = passable_in_rows(plane, chunk, rows);
     chunk_regions::relabel(alloc, labels, rows.from, rows.to, &bits, ticks)
 }
@@ -93,6 +100,8 @@ fn relabel_at<L: Ledger>(
     requires within { place < chunk_count plane.now.size }
     requires each { length labels.old ≡ chunk_count plane.now.size }
     requires size { changed.now.before.now.size ≡ plane.now.size }
+    requires dirty { CoverPassable (is_passable changed.now.before.now) (is_passable plane.now) plane.now.size
+        changed.now.dirty.now }
     requires before { AreChanges (is_passable changed.now.before.now) (is_passable plane.now) plane.now.size
         changed.now.class changed.now.bits.now
         × ((item : Labelling) → slice_get labels.old place ≡ Some item
@@ -110,7 +119,7 @@ fn relabel_at<L: Ledger>(
         alloc,
         plane,
         labels.at(place as usize),
-        changed.before,
+        changed,
         place,
         ticks,
     )?;
@@ -129,6 +138,8 @@ fn relabel<L: Ledger>(
     ticks: &mut Ticks<L>,
 ) -> Result<bool, NoMemory>
     requires size { changed.now.before.now.size ≡ plane.now.size }
+    requires dirty { CoverPassable (is_passable changed.now.before.now) (is_passable plane.now) plane.now.size
+        changed.now.dirty.now }
     requires before { AreAllLabels (is_passable changed.now.before.now) plane.now.size labels.old
         × AreChanges (is_passable changed.now.before.now) (is_passable plane.now) plane.now.size changed.now.class
         changed.now.bits.now }
@@ -157,6 +168,8 @@ pub fn next_labels<L: Ledger>(
     ticks: &mut Ticks<L>,
 ) -> Result<(SharedList<Labels>, bool), NoMemory>
     requires size { changed.now.before.now.size ≡ plane.now.size }
+    requires dirty { CoverPassable (is_passable changed.now.before.now) (is_passable plane.now) plane.now.size
+        changed.now.dirty.now }
     requires before { AreAllLabels (is_passable changed.now.before.now) plane.now.size before.now
         × AreChanges (is_passable changed.now.before.now) (is_passable plane.now) plane.now.size changed.now.class
         changed.now.bits.now }

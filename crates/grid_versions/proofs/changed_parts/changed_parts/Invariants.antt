@@ -14,7 +14,7 @@ abbrev pub invariant-loop-place : goal.invariant-loop-place
 invariant-loop-place l = record {
   inside : All (λ part. IsRectInside l.fn.size part.rect) l.parts.items;
   held : (class : ℕ) (cell : Cell) → IsKept l.parts.items class cell → IsInside l.fn.size cell
-      → IsTrue (is_in_some l.reaches cell) → chunk_place l.fn.size (chunk_of cell) < l.place
+      → IsTrue (is_in_some l.dirty.rects cell) → chunk_place l.fn.size (chunk_of cell) < l.place
       → IsFalse (has_class class (get_or l.changed (chunk_place l.fn.size (chunk_of cell)) 0))
       ⊎ IsSameAt l.before l.after (chunk_place l.fn.size (chunk_of cell)) cell;
 }

@@ -12,13 +12,13 @@ use Rattle.grid_versions.proofs.PlanePartLemmas.{no_class, one_number, part_in_m
 use Rattle.grid_versions.proofs.changed_parts.push_part.Goals as goal
 
 pub returns-then-classes-eq0-clause-held : goal.returns-then-classes-eq0-clause-held
-returns-then-classes-eq0-clause-held c = λ class cell kept inside reached.
+returns-then-classes-eq0-clause-held c = λ class cell kept reached.
     inl (subst (λ (n : ℕ). IsFalse (has_class class n)) (sym c.if-classes-eq0.true) (no_class class))
 
 pub returns-in_default-clause-held : goal.returns-in_default-clause-held
-returns-in_default-clause-held c = λ class cell kept inside reached.
+returns-in_default-clause-held c = λ class cell kept reached.
     inr (one_number (number_of c.args.before.now cell) (number_of c.args.after.now cell)
-    (c.in_default.ensures.held cell inside reached))
+    (c.in_default.ensures.held cell reached))
 
 pub returns-clause-inside : goal.returns-clause-inside
 returns-clause-inside c = λ size within all.
@@ -35,12 +35,12 @@ returns-clause-before c = λ class cell kept.
     c.args.parts.now.items part (subst (λ (parts : List ChangedPart). IsKept parts class cell) c.in_ok-push.ensures.items kept)
 
 pub returns-clause-held : goal.returns-clause-held
-returns-clause-held c = λ class cell kept inside reached.
+returns-clause-held c = λ class cell kept reached.
     let part : ChangedPart = record { rect = c.in-Some.rect; classes = c.args.classes } in
     let out = all_last (λ (part : ChangedPart). IsTrue (has_class class part.classes) → IsInRect part.rect cell → ⊥)
     c.args.parts.now.items part (subst (λ (parts : List ChangedPart). IsKept parts class cell) c.in_ok-push.ensures.items kept) in
     elim (cases_Bool (has_class class c.args.classes)) [
       | inl set ↦ inr (one_number (number_of c.args.before.now cell) (number_of c.args.after.now cell)
-          (λ apart. out set (c.in-Some.ensures.held cell inside reached apart)))
+          (λ apart. out set (c.in-Some.ensures.held cell reached apart)))
       | inr clear ↦ inl clear
     ]

@@ -7,7 +7,7 @@ use Rattle.lane_rows.specs.Rows.{has_class}
 use Rattle.class_planes.specs.Planes.{is_passable}
 use Rattle.class_planes.proofs.PlaneLemmas.{are_of, each_there}
 use Rattle.grid_versions.specs.Passing.{passable_at}
-use Rattle.grid_versions.specs.inner.Changing.{AreChanges}
+use Rattle.grid_versions.specs.inner.Changing.{AreChanges, CoverPassable}
 use Rattle.grid_versions.specs.inner.Tables.{Tables, AreTables}
 use Rattle.grid_versions.specs.inner.Tallying.{AreTablesOf}
 use Rattle.grid_versions.proofs.VersionLemmas.{AreTablesOf-push, of_plane, to_plane, sum_range_more, sum_range_most}
@@ -34,7 +34,7 @@ plane_of-earlier-requires g c =
     let map = c.args.site.now.map.now in
     let each = c.requires.before.1.0.each in
     let few = c.requires.few in
-    each_there map.size c.requires.before.0 (length map.classes) c.args.before.now.planes.now c.requires.before.1.1.1
+    each_there map.size c.requires.before.0 (length map.classes) c.args.before.now.planes.now c.requires.before.1.1.1.0
     (omega arith) c.new-class.result (omega (arith, c.new-class.ensures))
 
 pub tables_at-requires-clause-size : goal.tables_at-requires-clause-size
@@ -43,7 +43,7 @@ tables_at-requires-clause-size g c =
     let class = c.new-class.result in
     let is = are_of map.size (passable_at map c.args.site.now.shapes.now) 65535 (length map.classes) c.args.planes.now c.requires.planes class
     c.plane_of-plane.result.now c.plane_of-plane.ensures in
-    let was = are_of map.size c.requires.before.0 65535 (length map.classes) c.args.before.now.planes.now c.requires.before.1.1.1 class
+    let was = are_of map.size c.requires.before.0 65535 (length map.classes) c.args.before.now.planes.now c.requires.before.1.1.1.0 class
     c.plane_of-earlier.result.now c.plane_of-earlier.ensures in
     was.extent ∙ sym is.extent
 
@@ -58,7 +58,7 @@ tables_at-requires-clause-before g c =
     let old = c.requires.before.0 class in
     let bits = c.args.changed.now in
     let is = are_of map.size passes 65535 (length map.classes) c.args.planes.now c.requires.planes class plane c.plane_of-plane.ensures in
-    let was = are_of map.size c.requires.before.0 65535 (length map.classes) c.args.before.now.planes.now c.requires.before.1.1.1 class earlier
+    let was = are_of map.size c.requires.before.0 65535 (length map.classes) c.args.before.now.planes.now c.requires.before.1.1.1.0 class earlier
     c.plane_of-earlier.ensures in (
       λ tables at. subst (λ (p : Cell → Bool). AreTables p plane.size tables) (sym was.cells)
           (subst (λ (s : Size). AreTables old s tables) (sym is.extent) (c.requires.before.1.0.are class tables at)),
@@ -66,6 +66,23 @@ tables_at-requires-clause-before g c =
           (to_plane (λ p s. AreChanges old p s class bits) map.size (passes class) plane is
           (c.requires.before.1.1.0 class (omega (arith, c.new-class.ensures)))),
     )
+
+pub tables_at-requires-clause-dirty : goal.tables_at-requires-clause-dirty
+tables_at-requires-clause-dirty g c =
+    let map = c.args.site.now.map.now in
+    let passes = passable_at map c.args.site.now.shapes.now in
+    let class = c.new-class.result in
+    let plane = c.plane_of-plane.result.now in
+    let earlier = c.plane_of-earlier.result.now in
+    let each = c.requires.before.1.0.each in
+    let old = c.requires.before.0 class in
+    let reached = c.args.before.now.dirty.now in
+    let is = are_of map.size passes 65535 (length map.classes) c.args.planes.now c.requires.planes class plane c.plane_of-plane.ensures in
+    let was = are_of map.size c.requires.before.0 65535 (length map.classes) c.args.before.now.planes.now c.requires.before.1.1.1.0 class earlier
+    c.plane_of-earlier.ensures in
+    subst (λ (p : Cell → Bool). CoverPassable p (is_passable plane) plane.size reached) (sym was.cells)
+    (to_plane (λ p s. CoverPassable old p s reached) map.size (passes class) plane is
+    (c.requires.before.1.1.1.1 class (omega (arith, c.new-class.ensures))))
 
 pub returns-in_err-tables-clause-most : goal.returns-in_err-tables-clause-most
 returns-in_err-tables-clause-most g c =

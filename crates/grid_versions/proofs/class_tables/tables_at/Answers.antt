@@ -24,4 +24,4 @@ pub updated-requires : goal.updated-requires
 updated-requires g c =
     let place = c.from-place.ensures ∙ c.number-class.ensures.value in
     let were = c.requires.before.0 c.at.result.now (ap (λ (i : ℕ). slice_get c.args.before.now i) (sym place) ∙ c.at.ensures) in
-    record { size = c.requires.size; before = (were, c.requires.before.1) }
+    record { size = c.requires.size; dirty = c.requires.dirty; before = (were, c.requires.before.1) }

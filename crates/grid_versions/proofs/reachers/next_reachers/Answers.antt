@@ -10,6 +10,9 @@ use Rattle.grid_versions.specs.inner.Reachers.{HoldChunkReachers, AreReachersSin
 use Rattle.grid_versions.proofs.ChunkLemmas.{AreOfChunks-push}
 use Rattle.grid_versions.proofs.reachers.next_reachers.Goals as goal
 
+pub reachers_at-requires-clause-sized : goal.reachers_at-requires-clause-sized
+reachers_at-requires-clause-sized c = c.requires.sized ∙ sym c.size-size.ensures
+
 pub reachers_at-requires-clause-each : goal.reachers_at-requires-clause-each
 reachers_at-requires-clause-each c =
     c.requires.before.lists.each ∙ ap (λ (s : Size). chunk_count s) (sym c.size-size.ensures)
@@ -21,8 +24,8 @@ loop-place-preserved c =
     let made = arc_value c.in_ok-made.made in
     let before = c.requires.before in
     let rising = c.deref.result.now in
-    let since : AreReachersSince map now c.args.before.now c.args.changes.now.reaches.now rising c.deref-in-loop-place.result.now =
-    subst (λ (changed : List Reacher). AreReachersSince map now c.args.before.now c.args.changes.now.reaches.now rising changed)
+    let since : AreReachersSince map now c.args.before.now c.args.changes.now.dirty.now.rects rising c.deref-in-loop-place.result.now =
+    subst (λ (changed : List Reacher). AreReachersSince map now c.args.before.now c.args.changes.now.dirty.now.rects rising changed)
     (sym c.deref-in-loop-place.ensures.value) (record {
       earlier = before.earlier;
       lists = before.lists;

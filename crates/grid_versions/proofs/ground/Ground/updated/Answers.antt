@@ -17,10 +17,10 @@ next_patches-requires-clause-before c = record {
     | inl same ↦ inl same
     | inr was ↦ inr was.0
   ];
-  only_adds = λ free. only_adds c.args.site.now.map.now c.args.earlier.now c.args.site.now.shapes.now c.args.changes.now.reaches.now
+  only_adds = λ free. only_adds c.args.site.now.map.now c.args.earlier.now c.args.site.now.shapes.now c.args.changes.now.dirty.now.rects
       c.args.changes.now.ids.now c.requires.names (c.are_free-adds.ensures free);
   only_removes = λ free. only_removes c.args.site.now.map.now c.args.earlier.now c.args.site.now.shapes.now
-      c.args.changes.now.reaches.now c.args.changes.now.ids.now c.requires.names (c.are_free-removes.ensures free);
+      c.args.changes.now.dirty.now.rects c.args.changes.now.ids.now c.requires.names (c.are_free-removes.ensures free);
 }
 
 pub returns-clause-base : goal.returns-clause-base

@@ -46,6 +46,9 @@ planes_before map new planes earlier later rects bits parts size painted before 
 pub changed_parts-requires-clause-each : goal.changed_parts-requires-clause-each
 changed_parts-requires-clause-each c = c.requires.each ∙ sym (ap (λ (s : Size). chunk_count s) c.size.ensures)
 
+pub changed_parts-requires-clause-sized : goal.changed_parts-requires-clause-sized
+changed_parts-requires-clause-sized c = c.requires.sized ∙ sym c.size.ensures
+
 pub changed_parts-requires-clause-before : goal.changed_parts-requires-clause-before
 changed_parts-requires-clause-before c =
     subst (λ (s : Size). AreChunksOf s c.args.self.now.ground.cells) (sym c.size.ensures)
@@ -60,7 +63,7 @@ pub updated-requires-clause-before : goal.updated-requires-clause-before
 updated-requires-clause-before c =
     subst (λ (parts : List ChangedPart). AreOfBefore c.new-painted.result.map.size (length c.new-painted.result.map.classes)
     (passes_of c.new-painted.result) parts c.args.self.now.planes) (sym c.deref.ensures.value)
-    (planes_before c.args.site.now.map.now c.args.site.now.shapes.now c.args.self.now.planes c.args.self.now.ground.cells c.args.cells.now c.args.reaches.now
+    (planes_before c.args.site.now.map.now c.args.site.now.shapes.now c.args.self.now.planes c.args.self.now.ground.cells c.args.cells.now c.args.dirty.now.rects
     c.args.changed.now c.in_ok-parts.parts.items c.size.result c.new-painted.result c.requires.before c.requires.cells c.size.ensures c.new-painted.ensures c.in_ok-parts.ensures.held)
 
 pub returns : goal.returns

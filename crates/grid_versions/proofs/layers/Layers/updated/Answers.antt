@@ -13,9 +13,11 @@ use Rattle.obstruction_store.specs.Standing.{Standing}
 use Rattle.posts.specs.Maps.{Map}
 use Rattle.grid_versions.specs.Passing.{passable_at}
 use Rattle.grid_versions.specs.inner.Painting.{ArePaintedChunks, AreDiffering}
-use Rattle.grid_versions.specs.inner.Changing.{AreChanges}
+use Rattle.grid_versions.specs.inner.Changing.{AreChanges, CoverPassable}
+use Rattle.grid_versions.specs.inner.Reaching.{Reached, CoverChanges}
 use Rattle.grid_versions.specs.inner.Tables.{Tables}
 use Rattle.grid_versions.specs.inner.Tallying.{AreTablesOf}
+use Rattle.grid_versions.proofs.PlanePartLemmas.{covers_passable}
 use Rattle.grid_versions.proofs.VersionLemmas.{changes_of, relabelled_counted}
 use Rattle.grid_versions.proofs.layers.Layers.updated.Goals as goal
 
@@ -29,12 +31,17 @@ module _ (map : Map) (old new : Standing) (before now : List Numbering) (items b
   changes_here : (k : ℕ) → k < length map.classes → AreChanges (passable_at map old k) (passable_at map new k) map.size k bits
   changes_here k known = changes_of map old new before now were are bits k differing known
 
-  tables_here : (tables : List Tables) (planes : List (Option PlaneCells)) → AreTablesOf (length map.classes) (passable_at map old) map.size tables
+  tables_here : (tables : List Tables) (planes : List (Option PlaneCells)) (reached : Reached) → AreTablesOf (length map.classes) (passable_at map old) map.size tables
       → ArePlanes map.size (passable_at map old) 65535 (length map.classes) planes
+      → CoverChanges map old new reached.rects → reached.size ≡ map.size
       → (was : ℕ → Cell → Bool) × (AreTablesOf (length map.classes) was map.size tables
       × (((k : ℕ) → k < length map.classes → AreChanges (was k) (passable_at map new k) map.size k bits)
-      × ArePlanes map.size was 65535 (length map.classes) planes))
-  tables_here tables planes of drawn = (passable_at map old, (of, (changes_here, drawn)))
+      × (ArePlanes map.size was 65535 (length map.classes) planes
+      × ((k : ℕ) → k < length map.classes → CoverPassable (was k) (passable_at map new k) map.size reached))))
+  tables_here tables planes reached of drawn covers sized = (
+    passable_at map old,
+    (of, (changes_here, (drawn, λ k known. covers_passable map old new bits reached covers sized k known (changes_here k known)))),
+  )
 
   counted_here : (classes : ℕ) → classes ≡ length map.classes
       → HasRelabelled (length map.classes) (passable_at map old) (passable_at map new)
@@ -70,8 +77,8 @@ pub next_tables-requires-clause-before : goal.next_tables-requires-clause-before
 next_tables-requires-clause-before g c =
     tables_here c.args.site.now.map.now c.args.earlier.now c.args.site.now.shapes.now c.args.self.now.ground.cells c.in_ok-ground.ground.cells
     c.in_ok-ground.changed.items c.in_ok-marks.marks c.requires.parts.cells_are c.in_ok-ground.ensures.cells
-    c.in_ok-ground.ensures.bits (c.in_ok-marks.ensures ∙ c.as_slice-bits.ensures.value) c.args.self.now.tables c.args.self.now.planes c.requires.parts.tables_are
-    c.requires.parts.planes_are
+    c.in_ok-ground.ensures.bits (c.in_ok-marks.ensures ∙ c.as_slice-bits.ensures.value) c.args.self.now.tables c.args.self.now.planes c.args.changes.now.dirty.now c.requires.parts.tables_are
+    c.requires.parts.planes_are c.requires.covers c.requires.sized
 
 pub returns-in_err-tables-clause-most : goal.returns-in_err-tables-clause-most
 returns-in_err-tables-clause-most g c =

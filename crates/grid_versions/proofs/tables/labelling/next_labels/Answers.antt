@@ -9,7 +9,7 @@ relabel-requires g c =
     let old = is_passable c.args.changed.now.before.now in
     let were = subst (λ (all : List Labelling). AreAllLabels old c.args.plane.now.size all) (sym c.in_ok-labels.ensures)
     c.requires.before.0 in
-    record { size = c.requires.size; before = (were, c.requires.before.1) }
+    record { size = c.requires.size; dirty = c.requires.dirty; before = (were, c.requires.before.1) }
 
 pub returns-clause-counts : goal.returns-clause-counts
 returns-clause-counts g c = λ all_stay.

@@ -39,21 +39,27 @@ updated-requires-clause-fit g c =
     subst (λ (s : Standing). AllFit c.deref-map.result.now.size s) (sym now_is)
     (subst (λ (s : MapState). AllFit s.map.size c.args.shapes) (sym same) c.requires.fit)
 
+pub updated-requires-clause-sized : goal.updated-requires-clause-sized
+updated-requires-clause-sized g c =
+    let same = read_here c.args.self.now (arc_value c.parts.inside.map) c.deref-map.result.now (arc_value c.parts.inside.shapes)
+    c.deref-before.result.now (c.parts.view_is ∙ c.kept-parts.ensures) c.deref-map.ensures c.deref-before.ensures in
+    c.requires.sized ∙ sym (ap (λ (s : MapState). s.map.size) same)
+
 pub updated-requires-clause-covers : goal.updated-requires-clause-covers
 updated-requires-clause-covers g c =
     let same = read_here c.args.self.now (arc_value c.parts.inside.map) c.deref-map.result.now (arc_value c.parts.inside.shapes)
     c.deref-before.result.now (c.parts.view_is ∙ c.kept-parts.ensures) c.deref-map.ensures c.deref-before.ensures in
     let now_is : c.deref-now.result.now ≡ c.args.shapes = c.deref-now.ensures ∙ c.in_ok-standing.ensures.ok in
-    subst (λ (s : Standing). CoverChanges c.deref-map.result.now c.deref-before.result.now s c.args.changes.now.reaches.now) (sym now_is)
-    (subst (λ (s : MapState). CoverChanges s.map s.standing c.args.shapes c.args.changes.now.reaches.now) (sym same) c.requires.covers)
+    subst (λ (s : Standing). CoverChanges c.deref-map.result.now c.deref-before.result.now s c.args.changes.now.dirty.now.rects) (sym now_is)
+    (subst (λ (s : MapState). CoverChanges s.map s.standing c.args.shapes c.args.changes.now.dirty.now.rects) (sym same) c.requires.covers)
 
 pub updated-requires-clause-names : goal.updated-requires-clause-names
 updated-requires-clause-names g c =
     let same = read_here c.args.self.now (arc_value c.parts.inside.map) c.deref-map.result.now (arc_value c.parts.inside.shapes)
     c.deref-before.result.now (c.parts.view_is ∙ c.kept-parts.ensures) c.deref-map.ensures c.deref-before.ensures in
     let now_is : c.deref-now.result.now ≡ c.args.shapes = c.deref-now.ensures ∙ c.in_ok-standing.ensures.ok in
-    subst (λ (s : Standing). NameChanges c.deref-map.result.now c.deref-before.result.now s c.args.changes.now.reaches.now c.args.changes.now.ids.now) (sym now_is)
-    (subst (λ (s : MapState). NameChanges s.map s.standing c.args.shapes c.args.changes.now.reaches.now c.args.changes.now.ids.now) (sym same) c.requires.names)
+    subst (λ (s : Standing). NameChanges c.deref-map.result.now c.deref-before.result.now s c.args.changes.now.dirty.now.rects c.args.changes.now.ids.now) (sym now_is)
+    (subst (λ (s : MapState). NameChanges s.map s.standing c.args.shapes c.args.changes.now.dirty.now.rects c.args.changes.now.ids.now) (sym same) c.requires.names)
 
 pub returns-in_err-layers-clause-most : goal.returns-in_err-layers-clause-most
 returns-in_err-layers-clause-most g c =
