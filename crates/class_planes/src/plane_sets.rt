@@ -39,7 +39,6 @@ impl Model for Planes {
 impl Planes {
     /// The plane of each class of the map whose bit is set in the mask (`ArePlanes`). They are planes of the map
     /// (`AreOf`), which is what `PlaneRuns::new` asks for.
-    #[tactic(auto, using(crate::proofs::PlaneLemmas::are_of))]
     pub fn build<V: Rows>(alloc: Global, view: &V, classes: u16) -> Result<Planes, NoMemory>
         ensures wanted { IfOk result
             (ArePlanes (V.extent view.now) (V.passes view.now) classes (V.class_count view.now)) }

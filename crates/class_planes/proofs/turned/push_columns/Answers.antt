@@ -1,10 +1,31 @@
-use Rattle.std.proofs.Common.{◌≡◌, ◌<◌, ◌+◌, ◌*◌, ◌/◌, Bool, ℕ, List, length, sym, ap, ◌∙◌, subst, arith}
+use Rattle.std.proofs.Common.{◌≡◌, ◌<◌, ◌+◌, ◌*◌, ◌/◌, Bool, ℕ, List, length, sym, ap, ◌∙◌, subst, arith, add-zero}
 use Rattle.std.specs.Vec.{with_items}
 use Rattle.std.proofs.lemmas.List.{with_items_is}
 use Rattle.nav_types.specs.Cells.{cell_at}
-use Rattle.class_planes.specs.inner.Lines.{LineTable, RowTable, HasNextLine, free_cell, line_at}
+use Rattle.class_planes.specs.inner.Lines.{LineTable, RowTable, IsBand, HasNextLine, free_cell, line_at}
 use Rattle.class_planes.proofs.TurnLemmas.{columns_more, line_long}
 use Rattle.class_planes.proofs.turned.push_columns.Goals as goal
+
+pub numbers_of-requires-clause-rows : goal.numbers_of-requires-clause-rows
+numbers_of-requires-clause-rows c = c.requires.rows
+
+pub numbers_of-requires-clause-group : goal.numbers_of-requires-clause-group
+numbers_of-requires-clause-group c = omega (arith, c.requires.band, c.requires.half)
+
+pub numbers_of-requires-clause-span : goal.numbers_of-requires-clause-span
+numbers_of-requires-clause-span c = c.requires.span
+
+pub numbers_of-requires-clause-within : goal.numbers_of-requires-clause-within
+numbers_of-requires-clause-within c = omega (arith, c.requires.within)
+
+pub loop-k-init : goal.loop-k-init
+loop-k-init c =
+    let table : RowTable = record { size = c.args.map.now.size; rows = c.args.map.now.rows.now } in
+    record {
+      room = omega (arith, c.in_ok-part.ensures.len, c.from.ensures, c.in_ok-numbers.ensures.long);
+      band = subst (λ (count : ℕ). IsBand (λ i j. free_cell table (cell_at i j)) (32 * c.args.band)
+          (c.args.map.now.size.h / 64 + 1) count c.args.words.now.items) (sym (add-zero (16 * c.args.half))) c.requires.words;
+    }
 
 pub line-line-requires-clause-band : goal.line-line-requires-clause-band
 line-line-requires-clause-band c =
@@ -64,3 +85,10 @@ loop-k-preserved c =
           more c.loop-k.invariant.band c.requires.before c.requires.band c.requires.half c.loop-k-test.true c.requires.span
           c.in_ok-numbers.ensures.long (λ j below. c.in_ok-numbers.ensures.bits j k below c.loop-k-test.true) next;
     }
+
+pub returns : goal.returns
+returns c =
+    let table : RowTable = record { size = c.args.map.now.size; rows = c.args.map.now.rows.now } in
+    let done : c.loop-k.k ≡ 16 = omega (arith, c.loop-k-test.false) in
+    subst (λ (k : ℕ). IsBand (λ i j. free_cell table (cell_at i j)) (32 * c.args.band) (c.args.map.now.size.h / 64 + 1)
+    (16 * c.args.half + k) c.loop-k.words.items) done c.loop-k.invariant.band
