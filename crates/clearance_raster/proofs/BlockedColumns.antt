@@ -126,6 +126,9 @@ across_near shape clearance first j k most start slope start_is slope_is most_is
 pub read_back : (z : ℤ) → unsigned_abs z ≤ 2 ^ 51 → to_z w64 (of_z w64 z) ≡ z
 read_back z small = to_z-of_z w64 z (fits_signed_from_abs w64 z (omega arith))
 
+pub small_back : (z : ℤ) (most : ℕ) → most ≤ 2 ^ 51 → unsigned_abs z ≤ most → unsigned_abs (to_z w64 (of_z w64 z)) ≤ most
+small_back z most low small = subst (λ (r : ℤ). unsigned_abs r ≤ most) (sym (read_back z (omega arith))) small
+
 -- a column is hit exactly where it lies between the first and the last one, where all that are hit lie in a window
 pub run_in_window : (hit : ℕ → Bool) (i0 i1 west east first last : ℕ) → ((i : ℕ) → first ≤ i → i ≤ last → IsTrue (hit i))
     → ((i : ℕ) → i0 ≤ i → i ≤ i1 → IsTrue (hit i) → (west ≤ i) × (i ≤ east))

@@ -1,5 +1,5 @@
 -- Where an obstruction can block cells: the part of a reach, and the greatest clearance.
-use Rattle.std.proofs.Common.{◌≡◌, ◌≤◌, ◌<◌, ◌+◌, ◌*◌, ◌/◌, ◌^◌, ◌↔◌, ℕ, ℤ, Bool, true, false, List, length, refl, sym, ap, subst, ◌∙◌, ⊎_elim, arith}
+use Rattle.std.proofs.Common.{◌≡◌, ◌≤◌, ◌<◌, ◌+◌, ◌*◌, ◌/◌, ◌^◌, ◌↔◌, ℕ, ℤ, Bool, true, false, List, length, refl, sym, ap, subst, ◌∙◌, ◌⊎◌, ⊎_elim, arith}
 use Rattle.std.specs.Prelude.{unsigned_abs, IsTrue, IfSome, IfNone, Option, Some, None, option_map}
 use Rattle.std.specs.Option.{option_map_or}
 use Rattle.std.proofs.lemmas.Bool.{cases_lt, cases_eq, both_ways, and_parts}
@@ -157,6 +157,27 @@ found_stays mask classes number greatest clearance has less is = record {
       (cases_eq k number);
 }
 
+-- one more class of the mask: its clearance is taken, or the greatest one stays
+pub found_greater : (mask : ℕ) (classes : List PassabilityClass) (number : ℕ) (found : Option ℤ) (clearance next : ℤ)
+    → IsTrue (has_class number mask) → clearance_at classes number ≡ Some clearance
+    → IfNone found (next ≡ clearance) → IfSome found (λ other. (next ≡ clearance) ⊎ (next ≡ other))
+    → IfSome found (λ other. unsigned_abs other ≤ unsigned_abs next) → unsigned_abs clearance ≤ unsigned_abs next
+    → IsFound mask classes number found → IsFound mask classes (number + 1) (Some next)
+found_greater mask classes number None clearance next in_mask has first same most least is = (
+  found_first mask classes number next in_mask (has ∙ ap Some (sym first)) (λ k other low k_in k_has. absurd (is.1 k low k_in)),
+  tt,
+)
+found_greater mask classes number (Some greatest) clearance next in_mask has first same most least is = (
+  ⊎_elim
+      (λ (taken : next ≡ clearance). found_first mask classes number next in_mask (has ∙ ap Some (sym taken))
+      (λ k other low k_in k_has. let less = is.0.most k other low k_in k_has in omega (arith, most)))
+      (λ (stays : next ≡ greatest). subst (λ (z : ℤ). IsGreatestBelow mask classes (number + 1) z) (sym stays)
+      (found_stays mask classes number greatest clearance has
+      (subst (λ (z : ℤ). unsigned_abs clearance ≤ unsigned_abs z) stays least) is.0))
+      same,
+  tt,
+)
+
 -- a class that has a clearance is in the table
 in_table : (classes : List PassabilityClass) (k : ℕ) (clearance : ℤ) → clearance_at classes k ≡ Some clearance → k < length classes
 in_table classes k clearance has = ⊎_elim
@@ -197,3 +218,13 @@ near_where_blocked obstruction classes greatest k cell unit is blocks =
     let clearance = found.0 in
     IsNear-rises obstruction.shape clearance greatest cell (is.most k clearance parts.0 found.1.0)
     (blocked_near obstruction.shape clearance cell unit found.1.1)
+
+-- nothing is blocked where no class of the mask has a clearance
+pub none_blocked : (obstruction : Obstruction) (classes : List PassabilityClass) (k : ℕ) (cell : Cell)
+    → ((class : ℕ) (clearance : ℤ) → IsTrue (has_class class obstruction.mask) → ¬ (clearance_at classes class ≡ Some clearance))
+    → ¬ IsTrue (blocks_class obstruction classes k cell)
+none_blocked obstruction classes k cell none blocks =
+    let hit : ℤ → Bool = λ clearance. blocked obstruction.shape clearance cell in
+    let parts = and_parts (has_class k obstruction.mask) (option_map_or hit (clearance_at classes k) false) blocks in
+    let found = map_some hit (clearance_at classes k) parts.1 in
+    none k found.0 parts.0 found.1.0

@@ -1,6 +1,6 @@
 use Rattle.std.proofs.Common.{rules, arith, ◌∙◌, ◌≤◌, ◌+◌, ◌^◌, w64, to_z, of_z, unsigned_abs}
 use Rattle.std.proofs.lemmas.Option.{IfSome_then}
-use Rattle.clearance_raster.proofs.BlockedColumns.{across_near, if_none_then, read_back}
+use Rattle.clearance_raster.proofs.BlockedColumns.{across_near, if_none_then, read_back, small_back}
 use Rattle.clearance_raster.proofs.windows.steps_across.Goals as goal
 
 pub returns-clause-blocked : goal.returns-clause-blocked
@@ -20,3 +20,18 @@ returns-clause-none c = if_none_then c.steps_near.result c.steps_near.ensures.no
     (across_near c.args.shape.now c.args.clearance c.args.first c.args.j k (c.scaled.result + c.scaled-2.result)
     (to_z w64 (of_z w64 c.centre_across.result)) (to_z w64 (of_z w64 c.opposite.result))
     (read_back c.centre_across.result c.centre_across.ensures.bounded ∙ search rules) (read_back c.opposite.result slow ∙ search rules) (search rules) hit))
+
+pub overflow_add-most : goal.overflow_add-most
+overflow_add-most c = omega (arith, c.scaled.ensures.bounded, c.scaled-2.ensures.bounded)
+
+pub steps_near-requires-clause-start : goal.steps_near-requires-clause-start
+steps_near-requires-clause-start c = small_back c.centre_across.result (2 ^ 51) (omega arith) c.centre_across.ensures.bounded
+
+pub steps_near-requires-clause-slope : goal.steps_near-requires-clause-slope
+steps_near-requires-clause-slope c = small_back c.opposite.result (2 ^ 31) (omega arith) c.opposite.ensures.bounded
+
+pub steps_near-requires-clause-most : goal.steps_near-requires-clause-most
+steps_near-requires-clause-most c = omega (arith, c.scaled.ensures.bounded, c.scaled-2.ensures.bounded)
+
+pub returns-clause-within : goal.returns-clause-within
+returns-clause-within c = IfSome_then c.steps_near.result c.steps_near.ensures.within (λ run is. is.1)
