@@ -1,15 +1,16 @@
 -- What waits in later buckets, linked by bucket.
-use Rattle.std.proofs.Common.{ℕ, ◌≡◌, ◌≢◌, ◌<◌, ◌≤◌, ◌⊎◌, ◌↔◌, ◌+◌, ◌-◌, List, [], ◌∷◌, ◌++◌, length, length-append, get_or, set, slice_index, Some, Contains, refl, ap, inl, inr, sym, subst, ◌∙◌, arith}
-use Rattle.std.specs.List.{slice_get}
+use Rattle.std.proofs.Common.{ℕ, Bool, true, false, if◌then◌else◌, ◌≡◌, ◌≢◌, ◌<◌, ◌≤◌, ◌⊎◌, ◌↔◌, ◌+◌, ◌-◌, List, [], ◌∷◌, ◌++◌, length, length-append, get_or, set, slice_index, take, drop, Option, Some, Contains, refl, ap, inl, inr, sym, subst, ◌∙◌, arith}
+use Rattle.std.specs.List.{slice_get, insert}
+use Rattle.std.specs.Option.{option_to_list}
 use Rattle.std.proofs.lemmas.Bool.{cases_eq, cases_lt}
 use Rattle.std.proofs.lemmas.Option.{slice_get_within, same_Some}
-use Rattle.std.proofs.lemmas.List.{get_or-set_same, get_or-set_other}
-use Rattle.std.proofs.lemmas.List.Elements.{Contains-append_left, Contains-push, Contains-push_cases}
+use Rattle.std.proofs.lemmas.List.{get_or-set_same, get_or-set_other, take-append-drop}
+use Rattle.std.proofs.lemmas.List.Elements.{Contains-append_left, Contains-append_right, Contains-append_cases, Contains-push, Contains-push_cases}
 use Rattle.nav_types.proofs.Items.{Contains-from_slice_get, Contains-none, slice_get-before, slice_get-push_last}
 use Rattle.open_heap.specs.declared.buckets.Waiting.{Waiting}
 use Rattle.open_heap.specs.declared.entries.Entry.{Entry}
 use Rattle.open_heap.specs.inner.Buckets.{bucket_of, entry_of, AreFalling, IsLastOf, AreLinked, AreBuckets, IsWaiting, IsHeld, IsChain, AreGathered}
-use Rattle.open_heap.proofs.Falling.{falling_push, last_is_least}
+use Rattle.open_heap.proofs.Falling.{falling_left, falling_more, falling_push, last_is_least, taken_or_there}
 
 abbrev pub blank : Waiting
 blank = record { estimate = 0; key = 0; next = 0 }
@@ -274,6 +275,99 @@ pub held_pushed : (start reached : ℕ) (later : List Waiting) (here : List Entr
     → IsHeld start reached later here other → IsHeld start reached later (here ++ entry ∷ []) other
 held_pushed start reached later here entry other (inl has) = inl (Contains-append_left here (entry ∷ []) other has)
 held_pushed start reached later here entry other (inr waits) = inr waits
+
+-- ---- an entry among those of the current bucket
+there_still : (here : List Entry) (entry other : Entry) (place : ℕ) → Contains here other → Contains (insert here place entry) other
+there_still here entry other place has =
+    let front : List Entry = take place here in
+    let rest : List Entry = drop place here in
+    elim (Contains-append_cases front rest other (subst (λ (es : List Entry). Contains es other) (sym (take-append-drop place here)) has)) [
+      | inl early ↦ Contains-append_left front (entry ∷ rest) other early
+      | inr late ↦ Contains-append_right front (entry ∷ rest) other (Contains-append_right (entry ∷ []) rest other late)
+    ]
+
+was_or_new : (here : List Entry) (entry other : Entry) (place : ℕ) → Contains (insert here place entry) other
+    → Contains here other ⊎ (entry ≡ other)
+was_or_new here entry other place has =
+    let front : List Entry = take place here in
+    let rest : List Entry = drop place here in
+    let all : front ++ rest ≡ here = take-append-drop place here in
+    elim (Contains-append_cases front (entry ∷ rest) other has) [
+      | inl early ↦ inl (subst (λ (es : List Entry). Contains es other) all (Contains-append_left front rest other early))
+      | inr late ↦ elim (Contains-append_cases (entry ∷ []) rest other late) [
+        | inl one ↦ elim (Contains-push_cases [] entry other one) [
+          | inl none ↦ absurd (Contains-none other none)
+          | inr is ↦ inr is
+        ]
+        | inr after ↦ inl (subst (λ (es : List Entry). Contains es other) all (Contains-append_right front rest other after))
+      ]
+    ]
+
+pub buckets_inserted : (start reached : ℕ) (heads : List ℕ) (later : List Waiting) (here : List Entry) (most more place : ℕ) (entry : Entry)
+    → AreBuckets start reached heads later here most → bucket_of start entry.estimate < reached → place ≤ length here
+    → ((at : ℕ) (d : Entry) → at < place → entry.estimate ≤ (get_or here at d).estimate)
+    → ((at : ℕ) (d : Entry) → place ≤ at → at < length here → (get_or here at d).estimate ≤ entry.estimate)
+    → most ≤ more → AreBuckets start reached heads later (insert here place entry) more
+buckets_inserted start reached heads later here most more place entry sound low inside before behind room = record {
+  room = let was = sound.room in omega (arith, was, room);
+  falling = falling_more here entry place sound.falling inside before behind;
+  low = λ other has. elim (was_or_new here entry other place has) [
+    | inl was ↦ sound.low other was
+    | inr is ↦ subst (λ (e : Entry). bucket_of start e.estimate < reached) is low
+  ];
+  lasts = sound.lasts;
+  links = sound.links;
+}
+
+pub buckets_maybe_inserted : (done : Bool) (start reached : ℕ) (heads : List ℕ) (later : List Waiting) (here new : List Entry)
+    (most more place : ℕ) (entry : Entry)
+    → AreBuckets start reached heads later here most → bucket_of start entry.estimate < reached → place ≤ length here
+    → ((at : ℕ) (d : Entry) → at < place → entry.estimate ≤ (get_or here at d).estimate)
+    → ((at : ℕ) (d : Entry) → place ≤ at → at < length here → (get_or here at d).estimate ≤ entry.estimate)
+    → most ≤ more → new ≡ (if done then insert here place entry else here) → AreBuckets start reached heads later new more
+buckets_maybe_inserted true start reached heads later here new most more place entry sound low inside before behind room is =
+    subst (λ (es : List Entry). AreBuckets start reached heads later es more) (sym is)
+    (buckets_inserted start reached heads later here most more place entry sound low inside before behind room)
+buckets_maybe_inserted false start reached heads later here new most more place entry sound low inside before behind room is = record {
+  room = let was = sound.room in omega (arith, was, room);
+  falling = subst AreFalling (sym is) sound.falling;
+  low = λ other has. sound.low other (subst (λ (es : List Entry). Contains es other) is has);
+  lasts = sound.lasts;
+  links = sound.links;
+}
+
+pub held_inserted : (start reached : ℕ) (later : List Waiting) (here : List Entry) (place : ℕ) (entry other : Entry)
+    → IsHeld start reached later here other → IsHeld start reached later (insert here place entry) other
+held_inserted start reached later here place entry other (inl has) = inl (there_still here entry other place has)
+held_inserted start reached later here place entry other (inr waits) = inr waits
+
+pub inserted_there : (here : List Entry) (place : ℕ) (entry : Entry) → Contains (insert here place entry) entry
+inserted_there here place entry =
+    Contains-append_right (take place here) (entry ∷ drop place here) entry
+    (Contains-append_left (entry ∷ []) (drop place here) entry (Contains-push [] entry))
+
+-- ---- the last entry of the current bucket is taken out
+pub buckets_popped : (start reached : ℕ) (heads : List ℕ) (later : List Waiting) (old new : List Entry) (taken : Option Entry) (most more : ℕ)
+    → AreBuckets start reached heads later old most → old ≡ new ++ option_to_list taken → more ≡ most
+    → AreBuckets start reached heads later new more
+buckets_popped start reached heads later old new taken most more sound items room = record {
+  room = let was = sound.room in omega (arith, was, room);
+  falling = falling_left new taken (subst AreFalling items sound.falling);
+  low = λ other has. sound.low other
+      (subst (λ (es : List Entry). Contains es other) (sym items) (Contains-append_left new (option_to_list taken) other has));
+  lasts = sound.lasts;
+  links = sound.links;
+}
+
+pub held_popped : (start reached : ℕ) (later : List Waiting) (old new : List Entry) (taken : Option Entry) (last other : Entry)
+    → old ≡ new ++ option_to_list taken → slice_get old (length old - 1) ≡ Some last → IsHeld start reached later old other
+    → (last ≡ other) ⊎ IsHeld start reached later new other
+held_popped start reached later old new taken last other items known (inl has) =
+    elim (taken_or_there old new taken items last other known has) [
+      | inl is ↦ inl is
+      | inr there ↦ inr (inl there)
+    ]
+held_popped start reached later old new taken last other items known (inr waits) = inr (inr waits)
 
 -- ---- what is held
 pub held_still : (start reached : ℕ) (later : List Waiting) (here : List Entry) (from now : ℕ) (waits : List Waiting) (there : List Entry)

@@ -28,6 +28,10 @@ falling_front entries last falling i j d up within =
     let is = falling i j d up (omega (arith, length-append entries (last ∷ []), within)) in
     omega (arith, is, at_i, at_j)
 
+pub falling_left : (entries : List Entry) (taken : Option Entry) → AreFalling (entries ++ option_to_list taken) → AreFalling entries
+falling_left entries None falling = subst AreFalling (append-nil entries) falling
+falling_left entries (Some last) falling = falling_front entries last falling
+
 -- with one more at its place
 pub falling_more : (entries : List Entry) (entry : Entry) (place : ℕ) → AreFalling entries → place ≤ length entries
     → ((at : ℕ) (d : Entry) → at < place → entry.estimate ≤ (get_or entries at d).estimate)
