@@ -9,6 +9,37 @@ use Rattle.chunk_regions.proofs.SpanLemmas.{region_at-held, region_at-none}
 use Rattle.chunk_regions.proofs.ChunkLemmas.{number_of-numbered_by}
 use Rattle.chunk_regions.proofs.labels.Labels.at.Goals as goal
 
+pub overflow_sub-column : goal.overflow_sub-column
+overflow_sub-column c =
+    let inside = subst (λ (l : Labelling). IsInRect l.cells.rect c.args.cell) (sym c.self.view_is) c.requires in
+    inside.west
+
+pub overflow_cast-column : goal.overflow_cast-column
+overflow_cast-column c =
+    let inside = subst (λ (l : Labelling). IsInRect l.cells.rect c.args.cell) (sym c.self.view_is) c.requires in
+    let east = inside.east in
+    let wide = c.self.invariant.0.wide in
+    omega arith
+
+pub overflow_sub-cell : goal.overflow_sub-cell
+overflow_sub-cell c =
+    let inside = subst (λ (l : Labelling). IsInRect l.cells.rect c.args.cell) (sym c.self.view_is) c.requires in
+    inside.south
+
+pub holding-requires : goal.holding-requires
+holding-requires c =
+    let inside = subst (λ (l : Labelling). IsInRect l.cells.rect c.args.cell) (sym c.self.view_is) c.requires in
+    let north = inside.north in
+    let high = c.self.invariant.0.high in
+    omega arith
+
+pub index-requires : goal.index-requires
+index-requires c =
+    let held = c.in-Some.ensures.held in
+    let within = slice_get_within c.self.inside.spans.spans c.in-Some.at held.span held.found in
+    let same_length = c.self.invariant.1 in
+    omega arith
+
 pub returns-in-Some : goal.returns-in-Some
 returns-in-Some c =
     let runs = c.self.inside.spans in
