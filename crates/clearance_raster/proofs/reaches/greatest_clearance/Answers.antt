@@ -1,4 +1,4 @@
-use Rattle.std.proofs.Common.{◌≡◌, ◌≤◌, ◌+◌, ◌∙◌, ℕ, ℤ, false, length, sym, ap, subst, arith}
+use Rattle.std.proofs.Common.{◌≡◌, ◌≤◌, ◌+◌, ◌∙◌, ℕ, ℤ, length, sym, ap, subst, arith}
 use Rattle.std.specs.Prelude.{IsTrue, Option, Some}
 use Rattle.std.proofs.lemmas.Bool.{both_ways}
 use Rattle.lane_rows.specs.Rows.{has_class}
