@@ -1,5 +1,5 @@
 -- The words of the lines of answers: their bytes are printed ones below `{`, so they have no space and no newline.
-use Rattle.std.proofs.Common.{◌≡◌, ◌≢◌, ℕ, zero, suc, ◌+◌, ◌/◌, ◌%◌, ◌<◌, ◌==◌, List, [], ◌∷◌, ◌++◌, length, map, Bool, true, false, not, cond, nat_lt, ◌&&◌, decimal, refl, ap, ◌∙◌, arith, lt-ltb}
+use Rattle.std.proofs.Common.{◌≡◌, ◌≢◌, ◌⊎◌, inl, inr, ℕ, zero, suc, ◌+◌, ◌/◌, ◌%◌, ◌<◌, ◌==◌, List, [], ◌∷◌, ◌++◌, length, map, Bool, true, false, not, cond, nat_lt, ◌&&◌, decimal, refl, ap, ◌∙◌, arith, lt-ltb}
 use Rattle.std.specs.Prelude.{codes, Option, Some, None}
 use Rattle.std.specs.Fmt.{digits, digits_onto, digit_glyph}
 use Rattle.std.specs.List.{list_all, join_with_byte}
@@ -22,7 +22,7 @@ use Rattle.posts.specs.declared.replies.Reply.TheVariants.{Edit as Edited, Answe
 use Rattle.posts.specs.declared.replies.Tallies.{Tallies}
 use Rattle.input_lines.specs.Lines.{IsPlain}
 use Rattle.answer_text.specs.Answers.{line_of, waypoint_text, end_word, refused_words, edit_words, answer_words, reply_words}
-use Rattle.answer_text.specs.Noted.{step_word, note_words}
+use Rattle.answer_text.specs.Noted.{step_word, note_words, note_line, note_text}
 
 -- a printed byte below `{` (123), so no space (32)
 abbrev pub in_word : ℕ → Bool
@@ -213,3 +213,36 @@ note_are (Smoothed points) = number_more (length points) (map waypoint_text poin
 
 pub note_line_words : (caller post : ℕ) (note : Note) → are_words (decimal caller ∷ decimal post ∷ note_words note) ≡ true
 note_line_words caller post note = placed_are caller post (note_words note) (note_are note)
+
+-- how many lines a note has
+abbrev pub lines_of_note : Note → ℕ
+lines_of_note Nothing = 0
+lines_of_note (Opened opened) = 1
+lines_of_note (Flow line) = 1
+lines_of_note (Smoothed points) = 1
+
+-- the note has nothing to say, and so no line
+pub record SaysNothing (caller post : ℕ) (note : Note) : Type 0 where
+  pub none : lines_of_note note ≡ 0
+  pub text : note_text caller post note ≡ []
+
+-- the note has something to say, in one line
+pub record SaysLine (caller post : ℕ) (note : Note) : Type 0 where
+  pub word : List ℕ
+  pub more : List (List ℕ)
+  pub words : note_words note ≡ word ∷ more
+  pub one : lines_of_note note ≡ 1
+  pub text : note_text caller post note ≡ note_line caller post note
+
+pub note_says : (caller post : ℕ) (note : Note) → SaysNothing caller post note ⊎ SaysLine caller post note
+note_says caller post Nothing = inl (record { none = refl; text = refl })
+note_says caller post (Opened opened) = inr (record { word = codes "opened"; more = decimal opened ∷ []; words = refl; one = refl; text = refl })
+note_says caller post (Flow line) = inr (record {
+  word = codes "flow";
+  more = step_word line.first ∷ decimal line.summary.cells ∷ decimal line.summary.farthest ∷ decimal line.summary.sum ∷ [];
+  words = refl;
+  one = refl;
+  text = refl;
+})
+note_says caller post (Smoothed points) =
+    inr (record { word = codes "smooth"; more = decimal (length points) ∷ map waypoint_text points; words = refl; one = refl; text = refl })

@@ -1,12 +1,11 @@
 -- The lines of the text of a turn, and of an output text.
-use Rattle.std.proofs.Common.{◌≡◌, ℕ, suc, ◌+◌, List, [], ◌∷◌, ◌++◌, length, Bool, true, false, Option, Some, None, ℤ, map, refl, sym, ap, subst, ◌∙◌, arith, append_assoc, append-nil, decimal, replicate, length-append}
+use Rattle.std.proofs.Common.{◌≡◌, ◌⊎◌, inl, inr, ℕ, suc, ◌+◌, List, [], ◌∷◌, ◌++◌, length, Bool, true, false, Option, Some, None, ℤ, map, refl, sym, ap, subst, ◌∙◌, arith, append_assoc, append-nil, decimal, replicate, length-append}
 use Rattle.std.specs.Prelude.{codes, sum_by}
 use Rattle.std.specs.List.{join_with_byte}
 use Rattle.std.proofs.lemmas.List.Sums.{sum_by-cons}
 use Rattle.nav_types.specs.declared.cells.Cell.{Cell}
 use Rattle.posts.specs.declared.edits.EditReply.TheVariants as edit
 use Rattle.posts.specs.declared.notes.Note.{Note}
-use Rattle.posts.specs.declared.notes.Note.TheVariants.{Nothing, Opened, Flow, Smoothed}
 use Rattle.posts.specs.declared.notes.Report.{Report}
 use Rattle.posts.specs.declared.notes.Report.TheVariants.{Answers, OpenedNumbers, Flows, Smoothed as SmoothedPaths}
 use Rattle.posts.specs.declared.posts.Post.{Post}
@@ -31,12 +30,12 @@ use Rattle.turn_core.specs.Notes.{IsNoteOf, IsNote, AreNotes}
 use Rattle.turn_core.proofs.OneAnswer.{one_answer_to}
 use Rattle.input_lines.specs.Lines.{full_lines, tail_of}
 use Rattle.input_lines.proofs.LineLists.{full_lines-line, tail_of-line}
-use Rattle.answer_text.specs.Answers.{line_of, waypoint_text, reply_words, reply_line, turn_line, bad_line_text}
-use Rattle.answer_text.specs.Noted.{step_word, note_line, note_text, notes_left, noted_lines, noted_callers, noted_text}
+use Rattle.answer_text.specs.Answers.{line_of, reply_words, reply_line, turn_line, bad_line_text}
+use Rattle.answer_text.specs.Noted.{note_line, note_text, notes_left, noted_lines, noted_callers, noted_text}
 use Rattle.script_text.specs.Script.{beginning, Item, begins, adds_base, ends_turn, turns_of, whole_input, too_long, bad_line, Ends, at_place, stuck_by, reading}
 use Rattle.match_play.specs.Texts.{Said, IsTurnText, Gives, ends_text, IsOut}
 use Rattle.match_laws.specs.AnswerLines.{IsTurnLine, AreLinesAt, one_line, lines_of_answer, lines_of_reply, places_from, places_of, lines_of_stop, lines_of_turn, HasTurnLines}
-use Rattle.match_laws.proofs.AnswerWords.{are_words, plain_words, reply_line_words, turn_words, turn_line_words, bad_line_words, note_line_words}
+use Rattle.match_laws.proofs.AnswerWords.{are_words, plain_words, reply_line_words, turn_words, turn_line_words, bad_line_words, note_line_words, lines_of_note, SaysNothing, SaysLine, note_says}
 
 -- ---- whole lines
 
@@ -126,22 +125,21 @@ reply_at caller post reply =
 
 -- ---- notes
 
--- how many lines a note has
-abbrev lines_of_note : Note → ℕ
-lines_of_note Nothing = 0
-lines_of_note (Opened opened) = 1
-lines_of_note (Flow line) = 1
-lines_of_note (Smoothed points) = 1
+note_lines : (caller post : ℕ) (note : Note) → SaysNothing caller post note ⊎ SaysLine caller post note
+    → HasLines (replicate (lines_of_note note) (caller, post)) (note_text caller post note)
+unfolding note_line
+note_lines caller post note (inl says) =
+    subst (λ (n : ℕ). HasLines (replicate n (caller, post)) (note_text caller post note)) (sym says.none)
+    (subst (HasLines []) (sym says.text) none_at)
+note_lines caller post note (inr says) =
+    subst (λ (n : ℕ). HasLines (replicate n (caller, post)) (note_text caller post note)) (sym says.one)
+    (subst (HasLines ((caller, post) ∷ [])) (sym says.text)
+    (subst (λ (words : List (List ℕ)). HasLines ((caller, post) ∷ []) (line_of (decimal caller ∷ decimal post ∷ words))) (sym says.words)
+    (one_at caller post says.word says.more
+    (subst (λ (words : List (List ℕ)). are_words (decimal caller ∷ decimal post ∷ words) ≡ true) says.words (note_line_words caller post note)))))
 
 note_at : (caller post : ℕ) (note : Note) → HasLines (replicate (lines_of_note note) (caller, post)) (note_text caller post note)
-unfolding note_line
-note_at caller post Nothing = none_at
-note_at caller post (Opened opened) = one_at caller post (codes "opened") (decimal opened ∷ []) (note_line_words caller post (Opened opened))
-note_at caller post (Flow line) =
-    one_at caller post (codes "flow") (step_word line.first ∷ decimal line.summary.cells ∷ decimal line.summary.farthest ∷ decimal line.summary.sum ∷ [])
-    (note_line_words caller post (Flow line))
-note_at caller post (Smoothed points) =
-    one_at caller post (codes "smooth") (decimal (length points) ∷ map waypoint_text points) (note_line_words caller post (Smoothed points))
+note_at caller post note = note_lines caller post note (note_says caller post note)
 
 region_has_one : (report : Report) (m : Map) (s : Standing) (passes : ℕ → Cell → Bool) (x z : ℤ) (named : Option ℕ) (on_map : Bool) (answer : Answer)
     → IsAnswerAt named on_map (λ class. IsRegionAt (passes class) x z) answer → lines_of_answer report answer ≡ 1
