@@ -27,8 +27,6 @@ mod posted;
 pub mod refusals;
 mod replied;
 pub mod reply_kinds;
-#[cfg(test)]
-mod tests;
 mod turn_posts;
 mod turns;
 
