@@ -139,88 +139,117 @@ fn line(alloc: Global, reply: &Reply) -> Result<Bytes, NoMemory> {
     Ok(text)
 }
 
+/// Replies to edits, each with its line.
+const EDITS: &[(EditReply, &str)] = &[
+    (EditReply::Added(4_294_967_295), "13 4 added 4294967295\n"),
+    (EditReply::Removed(0), "13 4 removed 0\n"),
+    (EditReply::Moved(1), "13 4 moved 1\n"),
+    (
+        EditReply::Refused(Refusal::BadShape),
+        "13 4 refused bad-shape\n",
+    ),
+    (
+        EditReply::Refused(Refusal::DuplicateId),
+        "13 4 refused duplicate-id\n",
+    ),
+    (
+        EditReply::Refused(Refusal::StoreFull),
+        "13 4 refused store-full\n",
+    ),
+];
+
+/// Why requests are refused, each with the line of the answer.
+const REFUSALS: &[(Refusal, &str)] = &[
+    (Refusal::UnknownId, "13 4 refused unknown-id\n"),
+    (Refusal::UnknownClass, "13 4 refused unknown-class\n"),
+    (Refusal::StartOutside, "13 4 refused start-outside\n"),
+    (Refusal::GoalOutside, "13 4 refused goal-outside\n"),
+];
+
+/// Whether this is the line of the reply.
+fn is_line(alloc: Global, reply: &Reply, text: &str) -> bool {
+    is_text(line(alloc, reply), text)
+}
+
+/// Whether this is the line of the answer.
+fn is_answer_line(alloc: Global, answer: Answer, text: &str) -> bool {
+    is_line(alloc, &Reply::Answer(answer), text)
+}
+
 #[test]
 fn each_reply_has_its_line(rt: HostRuntime) {
     let alloc = rt.alloc();
-    for (reply, text) in [
-        (
-            Reply::Edit(EditReply::Added(4_294_967_295)),
-            "13 4 added 4294967295\n",
-        ),
-        (Reply::Edit(EditReply::Removed(0)), "13 4 removed 0\n"),
-        (Reply::Edit(EditReply::Moved(1)), "13 4 moved 1\n"),
-        (
-            Reply::Edit(EditReply::Refused(Refusal::BadShape)),
-            "13 4 refused bad-shape\n",
-        ),
-        (
-            Reply::Edit(EditReply::Refused(Refusal::DuplicateId)),
-            "13 4 refused duplicate-id\n",
-        ),
-        (
-            Reply::Edit(EditReply::Refused(Refusal::StoreFull)),
-            "13 4 refused store-full\n",
-        ),
-        (
-            Reply::Answer(Answer::Refused(Refusal::UnknownId)),
-            "13 4 refused unknown-id\n",
-        ),
-        (
-            Reply::Answer(Answer::Refused(Refusal::UnknownClass)),
-            "13 4 refused unknown-class\n",
-        ),
-        (
-            Reply::Answer(Answer::Refused(Refusal::StartOutside)),
-            "13 4 refused start-outside\n",
-        ),
-        (
-            Reply::Answer(Answer::Refused(Refusal::GoalOutside)),
-            "13 4 refused goal-outside\n",
-        ),
-        (Reply::Answer(Answer::Nowhere), "13 4 nowhere\n"),
-        (region(1, 1, 2), "13 4 region 1 0 1 2\n"),
-    ] {
-        assert!(rt; is_text(line(alloc, &reply), text), "{text}");
+    for &(reply, text) in EDITS {
+        assert!(rt; is_line(alloc, &Reply::Edit(reply), text), "{text}");
     }
+    for &(refusal, text) in REFUSALS {
+        assert!(rt;
+            is_answer_line(alloc, Answer::Refused(refusal), text),
+            "{text}"
+        );
+    }
+    assert!(rt; is_answer_line(alloc, Answer::Nowhere, "13 4 nowhere\n"));
+    assert!(rt; is_line(alloc, &region(1, 1, 2), "13 4 region 1 0 1 2\n"));
+}
+
+/// The last column of a path, whether it ends near its goal, its cost and the columns of its waypoints, with its line.
+type PathRow = (u16, bool, u64, &'static [u16], &'static str);
+
+const PATHS: &[PathRow] = &[
+    (
+        92,
+        true,
+        6_029_312,
+        &[92],
+        "13 4 path 0 0 92 0 near 6029312 1 92.5,0.5\n",
+    ),
+    (
+        2047,
+        false,
+        134_152_192,
+        &[9, 2047],
+        "13 4 path 0 0 2047 0 goal 134152192 2 9.5,0.5 2047.5,0.5\n",
+    ),
+    (0, false, 0, &[], "13 4 path 0 0 0 0 goal 0 0\n"),
+];
+
+/// Whether the path has its line. An error where there is no memory.
+fn has_line(alloc: Global, (end, near, cost, columns, text): PathRow) -> Result<bool, NoMemory> {
+    let reply = path(alloc, end, near, cost, columns)?;
+    Ok(is_line(alloc, &reply, text))
 }
 
 #[test]
 fn each_path_has_its_line(rt: HostRuntime) {
-    let alloc = rt.alloc();
-    let rows: [(u16, bool, u64, &[u16], &str); 3] = [
-        (
-            92,
-            true,
-            6_029_312,
-            &[92],
-            "13 4 path 0 0 92 0 near 6029312 1 92.5,0.5\n",
-        ),
-        (
-            2047,
-            false,
-            134_152_192,
-            &[9, 2047],
-            "13 4 path 0 0 2047 0 goal 134152192 2 9.5,0.5 2047.5,0.5\n",
-        ),
-        (0, false, 0, &[], "13 4 path 0 0 0 0 goal 0 0\n"),
-    ];
-    for (end, near, cost, columns, text) in rows {
-        let reply = path(alloc, end, near, cost, columns).expect(&rt, "memory");
-        assert!(rt; is_text(line(alloc, &reply), text), "{text}");
+    for &row in PATHS {
+        assert!(rt; has_line(rt.alloc(), row) == Ok(true), "{row:?}");
     }
+}
+
+/// Whether the texts of the first turn are those above.
+fn is_first_written(alloc: Global) -> Result<bool, NoMemory> {
+    let turn = first_turn(alloc)?;
+    let notes = [Note::Opened(5), Note::Opened(7)];
+    Ok(
+        is_text(turn_text(alloc, 1, &turn), FIRST)
+            && is_text(noted_text(alloc, 1, &turn, &notes), FIRST_PROFILE),
+    )
+}
+
+/// Whether the texts of the second turn are those above.
+fn is_second_written(alloc: Global) -> Result<bool, NoMemory> {
+    let turn = second_turn(alloc)?;
+    let notes = [Note::Nothing, Note::Nothing, Note::Opened(12)];
+    Ok(
+        is_text(turn_text(alloc, 2, &turn), SECOND)
+            && is_text(noted_text(alloc, 2, &turn, &notes), SECOND_PROFILE),
+    )
 }
 
 #[test]
 fn turns_are_written_caller_by_caller(rt: HostRuntime) {
-    let alloc = rt.alloc();
-    let turn = first_turn(alloc).expect(&rt, "memory");
-    assert!(rt; is_text(turn_text(alloc, 1, &turn), FIRST));
-    let notes = [Note::Opened(5), Note::Opened(7)];
-    assert!(rt; is_text(noted_text(alloc, 1, &turn, &notes), FIRST_PROFILE));
-    let turn = second_turn(alloc).expect(&rt, "memory");
-    assert!(rt; is_text(turn_text(alloc, 2, &turn), SECOND));
-    let notes = [Note::Nothing, Note::Nothing, Note::Opened(12)];
-    assert!(rt; is_text(noted_text(alloc, 2, &turn, &notes), SECOND_PROFILE));
+    assert!(rt; is_first_written(rt.alloc()) == Ok(true));
+    assert!(rt; is_second_written(rt.alloc()) == Ok(true));
 }
 
 #[test]

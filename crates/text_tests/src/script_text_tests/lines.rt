@@ -15,42 +15,57 @@ const END: Ending = (1, None);
 
 const NONE: Ending = (0, Some(ScriptFault::BadLine(2)));
 
+/// Whether the line has this form behind a map line.
+fn has_form(alloc: Global, map: &str, form: Ending, line: &str) -> bool {
+    match read_behind(alloc, map, line) {
+        Ok(outcome) => (outcome.turns.len(), outcome.fault) == form,
+        Err(_) => false,
+    }
+}
+
 /// Checks that each of the lines has this form behind a map line.
 fn have_form(rt: &impl Abort, alloc: Global, map: &str, form: Ending, lines: &[&str]) {
     for line in lines {
-        let Ok(outcome) = read_behind(alloc, map, line) else {
-            panic!(rt; "memory")
-        };
-        assert!(rt; (outcome.turns.len(), outcome.fault) == form, "{line}");
+        assert!(rt; has_form(alloc, map, form, line), "{line}");
+    }
+}
+
+/// Lines, and whether they are map lines.
+const MAP_LINES: &[(&str, bool)] = &[
+    (
+        "{\"classes\":[{\"clearance\":\"0\",\"name\":\"a\"}],\"size\":[1,2048],\"version\":3,\"callers\":64}",
+        true,
+    ),
+    (
+        "{\"classes\":[{\"clearance\":\"0\",\"name\":\"a\"}],\"size\":[1,2048],\"version\":4,\"callers\":64}",
+        false,
+    ),
+    (
+        "{\"classes\":[{\"clearance\":\"0\",\"name\":\"a\"}],\"size\":[1,2048],\"version\":1,\"callers\":65}",
+        false,
+    ),
+    (
+        "{\"classes\":[{\"clearance\":\"0\",\"name\":\"a\"}],\"size\":[1,2048],\"version\":1,\"callers\":0}",
+        false,
+    ),
+    (
+        "{\"classes\":[{\"clearance\":\"0\",\"name\":\"a\"}],\"size\":[1,2049],\"version\":1,\"callers\":1}",
+        false,
+    ),
+];
+
+/// Whether a script of this line alone has a map. None where there is no memory.
+fn has_map(alloc: Global, line: &str) -> Option<bool> {
+    match read_behind(alloc, "", line) {
+        Ok(outcome) => Some(outcome.map.is_some()),
+        Err(_) => None,
     }
 }
 
 #[test]
 fn map_lines_have_their_form(rt: HostRuntime) {
-    for (line, is_map) in [
-        (
-            "{\"classes\":[{\"clearance\":\"0\",\"name\":\"a\"}],\"size\":[1,2048],\"version\":3,\"callers\":64}",
-            true,
-        ),
-        (
-            "{\"classes\":[{\"clearance\":\"0\",\"name\":\"a\"}],\"size\":[1,2048],\"version\":4,\"callers\":64}",
-            false,
-        ),
-        (
-            "{\"classes\":[{\"clearance\":\"0\",\"name\":\"a\"}],\"size\":[1,2048],\"version\":1,\"callers\":65}",
-            false,
-        ),
-        (
-            "{\"classes\":[{\"clearance\":\"0\",\"name\":\"a\"}],\"size\":[1,2048],\"version\":1,\"callers\":0}",
-            false,
-        ),
-        (
-            "{\"classes\":[{\"clearance\":\"0\",\"name\":\"a\"}],\"size\":[1,2049],\"version\":1,\"callers\":1}",
-            false,
-        ),
-    ] {
-        let outcome = read_behind(rt.alloc(), "", line).expect(&rt, "memory");
-        assert!(rt; outcome.map.is_some() == is_map, "{line}");
+    for &(line, is_map) in MAP_LINES {
+        assert!(rt; has_map(rt.alloc(), line) == Some(is_map), "{line}");
     }
 }
 

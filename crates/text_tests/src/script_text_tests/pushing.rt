@@ -10,7 +10,7 @@ use std::alloc::Global;
 use std::test::*;
 
 /// A script of version 1: paths alone.
-const FIRST: [&str; 5] = [
+const FIRST: &[&str] = &[
     "{\"version\":1,\"size\":[5,4],\"callers\":1,\"classes\":[{\"name\":\"infantry\",\"clearance\":\"0\"}]}\n",
     "{\"caller\":0,\"path\":\"infantry\",\"from\":[\"0.5\",\"0.5\"],\"goal\":{\"point\":[\"4.5\",\"3.5\"]}}\n",
     "{\"caller\":0,\"path\":\"infantry\",\"from\":[\"3.5\",\"1.5\"],\"goal\":{\"point\":[\"0.5\",\"0.5\"]}}\n",
@@ -19,7 +19,7 @@ const FIRST: [&str; 5] = [
 ];
 
 /// A script of version 3: base rectangles, and posts of each form.
-const SKIRMISH: [&str; 11] = [
+const SKIRMISH: &[&str] = &[
     "{\"version\":3,\"size\":[12,8],\"callers\":2,\"classes\":[{\"name\":\"infantry\",\"clearance\":\"0.5\"},{\"name\":\"siege\",\"clearance\":\"1.5\"}]}\n",
     "{\"base\":[[0,7,11,7,3]]}\n",
     "{\"caller\":0,\"add\":1,\"square\":[\"6\",\"3\",\"1\",\"0\",\"0.5\",\"2\"],\"mask\":3}\n",
@@ -34,7 +34,7 @@ const SKIRMISH: [&str; 11] = [
 ];
 
 /// A script of version 2 with two base lines, and lines of which one is bad.
-const WITH_BAD: [&str; 8] = [
+const WITH_BAD: &[&str] = &[
     MAP_2,
     "{\"base\":[[0,0,1,1,1]]}\n",
     "{\"base\":[[2,2,2,3,1]]}\n",
@@ -211,9 +211,9 @@ fn lines_give_alike(alloc: Global, lines: &[&str]) -> Result<bool, NoMemory> {
 #[test]
 fn pushed_scripts_give_what_a_reader_gives(rt: HostRuntime) {
     let alloc = rt.alloc();
-    assert!(rt; lines_give_alike(alloc, &FIRST) == Ok(true));
-    assert!(rt; lines_give_alike(alloc, &SKIRMISH) == Ok(true));
-    assert!(rt; lines_give_alike(alloc, &WITH_BAD) == Ok(true));
+    assert!(rt; lines_give_alike(alloc, FIRST) == Ok(true));
+    assert!(rt; lines_give_alike(alloc, SKIRMISH) == Ok(true));
+    assert!(rt; lines_give_alike(alloc, WITH_BAD) == Ok(true));
 }
 
 #[test]

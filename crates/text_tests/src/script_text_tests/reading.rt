@@ -6,7 +6,7 @@ use std::alloc::Global;
 use std::test::*;
 
 /// The lines of the script, each with how the script ends where it is cut within the line, and behind it.
-const LINES: [(&str, Ending, Ending); 9] = [
+const LINES: &[(&str, Ending, Ending)] = &[
     (
         "{\"version\":1,\"size\":[5,4],\"callers\":3,\"classes\":[{\"name\":\"infantry\",\"clearance\":\"0.5\"}]}\n",
         (0, Some(ScriptFault::BadLine(1))),
@@ -68,7 +68,7 @@ const CANONICAL: &str =
 /// The whole script. Its last line has no newline.
 fn whole_script(alloc: Global) -> Result<Vec<u8>, NoMemory> {
     let mut script = Vec::new(alloc);
-    for (text, _, _) in LINES {
+    for &(text, _, _) in LINES {
         script.extend_from_slice(text.as_bytes())?;
     }
     script.pop();
@@ -87,7 +87,7 @@ fn ends_as(alloc: Global, script: &[u8], piece: usize, fails: &[u64], wanted: En
 fn ends_where_cut(alloc: Global, piece: usize) -> Result<bool, NoMemory> {
     let mut script = Bytes::new(alloc);
     let mut wanted = (0, Some(ScriptFault::BadLine(1)));
-    for (text, within, behind) in LINES {
+    for &(text, within, behind) in LINES {
         for byte in text.as_bytes() {
             // The last line of a script needs no newline.
             if *byte == b'\n' {
