@@ -150,6 +150,11 @@ impl Nodes {
         })
     }
 
+    /// For how many nodes there is room.
+    pub(crate) fn room(&self) -> usize {
+        self.list.capacity()
+    }
+
     /// Takes out every node. It takes no memory, and keeps the room that there is for more.
     pub(crate) fn clear(&mut self)
         ensures { self.new ≡ [] }

@@ -8,13 +8,13 @@ use nav_types::{Cell, NoMemory};
 use std::alloc::Global;
 
 /// How many numbers a page has.
-const PAGE: usize = 256;
+const PAGE: usize = 64;
 /// How many places there are for pages.
-const PLACES: usize = 1024;
+const PLACES: usize = 4096;
 /// For how many pages there is room from the start: one at each place, and the page of zeros.
 const ROOM: usize = PLACES + 1;
 
-/// A number for each cell of a map; 0 where none was set. A page has the numbers of 16 by 16 cells, and is made when
+/// A number for each cell of a map; 0 where none was set. A page has the numbers of 8 by 8 cells, and is made when
 /// the first of them is set.
 ///
 /// The table has the number of the page of each place. The first page is of zeros, and stands for all that are not
@@ -30,17 +30,17 @@ pub(crate) struct Pages {
 /// Where the cell stands on its page.
 fn spot(cell: Cell) -> usize
     ensures spot { result ≡ spot_of cell }
-    ensures low { result < 256 }
+    ensures low { result < 64 }
 {
-    usize::from(cell.j % 16) * 16 + usize::from(cell.i % 16)
+    usize::from(cell.j % 8) * 8 + usize::from(cell.i % 8)
 }
 
 /// The place of the cell's page.
 fn place(cell: Cell) -> usize
     ensures place { result ≡ page_place cell }
-    ensures low { result < 1024 }
+    ensures low { result < 4096 }
 {
-    usize::from(cell.j / 16 % 32) * 32 + usize::from(cell.i / 16 % 32)
+    usize::from(cell.j / 8 % 64) * 64 + usize::from(cell.i / 8 % 64)
 }
 
 /// Sets each number to 0.
@@ -84,7 +84,7 @@ impl Pages {
         ensures page { IfOk result (λ page. page ≡ slice_index self.new.table.items place) }
         ensures some { IfOk result (λ page. 0 < page) }
         ensures places { length self.new.table.items ≡ length self.old.table.items }
-        ensures same { OnOk result ((at spot : ℕ) → spot < 256
+        ensures same { OnOk result ((at spot : ℕ) → spot < 64
             → number_on_page self.new.table.items self.new.numbers.items at spot
             ≡ number_on_page self.old.table.items self.old.numbers.items at spot) }
         ensures table { OnErr result (self.new.table.items ≡ self.old.table.items) }

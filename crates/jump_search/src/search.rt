@@ -20,6 +20,9 @@ use std::marker::Brand;
 use std::sync::ledger::{Blank, Ledger};
 use walks::{Found, waypoints};
 
+/// For how many nodes a pool has room that is small.
+const SMALL: usize = 262_144;
+
 /// Room that searches keep from one to the next: what an earlier search in the same pool has taken, a later one does not
 /// take again. What a search answers does not depend on those before it, also where memory ran out in one of them.
 #[derive(Drop)]
@@ -33,6 +36,12 @@ impl Pool {
         Ok(Pool {
             front: Front::new(alloc)?,
         })
+    }
+
+    /// Whether the room that the pool keeps is for 2^18 jump states at most, some 16 MB with all that goes with them. Where
+    /// many pools are kept, those that are not small are better let go.
+    pub fn is_small(&self) -> bool {
+        self.front.nodes.room() <= SMALL
     }
 }
 

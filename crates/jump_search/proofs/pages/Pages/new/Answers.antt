@@ -10,9 +10,9 @@ invariant_of-result c =
     let numbers = c.resize.new.self in
     let filled = c.in_ok-resize.ensures.items in
     record {
-      paged = pages_blank table.items numbers.items 1024 256 (c.in_ok-table.ensures.items_if_clones_equal (λ y e. e))
-          (filled ∙ ap (λ (l : List ℕ). take 256 l ++ replicate (256 - room.len) 0) c.in_ok-numbers.ensures.items
-          ∙ ap (λ (n : ℕ). replicate (256 - n) 0) c.in_ok-numbers.ensures.len)
+      paged = pages_blank table.items numbers.items 4096 64 (c.in_ok-table.ensures.items_if_clones_equal (λ y e. e))
+          (filled ∙ ap (λ (l : List ℕ). take 64 l ++ replicate (64 - room.len) 0) c.in_ok-numbers.ensures.items
+          ∙ ap (λ (n : ℕ). replicate (64 - n) 0) c.in_ok-numbers.ensures.len)
           (omega (arith, table.ok.0, c.in_ok-table.ensures.len))
           (omega (arith, numbers.ok.0, c.in_ok-resize.ensures.len));
     }
@@ -20,7 +20,7 @@ invariant_of-result c =
 pub returns : goal.returns
 returns c =
     let room = c.in_ok-numbers.numbers in
-    number_blank c.in_ok-table.table.items c.resize.new.self.items 256
-    (c.in_ok-resize.ensures.items ∙ ap (λ (l : List ℕ). take 256 l ++ replicate (256 - room.len) 0)
+    number_blank c.in_ok-table.table.items c.resize.new.self.items 64
+    (c.in_ok-resize.ensures.items ∙ ap (λ (l : List ℕ). take 64 l ++ replicate (64 - room.len) 0)
     c.in_ok-numbers.ensures.items
-    ∙ ap (λ (n : ℕ). replicate (256 - n) 0) c.in_ok-numbers.ensures.len)
+    ∙ ap (λ (n : ℕ). replicate (64 - n) 0) c.in_ok-numbers.ensures.len)

@@ -29,7 +29,7 @@ returns-clause-set c =
     let some : 0 < get_or made.table.items place.result 0 =
     subst (λ (n : ℕ). 0 < n) page.ensures.page page.ensures.some in
     subst (λ (n : ℕ). IsSet c.args.cell c.args.number (cell_number table numbers)
-    (cell_number made.table.items (set made.numbers.items (n * 256 + spot.result) c.args.number)))
+    (cell_number made.table.items (set made.numbers.items (n * 64 + spot.result) c.args.number)))
     (sym page.ensures.page)
     (set_is table numbers made.table.items made.numbers.items c.args.cell place.result spot.result c.args.number
     made.paged page.ensures.same place.ensures.place spot.ensures.spot some)
