@@ -1,6 +1,6 @@
 -- The words of the lines of answers: their bytes are printed ones below `{`, so they have no space and no newline.
 use Rattle.std.proofs.Common.{◌≡◌, ◌≢◌, ◌⊎◌, inl, inr, ℕ, zero, suc, ◌+◌, ◌/◌, ◌%◌, ◌<◌, ◌==◌, List, [], ◌∷◌, ◌++◌, length, map, Bool, true, false, not, cond, nat_lt, ◌&&◌, decimal, refl, ap, ◌∙◌, arith, lt-ltb}
-use Rattle.std.specs.Prelude.{codes, Option, Some, None}
+use Rattle.std.specs.Prelude.{if◌then◌else◌, codes, Option, Some, None}
 use Rattle.std.specs.Fmt.{digits, digits_onto, digit_glyph}
 use Rattle.std.specs.List.{list_all, join_with_byte}
 use Rattle.std.proofs.lemmas.Bool.{and_parts, and_from, eqb-false, ne_eqb, ltb-true, not-true}
@@ -15,6 +15,7 @@ use Rattle.posts.specs.declared.edits.Refusal.{Refusal}
 use Rattle.posts.specs.declared.edits.Refusal.TheVariants.{BadShape, DuplicateId, StoreFull, UnknownId, UnknownClass, StartOutside, GoalOutside}
 use Rattle.posts.specs.declared.notes.Note.{Note}
 use Rattle.posts.specs.declared.notes.Note.TheVariants.{Nothing, Opened, Flow, Smoothed}
+use Rattle.turn_core.specs.Notes.{says}
 use Rattle.posts.specs.declared.replies.Answer.{Answer}
 use Rattle.posts.specs.declared.replies.Answer.TheVariants.{Refused, Nowhere, Path, Region}
 use Rattle.posts.specs.declared.replies.Reply.{Reply}
@@ -220,6 +221,13 @@ lines_of_note Nothing = 0
 lines_of_note (Opened opened) = 1
 lines_of_note (Flow line) = 1
 lines_of_note (Smoothed points) = 1
+
+-- an answer has a line more where its note says something
+pub lines_of_saying : (note : Note) → (if says note then 2 else 1) ≡ suc (lines_of_note note)
+lines_of_saying Nothing = refl
+lines_of_saying (Opened opened) = refl
+lines_of_saying (Flow line) = refl
+lines_of_saying (Smoothed points) = refl
 
 -- the note has nothing to say, and so no line
 pub record SaysNothing (caller post : ℕ) (note : Note) : Type 0 where

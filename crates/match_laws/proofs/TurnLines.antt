@@ -1,13 +1,13 @@
 -- The lines of the text of a turn, and of an output text.
 use Rattle.std.proofs.Common.{◌≡◌, ◌⊎◌, inl, inr, ℕ, suc, ◌+◌, List, [], ◌∷◌, ◌++◌, length, Bool, true, false, Option, Some, None, ℤ, map, refl, sym, ap, subst, ◌∙◌, arith, append_assoc, append-nil, decimal, replicate, length-append}
-use Rattle.std.specs.Prelude.{codes, sum_by}
+use Rattle.std.specs.Prelude.{if◌then◌else◌, codes, sum_by}
 use Rattle.std.specs.List.{join_with_byte}
 use Rattle.std.proofs.lemmas.List.Sums.{sum_by-cons}
 use Rattle.nav_types.specs.declared.cells.Cell.{Cell}
 use Rattle.posts.specs.declared.edits.EditReply.TheVariants as edit
 use Rattle.posts.specs.declared.notes.Note.{Note}
 use Rattle.posts.specs.declared.notes.Report.{Report}
-use Rattle.posts.specs.declared.notes.Report.TheVariants.{Answers, OpenedNumbers, Flows, Smoothed as SmoothedPaths}
+use Rattle.posts.specs.declared.notes.Report.TheVariants.{Answers}
 use Rattle.posts.specs.declared.posts.Post.{Post}
 use Rattle.posts.specs.declared.posts.Post.TheVariants.{Edit as Editing, Ask as Asking}
 use Rattle.posts.specs.declared.posts.Request.{Request}
@@ -28,6 +28,7 @@ use Rattle.turn_core.specs.Solving.{IsRegionAt, IsAnswerAt, IsAnswerTo}
 use Rattle.turn_core.specs.Turns.{after, after_turn, AreReplies, AreTurnReplies, IsTurnTold}
 use Rattle.turn_core.specs.Notes.{IsNoteOf, IsNote, AreNotes}
 use Rattle.turn_core.proofs.OneAnswer.{one_answer_to}
+use Rattle.turn_core.proofs.OneNote.{told_says}
 use Rattle.input_lines.specs.Lines.{full_lines, tail_of}
 use Rattle.input_lines.proofs.LineLists.{full_lines-line, tail_of-line}
 use Rattle.answer_text.specs.Answers.{line_of, reply_words, reply_line, turn_line, bad_line_text}
@@ -35,7 +36,7 @@ use Rattle.answer_text.specs.Noted.{note_line, note_text, notes_left, noted_line
 use Rattle.script_text.specs.Script.{beginning, Item, begins, adds_base, ends_turn, turns_of, whole_input, too_long, bad_line, Ends, at_place, stuck_by, reading}
 use Rattle.match_play.specs.Texts.{Said, IsTurnText, Gives, ends_text, IsOut}
 use Rattle.match_laws.specs.AnswerLines.{IsTurnLine, AreLinesAt, one_line, lines_of_answer, lines_of_reply, places_from, places_of, lines_of_stop, lines_of_turn, HasTurnLines}
-use Rattle.match_laws.proofs.AnswerWords.{are_words, plain_words, reply_line_words, turn_words, turn_line_words, bad_line_words, note_line_words, lines_of_note, SaysNothing, SaysLine, note_says}
+use Rattle.match_laws.proofs.AnswerWords.{are_words, plain_words, reply_line_words, turn_words, turn_line_words, bad_line_words, note_line_words, lines_of_note, lines_of_saying, SaysNothing, SaysLine, note_says}
 
 -- ---- whole lines
 
@@ -156,10 +157,8 @@ lines_of_noted m s report (AsksRegion name x z) answer note is told =
 lines_of_noted m s report (AsksPath name x z goal) (Refused refusal) note is told = ap (λ (n : Note). suc (lines_of_note n)) (sym told)
 lines_of_noted m s report (AsksPath name x z goal) Nowhere note is told = ap (λ (n : Note). suc (lines_of_note n)) (sym told)
 lines_of_noted m s report (AsksPath name x z goal) (IsRegion region) note is told = ap (λ (n : Note). suc (lines_of_note n)) (sym told)
-lines_of_noted m s Answers (AsksPath name x z goal) (IsPath path) note is told = ap (λ (n : Note). suc (lines_of_note n)) (sym told.noted.told)
-lines_of_noted m s OpenedNumbers (AsksPath name x z goal) (IsPath path) note is told = ap (λ (n : Note). suc (lines_of_note n)) (sym told.noted.told.1.0)
-lines_of_noted m s Flows (AsksPath name x z goal) (IsPath path) note is told = ap (λ (n : Note). suc (lines_of_note n)) (sym told.noted.told.1.0)
-lines_of_noted m s SmoothedPaths (AsksPath name x z goal) (IsPath path) note is told = ap (λ (n : Note). suc (lines_of_note n)) (sym told.noted.told.1.0)
+lines_of_noted m s report (AsksPath name x z goal) (IsPath path) note is told =
+    ap (λ (b : Bool). if b then 2 else 1) (told_says report _ _ told.noted.target path note told.noted.told) ∙ lines_of_saying note
 
 lines_by_note : (m : Map) (s : Standing) (report : Report) (request : Request) (answer : Answer) (note : Note) → IsAnswerTo m s request answer
     → IsNote m s report request note → lines_of_answer report answer ≡ suc (lines_of_note note)

@@ -1,13 +1,13 @@
 -- The lines of the text of a turn, as a client has them that splits it at newlines.
-use Rattle.std.specs.Prelude.{ℕ, ◌≡◌, ◌+◌, List, [], ◌∷◌, ◌++◌, replicate, codes, decimal}
+use Rattle.std.specs.Prelude.{ℕ, ◌≡◌, ◌+◌, if◌then◌else◌, List, [], ◌∷◌, ◌++◌, replicate, codes, decimal}
 use Rattle.posts.specs.declared.notes.Report.{Report}
-use Rattle.posts.specs.declared.notes.Report.TheVariants.{Answers, OpenedNumbers, Flows, Smoothed}
 use Rattle.posts.specs.declared.posts.Post.{Post}
 use Rattle.posts.specs.declared.replies.Answer.{Answer}
 use Rattle.posts.specs.declared.replies.Answer.TheVariants.{Refused, Nowhere, Path, Region}
 use Rattle.posts.specs.declared.replies.Reply.{Reply}
 use Rattle.posts.specs.declared.replies.Reply.TheVariants.{Edit as Edited, Answer as Answered}
 use Rattle.posts.specs.Posts.{post_count}
+use Rattle.turn_core.specs.Notes.{tells}
 use Rattle.input_lines.specs.Lines.{full_lines, tail_of}
 use Rattle.script_text.specs.Script.{whole_input, too_long, bad_line, Ends, at_place, stuck_by}
 
@@ -32,10 +32,7 @@ one_line post = 1
 
 -- how many lines a path has under a report: one, and one more where something is told beside the answers
 abbrev pub lines_of_path : Report → ℕ
-lines_of_path Answers = 1
-lines_of_path OpenedNumbers = 2
-lines_of_path Flows = 2
-lines_of_path Smoothed = 2
+lines_of_path report = if tells report then 2 else 1
 
 -- how many lines an answer has
 abbrev pub lines_of_answer : Report → Answer → ℕ

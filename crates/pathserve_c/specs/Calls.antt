@@ -3,7 +3,7 @@ use Rattle.std.specs.Prelude.{ℕ, ◌≡◌, ◌≢◌, ◌<◌, ◌⊎◌, Lis
 use Rattle.std.specs.List.{Contains}
 use Rattle.posts.specs.Maps.{Map}
 use Rattle.posts.specs.declared.notes.Report.{Report}
-use Rattle.posts.specs.declared.notes.Report.TheVariants.{Answers, OpenedNumbers, Flows, Smoothed}
+use Rattle.turn_core.specs.declared.reports.TheConstants.{REPORTS}
 use Rattle.match_play.specs.declared.faults.MatchFault.{MatchFault}
 use Rattle.match_play.specs.Playing.{said_of}
 use Rattle.grid_versions.specs.Versions.{MapState, map_state}
@@ -26,7 +26,7 @@ use Rattle.pathserve_c.specs.Texts.{TextState, IsUnread, Feeds, Finishes, Takes}
 
 -- what is told beside the answers, by its number
 abbrev pub report_of : ℕ → Option Report
-report_of number = slice_get (Answers ∷ OpenedNumbers ∷ Flows ∷ Smoothed ∷ []) number
+report_of number = slice_get REPORTS number
 
 -- a call that refused changed nothing
 abbrev pub IsRefused : ℕ → Option State → Option State → ℕ → Type 0

@@ -9,6 +9,7 @@ use crate::statuses::{BAD_VALUE, CLOSED, DONE, NO_MEMORY, OPEN, OTHER, status_of
 use crate::text_matches::TextMatch;
 use posts::Report;
 use std::alloc::Global;
+use turn_core::REPORTS;
 
 /// Opens a closed handle: a match of whose script no byte has come.
 #[unsafe(no_mangle)]
@@ -135,11 +136,5 @@ fn feed_state(alloc: Global, state: &mut State, bytes: &mut &[u8]) -> u32
 fn report_of(number: u32) -> Option<Report>
     ensures { result ≡ report_of number }
 {
-    match number {
-        0 => Some(Report::Answers),
-        1 => Some(Report::OpenedNumbers),
-        2 => Some(Report::Flows),
-        3 => Some(Report::Smoothed),
-        _ => None,
-    }
+    REPORTS.get(number as usize).copied()
 }

@@ -33,7 +33,7 @@ use Rattle.posts.specs.declared.replies.Answer.TheVariants.{Refused, Nowhere, Pa
 use Rattle.turn_core.specs.Words.{Standing}
 use Rattle.turn_core.specs.Solving.{IsPathAnswer, IsPathFound, IsAnswerAt, IsAnswerTo, AreAnswersTo}
 use Rattle.turn_core.specs.NamedGoals.{class_named, is_on_map, goal_found}
-use Rattle.turn_core.specs.Notes.{IsOpenedNumber, IsFlowLine, IsTold, IsNoteTo, IsPathNote, IsNoteOf, IsNote, AreNotes}
+use Rattle.turn_core.specs.Notes.{IsOpenedNumber, IsFlowLine, IsTold, tells, says, IsNoteTo, IsPathNote, IsNoteOf, IsNote, AreNotes}
 use Rattle.turn_core.proofs.Itemwise.{IsItemwise, itemwise_by_place, itemwise_unique}
 use Rattle.turn_core.proofs.OneAnswer.{one_answer_to}
 
@@ -61,6 +61,14 @@ one_told Flows passes size target path m n p q =
     p.1.0 ∙ (ap (λ (line : FlowLine). Flow line) (one_line passes (hit_by target) path.start p.0 q.0 p.1.1 q.1.1) ∙ sym q.1.0)
 one_told SmoothedPaths passes size target path m n p q =
     p.1.0 ∙ (ap (λ (points : List Cell). Smoothed points) (one_smoothing passes path.start path.waypoints p.0 q.0 p.1.1 q.1.1) ∙ sym q.1.0)
+
+-- a note tells something of a path exactly where its report does
+pub told_says : (report : Report) (passes : Cell → Bool) (size : Size) (target : Target) (path : PathAnswer) (note : Note)
+    → IsTold report passes size target path note → tells report ≡ says note
+told_says Answers passes size target path note told = ap says (sym told)
+told_says OpenedNumbers passes size target path note told = ap says (sym told.1.0)
+told_says Flows passes size target path note told = ap says (sym told.1.0)
+told_says SmoothedPaths passes size target path note told = ap says (sym told.1.0)
 
 one_to : (report : Report) (passes : Cell → Bool) (size : Size) (goal : Goal) (path : PathAnswer) (m n : Note)
     → IsNoteTo report passes size goal path m → IsNoteTo report passes size goal path n → m ≡ n

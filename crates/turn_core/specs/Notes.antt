@@ -1,5 +1,5 @@
 -- What is told beside the answers to requests.
-use Rattle.std.specs.Prelude.{ℕ, ◌≡◌, Bool, List, [], ◌∷◌, Option, Some, None, Ok}
+use Rattle.std.specs.Prelude.{ℕ, ◌≡◌, Bool, true, false, List, [], ◌∷◌, Option, Some, None, Ok}
 use Rattle.nav_types.specs.declared.cells.Cell.{Cell}
 use Rattle.nav_types.specs.declared.cells.Rect.{Rect}
 use Rattle.nav_types.specs.declared.cells.Size.{Size}
@@ -51,6 +51,16 @@ IsTold Flows passes size target path note =
     (line : FlowLine) × ((note ≡ Flow line) × IsFlowLine passes (hit_by target) path.start line)
 IsTold SmoothedPaths passes size target path note =
     (points : List Cell) × ((note ≡ Smoothed points) × IsSmoothing passes path.start path.waypoints points)
+
+-- whether a report tells something of each path
+abbrev pub tells : Report → Bool
+tells Answers = false
+tells report = true
+
+-- whether a note tells something
+abbrev pub says : Note → Bool
+says Nothing = false
+says note = true
 
 -- the note of a path to a goal: what is told of it by the targets of the goal
 pub record IsNoteTo (report : Report) (passes : Cell → Bool) (size : Size) (goal : Goal) (path : PathAnswer) (note : Note) : Type 0 where

@@ -19,6 +19,7 @@ pub mod laws;
 mod named_goals;
 mod ready_turns;
 mod reply_lists;
+mod reports;
 pub mod request_laws;
 mod runners;
 mod same_targets;
@@ -28,6 +29,7 @@ mod turn_versions;
 
 pub use events::{Event, Takes, Why};
 pub use journals::{answer_turn, one_thread};
+pub use jump_search::Pool;
 pub use named_goals::goal_of;
 pub use posts::{
     AllReplies, Answer, Answers, CallerReplies, Copied, FlowLine, FlowSummary, Jobs, Journal, Note,
@@ -35,6 +37,7 @@ pub use posts::{
     TurnPosts, TurnReplies, count_posts, empty_lists, push_post,
 };
 pub use ready_turns::{AnsweredTurn, ReadyTurn};
+pub use reports::REPORTS;
 pub use runners::{RunBy, Runner};
 pub use solving::{Solver, flow_of, solve, solve_noted};
 pub use turn_versions::bare_version;

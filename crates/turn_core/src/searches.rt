@@ -1,16 +1,13 @@
 //! Searches on a version.
 ghost use Rattle.std.specs.Prelude.{◌≡◌, IfOk};
-ghost use Rattle.grid_versions.specs.Versions.{passes_of};
-ghost use Rattle.turn_core.specs.Notes.{IsOpenedNumber};
-ghost use Rattle.posts.specs.declared.notes.Report.TheVariants.{OpenedNumbers};
 ghost use Rattle.turn_core.specs.Solving.{is_near};
-ghost use Rattle.turn_core.specs.inner.Searching.{CanFind, IsFoundTo, IsNotedPath, path_by};
+ghost use Rattle.turn_core.specs.inner.Searching.{CanFind, IsFoundTo, path_by};
 
 use class_planes::PlaneRuns;
 use goal_reach::Target;
 use grid_versions::Version;
-use jump_search::{JumpSearch, Pool, Question, Traced};
-use nav_types::{Aim, Cell, Class, NoMemory, View};
+use jump_search::{JumpSearch, Pool, Question};
+use nav_types::{Cell, Class, NoMemory};
 use posts::{Note, PathAnswer};
 use std::alloc::Global;
 use walks::Found;
@@ -40,19 +37,6 @@ impl<'a> Search<'a> {
         self.question(&self.runs()).find(pool, alloc)
     }
 
-    /// The path of the chosen walk, by the room of the pool, with its opened number.
-    pub(crate) fn counted(&self, alloc: Global, pool: &mut Pool) -> Result<NotedPath, NoMemory>
-        requires { CanFind self.now.version.now self.now.class self.now.start self.now.target.now }
-        ensures { IfOk result (IsNotedPath self.now.version.now OpenedNumbers self.now.class self.now.start self.now.target.now) }
-    {
-        let Traced { found, opened } = self.trace(alloc, pool)?;
-        let path = self.path_of(found);
-        Ok(NotedPath {
-            path,
-            note: Note::Opened(opened),
-        })
-    }
-
     /// The path of a walk that this search found.
     pub(crate) fn path_of(&self, found: Found) -> PathAnswer
         ensures { result ≡ path_by self.now.start self.now.target.now found }
@@ -71,29 +55,15 @@ impl<'a> Search<'a> {
         }
     }
 
-    /// The walk of a search, by the room of the pool, and the opened number of its path.
-    fn trace(&self, alloc: Global, pool: &mut Pool) -> Result<Traced, NoMemory>
-        requires { CanFind self.now.version.now self.now.class self.now.start self.now.target.now }
-        ensures found { IfOk result (λ traced.
-            IsFoundTo self.now.version.now self.now.class self.now.start self.now.target.now traced.found) }
-        ensures opened { IfOk result (λ traced. IsOpenedNumber (passes_of self.now.version.now self.now.class)
-            self.now.version.now.map.size self.now.target.now (path_by self.now.start self.now.target.now traced.found)
-            traced.opened) }
-    {
-        // The rectangle that the jump states are counted by.
-        let _box = self.target.bounds(self.version.size());
-        self.question(&self.runs()).trace(pool, alloc)
-    }
-
     /// The runs of the class over the version, by its planes.
-    fn runs(&self) -> PlaneRuns<'_, Version>
+    pub(crate) fn runs(&self) -> PlaneRuns<'_, Version>
         ensures { result ≡ self.now.version.now }
     {
         PlaneRuns::new(self.version, self.version.planes(), self.class)
     }
 
     /// What the jump search is asked over these runs.
-    fn question<'q>(
+    pub(crate) fn question<'q>(
         &'q self,
         runs: &'q PlaneRuns<'q, Version>,
     ) -> Question<'q, PlaneRuns<'q, Version>, Target>

@@ -1,10 +1,9 @@
 //! The answers to requests on a version.
-ghost use Rattle.std.specs.Prelude.{◌≡◌, ◌<◌, ℤ, IfErr, IfNone, IfOk, IfSome, IsTrue, length};
+ghost use Rattle.std.specs.Prelude.{◌≡◌, ◌<◌, ℤ, IfErr, IfNone, IfOk, IfSome, length};
 ghost use Rattle.fixed_point.specs.Plane.{IsOnAxis};
 ghost use Rattle.nav_types.specs.Cells.{IsInside};
 ghost use Rattle.goal_shapes.specs.Goals.{HoldsPoint};
 ghost use Rattle.goal_shapes.specs.Limits.{IsSoundGoal};
-ghost use Rattle.line_smooth.specs.Smoothed.{AreCorners, IsSmoothing};
 ghost use Rattle.posts.specs.declared.notes.Note.{Note};
 ghost use Rattle.posts.specs.declared.notes.Report.TheVariants.{Flows};
 ghost use Rattle.grid_versions.specs.Passing.{passable_at};
@@ -12,13 +11,12 @@ ghost use Rattle.grid_versions.specs.Versions.{passes_of};
 ghost use Rattle.turn_core.specs.NamedGoals.{class_named, is_on_map, goal_found};
 ghost use Rattle.turn_core.specs.Solving.{IsPathTo, IsPathFound, IsRegionAnswer, IsRegionAt, IsAnswerAt};
 ghost use Rattle.goal_reach.specs.Starts.{IsStartCell};
-ghost use Rattle.goal_reach.specs.Targets.{hit_by};
 ghost use Rattle.turn_core.specs.Solving.{IsAnswerTo, IsImpassable};
-ghost use Rattle.turn_core.specs.Notes.{IsFlowLine, IsNoteBy, IsNoteTo, IsNote, IsNotedTo, IsPathNote, flow_in};
+ghost use Rattle.turn_core.specs.Notes.{IsNoteBy, IsNoteTo, IsNote, IsNotedTo, IsPathNote, flow_in};
 ghost use Rattle.turn_core.specs.inner.Asked.{IsAskedAt, IsRefusedAt};
 ghost use Rattle.turn_core.specs.inner.Searching.{CanFind, IsNotedPath};
 
-use crate::last_fields::{LastField, field_for};
+use crate::last_fields::LastField;
 use crate::named_goals::goal_of;
 use crate::searches::{NotedPath, Search};
 use class_config::ClassName;
@@ -27,12 +25,10 @@ use goal_reach::{Target, made_reachable, nearest_passable};
 use goal_shapes::{Goal, GoalSpec, cell_of_point};
 use grid_versions::{Refusal, Version};
 use jump_search::Pool;
-use line_smooth::smooth;
 use nav_types::{Areas, Cell, Class, NoMemory};
 use posts::{Answer, FlowLine, Note, Noted, RegionAnswer, Report, Request};
 use std::alloc::Global;
 use std::marker::Model;
-use walks::Waypoints;
 
 /// The answer to a request on a version (`IsAnswerTo`). It refuses for want of memory alone.
 ///
@@ -119,12 +115,24 @@ impl<'a> Solver<'a> {
     pub fn new(alloc: Global, version: &'a Version, report: Report) -> Result<Solver<'a>, NoMemory>
         ensures { IfOk result (λ solver. solver ≡ record { state = version.now; report = report }) }
     {
-        Ok(Solver {
+        Ok(Solver::in_pool(version, report, Pool::new(alloc)?))
+    }
+
+    /// The same, whose searches are in a pool that others have searched in. It takes no memory.
+    pub fn in_pool(version: &'a Version, report: Report, pool: Pool) -> Solver<'a>
+        ensures { result ≡ record { state = version.now; report = report } }
+    {
+        Solver {
             version,
             report,
             kept: None,
-            pool: Pool::new(alloc)?,
-        })
+            pool,
+        }
+    }
+
+    /// The pool of its searches, for the next who answers.
+    pub fn into_pool(self) -> Pool {
+        self.pool
     }
 
     /// The answer to a request with what the report tells of it (`IsNotedTo`). It refuses for want of memory alone, and can
@@ -226,68 +234,8 @@ impl<'a> Solver<'a> {
             start,
             target,
         };
-        match self.report {
-            Report::Answers => {
-                let path = search.path_of(search.find(alloc, &mut self.pool)?);
-                Ok(NotedPath {
-                    path,
-                    note: Note::Nothing,
-                })
-            }
-            Report::OpenedNumbers => search.counted(alloc, &mut self.pool),
-            Report::Flows => {
-                let path = search.path_of(search.find(alloc, &mut self.pool)?);
-                let line = self.flow_line(alloc, class, start, target)?;
-                Ok(NotedPath {
-                    path,
-                    note: Note::Flow(line),
-                })
-            }
-            Report::Smoothed => {
-                let path = search.path_of(search.find(alloc, &mut self.pool)?);
-                let points = smoothed(alloc, self.version, class, start, &path.waypoints)?;
-                Ok(NotedPath {
-                    path,
-                    note: Note::Smoothed(points),
-                })
-            }
-        }
+        search.noted(alloc, self.report, &mut self.pool, &mut self.kept)
     }
-
-    /// What the flow field of the target's cells in the start's area tells of the start. The field is kept.
-    fn flow_line(
-        &mut self,
-        alloc: Global,
-        class: Class,
-        start: Cell,
-        target: &Target,
-    ) -> Result<FlowLine, NoMemory>
-        requires { CanFind self.old.state class start target.now }
-        ensures line { IfOk result (IsFlowLine (passes_of self.old.state class) (hit_by target.now) start) }
-        ensures same { self.new ≡ self.old }
-    {
-        let kept = self.kept.take();
-        let last = field_for(alloc, self.version, kept, class, start, target)?;
-        let line = last.line(start);
-        self.kept = Some(last);
-        Ok(line)
-    }
-}
-
-/// The smoothed waypoints of corners on a version, by the plane of the class.
-fn smoothed(
-    alloc: Global,
-    version: &Version,
-    class: Class,
-    start: Cell,
-    corners: &Waypoints,
-) -> Result<Waypoints, NoMemory>
-    requires class { class < length version.now.map.classes }
-    requires corners { AreCorners (passes_of version.now class) start corners.now }
-    ensures { IfOk result (IsSmoothing (passes_of version.now class) start corners.now) }
-{
-    let view = version.class_view(class);
-    smooth(alloc, &view, class, start, corners)
 }
 
 /// The start cell of a point on the map. None exactly where no cell is passable for the class, which the version tells

@@ -1,7 +1,7 @@
 use Rattle.std.proofs.Common.{IfOk, subst, sym}
 use Rattle.line_smooth.specs.Smoothed.{AreCorners, IsSmoothing}
 use Rattle.grid_versions.specs.Versions.{MapState, passes_of}
-use Rattle.turn_core.proofs.solving.smoothed.Goals as goal
+use Rattle.turn_core.proofs.reports.smoothed.Goals as goal
 
 pub smooth-requires-clause-corners : goal.smooth-requires-clause-corners
 smooth-requires-clause-corners c =
