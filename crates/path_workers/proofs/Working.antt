@@ -1,6 +1,6 @@
 -- What workers hand back, job by job and half by half.
 use Rattle.std.proofs.Common.{◌≡◌, ℕ, ◌+◌, ◌-◌, ◌/◌, ◌<◌, List, [], ◌∷◌, ◌++◌, Bool, true, Ok, Err, sym, ap, ◌∙◌, subst, arith}
-use Rattle.std.specs.Prelude.{Result, ◌||◌, IfOk, IsOkAnd, OnOk}
+use Rattle.std.specs.Prelude.{Result, ◌||◌, IfOk, IsOkAnd, OnOk, length, slice_index}
 use Rattle.std.proofs.lemmas.List.{map-append}
 use Rattle.std.proofs.lemmas.List.Elements.{All-append, All-push}
 use Rattle.nav_types.specs.Counting.{Lists}
@@ -12,15 +12,20 @@ use Rattle.posts.specs.declared.notes.Report.{Report}
 use Rattle.turn_core.specs.Words.{Standing}
 use Rattle.path_workers.specs.declared.placing.Answered.{Answered}
 use Rattle.path_workers.specs.declared.drawing.Worked.{Worked}
+use Rattle.path_workers.specs.declared.rooms.Rooms.{Rooms}
+use Rattle.path_workers.specs.inner.Ranking.{jobs_at}
+use Rattle.path_workers.proofs.Ordering.{Lists-through}
 use Rattle.path_workers.specs.inner.Working.{job_numbers, AnswersItsJob, AnswerTheirJobs, HasOneMore, HasWorked}
 
--- one more job is answered
-pub one_more : (map : Map) (standing : Standing) (report : Report) (jobs : List Request) (job : ℕ) (before after : List Answered) (drawn : List ℕ)
-    → HasOneMore map standing report jobs job before after → job_numbers before ≡ drawn → AnswerTheirJobs map standing report jobs before
-    → (job_numbers after ≡ drawn ++ job ∷ []) × AnswerTheirJobs map standing report jobs after
-one_more map standing report jobs job before after drawn more numbers answers =
+-- one more job is answered, which stands at a place of the order
+pub one_more : (map : Map) (standing : Standing) (report : Report) (jobs : List Request) (order : List ℕ) (place job : ℕ) (before after : List Answered)
+    (drawn : List ℕ) → HasOneMore map standing report jobs job before after → job ≡ slice_index order place → job_numbers before ≡ jobs_at order drawn
+    → AnswerTheirJobs map standing report jobs before
+    → (job_numbers after ≡ jobs_at order (drawn ++ place ∷ [])) × AnswerTheirJobs map standing report jobs after
+one_more map standing report jobs order place job before after drawn more stands numbers answers =
     let number : Answered → ℕ = λ one. one.job in (
-      ap job_numbers more.1.0 ∙ map-append number before (more.0 ∷ []) ∙ ap (λ (ns : List ℕ). ns ++ number more.0 ∷ []) numbers ∙ ap (λ (n : ℕ). drawn ++ n ∷ []) more.1.1.0,
+      ap job_numbers more.1.0 ∙ map-append number before (more.0 ∷ []) ∙ ap (λ (ns : List ℕ). ns ++ number more.0 ∷ []) numbers
+          ∙ ap (λ (n : ℕ). jobs_at order drawn ++ n ∷ []) (more.1.1.0 ∙ stands) ∙ sym (map-append (slice_index order) drawn (place ∷ [])),
       subst (AnswerTheirJobs map standing report jobs) (sym more.1.0)
           (All-push (AnswersItsJob map standing report jobs) before more.0 answers more.1.1.1),
     )
@@ -35,15 +40,16 @@ both_ended first second (Err e) x y z are ended is = tt
 both_ended (Err e) second (Ok whole) x y z are ended is = absurd are
 both_ended (Ok front) second (Ok whole) x y z are ended is = is ∙ ap (λ (b : Bool). b || y) ended
 
-both_numbered : (first second all : Result (List Answered) NoMemory) (xs ys zs : List ℕ) → AreBoth first second all
-    → IfOk first (λ answered. job_numbers answered ≡ xs) → IfOk second (λ answered. job_numbers answered ≡ ys) → zs ≡ xs ++ ys
-    → IfOk all (λ answered. job_numbers answered ≡ zs)
-both_numbered first second (Err e) xs ys zs are p q is = tt
-both_numbered (Err e) second (Ok whole) xs ys zs are p q is = absurd are
-both_numbered (Ok front) (Err e) (Ok whole) xs ys zs are p q is = absurd are
-both_numbered (Ok front) (Ok back) (Ok whole) xs ys zs are p q is =
+both_numbered : (order : List ℕ) (first second all : Result (List Answered) NoMemory) (xs ys zs : List ℕ) → AreBoth first second all
+    → IfOk first (λ answered. job_numbers answered ≡ jobs_at order xs) → IfOk second (λ answered. job_numbers answered ≡ jobs_at order ys)
+    → zs ≡ xs ++ ys → IfOk all (λ answered. job_numbers answered ≡ jobs_at order zs)
+both_numbered order first second (Err e) xs ys zs are p q is = tt
+both_numbered order (Err e) second (Ok whole) xs ys zs are p q is = absurd are
+both_numbered order (Ok front) (Err e) (Ok whole) xs ys zs are p q is = absurd are
+both_numbered order (Ok front) (Ok back) (Ok whole) xs ys zs are p q is =
     let number : Answered → ℕ = λ one. one.job in
-    ap job_numbers are ∙ map-append number front back ∙ ap (λ (ns : List ℕ). ns ++ job_numbers back) p ∙ ap (λ (ns : List ℕ). xs ++ ns) q ∙ sym is
+    ap job_numbers are ∙ map-append number front back ∙ ap (λ (ns : List ℕ). ns ++ job_numbers back) p
+    ∙ ap (λ (ns : List ℕ). jobs_at order xs ++ ns) q ∙ sym (map-append (slice_index order) xs ys) ∙ ap (jobs_at order) (sym is)
 
 both_answered : (map : Map) (standing : Standing) (report : Report) (jobs : List Request) (first second all : Result (List Answered) NoMemory) → AreBoth first second all
     → IfOk first (AnswerTheirJobs map standing report jobs) → IfOk second (AnswerTheirJobs map standing report jobs) → IfOk all (AnswerTheirJobs map standing report jobs)
@@ -54,13 +60,13 @@ both_answered map standing report jobs (Ok front) (Ok back) (Ok whole) are p q =
     subst (AnswerTheirJobs map standing report jobs) (sym are) (All-append (AnswersItsJob map standing report jobs) front back p q)
 
 -- what the workers of two halves of a seat hand back together
-pub both_worked : (map : Map) (standing : Standing) (report : Report) (jobs : List Request) (board : Board) (seat one other joined : SeatState) (first second : Worked)
-    (all : Result (List Answered) NoMemory) → one ≡ record seat { credit = seat.credit - seat.credit / 2 } → other ≡ record seat { credit = seat.credit / 2; drawn = [] }
-    → HasWorked map standing report jobs one first → HasWorked map standing report jobs other second → seat.board ≡ board
+pub both_worked : (map : Map) (standing : Standing) (report : Report) (jobs : List Request) (order : List ℕ) (board : Board) (seat one other joined : SeatState)
+    (first second : Worked) (all : Result (List Answered) NoMemory) (rooms : Rooms) → one ≡ record seat { credit = seat.credit - seat.credit / 2 } → other ≡ record seat { credit = seat.credit / 2; drawn = [] }
+    → HasWorked map standing report jobs order one first → HasWorked map standing report jobs order other second → seat.board ≡ board
     → joined.board ≡ board → joined.credit ≡ first.seat.credit + second.seat.credit → joined.drawn ≡ first.seat.drawn ++ second.seat.drawn
     → joined.ended ≡ (first.seat.ended || second.seat.ended) → AreBoth first.answered second.answered all
-    → HasWorked map standing report jobs seat (record { seat = joined; answered = all })
-both_worked map standing report jobs board seat one other joined first second all first_half second_half p q own home credit drawn ended are =
+    → HasWorked map standing report jobs order seat (record { seat = joined; answered = all; rooms = rooms })
+both_worked map standing report jobs order board seat one other joined first second all rooms first_half second_half p q own home credit drawn ended are =
     let more : one.credit ≡ seat.credit - seat.credit / 2 = ap (λ (s : SeatState). s.credit) first_half in
     let less : other.credit ≡ seat.credit / 2 = ap (λ (s : SeatState). s.credit) second_half in
     let here : first.seat.credit ≡ one.credit = p.credit in
@@ -69,13 +75,15 @@ both_worked map standing report jobs board seat one other joined first second al
       board = home ∙ sym own;
       credit = omega (arith, credit, here, there, more, less);
       ended = both_ended first.answered second.answered all first.seat.ended second.seat.ended joined.ended are p.ended ended;
-      numbers = both_numbered first.answered second.answered all first.seat.drawn second.seat.drawn joined.drawn are p.numbers q.numbers drawn;
+      numbers = both_numbered order first.answered second.answered all first.seat.drawn second.seat.drawn joined.drawn are p.numbers q.numbers drawn;
       answers = both_answered map standing report jobs first.answered second.answered all are p.answers q.answers;
     }
 
--- the answered jobs are all jobs of the board, each once
-pub all_numbered : (count jobs : ℕ) (answered : List Answered) (drawn drawings : List ℕ) → jobs ≡ count → job_numbers answered ≡ drawn → drawings ≡ drawn
-    → Lists (λ job. job < jobs) drawings → Lists (λ job. job < count) (job_numbers answered)
-all_numbered count jobs answered drawn drawings same numbers closed lists =
-    subst (λ (bound : ℕ). Lists (λ job. job < bound) (job_numbers answered)) same
-    (subst (λ (ns : List ℕ). Lists (λ job. job < jobs) ns) (closed ∙ sym numbers) lists)
+-- the answered jobs are all jobs, each once
+pub all_numbered : (count places : ℕ) (order : List ℕ) (answered : List Answered) (drawn drawings : List ℕ) → Lists (λ job. job < count) order
+    → places ≡ length order → job_numbers answered ≡ jobs_at order drawn → drawings ≡ drawn → Lists (λ place. place < places) drawings
+    → Lists (λ job. job < count) (job_numbers answered)
+all_numbered count places order answered drawn drawings jobs wide numbers closed lists =
+    let all : Lists (λ place. place < length order) drawings = subst (λ (bound : ℕ). Lists (λ place. place < bound) drawings) wide lists in
+    subst (λ (ns : List ℕ). Lists (λ job. job < count) ns) (sym (numbers ∙ ap (jobs_at order) (sym closed)))
+    (Lists-through (λ job. job < count) order drawings jobs all)

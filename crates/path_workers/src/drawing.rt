@@ -1,9 +1,10 @@
 //! Workers, who draw jobs from a claim board and solve them.
-ghost use Rattle.std.specs.Prelude.{◌≡◌, ◌-◌, ◌<◌, ◌≤◌, ◌++◌, [], false, length, IfOk, IsOkAnd, OnOk};
+ghost use Rattle.std.specs.Prelude.{◌≡◌, ◌-◌, ◌<◌, ◌≤◌, ◌++◌, [], false, All, length, IfOk, IsOkAnd, OnOk};
 ghost use denote.Param.Send.{IsSync};
 ghost use Rattle.path_workers.specs.inner.Working.{HasOneMore, HasWorked};
 
 use crate::placing::Answered;
+use crate::rooms::Rooms;
 use claim_board::{Claims, Drawn, Seat};
 use grid_versions::Version;
 use io_edges::Gate;
@@ -12,72 +13,92 @@ use std::alloc::Global;
 use std::thread::{Threads, join};
 use turn_core::{Report, Request, Solver};
 
-/// The jobs of a turn on a version, the gate that is passed before each, and what is told beside the answers.
+/// The jobs of a turn on a version, the order in which they are drawn, the gate that is passed before each, and what is
+/// told beside the answers.
 #[derive(Drop)]
 pub(crate) struct Turn<'a, G> {
     pub version: &'a Version,
     pub jobs: &'a [Request],
+    pub order: &'a [u32],
     pub gate: &'a G,
     pub report: Report,
 }
 
-/// What workers hand back: their seat, and their answers with the jobs' numbers.
+/// What workers hand back: their seat, their answers with the jobs' numbers, and their rooms.
 #[derive(Drop)]
 pub(crate) struct Worked {
     pub seat: Seat,
     pub answered: Result<Sequence<Answered>, NoMemory>,
+    pub rooms: Rooms,
 }
 
 /// Draws jobs and solves each, until none is left. The gate is passed once before each job.
-fn draw_all<G: Gate>(alloc: Global, turn: &Turn<'_, G>, claims: &Claims, seat: Seat) -> Worked
-    requires jobs { claims.now.jobs ≡ length turn.now.jobs.now }
+fn draw_all<G: Gate>(
+    alloc: Global,
+    turn: &Turn<'_, G>,
+    claims: &Claims,
+    seat: Seat,
+    mut rooms: Rooms,
+) -> Worked
+    requires jobs { claims.now.jobs ≡ length turn.now.order.now }
+    requires order { All (λ job. job < length turn.now.jobs.now) turn.now.order.now }
     requires own { seat.board ≡ claims.now }
     requires list { seat.drawn ≡ [] }
     requires live { seat.ended ≡ false }
-    ensures { HasWorked turn.now.version.now.map turn.now.version.now.standing turn.now.report turn.now.jobs.now seat
-        result }
+    ensures { HasWorked turn.now.version.now.map turn.now.version.now.standing turn.now.report turn.now.jobs.now
+        turn.now.order.now seat result }
 {
-    match Solver::new(alloc, turn.version, turn.report) {
-        Ok(solver) => draw_with(alloc, turn, claims, seat, solver),
+    match rooms.take(alloc) {
+        Ok(pool) => {
+            let solver = Solver::in_pool(turn.version, turn.report, pool);
+            draw_with(alloc, turn, claims, seat, solver, rooms)
+        }
         Err(NoMemory) => Worked {
             seat,
             answered: Err(NoMemory),
+            rooms,
         },
     }
 }
 
-/// Draws jobs until none is left, and has the solver answer each.
+/// Draws jobs until none is left, and has the solver answer each. The pool of the solver is kept in the rooms.
 fn draw_with<G: Gate>(
     alloc: Global,
     turn: &Turn<'_, G>,
     claims: &Claims,
     mut seat: Seat,
     mut solver: Solver<'_>,
+    mut rooms: Rooms,
 ) -> Worked
-    requires jobs { claims.now.jobs ≡ length turn.now.jobs.now }
+    requires jobs { claims.now.jobs ≡ length turn.now.order.now }
+    requires order { All (λ job. job < length turn.now.jobs.now) turn.now.order.now }
     requires own { seat.board ≡ claims.now }
     requires list { seat.drawn ≡ [] }
     requires live { seat.ended ≡ false }
     requires solver { solver ≡ record { state = turn.now.version.now; report = turn.now.report } }
-    ensures { HasWorked turn.now.version.now.map turn.now.version.now.standing turn.now.report turn.now.jobs.now seat
-        result }
+    ensures { HasWorked turn.now.version.now.map turn.now.version.now.standing turn.now.report turn.now.jobs.now
+        turn.now.order.now seat result }
 {
     let mut answered = Sequence::new(alloc);
     'drawing: loop {
         match claims.claim(seat) {
-            Drawn::Job(job, next) => {
+            Drawn::Job(place, next) => {
                 seat = next;
+                let job = turn.order[place as usize];
                 let Ok(()) = solve_job(alloc, turn, &mut solver, job, &mut answered) else {
                     return Worked {
                         seat,
                         answered: Err(NoMemory),
+                        rooms,
                     };
                 };
             }
             Drawn::Ended(next) => {
+                rooms.put(solver.into_pool());
                 return Worked {
                     seat: next,
                     answered: Ok(answered),
+                    rooms,
                 };
             }
         }
@@ -89,7 +110,7 @@ fn solve_job<G: Gate>(
     alloc: Global,
     turn: &Turn<'_, G>,
     solver: &mut Solver<'_>,
-    job: u64,
+    job: u32,
     answered: &mut Sequence<Answered>,
 ) -> Result<(), NoMemory>
     requires job { job < length turn.now.jobs.now }
@@ -97,7 +118,7 @@ fn solve_job<G: Gate>(
         turn.now.jobs.now job answered.old answered.new) }
     ensures same { solver.new ≡ solver.old }
 {
-    turn.gate.pass(job);
+    turn.gate.pass(u64::from(job));
     let noted = solver.solve(alloc, &turn.jobs[job as usize])?;
     answered.push(Answered { job, noted })?;
     Ok(())
@@ -111,59 +132,72 @@ pub(crate) fn draw_by<R: Threads + Sync, G: Gate + Sync>(
     claims: &Claims,
     seat: Seat,
     workers: u64,
+    mut rooms: Rooms,
 ) -> Worked
-    requires jobs { claims.now.jobs ≡ length turn.now.jobs.now }
+    requires jobs { claims.now.jobs ≡ length turn.now.order.now }
+    requires order { All (λ job. job < length turn.now.jobs.now) turn.now.order.now }
     requires own { seat.board ≡ claims.now }
     requires list { seat.drawn ≡ [] }
     requires live { seat.ended ≡ false }
     requires some { 1 ≤ workers }
     requires credit { workers ≤ seat.credit }
-    ensures { HasWorked turn.now.version.now.map turn.now.version.now.standing turn.now.report turn.now.jobs.now seat
-        result }
+    ensures { HasWorked turn.now.version.now.map turn.now.version.now.standing turn.now.report turn.now.jobs.now
+        turn.now.order.now seat result }
 {
     if workers == 1 {
-        return draw_all(alloc, turn, claims, seat);
+        return draw_all(alloc, turn, claims, seat, rooms);
     }
     let Turn {
         version,
         jobs,
+        order,
         gate,
         report,
     } = *turn;
     let half = workers / 2;
     let (one, other) = claims.split(seat);
+    let others = rooms.split(alloc, half as usize);
     let (first, second) = join(
         rt,
         || -> Worked
-            requires { IsSync R.row × (claims.now.jobs ≡ length jobs.now) × (one.board ≡ claims.now)
+            requires { IsSync R.row × (claims.now.jobs ≡ length order.now)
+                × All (λ job. job < length jobs.now) order.now × (one.board ≡ claims.now)
                 × (one.drawn ≡ []) × (one.ended ≡ false) × (1 ≤ workers - half) × (workers - half ≤ one.credit) }
-            ensures { HasWorked version.entry.now.map version.entry.now.standing report jobs.entry.now one result }
+            ensures { HasWorked version.entry.now.map version.entry.now.standing report jobs.entry.now
+                order.entry.now one result }
         {
             let turn = Turn {
                 version,
                 jobs,
+                order,
                 gate,
                 report,
             };
-            draw_by(rt, alloc, &turn, claims, one, workers - half)
+            draw_by(rt, alloc, &turn, claims, one, workers - half, rooms)
         },
         || -> Worked
-            requires { IsSync R.row × (claims.now.jobs ≡ length jobs.now) × (other.board ≡ claims.now)
+            requires { IsSync R.row × (claims.now.jobs ≡ length order.now)
+                × All (λ job. job < length jobs.now) order.now × (other.board ≡ claims.now)
                 × (other.drawn ≡ []) × (other.ended ≡ false) × (1 ≤ half) × (half ≤ other.credit) }
-            ensures { HasWorked version.entry.now.map version.entry.now.standing report jobs.entry.now other result }
+            ensures { HasWorked version.entry.now.map version.entry.now.standing report jobs.entry.now
+                order.entry.now other result }
         {
             let turn = Turn {
                 version,
                 jobs,
+                order,
                 gate,
                 report,
             };
-            draw_by(rt, alloc, &turn, claims, other, half)
+            draw_by(rt, alloc, &turn, claims, other, half, others)
         },
     );
+    let mut rooms = first.rooms;
+    rooms.take_in(second.rooms);
     Worked {
         seat: claims.join(first.seat, second.seat),
         answered: both(first.answered, second.answered),
+        rooms,
     }
 }
 

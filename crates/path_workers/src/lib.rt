@@ -1,8 +1,8 @@
 //! The jobs of a turn, solved by up to 64 workers beside each other: [`Workers`].
 //!
 //! ```text
-//!    jobs --claims--> worker 1: Solver, answers \
-//!                     worker 2: Solver, answers --> each answer in its job's place
+//!    jobs, longest first --claims--> worker 1: Solver, answers \
+//!                                    worker 2: Solver, answers --> each answer in its job's place
 //! ```
 //!
 //! The answers are those of one thread, whatever the number and the speed of workers. Where a thread can't be started,
@@ -12,9 +12,12 @@
 
 mod drawing;
 mod placing;
+mod ranking;
+mod rooms;
 mod sharing;
 mod turns;
 
 pub use placing::NotedAnswers;
+pub use rooms::Rooms;
 pub use sharing::{LEAST_WORK, WORK_OF_A_WORKER, worth_workers};
 pub use turns::{Workers, run_turn};

@@ -24,7 +24,7 @@ pub struct NotedAnswers {
 /// The answer to a job with its note, and the job's number.
 #[derive(Drop)]
 pub(crate) struct Answered {
-    pub job: u64,
+    pub job: u32,
     pub noted: Noted,
 }
 

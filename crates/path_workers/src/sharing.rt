@@ -46,7 +46,7 @@ fn work_of_all(version: &Version, jobs: &[Request], report: Report) -> u64
 }
 
 /// The work of a job (`work_of`).
-fn work_of(version: &Version, job: &Request, report: Report) -> u64
+pub(crate) fn work_of(version: &Version, job: &Request, report: Report) -> u64
     ensures value { result ≡ work_of version.now.map version.now.standing report job.now }
     ensures few { result < 2 ^ 32 }
 {

@@ -4,8 +4,10 @@ ghost use Rattle.turn_core.specs.Solving.{AreAnswersTo};
 ghost use Rattle.turn_core.specs.Notes.{AreNotes};
 ghost use Rattle.path_workers.specs.Sharing.{worth_workers};
 
-use crate::drawing::{Turn, Worked, draw_by};
+use crate::drawing::{Turn, draw_by};
 use crate::placing::{NotedAnswers, in_order};
+use crate::ranking::longest_first;
+use crate::rooms::Rooms;
 use crate::sharing::worth_workers;
 use claim_board::Claims;
 use grid_versions::Version;
@@ -37,7 +39,7 @@ pub fn run_turn<R: Threads + Sync, G: Gate + Sync>(
     requires few { length jobs.now < 2 ^ 32 }
     ensures { IfOk result (AreAnswersTo version.now.map version.now.standing jobs.now) }
 {
-    Workers::new(workers, gate).run(rt, alloc, version, jobs)
+    Workers::new(workers, gate).run(rt, alloc, version, jobs, &mut Rooms::new(alloc))
 }
 
 /// So many workers, 1 to 64, who pass a gate. Contracts see their number.
@@ -75,16 +77,17 @@ impl<'a, G: Gate + Sync> Workers<'a, G> {
         alloc: Global,
         version: &Version,
         jobs: &Jobs,
+        rooms: &mut Rooms,
     ) -> Result<Answers, NoMemory>
         requires { length jobs.now < 2 ^ 32 }
         ensures { IfOk result (AreAnswersTo version.now.map version.now.standing jobs.now) }
     {
-        let noted = self.run_noted(rt, alloc, version, jobs, Report::Answers)?;
+        let noted = self.run_noted(rt, alloc, version, jobs, Report::Answers, rooms)?;
         Ok(noted.answers)
     }
 
     /// The answers that [`Workers::run`] gives, with what the report tells of each (`AreNotes`). It refuses for want of
-    /// memory alone.
+    /// memory alone. The workers search in the rooms, which have theirs at the end.
     pub fn run_noted<R: Threads + Sync>(
         &self,
         rt: &R,
@@ -92,24 +95,30 @@ impl<'a, G: Gate + Sync> Workers<'a, G> {
         version: &Version,
         jobs: &Jobs,
         report: Report,
+        rooms: &mut Rooms,
     ) -> Result<NotedAnswers, NoMemory>
         requires { length jobs.now < 2 ^ 32 }
         ensures answers { IfOk result (λ noted. AreAnswersTo version.now.map version.now.standing jobs.now noted.answers) }
         ensures notes { IfOk result (λ noted. AreNotes version.now.map version.now.standing report jobs.now noted.notes) }
     {
+        let jobs = jobs.as_slice();
+        let order = longest_first(alloc, version, jobs, report)?;
         let turn = Turn {
             version,
-            jobs: jobs.as_slice(),
+            jobs,
+            order: &order,
             gate: self.gate,
             report,
         };
-        let count = turn.jobs.len();
+        let count = jobs.len();
         let (claims, seat) = Claims::start(alloc, count as u64)?;
         let workers = u64::from(self.count).min(count as u64).max(1);
-        let Worked { seat, answered } = draw_by(rt, alloc, &turn, &claims, seat, workers);
-        let answered = answered?;
+        let own = rooms.take_all(alloc);
+        let worked = draw_by(rt, alloc, &turn, &claims, seat, workers, own);
+        *rooms = worked.rooms;
+        let answered = worked.answered?;
         // Of the jobs that were drawn, each was answered: so all of them have their answer, and none has two.
-        let _drawings = claims.close(seat);
+        let _drawings = claims.close(worked.seat);
         in_order(alloc, count, answered)
     }
 

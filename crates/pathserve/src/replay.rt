@@ -29,14 +29,14 @@ use turn_core::{TurnPosts, bare_version};
 /// `why` has at the end what it has behind `run`.
 pub fn run_replay<R: Threads + Sync, S: Source, K: Sink, G: Gate + Sync>(
     alloc: Global,
-    reporter: &Reporter<'_, R, G>,
+    reporter: &mut Reporter<'_, R, G>,
     source: &mut S,
     sink: &mut K,
     why: &mut Option<Reason>,
 ) -> Status
     ensures run { RunsScript (S.left source.old) (S.left source.new) (S.faults source.old) (S.faults source.new)
         (K.kept sink.old) (K.kept sink.new) (K.faults sink.old) (K.faults sink.new) why.new result }
-    ensures told { ReplaysTold reporter.now.report (S.left source.old) (S.left source.new) (K.kept sink.old)
+    ensures told { ReplaysTold reporter.old.report (S.left source.old) (S.left source.new) (K.kept sink.old)
         (K.kept sink.new) result }
 {
     let Opened { map, mut reader } = match open_script(alloc, source, sink, why) {
@@ -65,19 +65,20 @@ pub fn run_replay<R: Threads + Sync, S: Source, K: Sink, G: Gate + Sync>(
 /// Answers a turn, and writes its text. What was the version before it is then the one after it.
 fn write_turn<R: Threads + Sync, K: Sink, G: Gate + Sync>(
     alloc: Global,
-    reporter: &Reporter<'_, R, G>,
+    reporter: &mut Reporter<'_, R, G>,
     version: &mut Version,
     turn: u64,
     posts: TurnPosts,
     sink: &mut K,
 ) -> Result<(), WriteRefusal>
     requires { length (jobs posts) < 2 ^ 32 }
-    ensures written { WritesSome (IsTurnText reporter.now.report version.old.map version.old.standing turn posts)
+    ensures written { WritesSome (IsTurnText reporter.old.report version.old.map version.old.standing turn posts)
         (K.kept sink.old) (K.kept sink.new) result }
     ensures map { OnOk result (version.new.map ≡ version.old.map) }
     ensures standing { OnOk result (version.new.standing ≡ after_turn version.old.map version.old.standing posts) }
     ensures later { K.faults sink.old ≤ K.faults sink.new }
     ensures fault { IsErrOf result WriteRefusal.Failed → Rose (K.faults sink.old) (K.faults sink.new) }
+    ensures report { reporter.new.report ≡ reporter.old.report }
 {
     match text_of_turn(alloc, reporter, version, turn, posts) {
         Ok(TurnText { text, after }) => {

@@ -17,7 +17,7 @@ use crate::summing::run_make;
 use crate::turn_answers::Reporter;
 use io_edges::{Gate, Sink, Source};
 use nav_types::Words;
-use path_workers::Workers;
+use path_workers::{Rooms, Workers};
 use std::alloc::Global;
 use std::sync::Wait;
 use std::thread::Threads;
@@ -73,12 +73,13 @@ pub fn run<R: Threads + Wait + Sync, S: Source, K: Sink, G: Gate + Sync>(
 {
     match read_words(words) {
         Ok(Command::Replay { report, workers }) => {
-            let reporter = Reporter {
+            let mut reporter = Reporter {
                 rt,
                 workers: Workers::new(workers, gate),
                 report,
+                rooms: Rooms::new(alloc),
             };
-            run_replay(alloc, &reporter, source, sink, why)
+            run_replay(alloc, &mut reporter, source, sink, why)
         }
         Ok(Command::Serve { workers }) => run_serve(rt, alloc, workers, source, sink, gate, why),
         Ok(Command::Make { seed, workers }) => {

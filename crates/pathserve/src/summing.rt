@@ -15,7 +15,7 @@ use grid_versions::MapSpec;
 use io_edges::{Gate, Sink};
 use made_match::{Made, make_script};
 use nav_types::{Bytes, NoMemory};
-use path_workers::Workers;
+use path_workers::{Rooms, Workers};
 use std::alloc::Global;
 use std::thread::Threads;
 use turn_core::{AllReplies, AnsweredTurn, Journal, bare_version};
@@ -75,8 +75,11 @@ fn all_replies<R: Threads + Sync, G: Gate + Sync>(
 {
     let mut all = Vec::with_capacity(alloc, journal.len())?;
     let mut version = bare_version(alloc, map)?;
+    let mut rooms = Rooms::new(alloc);
     for posts in journal.into_items() {
-        let AnsweredTurn { replies, after } = replies_to_turn(rt, alloc, &version, posts, workers)?;
+        let AnsweredTurn { replies, after } = replies_to_turn(
+            rt, alloc, &version, posts, workers, &mut rooms,
+        )?;
         all.push_reserved(replies);
         version = after;
     }

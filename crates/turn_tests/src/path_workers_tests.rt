@@ -3,7 +3,7 @@ use crate::fixtures::{path_asked, point, row_version};
 use grid_versions::{Refusal, Version};
 use io_edges::{Gate, OpenGate};
 use nav_types::NoMemory;
-use path_workers::{Workers, run_turn};
+use path_workers::{Rooms, Workers, run_turn};
 use posts::push_some;
 use std::alloc::Global;
 use std::sync::atomic::{AtomicBool, AtomicU64, Ordering};
@@ -108,7 +108,9 @@ fn each_job_has_its_note(rt: HostRuntime) {
     let jobs = jobs_of(alloc, &SEVEN).expect(&rt, "the jobs");
     assert!(rt; jobs.len() <= 7);
     let report = Report::OpenedNumbers;
-    let Ok(noted) = Workers::new(2, &OpenGate).run_noted(&rt, alloc, &version, &jobs, report) else {
+    let mut rooms = Rooms::new(alloc);
+    let workers = Workers::new(2, &OpenGate);
+    let Ok(noted) = workers.run_noted(&rt, alloc, &version, &jobs, report, &mut rooms) else {
         panic!(rt; "the answers")
     };
     assert!(rt; are_told(&noted.answers, &SEVEN));
@@ -116,6 +118,23 @@ fn each_job_has_its_note(rt: HostRuntime) {
     assert!(rt; noted.notes.len() == numbers.len());
     for (note, number) in noted.notes.as_slice().iter().zip(numbers) {
         assert!(rt; opened_in(note) == number);
+    }
+}
+
+/// The workers of a later turn search in the rooms of an earlier one, and answer the same.
+#[test]
+fn rooms_are_used_again(rt: HostRuntime) {
+    let alloc = rt.alloc();
+    let version = row_version(alloc, 5, &[]).expect(&rt, "the version");
+    let jobs = jobs_of(alloc, &SEVEN).expect(&rt, "the jobs");
+    assert!(rt; jobs.len() <= 7);
+    let mut rooms = Rooms::new(alloc);
+    for count in [2, 3, 1] {
+        let workers = Workers::new(count, &OpenGate);
+        let Ok(answers) = workers.run(&rt, alloc, &version, &jobs, &mut rooms) else {
+            panic!(rt; "the answers")
+        };
+        assert!(rt; are_told(&answers, &SEVEN));
     }
 }
 
@@ -166,7 +185,7 @@ fn two_solve_four<R: Threads + Sync>(rt: &R, alloc: Global, gate: &HoldingGate) 
     }
     let workers = Workers::new(2, gate);
     workers.staged(4);
-    match workers.run(rt, alloc, &version, &jobs) {
+    match workers.run(rt, alloc, &version, &jobs, &mut Rooms::new(alloc)) {
         Ok(answers) => are_told(&answers, &rows),
         Err(NoMemory) => false,
     }

@@ -8,6 +8,7 @@ use Rattle.turn_core.specs.Words.{Standing}
 use Rattle.turn_core.specs.Notes.{IsNotedTo}
 use Rattle.path_workers.specs.declared.placing.Answered.{Answered}
 use Rattle.path_workers.specs.declared.drawing.Worked.{Worked}
+use Rattle.path_workers.specs.inner.Ranking.{jobs_at}
 
 -- the numbers of the jobs that were answered
 abbrev pub job_numbers : List Answered → List ℕ
@@ -27,11 +28,12 @@ abbrev pub HasOneMore : Map → Standing → Report → List Request → ℕ →
 HasOneMore map standing report jobs job before after =
     (one : Answered) × ((after ≡ before ++ one ∷ []) × ((one.job ≡ job) × AnswersItsJob map standing report jobs one))
 
--- Workers have drawn on a seat: it is of the same board with the same credit. Where memory was not short it has ended,
--- and the jobs that it drew were answered.
-pub record HasWorked (map : Map) (standing : Standing) (report : Report) (jobs : List Request) (seat : SeatState) (worked : Worked) : Type 0 where
+-- Workers have drawn places of the order on a seat: it is of the same board with the same credit. Where memory was not short
+-- it has ended, and the jobs at the places that it drew were answered.
+pub record HasWorked (map : Map) (standing : Standing) (report : Report) (jobs : List Request) (order : List ℕ) (seat : SeatState)
+    (worked : Worked) : Type 0 where
   pub board : worked.seat.board ≡ seat.board
   pub credit : worked.seat.credit ≡ seat.credit
   pub ended : OnOk worked.answered (worked.seat.ended ≡ true)
-  pub numbers : IfOk worked.answered (λ answered. job_numbers answered ≡ worked.seat.drawn)
+  pub numbers : IfOk worked.answered (λ answered. job_numbers answered ≡ jobs_at order worked.seat.drawn)
   pub answers : IfOk worked.answered (AnswerTheirJobs map standing report jobs)

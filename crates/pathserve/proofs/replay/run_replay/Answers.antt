@@ -62,6 +62,7 @@ turns-init g c =
       stands = subst (λ (keeps : Option (List ℕ)). Stands c.args.reporter.now.report start (g.S.Source.left c.open_script.new.source) kept keeps script.reader
           (record { map = Some version.map; standing = version.standing; turns = 0 })) unwritten
           (subst (λ (said : Said). Stands c.args.reporter.now.report start (g.S.Source.left c.open_script.new.source) kept kept script.reader said) same s);
+      report = refl;
       quiet = c.in-Ok.ensures.unnamed;
       going = c.in-Ok.ensures.going;
       rules = rw c.in-Ok.ensures.rules refl;
@@ -76,7 +77,7 @@ turns-preserved g c =
     let told = rw c.in-Ok-Some.field-0-is at c.in-Ok-Some.ensures.told in
     let left_behind = rw c.in-Ok-Some.field-0-is at c.in-Ok-Some.ensures.leaves in
     let used = rw c.in-Ok-Some.field-0-is at c.in-Ok-Some.ensures.used in
-    let s = stands_turn c.args.reporter.now.report _ _ _ _ _ _ _ _ _ c.turns.version.map c.in-Ok-Some.posts tt before.stands told c.in-Ok-Some.ensures.leaves.held.stays refl c.in-Ok-write_turn.ensures.written in
+    let s = stands_turn c.args.reporter.now.report _ _ _ _ _ _ _ _ _ c.turns.version.map c.in-Ok-Some.posts tt before.stands told c.in-Ok-Some.ensures.leaves.held.stays refl (rw before.report at c.in-Ok-write_turn.ensures.written) in
     let map = sym c.in-Ok-write_turn.ensures.map in
     let standing = sym c.in-Ok-write_turn.ensures.standing in
     let state : ℕ → Said = λ turns. record { map = Some c.turns.version.map; standing = c.turns.version.standing; turns = turns } in
@@ -84,6 +85,7 @@ turns-preserved g c =
     ≡ (record { map = Some c.write_turn.new.version.map; standing = c.write_turn.new.version.standing; turns = c.turns.turns + 1 }) =
     λ i. record { map = Some (map i); standing = standing i; turns = c.turns.turns + 1 } in record {
       stands = subst (λ (said : Said). Stands c.args.reporter.now.report (g.S.Source.left c.args.source.now) (g.S.Source.left c.next_turn.new.source) (g.K.Sink.kept c.args.sink.now) (g.K.Sink.kept c.write_turn.new.sink) c.next_turn.new.self said) same s;
+      report = c.in-Ok-write_turn.ensures.report ∙ before.report;
       quiet = before.quiet;
       going = left_behind.over;
       rules = rw c.in-Ok-Some.ensures.rules before.rules;
@@ -110,7 +112,7 @@ returns-in-Err-write_turn-clause-run g c =
       sink = record {
         taken = taken_more _ _ _ (stands_taken c.args.reporter.now.report _ _ _ _ _ _ c.turns.invariant.stands)
             (some_taken (IsTurnText c.args.reporter.now.report c.turns.version.map c.turns.version.standing (c.turns.turns + 1) c.in-Ok-Some.posts) _ _
-            (Refused refusal) c.in-Err-write_turn.ensures.written);
+            (Refused refusal) (rw c.turns.invariant.report at c.in-Err-write_turn.ensures.written));
         later = omega (arith, c.turns.invariant.writes, c.in-Err-write_turn.ensures.later);
         fault = λ is.
             let failed = refused_by_fault refusal (sym c.status_of.ensures ∙ is) in
@@ -124,7 +126,7 @@ returns-in-Err-write_turn-clause-told g c =
     let told = rw c.in-Ok-Some.field-0-is at c.in-Ok-Some.ensures.told in
     rw c.status_of.ensures
     (told_turn c.args.reporter.now.report _ _ _ _ _ _ _ _ _ c.turns.version.map c.in-Ok-Some.posts c.in-Err-write_turn.refusal c.turns.invariant.stands told refl
-    c.in-Err-write_turn.ensures.written)
+    (rw c.turns.invariant.report at c.in-Err-write_turn.ensures.written))
 
 -- ---- the script is at its end
 

@@ -7,8 +7,9 @@ use Rattle.pathserve.proofs.replay.run_replay.Given as goal
 
 abbrev pub invariant-turns : goal.invariant-turns
 invariant-turns g l = record {
-  stands : Stands l.reporter.report (g.S.Source.left l.fn.source) (g.S.Source.left l.source) (g.K.Sink.kept l.fn.sink) (g.K.Sink.kept l.sink)
+  stands : Stands l.fn.reporter.report (g.S.Source.left l.fn.source) (g.S.Source.left l.source) (g.K.Sink.kept l.fn.sink) (g.K.Sink.kept l.sink)
       l.reader (record { map = Some l.version.map; standing = l.version.standing; turns = l.turns });
+  report : l.reporter.report ≡ l.fn.reporter.report;
   quiet : l.why ≡ None;
   going : IsFalse l.reader.over;
   rules : IsSome (rules_at l.reader.place.part);
