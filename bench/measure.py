@@ -1,7 +1,7 @@
 #!/usr/bin/env python3
 """measure.py PROGRAM [PART ..]: what the program costs, in instructions counted by valgrind (Debian's package `valgrind`).
 
-The parts are basics, reading, near, growth, classes, paths, profile, fields, smoothing, edits, standing and crowd; all of them
+The parts are basics, reading, near, growth, classes, paths, small, profile, fields, smoothing, edits, standing and crowd; all of them
 where none is named. A count is the difference of two scripts that differ by the work that is counted, so starting up, reading the map
 and building it are not in it unless it says so. Counts are in thousands of instructions with one worker. The maps and
 queries are drawn from fixed seeds, so that each run counts the same. `times.py` has milliseconds and memory.
@@ -22,14 +22,14 @@ class Bench:
         self.program = program
         self.known = {}
 
-    def count(self, lines, word="replay"):
+    def count(self, lines, word="replay", workers=1):
         """The instructions that the program takes for a script."""
         text = "".join(line + "\n" for line in lines).encode()
-        key = (word, hash(text))
+        key = (word, workers, hash(text))
         if key not in self.known:
             with tempfile.NamedTemporaryFile() as out:
                 tool = ["valgrind", "--tool=callgrind", f"--callgrind-out-file={out.name}"]
-                ran = subprocess.run([*tool, self.program, word, "--workers", "1"], input=text, capture_output=True)
+                ran = subprocess.run([*tool, self.program, word, "--workers", str(workers)], input=text, capture_output=True)
             if ran.returncode:
                 sys.exit(f"the program ended with status {ran.returncode}: {ran.stderr[-300:]}")
             self.known[key] = int(re.search(rb"Collected : (\d+)", ran.stderr)[1])
@@ -244,6 +244,35 @@ def paths(bench):
         told(f"{kind}, {side} by {side}", bare, (bench.count([*script, *queries, end(1)]) - bare) / 100)
 
 
+def near_pairs(area, inside, many, draw):
+    """Pairs of cells of an area that lie at most 32 navcells apart along each side."""
+    pairs = []
+    while len(pairs) < many:
+        (i, j), x, z = draw.choice(area), draw.randint(-32, 32), draw.randint(-32, 32)
+        if 0 <= i + x < len(inside) and 0 <= j + z < len(inside) and inside[j + z][i + x]:
+            pairs.append(((i, j), (i + x, j + z)))
+    return pairs
+
+
+def short_turns(side, many, turns):
+    """A map with blobs, and turns of so many paths of at most 32 navcells each way on it."""
+    draw = random.Random(f"turns {side}")
+    blocked = blobs(side, draw)
+    area, inside = largest_area(blocked), [bytearray(side) for _ in blocked]
+    for i, j in area:
+        inside[j][i] = 1
+    posts = [[path(*pair) for pair in near_pairs(area, inside, many, draw)] for _ in range(turns)]
+    return [map_line(side), *bases(blocked)], posts
+
+
+def small(bench):
+    print("small: a turn of so many short paths among blobs on 256 by 256, by 1 and by 4 workers")
+    for many in (1, 8, 50, 200):
+        lines, posts = short_turns(256, many, 20)
+        turns = [line for turn, its in enumerate(posts, 1) for line in (*its, end(turn))]
+        told(f"{many} paths", *((bench.count(lines + turns, workers=it) - bench.count(lines, workers=it)) / 20 for it in (1, 4)))
+
+
 def profile(bench):
     print("profile: one of 100 long paths by replay, and by profile, which opens all states within the cost")
     for kind in KINDS:
@@ -311,7 +340,7 @@ def crowd(bench):
         told(f"{many}", bench.count([map_line(2048, ["0"] * 8), *lines, end(1)]))
 
 
-PARTS = [basics, reading, near, growth, classes, paths, profile, fields, smoothing, edits, standing, crowd]
+PARTS = [basics, reading, near, growth, classes, paths, small, profile, fields, smoothing, edits, standing, crowd]
 
 
 def main(words):

@@ -13,7 +13,7 @@ import sys
 import time
 
 import beside_0ad
-from measure import add, bases, blobs, drawn, end, largest_area, map_line, path, remove, scattered, scattered_squares
+from measure import add, bases, drawn, end, largest_area, map_line, path, remove, scattered, scattered_squares, short_turns
 
 
 class Match:
@@ -64,16 +64,28 @@ def least(match, turns):
     return min(match.play(posts) for posts in turns)
 
 
+def in_turns(matches, turns):
+    """The sorted times of each of the matches, which play the same turns one after the other, so that what else runs on the
+    machine meets all of them alike."""
+    times = [[] for _ in matches]
+    for number, posts in enumerate(turns):
+        order = list(zip(matches, times))
+        for match, its in order if number % 2 else reversed(order):
+            its.append(match.play(posts))
+    return [sorted(its) for its in times]
+
+
 def told(name, *figures, unit="10.3f"):
     print(f"  {name:62}" + "".join(f"{figure:{unit}}" for figure in figures), flush=True)
 
 
 def maps(program):
-    print("maps: a path of 200 of one turn, on the maps of beside_0ad.py, the least of 9 turns")
+    print("maps: a path of 200 of one turn, on the maps of beside_0ad.py, the least of 100 turns and the median")
     for name in beside_0ad.MAPS:
         lines, paths = beside_0ad.script(name)
         match = opened(program, lines)
-        told(name, least(match, [paths] * 9) / len(paths))
+        (times,) = in_turns([match], [paths] * 100)
+        told(name, times[0] / len(paths), times[49] / len(paths))
         match.close()
 
 
@@ -121,45 +133,34 @@ def steps(program):
     setups(program, "set-up of an open map of 2048 by 2048, one class", [map_line(2048)])
 
 
-def near_pairs(area, inside, many, draw):
-    """Pairs of cells of an area that lie at most 32 navcells apart along each side."""
-    pairs = []
-    while len(pairs) < many:
-        (i, j), x, z = draw.choice(area), draw.randint(-32, 32), draw.randint(-32, 32)
-        if 0 <= i + x < len(inside) and 0 <= j + z < len(inside) and inside[j + z][i + x]:
-            pairs.append(((i, j), (i + x, j + z)))
-    return pairs
-
-
 def turns(program):
-    print("turns: median and 99th of 100 turns of so many short paths among blobs, by the side and by 1 and 4 workers")
+    print("turns: median and 99 of 100 of 300 turns of so many short paths among blobs, by the side and by 1 and 4 workers")
     for side in (256, 512, 2048):
-        draw = random.Random(f"turns {side}")
-        blocked = blobs(side, draw)
-        lines, area, inside = [map_line(side), *bases(blocked)], largest_area(blocked), [bytearray(side) for _ in blocked]
-        for i, j in area:
-            inside[j][i] = 1
         for many in (1, 8, 50, 200):
-            figures, posts = [], [[path(*pair) for pair in near_pairs(area, inside, many, draw)] for _ in range(100)]
-            for workers in (1, 4):
-                match = opened(program, lines, workers)
-                match.play(posts[0])
-                times = sorted(map(match.play, posts))
-                figures += [times[49], times[98]]
-                match.close()
-            told(f"{side} by {side}, {many} paths", *figures)
+            lines, posts = short_turns(side, many, 300)
+            times = {1: [], 4: []}
+            # Matches are opened anew for each 30 turns, so that none has the better processor for long.
+            for first in range(0, 300, 30):
+                crew = (1, 4) if first % 60 else (4, 1)
+                matches = [opened(program, lines, workers) for workers in crew]
+                for match in matches:
+                    match.play(posts[first])
+                for workers, its in zip(crew, in_turns(matches, posts[first : first + 30])):
+                    times[workers] += its
+                for match in matches:
+                    match.close()
+            told(f"{side} by {side}, {many} paths", *(sorted(times[workers])[place] for workers in (1, 4) for place in (149, 296)))
 
 
 def workers(program):
-    print("workers: a turn of 64 long paths where each fifth navcell is blocked, by 1, 2 and 4 workers, the least of 9 turns")
+    print("workers: a turn of 64 long paths where each fifth navcell is blocked, by 1, 2 and 4 workers, median and least of 40 turns")
     for side in (512, 1024):
         lines, paths = drawn("scattered", side, 64)
-        figures = []
-        for many in (1, 2, 4):
-            match = opened(program, lines, many)
-            figures.append(least(match, [paths] * 9))
+        matches = [opened(program, lines, many) for many in (1, 2, 4)]
+        times = in_turns(matches, [paths] * 40)
+        told(f"{side} by {side}", *(its[19] for its in times), *(its[0] for its in times))
+        for match in matches:
             match.close()
-        told(f"{side} by {side}", *figures)
 
 
 def dearest(program):
