@@ -1,5 +1,5 @@
 -- What a search that has ended or was halted says of the answer and of the opened number.
-use Rattle.std.proofs.Common.{ℕ, ◌≡◌, ◌+◌, ◌≤◌, ◌⊎◌, Bool, IsTrue, List, [], ◌∷◌, Option, Some, None}
+use Rattle.std.proofs.Common.{ℕ, ◌≡◌, ◌+◌, ◌≤◌, ◌⊎◌, Bool, IsTrue, List, Option, Some, None}
 use Rattle.std.proofs.Common.{inl, inr, sym, subst, arith}
 use Rattle.std.proofs.lemmas.Bool.{cases_lt}
 use Rattle.nav_types.specs.declared.cells.Cell.{Cell}
@@ -11,7 +11,7 @@ use Rattle.nav_types.specs.Counting.{Counts}
 use Rattle.nav_types.specs.Frames.{IsFrame}
 use Rattle.nav_types.specs.Walks.{IsWalk, walk_cost, CanReach}
 use Rattle.walks.specs.Chosen.{IsChosen, IsAnswer}
-use Rattle.walks.specs.Waypoints.{waypoints, IsInGrid, StaysInGrid}
+use Rattle.walks.specs.Waypoints.{waypoints}
 use Rattle.walks.proofs.Tracing.{chosen_walk, chosen_cost, in_grid}
 use Rattle.jump_search.specs.declared.nodes.Node.{Node}
 use Rattle.jump_search.specs.declared.searching.Best.{Best}
@@ -75,14 +75,6 @@ counts_of all passes hit start rect end bound nodes searched is opened count =
     subst (λ (n : ℕ). Counts (IsOpened passes hit start rect bound) n) (sym count)
     (opened_number passes hit start rect end bound nodes
     (subst (λ (a : Bool). IsSearched a passes hit start rect end bound nodes) is searched))
-
--- a walk over cells that pass stays in the largest map
-pub grid_walk : (passes : Cell → Bool) → ((cell : Cell) → IsTrue (passes cell) → IsInGrid cell) → (dirs : List Dir)
-    (from to : Cell) → IsTrue (passes from) → IsWalk passes from dirs to → StaysInGrid from dirs
-grid_walk passes grid [] from to passing walk = grid from passing
-grid_walk passes grid (dir ∷ dirs) from to passing walk =
-    let step = walk.1.0 in
-    (grid from passing, (walk.0, (step.leads, grid_walk passes grid dirs walk.0 to step.next walk.1.1)))
 
 -- what a search opens is no more than the opened number
 

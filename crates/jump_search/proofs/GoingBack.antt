@@ -409,6 +409,11 @@ reverse-run dir (suc run) =
     ∙ (ap (λ (dirs : List Dir). dirs ++ dir ∷ []) (reverse-run dir run)
     ∙ (replicate-append-replicate run 1 dir ∙ ap (λ (n : ℕ). replicate n dir) (run_and_one run)))
 
+pub reverse_more : (back : List Dir) (dir : Dir) (run : ℕ)
+    → reverse (back ++ replicate run dir) ≡ replicate run dir ++ reverse back
+reverse_more back dir run =
+    reverse-append back (replicate run dir) ∙ ap (λ (dirs : List Dir). dirs ++ reverse back) (reverse-run dir run)
+
 pub traced_at_end : (all : Bool) (passes hit : Cell → Bool) (start : Cell) (rect : Rect) (end : Cell) (bound : ℕ)
     (nodes : List Node)
     → IsSearched all passes hit start rect end bound nodes → IsTrue (passes start) → HitsLieIn passes hit rect
@@ -496,8 +501,7 @@ traced_more all passes hit start rect end bound nodes searched cell cost next ba
     let steps : IsRun passes dir run from cell = subst (λ (c : Cell). IsRun passes dir run c cell) at last.steps in
     let there : IsDistance passes start from begin.parent.cost =
     subst (λ (c : Cell). IsDistance passes start c begin.parent.cost) at last.near in
-    let turned : reverse (back ++ replicate run dir) ≡ replicate run dir ++ reverse back =
-    reverse-append back (replicate run dir) ∙ ap (λ (dirs : List Dir). dirs ++ reverse back) (reverse-run dir run) in
+    let turned = reverse_more back dir run in
     let sums = traced.sums in
     let longer : walk_cost (reverse (back ++ replicate run dir))
     ≡ walk_cost (replicate run dir) + walk_cost (reverse back) =
@@ -593,6 +597,22 @@ pub traceable_from : (all : Bool) (passes hit : Cell → Bool) (start : Cell) (r
 traceable_from all passes hit start rect end bound nodes able cell cost next back traced dir run has =
     let goes = traceable_back all passes hit start rect end bound nodes able cell cost next back traced dir run has in
     (goes.from, (goes.moves, able.grid goes.from (goes.passing able.passing)))
+
+-- the run that is taken away
+pub traceable_run : (all : Bool) (passes hit : Cell → Bool) (start : Cell) (rect : Rect) (end : Cell) (bound : ℕ)
+    (nodes : List Node)
+    → IsTraceable all passes hit start rect end bound nodes
+    → (cell : Cell) (cost : ℕ) (next : Option Dir) (back : List Dir)
+    → IsTraced passes hit start nodes end bound cell cost next back → (dir : Dir) (run : ℕ)
+    → HasRun nodes cell cost dir run → (from : Cell) → Moves dir run from cell
+    → IsRun passes dir run from cell × (0 < run)
+traceable_run all passes hit start rect end bound nodes able cell cost next back traced dir run has from moves =
+    let begin = begin_of passes hit start nodes able.searched.met cell cost dir run traced.distance has in
+    let last = begin.last in
+    let at : begin.parent.state.cell ≡ from =
+    moves_from_same dir run begin.parent.state.cell from cell
+    (run_moves passes dir run begin.parent.state.cell cell last.steps) moves in
+    (subst (λ (c : Cell). IsRun passes dir run c cell) at last.steps, last.some)
 
 pub traceable_more : (all : Bool) (passes hit : Cell → Bool) (start : Cell) (rect : Rect) (end : Cell) (bound : ℕ)
     (nodes : List Node)

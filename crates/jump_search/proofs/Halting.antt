@@ -14,30 +14,17 @@ use Rattle.jump_search.specs.inner.Underway.{estimate_of, IsQueued, IsUnderway, 
 use Rattle.jump_search.proofs.Listing.{one_item}
 use Rattle.jump_search.proofs.Queueing.{get_cases}
 
--- opened nodes have come out of the open list, within the floor
-within_floor : (all : Bool) (rect : Rect) (floor : ℕ) (nodes : List Node) (queue : Queue)
-    → IsQueued all rect floor nodes queue
-    → (number : ℕ) (node : Node) → slice_get nodes number ≡ Some node → IsTrue node.opened
-    → estimate_of rect node ≤ floor
-within_floor all rect floor nodes queue queued number node found opened = elim (get_cases queue number) [
-  | inl none ↦ (queued.taken number node found none).0
-  | inr some ↦
-      let has = queued.waits number some.0 some.1 in
-      let is = one_item nodes number has.0 node has.1.0 found in
-      absurd (both_ways node.opened (subst (λ (n : Node). IsFalse n.opened) is has.1.1.0) opened)
-]
-
--- nodes that are not opened wait, or were skipped
-waits_or_skipped : (all : Bool) (rect : Rect) (floor : ℕ) (nodes : List Node) (queue : Queue)
+-- nodes that are not opened wait, or are dearer than another of their cell
+waits_or_dearer : (all : Bool) (rect : Rect) (floor : ℕ) (nodes : List Node) (queue : Queue)
     → IsQueued all rect floor nodes queue
     → (number : ℕ) (node : Node) → slice_get nodes number ≡ Some node → IsFalse node.opened
     → ((value : ℕ) × ((map.get queue number ≡ Some value)
     × ((value ≡ estimate_of rect node) × (floor ≤ value))))
     ⊎ (IsFalse all × IsDearer nodes node)
-waits_or_skipped all rect floor nodes queue queued number node found not = elim (get_cases queue number) [
-  | inl none ↦ elim (queued.taken number node found none).1 [
+waits_or_dearer all rect floor nodes queue queued number node found not = elim (get_cases queue number) [
+  | inl none ↦ elim (queued.others number node found none) [
     | inl opened ↦ absurd (both_ways node.opened not opened)
-    | inr skipped ↦ inr skipped
+    | inr dearer ↦ inr dearer
   ]
   | inr some ↦
       let has = queued.waits number some.0 some.1 in
@@ -60,11 +47,11 @@ pub halted : (all : Bool) (passes hit : Cell → Bool) (start : Cell) (rect : Re
 halted all passes hit start rect floor nodes queue best underway = record {
   met = underway.met;
   followed = underway.followed;
-  within = within_floor all rect floor nodes queue underway.queued;
-  beyond = λ number node found not. elim (waits_or_skipped all rect floor nodes queue underway.queued number node found
+  within = underway.queued.within;
+  beyond = λ number node found not. elim (waits_or_dearer all rect floor nodes queue underway.queued number node found
       not) [
         | inl waits ↦ let same = waits.1.1.0 in let early = waits.1.1.1 in inl (omega (arith, same, early))
-        | inr skipped ↦ inr skipped
+        | inr dearer ↦ inr dearer
       ];
   passed = none_passed hit nodes floor best underway.hits;
 }
@@ -77,10 +64,10 @@ pub ended : (all : Bool) (passes hit : Cell → Bool) (start : Cell) (rect : Rec
 ended all passes hit start rect floor nodes queue None underway past = record {
   met = underway.met;
   followed = underway.followed;
-  beyond = λ number node found not. elim (waits_or_skipped all rect floor nodes queue underway.queued number node found
+  beyond = λ number node found not. elim (waits_or_dearer all rect floor nodes queue underway.queued number node found
       not) [
         | inl waits ↦ absurd (past number waits.0 waits.1.0)
-        | inr skipped ↦ skipped
+        | inr dearer ↦ dearer
       ];
   missed = underway.hits;
 }
@@ -91,15 +78,15 @@ ended all passes hit start rect floor nodes queue (Some best) underway past =
       met = underway.met;
       followed = underway.followed;
       within = λ number node found opened.
-          let low = within_floor all rect floor nodes queue underway.queued number node found opened in
+          let low = underway.queued.within number node found opened in
           omega (arith, low, near);
-      beyond = λ number node found not. elim (waits_or_skipped all rect floor nodes queue underway.queued number node
+      beyond = λ number node found not. elim (waits_or_dearer all rect floor nodes queue underway.queued number node
           found not) [
             | inl waits ↦
                 let same = waits.1.1.0 in
                 let late = past number waits.0 waits.1.0 in
                 inl (omega (arith, same, late))
-            | inr skipped ↦ inr skipped
+            | inr dearer ↦ inr dearer
           ];
       ends = kept.ends;
       nearest = kept.nearest;

@@ -20,10 +20,11 @@ use Rattle.jump_search.specs.JumpStates.{IsStopOf, IsJump, octile_between, octil
 use Rattle.jump_search.specs.inner.Numbered.{HasCheaper}
 use Rattle.jump_search.specs.inner.Searched.{IsLastRun, HasOpenedParent, IsNoted}
 use Rattle.jump_search.specs.inner.Underway.{steps_over, estimate_of, IsOpenNode, IsFollowedAlong}
-use Rattle.jump_search.specs.inner.Underway.{IsFollowable, Relaxes, Notes, Follows}
+use Rattle.jump_search.specs.inner.Underway.{IsFollowable, Settles, Notes, Follows}
 use Rattle.jump_search.specs.inner.Traced.{Moves}
 use Rattle.jump_search.proofs.Measuring.{run_moves, octile_to_through}
-use Rattle.jump_search.proofs.Lasting.{gains_none, gains_through, along_later, open_later}
+use Rattle.jump_search.proofs.Dropping.{going_dropped}
+use Rattle.jump_search.proofs.Lasting.{all_later_self, all_later_through, along_later, open_later}
 
 -- how many steps a run has
 pub steps_moved : (dir : Dir) (count : ℕ) (from to : Cell) → Moves dir count from to → count ≡ steps_over from to
@@ -185,18 +186,22 @@ follows_landed : (all : Bool) (passes hit : Cell → Bool) (rect : Rect) (from :
     (old new : List Node) (before after : Queue)
     → IsSuccessor passes from.cell from.arrived dir → IsStopOf passes hit dir from.cell stop
     → HasLanded from cost dir stop node
-    → octile_between from.cell stop ≤ 189812736 → Relaxes rect node old new before after
+    → octile_between from.cell stop ≤ 189812736
+    → Settles all rect node old new before after
     → Follows all passes hit rect from cost (λ other. other ≡ dir) old new before after
-follows_landed all passes hit rect from cost dir stop node old new before after successor is landed most relaxes = record {
-  gains = relaxes.gains;
-  along = λ other same. subst (λ (d : Dir). IsFollowedAlong all passes hit new from cost d) (sym same)
-      (along_landed all passes hit new from cost dir stop node is landed (inl relaxes.relaxed));
-  going = λ any start floor top going has early room.
-      let costs = landed.costs in
-      relaxes.going any passes hit start floor top going
-      (estimate_landed rect from cost floor dir stop node landed early)
-      (omega (arith, costs, room, most)) (parent_landed passes hit old from cost dir stop node successor is landed has);
-}
+follows_landed all passes hit rect from cost dir stop node old new before after successor is landed most noted =
+    let relaxes = noted.1.0 in
+    record {
+      later = relaxes.later;
+      along = λ other same. subst (λ (d : Dir). IsFollowedAlong all passes hit new from cost d) (sym same)
+          (along_landed all passes hit new from cost dir stop node is landed (inl relaxes.relaxed));
+      going = λ start floor top going has early room.
+          let costs = landed.costs in
+          going_dropped all passes hit start rect floor top new noted.0 after noted.1.1
+          (relaxes.going all passes hit start floor top going
+          (estimate_landed rect from cost floor dir stop node landed early)
+          (omega (arith, costs, room, most)) (parent_landed passes hit old from cost dir stop node successor is landed has));
+    }
 
 -- the one jump in a direction is left
 follows_left : (all : Bool) (passes hit : Cell → Bool) (rect : Rect) (from : JumpState) (cost : ℕ) (dir : Dir)
@@ -205,10 +210,10 @@ follows_left : (all : Bool) (passes hit : Cell → Bool) (rect : Rect) (from : J
     → HasCheaper nodes node.state.cell node.cost
     → Follows all passes hit rect from cost (λ other. other ≡ dir) nodes nodes queue queue
 follows_left all passes hit rect from cost dir stop node nodes queue is landed some cheaper = record {
-  gains = gains_none nodes queue;
+  later = all_later_self nodes;
   along = λ other same. subst (λ (d : Dir). IsFollowedAlong all passes hit nodes from cost d) (sym same)
       (along_landed all passes hit nodes from cost dir stop node is landed (inr (some, cheaper)));
-  going = λ any start floor top going has early room. going;
+  going = λ start floor top going has early room. going;
 }
 
 -- the one jump in a direction is noted, or left
@@ -220,8 +225,8 @@ pub follows_noted : (all : Bool) (passes hit : Cell → Bool) (rect : Rect) (fro
     → octile_between from.cell stop ≤ 189812736 → Notes all rect node old new before after
     → Follows all passes hit rect from cost (λ other. other ≡ dir) old new before after
 follows_noted all passes hit rect from cost dir stop node old new before after successor is landed most notes = elim notes [
-  | inl relaxes ↦
-      follows_landed all passes hit rect from cost dir stop node old new before after successor is landed most relaxes
+  | inl noted ↦
+      follows_landed all passes hit rect from cost dir stop node old new before after successor is landed most noted
   | inr left ↦
       subst (λ (ns : List Node). Follows all passes hit rect from cost (λ other. other ≡ dir) old ns before after)
       (sym left.1.0)
@@ -235,12 +240,12 @@ pub follows_none : (all : Bool) (passes hit : Cell → Bool) (rect : Rect) (from
     → ((stop : Cell) → IsStopOf passes hit dir from.cell stop → ⊥)
     → Follows all passes hit rect from cost (λ other. other ≡ dir) nodes nodes queue queue
 follows_none all passes hit rect from cost dir nodes queue none = record {
-  gains = gains_none nodes queue;
+  later = all_later_self nodes;
   along = λ other same state run jump arrived last.
       let dir_jump : jump.dir ≡ dir = same_Some jump.dir dir
       (sym jump.arrived ∙ arrived ∙ ap (λ (d : Dir). Some d) same) in
       absurd (none state.cell (subst (λ (d : Dir). IsStopOf passes hit d from.cell state.cell) dir_jump jump.stop));
-  going = λ any start floor top going has early room. going;
+  going = λ start floor top going has early room. going;
 }
 
 -- the direction is no successor
@@ -249,12 +254,12 @@ pub follows_pruned : (all : Bool) (passes hit : Cell → Bool) (rect : Rect) (fr
     → (IsSuccessor passes from.cell from.arrived dir → ⊥)
     → Follows all passes hit rect from cost (λ other. other ≡ dir) nodes nodes queue queue
 follows_pruned all passes hit rect from cost dir nodes queue not = record {
-  gains = gains_none nodes queue;
+  later = all_later_self nodes;
   along = λ other same state run jump arrived last.
       let dir_jump : jump.dir ≡ dir = same_Some jump.dir dir
       (sym jump.arrived ∙ arrived ∙ ap (λ (d : Dir). Some d) same) in
       absurd (not (subst (λ (d : Dir). IsSuccessor passes from.cell from.arrived d) dir_jump jump.successor));
-  going = λ any start floor top going has early room. going;
+  going = λ start floor top going has early room. going;
 }
 
 -- a jump costs little enough
@@ -270,15 +275,14 @@ jump_most passes hit size dir from stop within free is =
 pub followable_later : {all : Bool} {passes hit : Cell → Bool} {rect : Rect} {from : JumpState} {cost : ℕ}
     {Within : Dir → Type 0} {old new : List Node} {before after : Queue}
     → Follows all passes hit rect from cost Within old new before after
-    → IsFollowable passes hit rect from cost old before
-    → IsFollowable passes hit rect from cost new after
+    → IsFollowable all passes hit rect from cost old before
+    → IsFollowable all passes hit rect from cost new after
 followable_later follows f = record {
-  all = f.all;
   start = f.start;
   floor = f.floor;
   most = f.most;
-  going = follows.going f.all f.start f.floor f.most f.going f.opened f.early f.room;
-  opened = open_later _ _ _ _ follows.gains.later f.opened;
+  going = follows.going f.start f.floor f.most f.going f.opened f.early f.room;
+  opened = open_later _ _ _ _ follows.later f.opened;
   early = f.early;
   room = f.room;
   low = f.low;
@@ -290,14 +294,14 @@ pub follows_both : {all : Bool} {passes hit : Cell → Bool} {rect : Rect} {from
     → Follows all passes hit rect from cost One a b p q → Follows all passes hit rect from cost Two b c q r
     → Follows all passes hit rect from cost (λ dir. One dir ⊎ Two dir) a c p r
 follows_both one two = record {
-  gains = gains_through _ _ _ _ _ _ one.gains two.gains;
+  later = all_later_through _ _ _ one.later two.later;
   along = λ dir within. elim within [
-    | inl first ↦ along_later _ _ _ _ _ _ _ dir two.gains.later (one.along dir first)
+    | inl first ↦ along_later _ _ _ _ _ _ _ dir two.later (one.along dir first)
     | inr last ↦ two.along dir last
   ];
-  going = λ any start floor top going has early room.
-      two.going any start floor top (one.going any start floor top going has early room)
-      (open_later _ _ _ _ one.gains.later has) early room;
+  going = λ start floor top going has early room.
+      two.going start floor top (one.going start floor top going has early room)
+      (open_later _ _ _ _ one.later has) early room;
 }
 
 -- each direction is one of the eight

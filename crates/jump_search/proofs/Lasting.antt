@@ -6,14 +6,13 @@ use Rattle.std.proofs.lemmas.Bool.{cases_Bool, both_ways}
 use Rattle.nav_types.specs.declared.cells.Cell.{Cell}
 use Rattle.nav_types.specs.declared.directions.Dir.{Dir}
 use Rattle.nav_types.specs.Directions.{is_straight}
-use Rattle.open_heap.specs.Queue.{Queue}
 use Rattle.jump_search.specs.declared.nodes.Node.{Node}
 use Rattle.jump_search.specs.declared.states.JumpState.{JumpState}
 use Rattle.jump_search.specs.JumpStates.{IsJump, octile_between}
 use Rattle.jump_search.specs.inner.Numbered.{HasState, LacksState, HasCheaper}
 use Rattle.jump_search.specs.inner.Searched.{IsLastRun, IsKeptRun, IsMetByJumps, HasOpenedParent, IsRelaxed, IsNoted, IsDearer, AreMet}
 use Rattle.jump_search.specs.inner.Searched.{IsFollowedFrom}
-use Rattle.jump_search.specs.inner.Underway.{IsLaterNode, AreLater, IsOpenNode, IsFollowedAlong, Gains}
+use Rattle.jump_search.specs.inner.Underway.{IsLaterNode, AreLater, IsOpenNode, IsFollowedAlong}
 
 pub kept_self : (arrived : Option Dir) (run : ℕ) → IsKeptRun arrived run run
 kept_self None run = refl
@@ -78,14 +77,6 @@ all_later_through a b c one two = record {
       (x.0, (x.1.0, (x.1.1.0, later_through x.0 y.0 z x.1.1.1 y.1.1.1)));
   opened = two.opened ∙ one.opened;
 }
-
-pub gains_none : (nodes : List Node) (queue : Queue) → Gains nodes nodes queue queue
-gains_none nodes queue = record { later = all_later_self nodes; even = refl }
-
-pub gains_through : (a b c : List Node) (p q r : Queue) → Gains a b p q → Gains b c q r → Gains a c p r
-gains_through a b c p q r one two =
-    let first = one.even in let last = two.even in
-    record { later = all_later_through a b c one.later two.later; even = omega (arith, first, last) }
 
 pub relaxed_later : (old new : List Node) (state : JumpState) (cost run : ℕ) → AreLater old new
     → IsRelaxed old state cost run

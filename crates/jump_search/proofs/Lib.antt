@@ -5,14 +5,17 @@ pub mod RunEnds
 pub mod Stable
 pub mod Stopping
 pub mod Bounding
+pub mod Dropping
 pub mod Ending
 pub mod Opening
 pub mod LastRuns
 pub mod GoingBack
+pub mod Corners
 pub mod Answering
 pub mod OneNumber
 pub mod Framing
 pub mod Halting
+pub mod Keeping
 pub mod Landing
 pub mod Lasting
 pub mod Listing

@@ -31,6 +31,9 @@ arrival_back (Some SE) = refl
 arrival_back (Some SW) = refl
 arrival_back (Some NW) = refl
 
+pub one_arrival : (a b : Option Dir) → arrival_number a ≡ arrival_number b → a ≡ b
+one_arrival a b same = sym (arrival_back a) ∙ ap arrival_of same ∙ arrival_back b
+
 state_of : Cell × ℕ → JumpState
 state_of key = record { cell = key.0; arrived = arrival_of key.1 }
 

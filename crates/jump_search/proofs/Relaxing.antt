@@ -1,11 +1,11 @@
 -- Noting a jump: its state's node is added, gets a cost that is less, or keeps the better of two last runs.
 use Rattle.std.proofs.Common.{ℕ, ◌≡◌, ◌+◌, ◌<◌, ◌≤◌, ◌⊎◌, Bool, true, false, cond, IsTrue, IsFalse, List, [], ◌∷◌, ◌++◌, length, set}
-use Rattle.std.proofs.Common.{Some, None, inl, inr, refl, ap, sym, subst, ◌∙◌, arith}
+use Rattle.std.proofs.Common.{Option, Some, None, IfSome, inl, inr, refl, ap, sym, subst, ◌∙◌, arith}
 use Rattle.std.specs.List.{slice_get}
 use Rattle.std.specs.FinMap as map
-use Rattle.std.proofs.lemmas.Bool.{cases_eq, both_ways}
-use Rattle.std.proofs.lemmas.List.{length-append, length-set}
-use Rattle.std.proofs.lemmas.List.Sums.{sum_by-append, sum_by-cons, sum_by-set}
+use Rattle.std.proofs.lemmas.Bool.{cases_Bool, cases_eq, both_ways}
+use Rattle.std.proofs.lemmas.List.{length-set}
+use Rattle.std.proofs.lemmas.List.Sums.{sum_by-append, sum_by-cons, sum_by-set, count_by-le-length}
 use Rattle.std.proofs.lemmas.Option.{same_Some, slice_get_within, get_or_from_slice_get, none-some}
 use Rattle.nav_types.proofs.Items.{slice_get-append_left, slice_get-push_last, slice_get-push_cases}
 use Rattle.nav_types.specs.declared.cells.Cell.{Cell}
@@ -19,8 +19,8 @@ use Rattle.jump_search.specs.inner.Searched.{IsKeptRun, HasOpenedParent, IsDeare
 use Rattle.jump_search.specs.inner.Underway.{estimate_of, opened_count, IsQueued, IsLaterNode, AreLater}
 use Rattle.jump_search.specs.inner.Underway.{Relaxes}
 use Rattle.jump_search.proofs.Listing.{get_set_same, get_set_other, get_set_cases, one_item}
-use Rattle.jump_search.proofs.Queueing.{inserted_here, inserted_apart, len_added, len_lowered, get_cases}
-use Rattle.jump_search.proofs.Lasting.{kept_self, later_self, gains_none, dearer_later, parent_as, IsFrom, met_later}
+use Rattle.jump_search.proofs.Queueing.{inserted_here, inserted_apart}
+use Rattle.jump_search.proofs.Lasting.{kept_self, later_self, all_later_self, dearer_later, parent_as, IsFrom, met_later}
 
 -- one for an opened node
 unfoldable pub one_if_opened : Node → ℕ
@@ -62,6 +62,9 @@ unfolding one_if_opened
 count_kept nodes number a b found same =
     let alike : one_if_opened b ≡ one_if_opened a = ap (λ (x : Bool). cond x 1 0) same in
     omega (arith, count_set nodes number a b found, alike)
+
+pub count_most : (nodes : List Node) → opened_count nodes ≤ length nodes
+count_most nodes = count_by-le-length (λ (node : Node). node.opened) nodes
 
 -- a node is added
 
@@ -115,7 +118,7 @@ queued_added all rect floor nodes queue node not early queued =
             (inserted_apart queue (length nodes) (estimate_of rect node) number before) ∙ found) in
             (old.0, (slice_get-append_left nodes (node ∷ []) number old.0 old.1.0, old.1.1))
       ];
-      taken = λ number b found none. elim (cases_eq number (length nodes)) [
+      others = λ number b found none. elim (cases_eq number (length nodes)) [
         | inl end ↦
             let here : map.get longer number ≡ Some (estimate_of rect node) =
             subst (λ (n : ℕ). map.get longer n ≡ Some (estimate_of rect node)) (sym end)
@@ -123,48 +126,30 @@ queued_added all rect floor nodes queue node not early queued =
             absurd (none-some (estimate_of rect node) (sym none ∙ here))
         | inr before ↦ elim (slice_get-push_cases nodes node number b found) [
           | inl old ↦
-              let was = queued.taken number b old (sym
-              (inserted_apart queue (length nodes) (estimate_of rect node) number before) ∙ none) in (
-                was.0,
-                elim was.1 [
-                  | inl opened ↦ inl opened
-                  | inr skipped ↦ inr (skipped.0, dearer_later nodes more b b later refl (omega arith) skipped.1)
-                ],
-              )
+              let was = queued.others number b old (sym
+              (inserted_apart queue (length nodes) (estimate_of rect node) number before) ∙ none) in
+              elim was [
+                | inl opened ↦ inl opened
+                | inr left ↦ inr (left.0, dearer_later nodes more b b later refl (omega arith) left.1)
+              ]
           | inr end ↦ absurd (before end.0)
         ]
       ];
+      within = λ number b found opened. elim (slice_get-push_cases nodes node number b found) [
+        | inl old ↦ queued.within number b old opened
+        | inr end ↦ absurd (both_ways b.opened (subst (λ (n : Node). IsFalse n.opened) end.1 not) opened)
+      ];
     }
-
--- no node waits at the next number
-pub none_waits : (all : Bool) (rect : Rect) (floor : ℕ) (nodes : List Node) (queue : Queue)
-    → IsQueued all rect floor nodes queue
-    → map.get queue (length nodes) ≡ None
-none_waits all rect floor nodes queue queued = elim (get_cases queue (length nodes)) [
-  | inl none ↦ none
-  | inr some ↦
-      let has = queued.waits (length nodes) some.0 some.1 in
-      let bound = slice_get_within nodes (length nodes) has.0 has.1.0 in
-      absurd (omega (arith, bound))
-]
 
 pub relaxes_added : (rect : Rect) (node : Node) (nodes : List Node) (queue : Queue) → IsFalse node.opened
     → LacksState nodes node.state
-    → map.get queue (length nodes) ≡ None → length (nodes ++ node ∷ []) ≤ 4294967296
+    → length (nodes ++ node ∷ []) ≤ 4294967296
     → Relaxes rect node nodes (nodes ++ node ∷ []) queue (map.insert queue (length nodes) (estimate_of rect node))
-relaxes_added rect node nodes queue not lacks none few =
+relaxes_added rect node nodes queue not lacks few =
     let more = nodes ++ node ∷ [] in
     let later = later_added nodes node not in
     record {
-      gains = record {
-        later = later;
-        even = omega (
-          arith,
-          length-append nodes (node ∷ []),
-          len_added queue
-              (length nodes) (estimate_of rect node) none,
-        );
-      };
+      later = later;
       relaxed = record {
         place = length nodes;
         node = node;
@@ -235,23 +220,34 @@ costs_set nodes number most a b found lower costs place x at = elim (get_set_cas
   | inr apart ↦ costs place x apart.1
 ]
 
--- a node of an estimate that has not passed is not dearer than another in its place only where it waits
-pub lower_waits : (all : Bool) (rect : Rect) (floor : ℕ) (nodes : List Node) (queue : Queue) (number : ℕ) (a b : Node)
+-- a node of an estimate that has not passed costs less than another in its place only where that is not opened
+pub lower_unopened : (all : Bool) (rect : Rect) (floor : ℕ) (nodes : List Node) (queue : Queue) (number : ℕ) (a b : Node)
     → IsQueued all rect floor nodes queue → slice_get nodes number ≡ Some a → b.state ≡ a.state
-    → floor ≤ estimate_of rect b → b.cost < a.cost
-    → (value : ℕ) × ((map.get queue number ≡ Some value)
-    × (IsFalse a.opened × (value ≡ estimate_of rect a)))
-lower_waits all rect floor nodes queue number a b queued found same early less =
+    → floor ≤ estimate_of rect b → b.cost < a.cost → IsFalse a.opened
+lower_unopened all rect floor nodes queue number a b queued found same early less =
     let alike : octile_to rect b.state.cell ≡ octile_to rect a.state.cell =
     ap (λ (s : JumpState). octile_to rect s.cell) same in
-    elim (get_cases queue number) [
-      | inl none ↦ let was = (queued.taken number a found none).0 in absurd (omega (arith, was, early, less, alike))
-      | inr some ↦
-          let has = queued.waits number some.0 some.1 in
-          let is : has.0 ≡ a = one_item nodes number has.0 a has.1.0 found in
-          let P = λ (n : Node). IsFalse n.opened × (some.0 ≡ estimate_of rect n) in
-          (some.0, (some.1, subst P is (has.1.1.0, has.1.1.1.0)))
+    elim (cases_Bool a.opened) [
+      | inl opened ↦ let was = queued.within number a found opened in absurd (omega (arith, was, early, less, alike))
+      | inr not ↦ not
     ]
+
+if_waits : (found : Option ℕ) (P : ℕ → Type 0) → ((value : ℕ) → found ≡ Some value → P value) → IfSome found P
+if_waits None P each = tt
+if_waits (Some value) P each = each value refl
+
+-- where it waits, it has no lesser estimate
+pub lower_waits : (all : Bool) (rect : Rect) (floor : ℕ) (nodes : List Node) (queue : Queue) (number : ℕ) (a b : Node)
+    → IsQueued all rect floor nodes queue → slice_get nodes number ≡ Some a → b.state ≡ a.state → b.cost < a.cost
+    → IfSome (map.get queue number) (λ value. estimate_of rect b ≤ value)
+lower_waits all rect floor nodes queue number a b queued found same less =
+    let alike : octile_to rect b.state.cell ≡ octile_to rect a.state.cell =
+    ap (λ (s : JumpState). octile_to rect s.cell) same in
+    if_waits (map.get queue number) (λ value. estimate_of rect b ≤ value) (λ value some.
+    let has = queued.waits number value some in
+    let is : has.0 ≡ a = one_item nodes number has.0 a has.1.0 found in
+    let waits = subst (λ (n : Node). value ≡ estimate_of rect n) is has.1.1.1.0 in
+    omega (arith, waits, less, alike))
 
 queued_lowered : (all : Bool) (rect : Rect) (floor : ℕ) (nodes : List Node) (queue : Queue) (number : ℕ) (a b : Node)
     → IsFalse b.opened
@@ -286,34 +282,31 @@ queued_lowered all rect floor nodes queue number a b not later found early queue
             has) in
             (old.0, (get_set_other nodes number place b old.0 apart old.1.0, old.1.1))
       ];
-      taken = λ place x at none. elim (get_set_cases nodes number place b x at) [
+      others = λ place x at none. elim (get_set_cases nodes number place b x at) [
         | inl here ↦
             let is : map.get new place ≡ Some (estimate_of rect b) =
             subst (λ (n : ℕ). map.get new n ≡ Some (estimate_of rect b)) (sym here.0)
             (inserted_here queue number (estimate_of rect b)) in
             absurd (none-some (estimate_of rect b) (sym none ∙ is))
         | inr apart ↦
-            let was = queued.taken place x apart.1 (sym (inserted_apart queue number (estimate_of rect b) place apart.0)
-            ∙ none) in (
-              was.0,
-              elim was.1 [
-                | inl opened ↦ inl opened
-                | inr skipped ↦ inr (
-                  skipped.0,
-                  dearer_later nodes (set nodes number b) x x later refl (omega arith)
-                      skipped.1,
-                )
-              ],
-            )
+            let was = queued.others place x apart.1 (sym (inserted_apart queue number (estimate_of rect b) place apart.0)
+            ∙ none) in
+            elim was [
+              | inl opened ↦ inl opened
+              | inr left ↦ inr (left.0, dearer_later nodes (set nodes number b) x x later refl (omega arith) left.1)
+            ]
+      ];
+      within = λ place x at opened. elim (get_set_cases nodes number place b x at) [
+        | inl here ↦ absurd (both_ways x.opened (subst (λ (n : Node). IsFalse n.opened) here.1 not) opened)
+        | inr apart ↦ queued.within place x apart.1 opened
       ];
     }
 
 pub relaxes_lowered : (rect : Rect) (node : Node) (nodes : List Node) (queue : Queue) (number : ℕ) (a : Node)
-    (old : ℕ) → IsFalse node.opened
+    → IsFalse node.opened
     → IsFalse a.opened → slice_get nodes number ≡ Some a → a.state ≡ node.state → node.cost < a.cost
-    → map.get queue number ≡ Some old
     → Relaxes rect node nodes (set nodes number node) queue (map.insert queue number (estimate_of rect node))
-relaxes_lowered rect node nodes queue number a old not was found same less waits =
+relaxes_lowered rect node nodes queue number a not was found same less =
     let low = slice_get_within nodes number a found in
     let next : IsLaterNode a node = record {
       same = sym same;
@@ -323,15 +316,7 @@ relaxes_lowered rect node nodes queue number a old not was found same less waits
     } in
     let later = later_set nodes number a node found next (not ∙ sym was) in
     record {
-      gains = record {
-        later = later;
-        even = omega (
-          arith,
-          length-set nodes number node,
-          len_lowered queue number
-              (estimate_of rect node) old waits,
-        );
-      };
+      later = later;
       relaxed = record {
         place = number;
         node = node;
@@ -379,36 +364,32 @@ queued_tied all rect floor nodes queue number a b same cost opened later found q
                 (b, (at, (opened ∙ facts.0, (facts.1.0 ∙ estimates, facts.1.1))))
             | inr apart ↦ (old.0, (get_set_other nodes number place b old.0 apart old.1.0, old.1.1))
           ];
-      taken = λ place x at none. elim (get_set_cases nodes number place b x at) [
+      others = λ place x at none. elim (get_set_cases nodes number place b x at) [
         | inl here ↦
             let none_here = subst (λ (n : ℕ). map.get queue n ≡ None) here.0 none in
-            let was = queued.taken number a found none_here in
-            let facts : (estimate_of rect b ≤ floor) × (IsTrue b.opened
-            ⊎ (IsFalse all × IsDearer (set nodes number b) b)) = (
-              subst (λ (n : ℕ). n ≤ floor) estimates was.0,
-              elim was.1 [
-                | inl is ↦ inl (opened ∙ is)
-                | inr skipped ↦ inr (
-                  skipped.0,
-                  dearer_later nodes (set nodes number b) a b later same
-                      (omega (arith, cost)) skipped.1,
-                )
-              ],
-            ) in
-            subst (λ (n : Node). (estimate_of rect n ≤ floor)
-            × (IsTrue n.opened ⊎ (IsFalse all × IsDearer (set nodes number b) n))) here.1 facts
+            let was = queued.others number a found none_here in
+            let facts : IsTrue b.opened ⊎ (IsFalse all × IsDearer (set nodes number b) b) =
+            elim was [
+              | inl is ↦ inl (opened ∙ is)
+              | inr left ↦ inr (
+                left.0,
+                dearer_later nodes (set nodes number b) a b later same (omega (arith, cost)) left.1,
+              )
+            ] in
+            subst (λ (n : Node). IsTrue n.opened ⊎ (IsFalse all × IsDearer (set nodes number b) n)) here.1 facts
         | inr apart ↦
-            let was = queued.taken place x apart.1 none in (
-              was.0,
-              elim was.1 [
-                | inl is ↦ inl is
-                | inr skipped ↦ inr (
-                  skipped.0,
-                  dearer_later nodes (set nodes number b) x x later refl (omega arith)
-                      skipped.1,
-                )
-              ],
-            )
+            let was = queued.others place x apart.1 none in
+            elim was [
+              | inl is ↦ inl is
+              | inr left ↦ inr (left.0, dearer_later nodes (set nodes number b) x x later refl (omega arith) left.1)
+            ]
+      ];
+      within = λ place x at is. elim (get_set_cases nodes number place b x at) [
+        | inl here ↦
+            let was = sym opened ∙ subst (λ (n : Node). IsTrue n.opened) (sym here.1) is in
+            let low = queued.within number a found was in
+            subst (λ (n : Node). estimate_of rect n ≤ floor) here.1 (subst (λ (n : ℕ). n ≤ floor) estimates low)
+        | inr apart ↦ queued.within place x apart.1 is
       ];
     }
 
@@ -430,7 +411,7 @@ relaxes_tied rect node nodes queue number run a found same cost kept_a kept_node
     } in
     let later = later_set nodes number a b found next refl in
     record {
-      gains = record { later = later; even = omega (arith, length-set nodes number b) };
+      later = later;
       relaxed = record {
         place = number;
         node = b;
@@ -460,7 +441,7 @@ pub relaxes_none : (rect : Rect) (node : Node) (nodes : List Node) (queue : Queu
     → slice_get nodes number ≡ Some a
     → a.state ≡ node.state → a.cost < node.cost → Relaxes rect node nodes nodes queue queue
 relaxes_none rect node nodes queue number a found same less = record {
-  gains = gains_none nodes queue;
+  later = all_later_self nodes;
   relaxed = record {
     place = number;
     node = a;

@@ -13,7 +13,7 @@ use Rattle.jump_search.specs.declared.nodes.Node.{Node}
 use Rattle.jump_search.specs.JumpStates.{start_state}
 use Rattle.jump_search.specs.inner.Searched.{AreMet}
 use Rattle.jump_search.specs.inner.Underway.{estimate_of, IsUnderway}
-use Rattle.jump_search.proofs.Queueing.{inserted_here, inserted_apart, len_added}
+use Rattle.jump_search.proofs.Queueing.{inserted_here, inserted_apart}
 
 -- the node of the start
 abbrev pub start_node : Cell → Node
@@ -49,8 +49,6 @@ underway_start all passes hit start rect =
     let empty : Queue = map.empty in
     let queue = map.insert empty 0 (estimate_of rect node) in
     let none : (number : ℕ) → map.get empty number ≡ None = λ number. map.get-empty nat_cmp number in
-    let longer = len_added empty 0 (estimate_of rect node) (none 0) in
-    let zero_len : map.len empty ≡ 0 = map.len-empty nat_cmp ℕ in
     record {
       met = met_start passes hit start;
       queued = record {
@@ -75,12 +73,15 @@ underway_start all passes hit start rect =
           | inr apart ↦ absurd (none-some value
               (sym (inserted_apart empty 0 (estimate_of rect node) number apart ∙ none number) ∙ found))
         ];
-        taken = λ number x found lacks.
+        others = λ number x found lacks.
             let zero_is = (only start number x found).0 in
             let is : map.get queue number ≡ Some (estimate_of rect node) =
             subst (λ (n : ℕ). map.get queue n ≡ Some (estimate_of rect node)) (sym zero_is)
             (inserted_here empty 0 (estimate_of rect node)) in
             absurd (none-some (estimate_of rect node) (sym lacks ∙ is));
+        within = λ number x found opened.
+            let is = (only start number x found).1 in
+            absurd (both_ways x.opened (subst (λ (n : Node). IsFalse n.opened) is refl) opened);
       };
       followed = λ number x found opened.
           let is = (only start number x found).1 in
@@ -90,6 +91,6 @@ underway_start all passes hit start rect =
           both_ways x.opened (subst (λ (n : Node). IsFalse n.opened) is refl) opened;
       costs = λ number x found.
           let cost : x.cost ≡ 0 = ap (λ (n : Node). n.cost) (sym (only start number x found).1) in
-          omega (arith, cost, longer, zero_len);
+          omega (arith, cost);
       few = omega arith;
     }

@@ -1,6 +1,6 @@
--- Opening the node of an entry that was taken from the open list, or skipping it.
-use Rattle.std.proofs.Common.{ℕ, ◌≡◌, ◌≢◌, ◌+◌, ◌-◌, ◌*◌, ◌<◌, ◌≤◌, ◌⊎◌, Bool, true, false, IsTrue, IsFalse, List, []}
-use Rattle.std.proofs.Common.{◌∷◌, length, set, Option, Some, None, IfSome, inl, inr, refl, ap, sym, subst, ◌∙◌, arith}
+-- Opening the node of an entry that was taken from the open list.
+use Rattle.std.proofs.Common.{ℕ, ◌≡◌, ◌≢◌, ◌+◌, ◌*◌, ◌<◌, ◌≤◌, ◌⊎◌, Bool, true, false, IsTrue, IsFalse, List, []}
+use Rattle.std.proofs.Common.{◌∷◌, set, Option, Some, None, IfSome, inl, inr, refl, ap, sym, subst, ◌∙◌, arith}
 use Rattle.std.specs.List.{slice_get}
 use Rattle.std.specs.Option.{IsSome}
 use Rattle.std.specs.FinMap as map
@@ -24,10 +24,10 @@ use Rattle.jump_search.specs.inner.Underway.{estimate_of, opened_count, IsQueued
 use Rattle.jump_search.specs.inner.Underway.{IsFollowable, Follows, IsBestHit, NoneHit, IsBestSoFar, IsUnderway, IsNotPast}
 use Rattle.jump_search.specs.inner.Underway.{IsAsGood, IsBetter, IsTaken}
 use Rattle.jump_search.proofs.Listing.{get_set_same, get_set_other, get_set_cases, one_item}
-use Rattle.jump_search.proofs.Queueing.{removed_here, removed_apart, len_taken}
+use Rattle.jump_search.proofs.Queueing.{removed_here, removed_apart}
 use Rattle.jump_search.proofs.Lasting.{noted_later, parent_as, reached_as}
 use Rattle.jump_search.proofs.Landing.{stop_free}
-use Rattle.jump_search.proofs.Relaxing.{unopened_none, opened_one, count_set}
+use Rattle.jump_search.proofs.Relaxing.{unopened_none, opened_one, count_set, count_most}
 
 -- the node of the entry, which waited
 pub record IsNext (rect : Rect) (floor : ℕ) (nodes : List Node) (entry : Entry) (node : Node) : Type 0 where
@@ -49,75 +49,6 @@ later_estimate : (before : Queue) (entry : Entry) (number : ℕ) (value : ℕ) �
     → map.get before number ≡ Some value
     → entry.estimate ≤ value
 later_estimate before entry number value least found = least.first number value found
-
--- the open list without the entry, where its node is opened or is skipped
-queued_taken : (all : Bool) (rect : Rect) (floor : ℕ) (nodes : List Node) (before : Queue) (entry : Entry) (node : Node)
-    → IsQueued all rect floor nodes before → IsLeast before entry → IsNext rect floor nodes entry node
-    → IsTrue node.opened ⊎ (IsFalse all × IsDearer nodes node)
-    → IsQueued all rect entry.estimate nodes (map.remove before entry.key)
-queued_taken all rect floor nodes before entry node queued least next passed =
-    let rest = map.remove before entry.key in
-    let known = next.known in let estimate = next.estimate in let early = next.early in
-    record {
-      waits = λ number value found. elim (cases_eq number entry.key) [
-        | inl here ↦
-            let none : map.get rest number ≡ None = subst (λ (n : ℕ). map.get rest n ≡ None) (sym here)
-            (removed_here before entry.key) in
-            let bad : None ≡ Some value = sym none ∙ found in
-            absurd (cc)
-        | inr apart ↦
-            let was = sym (removed_apart before entry.key number apart) ∙ found in
-            let old = queued.waits number value was in (
-              old.0,
-              (
-                old.1.0,
-                (old.1.1.0, (old.1.1.1.0, later_estimate before entry number value least was)),
-              ),
-            )
-      ];
-      taken = λ number x found none. elim (cases_eq number entry.key) [
-        | inl here ↦
-            let is = one_item nodes number node x (subst (λ (n : ℕ). slice_get nodes n ≡ Some node) (sym here) known)
-            found in
-            let low : estimate_of rect node ≤ entry.estimate = omega (arith, estimate) in
-            subst (λ (n : Node). (estimate_of rect n ≤ entry.estimate)
-            × (IsTrue n.opened ⊎ (IsFalse all × IsDearer nodes n))) is (low, passed)
-        | inr apart ↦
-            let was = queued.taken number x found (sym (removed_apart before entry.key number apart) ∙ none) in
-            let low = was.0 in
-            (omega (arith, low, early), was.1)
-      ];
-    }
-
--- the best hit stays within the floor
-best_raised : (hit : Cell → Bool) (nodes : List Node) (floor higher : ℕ) (best : Option Best) → IsNotPast best higher
-    → IsBestSoFar hit nodes floor best
-    → IsBestSoFar hit nodes higher best
-best_raised hit nodes floor higher None near is = is
-best_raised hit nodes floor higher (Some best) near is = (is.0, near)
-
--- the node is skipped
-pub skipped : (all : Bool) (passes hit : Cell → Bool) (start : Cell) (rect : Rect) (floor : ℕ) (nodes : List Node)
-    (queue : Queue)
-    (best : Option Best) (entry : Entry) (node : Node) → IsTaken all passes hit start rect floor nodes queue best entry
-    → slice_get nodes entry.key ≡ Some node → IsFalse all → IsDearer nodes node
-    → IsUnderway all passes hit start rect entry.estimate nodes queue best
-skipped all passes hit start rect floor nodes queue best entry node taken found not dearer =
-    let has = next_node all passes hit start rect floor nodes queue best entry taken in
-    let is = one_item nodes entry.key node has.0 found has.1.known in
-    let passed = subst (λ (n : Node). IsTrue n.opened ⊎ (IsFalse all × IsDearer nodes n)) is (inr (not, dearer)) in
-    let before = taken.before in
-    let queued = queued_taken all rect floor nodes before entry has.0 taken.underway.queued taken.least has.1 passed in
-    let shorter = len_taken before entry.key entry.estimate taken.least.present in
-    let rest : map.len queue ≡ map.len (map.remove before entry.key) = ap (λ (m : Queue). map.len m) taken.rest in
-    record {
-      met = taken.underway.met;
-      queued = subst (λ (m : Queue). IsQueued all rect entry.estimate nodes m) (sym taken.rest) queued;
-      followed = taken.underway.followed;
-      hits = best_raised hit nodes floor entry.estimate best taken.near taken.underway.hits;
-      costs = λ number x at. let most = taken.underway.costs number x at in omega (arith, most, shorter, rest);
-      few = taken.underway.few;
-    }
 
 -- the node is opened
 
@@ -277,20 +208,20 @@ queued_opened all rect floor nodes before entry a queued least next =
               ),
             )
       ];
-      taken = λ number x at none. elim (get_set_cases nodes entry.key number (opened_node a) x at) [
+      others = λ number x at none. elim (get_set_cases nodes entry.key number (opened_node a) x at) [
+        | inl here ↦ subst (λ (n : Node). IsTrue n.opened ⊎ (IsFalse all × IsDearer new n)) here.1 (inl refl)
+        | inr apart ↦
+            let was = queued.others number x apart.1 (sym (removed_apart before entry.key number apart.0) ∙ none) in
+            elim was [
+              | inl opened ↦ inl opened
+              | inr left ↦ inr (left.0, dearer_opened nodes entry.key a x x found refl refl left.1)
+            ]
+      ];
+      within = λ number x at opened. elim (get_set_cases nodes entry.key number (opened_node a) x at) [
         | inl here ↦
             let low : estimate_of rect (opened_node a) ≤ entry.estimate = omega (arith, estimate) in
-            subst (λ (n : Node). (estimate_of rect n ≤ entry.estimate)
-            × (IsTrue n.opened ⊎ (IsFalse all × IsDearer new n))) here.1 (low, inl refl)
-        | inr apart ↦
-            let was = queued.taken number x apart.1 (sym (removed_apart before entry.key number apart.0) ∙ none) in
-            let low = was.0 in (
-              omega (arith, low, early),
-              elim was.1 [
-                | inl opened ↦ inl opened
-                | inr skip ↦ inr (skip.0, dearer_opened nodes entry.key a x x found refl refl skip.1)
-              ],
-            )
+            subst (λ (n : Node). estimate_of rect n ≤ entry.estimate) here.1 low
+        | inr apart ↦ let low = queued.within number x apart.1 opened in omega (arith, low, early)
       ];
     }
 
@@ -308,7 +239,7 @@ pub ready_opened : (all : Bool) (passes hit : Cell → Bool) (start : Cell) (rec
     (queue : Queue)
     (best : Option Best) (entry : Entry) (a : Node) → IsTaken all passes hit start rect floor nodes queue best entry
     → slice_get nodes entry.key ≡ Some a
-    → IsReady all passes hit start rect entry.estimate (189812736 * (length nodes - map.len queue)) a.state
+    → IsReady all passes hit start rect entry.estimate (189812736 * (opened_count nodes + 1)) a.state
     a.cost (set nodes entry.key (opened_node a)) queue
 ready_opened all passes hit start rect floor nodes queue best entry a taken found =
     let has = next_node all passes hit start rect floor nodes queue best entry taken in
@@ -317,9 +248,8 @@ ready_opened all passes hit start rect floor nodes queue best entry a taken foun
     let before = taken.before in
     let low = slice_get_within nodes entry.key a found in
     let new = set nodes entry.key (opened_node a) in
-    let shorter = len_taken before entry.key entry.estimate taken.least.present in
-    let rest : map.len queue ≡ map.len (map.remove before entry.key) = ap (λ (m : Queue). map.len m) taken.rest in
     let few = taken.underway.few in
+    let counted = count_most nodes in
     let here = taken.underway.costs entry.key a found in
     record {
       going = record {
@@ -330,7 +260,7 @@ ready_opened all passes hit start rect floor nodes queue best entry a taken foun
             let was = was_before nodes entry.key number a x found at in
             let most = taken.underway.costs number was.0 was.1.0 in
             let same = was.1.1.1.0 in
-            omega (arith, most, same, shorter, rest);
+            omega (arith, most, same);
         few = omega (arith, few, length-set nodes entry.key (opened_node a));
       };
       opened = record {
@@ -343,24 +273,23 @@ ready_opened all passes hit start rect floor nodes queue best entry a taken foun
         costs = refl;
       };
       estimate = next.estimate;
-      room = omega (arith, here, shorter, rest);
-      low = omega (arith, few);
+      room = omega (arith, here);
+      low = omega (arith, few, counted);
     }
 
 -- the search can follow the jumps of the node that was opened
 pub followable_opened : (all : Bool) (passes hit : Cell → Bool) (start : Cell) (rect : Rect) (floor : ℕ)
     (nodes : List Node) (queue : Queue)
     (best : Option Best) (entry : Entry) (a : Node) → IsTaken all passes hit start rect floor nodes queue best entry
-    → slice_get nodes entry.key ≡ Some a → IsFollowable passes hit rect a.state a.cost
+    → slice_get nodes entry.key ≡ Some a → IsFollowable all passes hit rect a.state a.cost
     (set nodes entry.key (opened_node a)) queue
 followable_opened all passes hit start rect floor nodes queue best entry a taken found =
     let ready = ready_opened all passes hit start rect floor nodes queue best entry a taken found in
     let estimate = ready.estimate in
     record {
-      all = all;
       start = start;
       floor = entry.estimate;
-      most = 189812736 * (length nodes - map.len queue);
+      most = 189812736 * (opened_count nodes + 1);
       going = ready.going;
       opened = ready.opened;
       early = omega (arith, estimate);
@@ -460,7 +389,7 @@ followed_opened all passes hit rect nodes new key a before after found follows f
           let cost = y.cost + octile_between y.state.cell state.cell in
           let one = followed number y old.1.0 old.1.1.0 state run jump_y last_y in
           let two = noted_opened all nodes key a state cost run found one in
-          let three = noted_later all (set nodes key (opened_node a)) new state cost run follows.gains.later two in
+          let three = noted_later all (set nodes key (opened_node a)) new state cost run follows.later two in
           subst (λ (n : ℕ). IsNoted all new state (n + octile_between x.state.cell state.cell) run) (sym costs)
           (subst (λ (s : JumpState). IsNoted all new state (y.cost + octile_between s.cell state.cell) run) (sym same)
           three)
@@ -660,15 +589,11 @@ opened_underway all passes hit start rect floor nodes new queue after best resul
     let next = subst (λ (n : Node). IsNext rect floor nodes entry n) is has.1 in
     let ready = ready_opened all passes hit start rect floor nodes queue best entry a taken found in
     let higher = entry.estimate in
-    let most = 189812736 * (length nodes - map.len queue) in
+    let most = 189812736 * (opened_count nodes + 1) in
     let estimate = ready.estimate in
-    let going = follows.going all start higher most ready.going ready.opened (omega (arith, estimate)) ready.room in
-    let regard = regards nodes new entry.key a found next.unopened follows.gains.later in
-    let first = taken.underway.met.first in
-    let head = taken.underway.costs 0 first.0 first.1.0 in
-    let shorter = len_taken taken.before entry.key entry.estimate taken.least.present in
-    let rest : map.len queue ≡ map.len (map.remove taken.before entry.key) = ap (λ (m : Queue). map.len m) taken.rest in
-    let even = follows.gains.even in
+    let going = follows.going start higher most ready.going ready.opened (omega (arith, estimate)) ready.room in
+    let regard = regards nodes new entry.key a found next.unopened follows.later in
+    let counted = count_opened nodes new entry.key a found next.unopened follows.later.opened in
     record {
       met = going.met;
       queued = going.queued;
@@ -686,6 +611,6 @@ opened_underway all passes hit start rect floor nodes new queue after best resul
       ];
       costs = λ number x at.
           let low = going.costs number x at in
-          omega (arith, low, even, head, shorter, rest, length-set nodes entry.key (opened_node a));
+          omega (arith, low, counted);
       few = going.few;
     }

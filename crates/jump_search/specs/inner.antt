@@ -1,5 +1,6 @@
 -- Definitions that only private contracts cite.
 pub mod Following
+pub mod KnownSets
 pub mod Numbered
 pub mod Paged
 pub mod Searched

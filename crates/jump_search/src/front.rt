@@ -1,6 +1,6 @@
 //! The nodes that a search has met, and those of them that wait.
 ghost use Rattle.std.specs.Prelude.{◌≡◌, ◌↔◌, ◌<◌, ◌≤◌, ◌⊎◌, ◌++◌, ◌∷◌, ◌+◌, ◌^◌, [], ℕ, Bool, Some, None, length, slice_get};
-ghost use Rattle.std.specs.Prelude.{slice_set, IsTrue, IsFalse, IsSomeAnd, IfSome, IfNone, OnOk, IfOk};
+ghost use Rattle.std.specs.Prelude.{slice_set, IsTrue, IsFalse, false, IfSome, IfNone, OnOk, IfOk};
 ghost use Rattle.std.specs.FinMap as map;
 ghost use Rattle.nav_types.specs.declared.cells.Cell.{Cell};
 ghost use Rattle.nav_types.specs.declared.directions.Dir.{Dir};
@@ -8,26 +8,29 @@ ghost use Rattle.nav_types.specs.DirSets.{holds};
 ghost use Rattle.jump_scan.specs.Successors.{IsSuccessor};
 ghost use Rattle.jump_search.specs.JumpStates.{IsStopOf, octile_between};
 ghost use Rattle.jump_search.specs.declared.nodes.Node.{Node};
-ghost use Rattle.jump_search.specs.inner.Numbered.{HasState, LacksState};
+ghost use Rattle.jump_search.specs.inner.Numbered.{HasState, LacksState, IsAsCheap};
 ghost use Rattle.jump_search.specs.inner.Traced.{Moves};
-ghost use Rattle.jump_search.specs.inner.Searched.{IsKeptRun, IsDearer};
-ghost use Rattle.jump_search.specs.inner.Underway.{steps_over, estimate_of, IsQueued, Relaxes, Notes};
-ghost use Rattle.jump_search.specs.inner.Underway.{IsFollowable, Follows};
+ghost use Rattle.jump_search.specs.inner.Searched.{IsKeptRun};
+ghost use Rattle.jump_search.specs.inner.Underway.{steps_over, estimate_of, IsQueued, Settles, Notes};
+ghost use Rattle.jump_search.specs.inner.Underway.{IsFollowable, Follows, Drops};
 
+use crate::known_successors::KnownSuccessors;
 use crate::nodes::{Node, Nodes, Standing};
 use crate::octile::octile_to;
 use crate::problems::Problem;
 use crate::states::JumpState;
-use jump_scan::{Runs, successors, successors_among};
+use jump_scan::{Runs, successors};
 use nav_types::{Aim, Cell, Class, Dir, DirSet, NoMemory, Rect};
 use open_heap::OpenHeap;
 use std::alloc::Global;
 
-/// The nodes that a search has met, and the open list of those that wait.
+/// The nodes that a search has met, and the open list of those that wait. The successors that it knows stay from one search
+/// to the next.
 #[derive(Drop)]
 pub(crate) struct Front {
     pub nodes: Nodes,
     pub waiting: OpenHeap,
+    successors: KnownSuccessors,
 }
 
 /// How many steps a run in the direction from one cell to the other has.
@@ -107,16 +110,28 @@ fn stop_of<R: Runs, A: Aim>(runs: &R, class: Class, from: Cell, dir: Dir, aim: &
 /// The directions in which the search goes on from the state. The cells beside its cell are read once, by a few words of
 /// the map.
 #[inline(always)]
-fn successors_of<R: Runs>(runs: &R, class: Class, state: JumpState) -> DirSet
+fn successors_of<R: Runs>(
+    known: &mut KnownSuccessors,
+    runs: &R,
+    class: Class,
+    state: JumpState,
+) -> DirSet
     requires class { class < R.class_count runs.now }
     requires cell { IsTrue (R.passes runs.now class state.cell) }
     ensures { (dir : Dir) → IsTrue (holds result dir) ↔ IsSuccessor (R.passes runs.now class) state.cell state.arrived
         dir }
 {
     match state.arrived {
-        Some(arrived) => successors_among(runs.beside(class, state.cell), arrived),
+        Some(arrived) => known.of(runs.beside(class, state.cell), arrived),
         None => successors(runs, class, state.cell, None),
     }
+}
+
+/// Whether the node is of the cell and costs more.
+fn is_dearer(node: &Node, cell: Cell, cost: u64) -> bool
+    ensures { IsTrue result → (node.now.state.cell ≡ cell) × (cost < node.now.cost) }
+{
+    cost < node.cost && node.state.cell.j == cell.j && node.state.cell.i == cell.i
 }
 
 /// What jumps by the node to the rectangle cost at least: nodes of a lesser estimate are opened first.
@@ -136,6 +151,7 @@ impl Front {
         Ok(Front {
             nodes: Nodes::new(alloc)?,
             waiting: OpenHeap::new(alloc)?,
+            successors: KnownSuccessors::new(alloc)?,
         })
     }
 
@@ -148,45 +164,146 @@ impl Front {
         self.waiting.clear();
     }
 
-    /// Adds a node whose state has none, and lets it wait.
-    #[inline(never)]
-    pub(crate) fn meet(&mut self, rect: &Rect, node: Node) -> Result<(), NoMemory>
+    /// Adds a node whose state has none, and lets it wait. Gives its number.
+    #[inline(always)]
+    pub(crate) fn meet(&mut self, rect: &Rect, node: Node) -> Result<u32, NoMemory>
         requires lacks { LacksState self.old.nodes node.state }
         requires waits { map.get self.old.waiting (length self.old.nodes) ≡ None }
         requires low { node.cost < 2 ^ 63 }
         ensures nodes { OnOk result (self.new.nodes ≡ self.old.nodes ++ node ∷ []) }
         ensures waiting { OnOk result (self.new.waiting ≡ map.insert self.old.waiting (length self.old.nodes)
             (estimate_of rect.now node)) }
+        ensures number { IfOk result (λ number. number ≡ length self.old.nodes) }
         ensures few { OnOk result (length self.new.nodes ≤ 2 ^ 32) }
     {
         let number = self.nodes.add(node)?;
         self.waiting.push(number, estimate_of(rect, &node))?;
+        Ok(number)
+    }
+
+    /// Takes the node of the number out of the open list where it is of the cell and costs more than another node there.
+    #[inline(always)]
+    fn drop_where_dearer(&mut self, number: u32, cell: Cell, cost: u64)
+        requires inside { number < length self.old.nodes }
+        requires cheap { IsAsCheap self.old.nodes cell cost }
+        ensures nodes { self.new.nodes ≡ self.old.nodes }
+        ensures waiting { Drops false self.old.nodes self.old.waiting self.new.waiting }
+    {
+        if !is_dearer(self.nodes.at(number), cell, cost) {
+            return;
+        }
+        self.waiting.remove(number);
+    }
+
+    /// Takes the node before the number `end`, and those that are linked from there, out of the open list where they are of
+    /// the cell and cost more than another node there.
+    fn drop_dearer(&mut self, end: u32, cell: Cell, cost: u64)
+        requires inside { end ≤ length self.old.nodes }
+        requires cheap { IsAsCheap self.old.nodes cell cost }
+        ensures nodes { self.new.nodes ≡ self.old.nodes }
+        ensures waiting { Drops false self.old.nodes self.old.waiting self.new.waiting }
+    {
+        let mut after = end;
+        'walk: while after > 0 {
+            let number = after - 1;
+            self.drop_where_dearer(number, cell, cost);
+            after = self.nodes.before(number);
+        }
+    }
+
+    /// Adds a node whose state has none, and lets it wait. Where the search is not for all, nodes of its cell that cost more
+    /// no longer do.
+    #[inline(never)]
+    fn meet_and_drop(&mut self, rect: &Rect, all: bool, node: Node) -> Result<(), NoMemory>
+        requires lacks { LacksState self.old.nodes node.state }
+        requires waits { map.get self.old.waiting (length self.old.nodes) ≡ None }
+        requires low { node.cost < 2 ^ 63 }
+        ensures nodes { OnOk result (self.new.nodes ≡ self.old.nodes ++ node ∷ []) }
+        ensures waiting { OnOk result (Drops all self.new.nodes
+            (map.insert self.old.waiting (length self.old.nodes) (estimate_of rect.now node)) self.new.waiting) }
+        ensures few { OnOk result (length self.new.nodes ≤ 2 ^ 32) }
+    {
+        let number = self.meet(rect, node)?;
+        if !all {
+            let end = self.nodes.before(number);
+            self.drop_dearer(end, node.state.cell, node.cost);
+        }
         Ok(())
     }
 
-    /// Gives a node that waits a cost that is less.
+    /// Takes those nodes of the cell out of the open list that cost more than another of it. One of them has this cost.
+    fn keep_cheapest(&mut self, cell: Cell, cost: u64)
+        requires { IsAsCheap self.old.nodes cell cost }
+        ensures nodes { self.new.nodes ≡ self.old.nodes }
+        ensures waiting { Drops false self.old.nodes self.old.waiting self.new.waiting }
+    {
+        let end = self.nodes.last(cell);
+        let least = self.nodes.least(cell, cost);
+        self.drop_dearer(end, cell, least);
+    }
+
+    /// Gives a node a cost that is less, and lets it wait.
     fn lower(&mut self, rect: &Rect, number: u32, node: Node) -> Result<(), NoMemory>
         requires same { HasState self.old.nodes node.state number }
-        requires waits { IsSomeAnd (map.get self.old.waiting number) (λ known. estimate_of rect.now node ≤ known) }
+        requires waits { IfSome (map.get self.old.waiting number) (λ known. estimate_of rect.now node ≤ known) }
         requires low { node.cost < 2 ^ 63 }
         ensures nodes { OnOk result (self.new.nodes ≡ slice_set self.old.nodes number node) }
         ensures waiting { OnOk result (self.new.waiting ≡ map.insert self.old.waiting number
             (estimate_of rect.now node)) }
     {
         self.nodes.put(number, node);
-        self.waiting.lower(number, estimate_of(rect, &node))?;
+        let estimate = estimate_of(rect, &node);
+        match self.waiting.get(number) {
+            Some(_) => {
+                self.waiting.lower(number, estimate)?;
+                Ok(())
+            }
+            None => {
+                self.waiting.push(number, estimate)?;
+                Ok(())
+            }
+        }
+    }
+
+    /// Gives a node a cost that is less, and lets it wait. Where the search is not for all, nodes of its cell that cost more
+    /// than another no longer do.
+    fn lower_and_drop(
+        &mut self,
+        rect: &Rect,
+        all: bool,
+        number: u32,
+        node: Node,
+    ) -> Result<(), NoMemory>
+        requires same { HasState self.old.nodes node.state number }
+        requires waits { IfSome (map.get self.old.waiting number) (λ known. estimate_of rect.now node ≤ known) }
+        requires low { node.cost < 2 ^ 63 }
+        ensures nodes { OnOk result (self.new.nodes ≡ slice_set self.old.nodes number node) }
+        ensures waiting { OnOk result (Drops all self.new.nodes
+            (map.insert self.old.waiting number (estimate_of rect.now node)) self.new.waiting) }
+    {
+        self.lower(rect, number, node)?;
+        if !all {
+            self.keep_cheapest(node.state.cell, node.cost);
+        }
         Ok(())
     }
 
     /// Notes that a jump leads to the node's state, which the node of the number has, at its cost and with its last run.
-    fn relax(&mut self, rect: &Rect, dir: Dir, number: u32, node: Node) -> Result<(), NoMemory>
+    fn relax(
+        &mut self,
+        rect: &Rect,
+        dir: Dir,
+        all: bool,
+        number: u32,
+        node: Node,
+    ) -> Result<(), NoMemory>
         requires has { HasState self.old.nodes node.state number }
         requires arrived { node.state.arrived ≡ Some dir }
         requires waiting { IsFalse node.opened }
         requires low { node.cost < 2 ^ 63 }
         requires queued { (all : Bool) × ((floor : ℕ)
             × (IsQueued all rect.now floor self.old.nodes self.old.waiting × (floor ≤ estimate_of rect.now node))) }
-        ensures { OnOk result (Relaxes rect.now node self.old.nodes self.new.nodes self.old.waiting
+        ensures { OnOk result (Settles all rect.now node self.old.nodes self.new.nodes self.old.waiting
             self.new.waiting) }
     {
         let known = *self.nodes.at(number);
@@ -198,7 +315,7 @@ impl Front {
             self.nodes.put(number, Node { run, ..known });
             return Ok(());
         }
-        self.lower(rect, number, node)?;
+        self.lower_and_drop(rect, all, number, node)?;
         Ok(())
     }
 
@@ -217,11 +334,11 @@ impl Front {
         match self.nodes.standing(node.state, bound_of(all, node.cost)) {
             Standing::Dearer => Ok(()),
             Standing::Known(number) => {
-                self.relax(rect, dir, number, node)?;
+                self.relax(rect, dir, all, number, node)?;
                 Ok(())
             }
             Standing::New => {
-                self.meet(rect, node)?;
+                self.meet_and_drop(rect, all, node)?;
                 Ok(())
             }
         }
@@ -244,14 +361,14 @@ impl Front {
             node.now.state.cell
             node.now.state.arrived dir }
         requires aim { A.sound problem.now.aim.now (R.extent problem.now.runs.now) }
-        requires followable { IsFollowable (R.passes problem.now.runs.now problem.now.class)
+        requires followable { IsFollowable problem.now.all (R.passes problem.now.runs.now problem.now.class)
             (A.hit problem.now.aim.now (R.extent problem.now.runs.now)) rect.now
             node.now.state node.now.cost self.old.nodes self.old.waiting }
         ensures follows { OnOk result (Follows problem.now.all (R.passes problem.now.runs.now problem.now.class)
             (A.hit problem.now.aim.now (R.extent problem.now.runs.now)) rect.now
             node.now.state node.now.cost
             (λ other. other ≡ dir) self.old.nodes self.new.nodes self.old.waiting self.new.waiting) }
-        ensures followable { OnOk result (IsFollowable (R.passes problem.now.runs.now problem.now.class)
+        ensures followable { OnOk result (IsFollowable problem.now.all (R.passes problem.now.runs.now problem.now.class)
             (A.hit problem.now.aim.now (R.extent problem.now.runs.now))
             rect.now node.now.state node.now.cost self.new.nodes self.new.waiting) }
     {
@@ -283,7 +400,7 @@ impl Front {
         requires class { problem.now.class < R.class_count problem.now.runs.now }
         requires cell { IsTrue (R.passes problem.now.runs.now problem.now.class node.now.state.cell) }
         requires aim { A.sound problem.now.aim.now (R.extent problem.now.runs.now) }
-        requires followable { IsFollowable (R.passes problem.now.runs.now problem.now.class)
+        requires followable { IsFollowable problem.now.all (R.passes problem.now.runs.now problem.now.class)
             (A.hit problem.now.aim.now (R.extent problem.now.runs.now)) rect.now
             node.now.state node.now.cost self.old.nodes self.old.waiting }
         ensures { OnOk result (Follows problem.now.all (R.passes problem.now.runs.now problem.now.class)
@@ -291,7 +408,12 @@ impl Front {
             node.now.state node.now.cost
             (λ other. Unit {0}) self.old.nodes self.new.nodes self.old.waiting self.new.waiting) }
     {
-        let dirs = successors_of(problem.runs, problem.class, node.state);
+        let dirs = successors_of(
+            &mut self.successors,
+            problem.runs,
+            problem.class,
+            node.state,
+        );
         self.follow_along(problem, rect, node, dirs, Dir::N)?;
         self.follow_along(problem, rect, node, dirs, Dir::E)?;
         self.follow_along(problem, rect, node, dirs, Dir::S)?;
@@ -301,22 +423,5 @@ impl Front {
         self.follow_along(problem, rect, node, dirs, Dir::SW)?;
         self.follow_along(problem, rect, node, dirs, Dir::NW)?;
         Ok(())
-    }
-
-    /// Whether some node of the same cell costs less.
-    fn is_dearer(&self, node: &Node) -> bool
-        ensures { IsTrue result → IsDearer self.now.nodes node.now }
-    {
-        self.nodes.has_cheaper(node.state.cell, node.cost)
-    }
-
-    /// Whether the node of a number is not opened: it is dearer than another of its cell, and the search is not for
-    /// all.
-    pub(crate) fn skips(&self, all: bool, number: u32) -> bool
-        requires { number < length self.now.nodes }
-        ensures { IsTrue result → IsFalse all × ((node : Node)
-            × ((slice_get self.now.nodes number ≡ Some node) × IsDearer self.now.nodes node)) }
-    {
-        !all && self.is_dearer(self.nodes.at(number))
     }
 }

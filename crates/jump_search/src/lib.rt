@@ -13,6 +13,7 @@
 
 mod framed;
 mod front;
+mod known_successors;
 mod laws;
 mod nodes;
 mod octile;

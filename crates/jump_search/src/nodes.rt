@@ -1,6 +1,6 @@
-ghost use Rattle.std.specs.Prelude.{◌≡◌, ◌<◌, ◌≤◌, ◌++◌, ◌∷◌, [], length, slice_get, slice_set, Some, IfSome, IfNone, ◌^◌};
+ghost use Rattle.std.specs.Prelude.{◌≡◌, ◌<◌, ◌≤◌, ◌⊎◌, ◌++◌, ◌∷◌, [], length, slice_get, slice_set, Some, IfSome, IfNone, ◌^◌};
 ghost use Rattle.std.specs.Prelude.{IsTrue, IfOk, OnOk, OnErr};
-ghost use Rattle.jump_search.specs.inner.Numbered.{arrival_number, key_of, same_key, HasState, LacksState, HasCheaper};
+ghost use Rattle.jump_search.specs.inner.Numbered.{arrival_number, key_of, same_key, HasState, LacksState, IsAsCheap};
 ghost use Rattle.jump_search.specs.inner.Numbered.{IsSearchable, AreDown, IsStanding};
 
 use crate::pages::Pages;
@@ -61,7 +61,7 @@ impl Model for Nodes {
 }
 
 /// The number of an arrival: 0 for none, else that of its direction from 1.
-fn arrival_number(arrived: Option<Dir>) -> u8
+pub(crate) fn arrival_number(arrived: Option<Dir>) -> u8
     ensures { result ≡ arrival_number arrived }
 {
     match arrived {
@@ -120,22 +120,32 @@ fn standing_before(
     Standing::New
 }
 
-/// Whether the node before the number `end`, or one that is linked from there, is of the cell and costs less.
-fn is_cheaper_before(list: &Vec<Node>, links: &Vec<u32>, end: u32, cell: Cell, cost: u64) -> bool
+/// The node's cost, where it is of the cell and less; else the cost.
+fn lesser(node: Node, cell: Cell, cost: u64) -> u64
+    ensures { (result ≡ cost) ⊎ ((node.state.cell ≡ cell) × (result ≡ node.cost)) }
+{
+    if !is_cheaper(node, cell, cost) {
+        return cost;
+    }
+    node.cost
+}
+
+/// The least cost of the nodes of the cell that are before the number `end` and linked one to the other, and of a further
+/// one.
+fn least_before(list: &Vec<Node>, links: &Vec<u32>, end: u32, cell: Cell, cost: u64) -> u64
     requires down { AreDown list.now.items links.now.items }
     requires inside { end ≤ length list.now.items }
-    ensures { IsTrue result → HasCheaper list.now.items cell cost }
+    requires cheap { IsAsCheap list.now.items cell cost }
+    ensures { IsAsCheap list.now.items cell result }
 {
+    let mut least = cost;
     let mut after = end;
     'walk: while after > 0 {
         let number = after - 1;
-        let node = list[number as usize];
-        if is_cheaper(node, cell, cost) {
-            return true;
-        }
+        least = lesser(list[number as usize], cell, least);
         after = links[number as usize];
     }
-    false
+    least
 }
 
 impl Nodes {
@@ -190,19 +200,35 @@ impl Nodes {
         }
     }
 
-    /// Whether some node of the cell costs less.
-    pub(crate) fn has_cheaper(&self, cell: Cell, cost: u64) -> bool
-        ensures { IsTrue result → HasCheaper self.now cell cost }
-    {
-        is_cheaper_before(&self.list, &self.links, self.pages.get(cell), cell, cost)
-    }
-
     /// The node of a number.
     pub(crate) fn at(&self, number: u32) -> &Node
         requires { number < length self.now }
         ensures { slice_get self.now number ≡ Some result.now }
     {
         &self.list[number as usize]
+    }
+
+    /// One more than the number of the last node that is found by the cell; 0 where there is none.
+    pub(crate) fn last(&self, cell: Cell) -> u32
+        ensures { result ≤ length self.now }
+    {
+        self.pages.get(cell)
+    }
+
+    /// The least cost of a node of the cell, of which one has the cost.
+    pub(crate) fn least(&self, cell: Cell, cost: u64) -> u64
+        requires { IsAsCheap self.now cell cost }
+        ensures { IsAsCheap self.now cell result }
+    {
+        least_before(&self.list, &self.links, self.pages.get(cell), cell, cost)
+    }
+
+    /// One more than the number of the node before that of the number to which it is linked; 0 where there is none.
+    pub(crate) fn before(&self, number: u32) -> u32
+        requires { number < length self.now }
+        ensures { result ≤ number }
+    {
+        self.links[number as usize]
     }
 
     /// Adds a node whose state no node has, and gives its number. There is no memory for more than 2^32 nodes.

@@ -18,7 +18,7 @@ use nav_types::{Aim, Cell, Class, Cost, NoMemory, Ticks, View};
 use std::alloc::Global;
 use std::marker::Brand;
 use std::sync::ledger::{Blank, Ledger};
-use walks::{Found, waypoints};
+use walks::Found;
 
 /// For how many nodes a pool has room that is small.
 const SMALL: usize = 262_144;
@@ -61,8 +61,7 @@ fn found(alloc: Global, nodes: &Nodes, start: Cell, best: Best) -> Result<Found,
         → IsAnswer passes start hit found.end found.cost.0 found.waypoints) }
     ensures cost { IfOk result (λ found. found.cost.0 ≡ best.cost) }
 {
-    let walk = traced(alloc, nodes, start, best)?;
-    let waypoints = waypoints(alloc, start, &walk)?;
+    let waypoints = traced(alloc, nodes, start, best)?;
     Ok(Found {
         end: best.cell,
         cost: Cost(best.cost),

@@ -123,7 +123,7 @@ impl Search {
         Some(entry)
     }
 
-    /// Opens the node of an entry that was taken from the open list, with one tick, or skips it.
+    /// Opens the node of an entry that was taken from the open list, with one tick.
     fn take<R: Runs, A: Aim, L: Ledger>(
         &mut self,
         front: &mut Front,
@@ -151,15 +151,11 @@ impl Search {
             (A.hit problem.now.aim.now (R.extent problem.now.runs.now)) start rect.now
             entry.estimate
             front.new.nodes front.new.waiting self.new.best) }
-        ensures even { OnOk result (length front.new.nodes + map.len front.old.waiting ≡ length
-            front.old.nodes + map.len front.new.waiting) }
         ensures opened { OnOk result (self.new.opened ≡ opened_count front.new.nodes) }
+        ensures one { OnOk result (self.new.opened ≡ self.old.opened + 1) }
         ensures ticks { OnOk result (ticks.new + self.old.opened ≡ ticks.old + self.new.opened) }
         ensures none { OnErr result (ticks.new ≡ ticks.old) }
     {
-        if front.skips(problem.all, entry.key) {
-            return Ok(());
-        }
         let node = Node {
             opened: true,
             ..*front.nodes.at(entry.key)

@@ -1,25 +1,25 @@
-//! The chosen walk, traced back over the nodes of a search that has ended.
+//! The waypoints of the chosen walk, traced back run by run over the nodes of a search that has ended.
 //!
 //! Of the jumps that come to a cell at its distance the chosen walk takes one: that in the direction of the step that
 //! follows, where that is straight, else the first by the preference of directions.
 
-ghost use Rattle.std.specs.Prelude.{ℕ, Bool, Option, None, Some, ◌≡◌, ◌+◌, ◌*◌, ◌<◌, ◌≤◌, ◌++◌, replicate, IfSome};
-ghost use Rattle.std.specs.Prelude.{IfNone, IfOk, OnOk};
+ghost use Rattle.std.specs.Prelude.{ℕ, Bool, [], Option, None, Some, ◌≡◌, ◌+◌, ◌*◌, ◌<◌, ◌≤◌, ◌∷◌, ◌++◌, reverse, IfSome};
+ghost use Rattle.std.specs.Prelude.{IfNone, IfOk, OnOk, option_to_list, if◌then◌else◌};
 ghost use Rattle.nav_types.specs.declared.limits.TheConstants.{MAX_SIDE};
 ghost use Rattle.nav_types.specs.declared.cells.Cell.{Cell};
 ghost use Rattle.nav_types.specs.declared.cells.Rect.{Rect};
 ghost use Rattle.nav_types.specs.declared.directions.Dir.{Dir};
 ghost use Rattle.nav_types.specs.Directions.{east, west, north, south};
-ghost use Rattle.walks.specs.Chosen.{preference, IsFirstIn, CanGoStraight, IsPicked, IsChosenBack, IsChosen};
-ghost use Rattle.walks.specs.Waypoints.{IsInGrid};
-ghost use Rattle.jump_search.specs.inner.Traced.{HasRun, IsExact, Moves, AreDistinct, IsTraceable};
+ghost use Rattle.walks.specs.Chosen.{preference, IsFirstIn, CanGoStraight, IsPicked};
+ghost use Rattle.walks.specs.Waypoints.{IsInGrid, is_corner};
+ghost use Rattle.jump_search.specs.inner.Traced.{HasRun, IsExact, Moves, AreDistinct, IsTraceable, HasWaypoints};
 
-use crate::nodes::Nodes;
+use crate::nodes::{Nodes, arrival_number};
 use crate::searching::Best;
 use crate::states::JumpState;
 use nav_types::{Cell, Dir, NoMemory};
 use std::alloc::Global;
-use walks::{Walk, reversed};
+use walks::Waypoints;
 
 /// The last run to a cell: its direction, and how many steps it has.
 #[derive(Clone, Copy)]
@@ -116,51 +116,71 @@ fn cell_before(cell: Cell, last: LastRun) -> Cell
     )
 }
 
-/// Appends the steps of the run.
-fn push_run(back: &mut Walk, last: LastRun) -> Result<(), NoMemory>
-    ensures { OnOk result (back.new ≡ back.old ++ replicate last.run last.dir) }
+/// Whether a walk goes another way after a step in the direction, where this is the step that follows, or ends there.
+fn is_corner(dir: Dir, next: Option<Dir>) -> bool
+    ensures { result ≡ is_corner dir (option_to_list next) }
 {
-    for _step in 0..last.run {
-        back.push(last.dir)?;
+    arrival_number(next) != arrival_number(Some(dir))
+}
+
+/// Appends the cell, where a run in the direction comes to it and the walk goes another way from there, or ends.
+fn push_corner(
+    corners: &mut Vec<Cell>,
+    cell: Cell,
+    dir: Dir,
+    next: Option<Dir>,
+) -> Result<(), NoMemory>
+    ensures { OnOk result (corners.new.items ≡ corners.old.items
+        ++ (if is_corner dir (option_to_list next) then cell ∷ [] else [])) }
+{
+    if !is_corner(dir, next) {
+        return Ok(());
     }
+    corners.push(cell)?;
     Ok(())
 }
 
-/// The chosen walk to the end, from its last step back to the start.
-fn trace_back(alloc: Global, nodes: &Nodes, start: Cell, best: Best) -> Result<Walk, NoMemory>
+/// The waypoints of the chosen walk to the end, from the last to the first.
+fn corners_back(
+    alloc: Global,
+    nodes: &Nodes,
+    start: Cell,
+    best: Best,
+) -> Result<Vec<Cell>, NoMemory>
     requires { (all : Bool) × ((passes : Cell → Bool) × ((hit : Cell → Bool) × ((rect : Rect)
         × IsTraceable all passes hit start rect best.cell best.cost nodes.now))) }
-    ensures { IfOk result (λ back. (all : Bool) (passes hit : Cell → Bool) (rect : Rect)
+    ensures { IfOk result (λ corners. (all : Bool) (passes hit : Cell → Bool) (rect : Rect)
         → IsTraceable all passes hit start rect best.cell best.cost nodes.now
-        → IsChosenBack passes start None back best.cell) }
+        → HasWaypoints passes start best.cell (reverse corners.items)) }
 {
-    let mut back = Walk::new(alloc);
+    let mut corners = Vec::new(alloc);
     let mut cell = best.cell;
     let mut cost = best.cost;
     let mut next = None;
     'runs: while cell != start {
         let last = picked(nodes, cell, cost, next);
-        push_run(&mut back, last)?;
+        push_corner(&mut corners, cell, last.dir, next)?;
         cell = cell_before(cell, last);
         cost -= last.run as u64 * last.dir.cost();
         next = Some(last.dir);
     }
-    Ok(back)
+    Ok(corners)
 }
 
-/// The chosen walk from the start to the end of a search.
+/// The waypoints of the chosen walk from the start to the end of a search.
 pub(crate) fn traced(
     alloc: Global,
     nodes: &Nodes,
     start: Cell,
     best: Best,
-) -> Result<Walk, NoMemory>
+) -> Result<Waypoints, NoMemory>
     requires { (all : Bool) × ((passes : Cell → Bool) × ((hit : Cell → Bool) × ((rect : Rect)
         × IsTraceable all passes hit start rect best.cell best.cost nodes.now))) }
-    ensures { IfOk result (λ walk. (all : Bool) (passes hit : Cell → Bool) (rect : Rect)
-        → IsTraceable all passes hit start rect best.cell best.cost nodes.now → IsChosen passes start walk best.cell) }
+    ensures { IfOk result (λ points. (all : Bool) (passes hit : Cell → Bool) (rect : Rect)
+        → IsTraceable all passes hit start rect best.cell best.cost nodes.now
+        → HasWaypoints passes start best.cell points) }
 {
-    let back = trace_back(alloc, nodes, start, best)?;
-    let walk = reversed(alloc, &back)?;
-    Ok(walk)
+    let mut corners = corners_back(alloc, nodes, start, best)?;
+    corners.reverse();
+    Ok(Waypoints::from(corners))
 }

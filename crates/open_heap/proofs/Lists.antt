@@ -1,6 +1,7 @@
 -- An open list over a table of estimates and buckets that have an entry for each key.
-use Rattle.std.proofs.Common.{ℕ, ◌≡◌, ◌<◌, ◌≤◌, ◌⊎◌, ◌+◌, ◌-◌, List, [], length, set, Option, None, Some, Result, Ok, Err, OnErr, IfSome, IfNone, IsSomeAnd, refl, ap, inl, inr, sym, subst, ◌∙◌, arith}
-use Rattle.std.proofs.lemmas.Bool.{cases_eq, cases_lt}
+use Rattle.std.proofs.Common.{ℕ, true, false, ◌≡◌, ◌<◌, ◌≤◌, ◌⊎◌, ◌+◌, ◌-◌, List, [], length, set, Option, None, Some, Result, Ok, Err, OnErr, IfSome, IfNone, IsSomeAnd, IsTrue, IsFalse, refl, ap, inl, inr, sym, subst, ◌∙◌, arith}
+use Rattle.std.specs.Option.{is_some}
+use Rattle.std.proofs.lemmas.Bool.{both_ways, cases_eq, cases_lt}
 use Rattle.std.proofs.lemmas.Option.{same_Some, slice_get_past}
 use Rattle.std.specs.Cmp.{nat_cmp_total}
 use Rattle.std.specs.FinMap as map
@@ -27,6 +28,14 @@ if_none_then (Some x) P Q p then = tt
 pub known_of : (found : Option ℕ) (P : ℕ → Type 0) → IsSomeAnd found P → (known : ℕ) × (found ≡ Some known)
 known_of None P is = absurd is
 known_of (Some known) P is = (known, refl)
+
+pub some_of : (found : Option ℕ) → IsTrue (is_some found) → (known : ℕ) × (found ≡ Some known)
+some_of None is = absurd (both_ways false refl is)
+some_of (Some known) is = (known, refl)
+
+pub none_left : (found : Option ℕ) → IsFalse (is_some found) → found ≡ None
+none_left None not = refl
+none_left (Some known) not = absurd (both_ways true not refl)
 
 -- whatever the first has, the second has too
 abbrev pub KeepsAll : (Entry → Type 0) → (Entry → Type 0) → Type 0

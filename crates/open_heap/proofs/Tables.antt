@@ -83,6 +83,14 @@ queue-remove table key inside =
           ∙ ap (λ b. cond b None (map.get (queue_of table) q)) (sym other.1)
     ] ∙ sym (map.get-remove nat_cmp_total (queue_of table) key q))
 
+-- nothing is taken out where the map lacks the key
+pub remove_none : (queue : Queue) (key : ℕ) → map.get queue key ≡ None → queue ≡ map.remove queue key
+remove_none queue key none =
+    map.same_map nat_cmp_total nat_cmp-IsAntisymmetric queue (map.remove queue key) (λ q. elim (tie_cases q key) [
+      | inl same ↦ ap (λ (k : ℕ). map.get queue k) same.0 ∙ none ∙ ap (λ b. cond b None (map.get queue q)) (sym same.1)
+      | inr other ↦ ap (λ b. cond b None (map.get queue q)) (sym other.1)
+    ] ∙ sym (map.get-remove nat_cmp_total queue key q))
+
 -- a table with one more place, which has no estimate
 pub at-grown : (table : List (Option ℕ)) (key : ℕ) → estimate_at (table ++ None ∷ []) key ≡ estimate_at table key
 at-grown [] zero = refl

@@ -127,6 +127,16 @@ impl OpenHeap {
         Ok(())
     }
 
+    /// Takes out a key, where the list has it. It takes no memory.
+    pub fn remove(&mut self, key: u32)
+        ensures { self.new ≡ map.remove self.old key }
+    {
+        if self.get(key).is_some() {
+            self.estimates[key as usize] = None;
+            self.count -= 1;
+        }
+    }
+
     /// An entry of least estimate. None exactly where the list is empty. It takes no memory, and the list stays: what is
     /// no longer the entry of its key is left out on the way.
     pub fn peek_least(&mut self) -> Option<Entry>

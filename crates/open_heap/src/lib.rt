@@ -6,9 +6,9 @@
 //! ```
 //!
 //! It is a bucket queue, whatever its name says. Contracts see a finite map from key to estimate ([`OpenHeap`]). To lower
-//! an estimate is to push it again; the older entry is passed over when it is met. Memory grows with the greatest key and
-//! with how far estimates lie apart, and is kept between searches. Which of equal estimates comes first is left open: a
-//! search must not depend on it.
+//! an estimate is to push it again, and to remove a key is to forget its estimate; the older entry is passed over when it
+//! is met. Memory grows with the greatest key and with how far estimates lie apart, and is kept between searches. Which of
+//! equal estimates comes first is left open: a search must not depend on it.
 #![tactic(auto)]
 
 mod buckets;

@@ -76,6 +76,11 @@ abbrev pub HasCheaper : List Node → Cell → ℕ → Type 0
 HasCheaper nodes cell cost = (place : ℕ) × ((other : Node) × ((slice_get nodes place ≡ Some other)
     × ((other.state.cell ≡ cell) × (other.cost < cost))))
 
+-- some node of the cell costs at most so much
+abbrev pub IsAsCheap : List Node → Cell → ℕ → Type 0
+IsAsCheap nodes cell cost = (place : ℕ) × ((node : Node) × ((slice_get nodes place ≡ Some node)
+    × ((node.state.cell ≡ cell) × (node.cost ≤ cost))))
+
 -- how a state stands to the nodes: one of its cell costs less than the bound; or the node of a number has it; or none has
 abbrev pub IsStanding : List Node → JumpState → ℕ → Standing → Type 0
 IsStanding nodes state bound Dearer = HasCheaper nodes state.cell bound

@@ -5,8 +5,8 @@ use Rattle.nav_types.specs.declared.cells.Rect.{Rect}
 use Rattle.nav_types.specs.declared.directions.Dir.{Dir}
 use Rattle.nav_types.specs.Directions.{east, west, north, south}
 use Rattle.nav_types.specs.Walks.{IsWalk, walk_cost, IsDistance}
-use Rattle.walks.specs.Chosen.{IsChosenBack}
-use Rattle.walks.specs.Waypoints.{IsInGrid}
+use Rattle.walks.specs.Chosen.{IsChosenBack, IsChosen}
+use Rattle.walks.specs.Waypoints.{IsInGrid, waypoints}
 use Rattle.jump_search.specs.declared.nodes.Node.{Node}
 use Rattle.jump_search.specs.declared.states.JumpState.{JumpState}
 use Rattle.jump_search.specs.JumpStates.{octile_to}
@@ -55,6 +55,19 @@ pub record IsTraced (passes hit : Cell → Bool) (start : Cell) (nodes : List No
       → Follows passes hit start next states state
       → ((rest : List Dir) → IsChosenBack passes start next rest cell
       → IsChosenBack passes start None (back ++ rest) end) → ⊥) → ⊥
+
+-- The walk has been traced back from the end to the cell, and these are its waypoints from there on, from the last to
+-- the first.
+pub record HasCorners (passes hit : Cell → Bool) (start : Cell) (nodes : List Node) (end : Cell) (bound : ℕ) (cell : Cell)
+    (cost : ℕ) (next : Option Dir) (corners : List Cell) : Type 0 where
+  pub back : List Dir
+  pub traced : IsTraced passes hit start nodes end bound cell cost next back
+  pub first : slice_get (reverse back) 0 ≡ next
+  pub points : reverse corners ≡ waypoints cell (reverse back)
+
+-- these are the waypoints of the chosen walk
+abbrev pub HasWaypoints : (Cell → Bool) → Cell → Cell → List Cell → Type 0
+HasWaypoints passes start end points = (dirs : List Dir) × (IsChosen passes start dirs end × (points ≡ waypoints start dirs))
 
 -- a hit cell that passes lies in the rectangle
 abbrev pub HitsLieIn : (Cell → Bool) → (Cell → Bool) → Rect → Type 0

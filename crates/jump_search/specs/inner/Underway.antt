@@ -28,15 +28,16 @@ steps_over a b = max ((a.i - b.i) + (b.i - a.i)) ((a.j - b.j) + (b.j - a.j))
 abbrev pub opened_count : List Node → ℕ
 opened_count nodes = count_by (λ (node : Node). node.opened) nodes
 
--- The nodes that wait stand in the open list by their estimates, which have come up to `floor`. The others have been
--- taken from it at estimates within that: each was opened, or was dearer than another of its cell where the search is
--- not for all.
+-- The nodes that wait stand in the open list by their estimates, which have come up to `floor`. Each of the others is
+-- opened, at an estimate within that, or is dearer than another of its cell where the search is not for all.
 pub record IsQueued (all : Bool) (rect : Rect) (floor : ℕ) (nodes : List Node) (queue : Queue) : Type 0 where
   pub waits : (number estimate : ℕ) → map.get queue number ≡ Some estimate
       → (node : Node) × ((slice_get nodes number ≡ Some node) × (IsFalse node.opened
       × ((estimate ≡ estimate_of rect node) × (floor ≤ estimate))))
-  pub taken : (number : ℕ) (node : Node) → slice_get nodes number ≡ Some node → map.get queue number ≡ None
-      → (estimate_of rect node ≤ floor) × (IsTrue node.opened ⊎ (IsFalse all × IsDearer nodes node))
+  pub others : (number : ℕ) (node : Node) → slice_get nodes number ≡ Some node → map.get queue number ≡ None
+      → IsTrue node.opened ⊎ (IsFalse all × IsDearer nodes node)
+  pub within : (number : ℕ) (node : Node) → slice_get nodes number ≡ Some node → IsTrue node.opened
+      → estimate_of rect node ≤ floor
 
 -- the nodes, of which each costs at most so much, and the open list
 pub record IsGoing (all : Bool) (passes hit : Cell → Bool) (start : Cell) (rect : Rect) (floor most : ℕ)
@@ -77,30 +78,36 @@ IsFollowedAlong all passes hit nodes from cost dir = (state : JumpState) (run : 
     → state.arrived ≡ Some dir
     → IsLastRun passes from.cell state run → IsNoted all nodes state (cost + octile_between from.cell state.cell) run
 
--- what a search gains by a step from one list of nodes and open list to the other: the nodes get later, and as many
--- have been taken from the open list as before
-pub record Gains (old new : List Node) (before after : Queue) : Type 0 where
-  pub later : AreLater old new
-  pub even : length new + map.len before ≡ length old + map.len after
-
 -- Noting a jump that leads to a node: its state has a node that is as cheap and whose last run is kept beside this one.
 pub record Relaxes (rect : Rect) (node : Node) (old new : List Node) (before after : Queue) : Type 0 where
-  pub gains : Gains old new before after
+  pub later : AreLater old new
   pub relaxed : IsRelaxed new node.state node.cost node.run
   pub going : (all : Bool) (passes hit : Cell → Bool) (start : Cell) (floor most : ℕ)
       → IsGoing all passes hit start rect floor most old before
       → floor ≤ estimate_of rect node → node.cost ≤ most → HasOpenedParent passes hit old node
       → IsGoing all passes hit start rect floor most new after
 
+-- No entry leaves the open list but those of nodes that are dearer than another of their cell, where the search is not
+-- for all.
+pub record Drops (all : Bool) (nodes : List Node) (before after : Queue) : Type 0 where
+  pub kept : (number estimate : ℕ) → map.get after number ≡ Some estimate → map.get before number ≡ Some estimate
+  pub gone : (number estimate : ℕ) (node : Node) → map.get before number ≡ Some estimate → map.get after number ≡ None
+      → slice_get nodes number ≡ Some node → IsFalse all × IsDearer nodes node
+
+-- Noting a jump that leads to a node, after which nodes that are dearer than another of their cell may leave the open
+-- list, where the search is not for all.
+abbrev pub Settles : Bool → Rect → Node → List Node → List Node → Queue → Queue → Type 0
+Settles all rect node old new before after =
+    (queue : Queue) × (Relaxes rect node old new before queue × Drops all new queue after)
+
 -- Noting a jump that leads to a node, or leaving it, where a node of its cell costs less and the search is not for all.
 abbrev pub Notes : Bool → Rect → Node → List Node → List Node → Queue → Queue → Type 0
-Notes all rect node old new before after = Relaxes rect node old new before after
+Notes all rect node old new before after = Settles all rect node old new before after
     ⊎ ((IsFalse all × HasCheaper old node.state.cell node.cost) × ((new ≡ old) × (after ≡ before)))
 
 -- a search can follow jumps from the state, which costs so much
-pub record IsFollowable (passes hit : Cell → Bool) (rect : Rect) (state : JumpState) (cost : ℕ) (nodes : List Node)
-    (queue : Queue) : Type 0 where
-  pub all : Bool
+pub record IsFollowable (all : Bool) (passes hit : Cell → Bool) (rect : Rect) (state : JumpState) (cost : ℕ)
+    (nodes : List Node) (queue : Queue) : Type 0 where
   pub start : Cell
   pub floor : ℕ
   pub most : ℕ
@@ -111,9 +118,9 @@ pub record IsFollowable (passes hit : Cell → Bool) (rect : Rect) (state : Jump
   pub low : most < 2 ^ 62
 
 -- a search that could follow jumps from the state goes on as before
-abbrev pub KeepsGoing : (Cell → Bool) → (Cell → Bool) → Rect → JumpState → ℕ → List Node → List Node → Queue → Queue
-    → Type 0
-KeepsGoing passes hit rect state cost old new before after = (all : Bool) (start : Cell) (floor most : ℕ)
+abbrev pub KeepsGoing : Bool → (Cell → Bool) → (Cell → Bool) → Rect → JumpState → ℕ → List Node → List Node → Queue
+    → Queue → Type 0
+KeepsGoing all passes hit rect state cost old new before after = (start : Cell) (floor most : ℕ)
     → IsGoing all passes hit start rect floor most old before → IsOpenNode old state cost
     → floor ≤ cost + octile_to rect state.cell → cost + 189812736 ≤ most
     → IsGoing all passes hit start rect floor most new after
@@ -121,9 +128,9 @@ KeepsGoing passes hit rect state cost old new before after = (all : Bool) (start
 -- Following the jumps from a state in the directions that are within the set.
 pub record Follows (all : Bool) (passes hit : Cell → Bool) (rect : Rect) (state : JumpState) (cost : ℕ)
     (Within : Dir → Type 0) (old new : List Node) (before after : Queue) : Type 0 where
-  pub gains : Gains old new before after
+  pub later : AreLater old new
   pub along : (dir : Dir) → Within dir → IsFollowedAlong all passes hit new state cost dir
-  pub going : KeepsGoing passes hit rect state cost old new before after
+  pub going : KeepsGoing all passes hit rect state cost old new before after
 
 -- the best hit among the opened nodes: nearest, and of equal ones first in cell order
 pub record IsBestHit (hit : Cell → Bool) (nodes : List Node) (best : Best) : Type 0 where
@@ -154,7 +161,7 @@ pub record IsUnderway (all : Bool) (passes hit : Cell → Bool) (start : Cell) (
       → IsFollowedFrom all passes hit nodes node
   pub hits : IsBestSoFar hit nodes floor best
   pub costs : (number : ℕ) (node : Node) → slice_get nodes number ≡ Some node
-      → node.cost + 189812736 * map.len queue ≤ 189812736 * length nodes
+      → node.cost ≤ 189812736 * opened_count nodes
   pub few : length nodes ≤ 2 ^ 32
 
 -- an estimate is not past the best hit's cost

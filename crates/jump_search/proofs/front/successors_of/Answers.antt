@@ -8,5 +8,5 @@ pub returns-in-Some : goal.returns-in-Some
 returns-in-Some g c =
     let passes = g.R.View.passes c.args.runs.now c.args.class in
     subst (λ (arrived : Option Dir). (dir : Dir)
-    → IsTrue (holds c.successors_among.result dir) ↔ IsSuccessor passes c.args.state.cell arrived dir)
-    (sym c.in-Some.is) (c.successors_among.ensures passes c.args.state.cell c.requires.cell c.beside.ensures)
+    → IsTrue (holds c.of.result dir) ↔ IsSuccessor passes c.args.state.cell arrived dir)
+    (sym c.in-Some.is) (c.of.ensures passes c.args.state.cell c.requires.cell c.beside.ensures)

@@ -1,12 +1,10 @@
-use Rattle.std.proofs.Common.{ℕ, ◌≡◌, ◌+◌, ◌⊎◌, List, length, inr, sym, ap, subst, ◌∙◌, arith}
-use Rattle.std.specs.FinMap as map
+use Rattle.std.proofs.Common.{ℕ, ◌≡◌, ◌+◌, ◌⊎◌, List, inr, sym, ap, subst, ◌∙◌, arith}
 use Rattle.nav_types.specs.declared.cells.Rect.{Rect}
 use Rattle.nav_types.specs.Frames.{IsFrame}
-use Rattle.open_heap.specs.Queue.{Queue}
 use Rattle.jump_search.specs.declared.nodes.Node.{Node}
 use Rattle.jump_search.specs.inner.Underway.{opened_count, IsTaken, IsHalted, HasEnded}
 use Rattle.jump_search.proofs.Framing.{one_frame}
-use Rattle.jump_search.proofs.Queueing.{len_taken}
+use Rattle.jump_search.proofs.Relaxing.{count_most}
 use Rattle.jump_search.proofs.Halting.{halted, ended, on_err_from}
 use Rattle.jump_search.proofs.searching.searched.Goals as goal
 
@@ -56,11 +54,10 @@ search-smaller g c =
     let entry = c.in-Some.entry in
     let known = c.search.invariant.underway.1 in
     let few = known.few in
-    let even = c.in_ok-take.ensures.even in
-    let nodes = ap (λ (ns : List Node). length ns) c.next.ensures.nodes in
-    let waiting = ap (λ (m : Queue). map.len m) c.in-Some.ensures.rest in
-    let shorter = len_taken c.search.front.waiting entry.key entry.estimate c.in-Some.ensures.least.present in
-    omega (arith, few, even, nodes, waiting, shorter)
+    let opened = c.search.invariant.opened in
+    let one = c.in_ok-take.ensures.one in
+    let most = count_most c.search.front.nodes in
+    omega (arith, few, opened, one, most)
 
 pub search-preserved : goal.search-preserved
 search-preserved g c =

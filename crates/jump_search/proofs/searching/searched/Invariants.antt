@@ -1,5 +1,4 @@
-use Rattle.std.proofs.Common.{ℕ, ◌≡◌, ◌+◌, ◌-◌, length}
-use Rattle.std.specs.FinMap as map
+use Rattle.std.proofs.Common.{ℕ, ◌≡◌, ◌+◌, ◌-◌}
 use Rattle.jump_search.specs.inner.Underway.{opened_count, IsUnderway}
 use Rattle.jump_search.proofs.searching.searched.Given as goal
 
@@ -15,4 +14,4 @@ invariant-search g l =
     }
 
 abbrev pub decreases-search : goal.decreases-search
-decreases-search g l = (4294967297 + map.len l.front.waiting) - length l.front.nodes
+decreases-search g l = 4294967297 - l.search.opened

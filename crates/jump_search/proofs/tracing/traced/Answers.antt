@@ -1,7 +1,9 @@
-use Rattle.walks.proofs.Tracing.{chosen_turned}
+use Rattle.std.proofs.Common.{List, sym, subst, ◌∙◌}
+use Rattle.nav_types.specs.declared.cells.Cell.{Cell}
+use Rattle.jump_search.specs.inner.Traced.{HasWaypoints}
 use Rattle.jump_search.proofs.tracing.traced.Goals as goal
 
 pub returns : goal.returns
 returns c = λ all passes hit rect able.
-    chosen_turned passes c.args.start c.args.best.cell c.in_ok-back.back c.in_ok-walk.walk c.in_ok-walk.ensures
-    (c.in_ok-back.ensures all passes hit rect able)
+    subst (λ (points : List Cell). HasWaypoints passes c.args.start c.args.best.cell points)
+    (sym (c.from.ensures ∙ c.reverse.ensures.items)) (c.in_ok-corners.ensures all passes hit rect able)

@@ -10,4 +10,4 @@ returns g c =
     let from_s = follows_both c.in_ok-follow_along-3.ensures.follows from_w in
     let from_e = follows_both c.in_ok-follow_along-2.ensures.follows from_s in
     let all = follows_both c.in_ok-follow_along.ensures.follows from_e in
-    record { gains = all.gains; along = λ dir within. all.along dir (each_of_eight dir); going = all.going }
+    record { later = all.later; along = λ dir within. all.along dir (each_of_eight dir); going = all.going }

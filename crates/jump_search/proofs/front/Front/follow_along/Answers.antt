@@ -34,7 +34,7 @@ note-requires-clause-queued g c =
     let made = c.landed-next.ensures in
     let landed : HasLanded node.state node.cost c.args.dir c.in-Some.stop c.landed-next.result =
     record { cell = made.cell; arrived = made.arrived; costs = made.cost; run = made.run } in (
-      f.all,
+      c.args.problem.now.all,
       (
         f.floor,
         (

@@ -1,8 +1,8 @@
-use Rattle.std.proofs.Common.{◌≤◌, [], ◌∷◌, ◌++◌, List, length, inl, inr, refl, sym, subst}
-use Rattle.open_heap.specs.Queue.{Queue}
+use Rattle.std.proofs.Common.{◌≤◌, List, length, inl, inr, refl, sym, subst}
+use Rattle.std.specs.FinMap as map
 use Rattle.jump_search.specs.declared.nodes.Node.{Node}
-use Rattle.jump_search.specs.inner.Underway.{Relaxes}
-use Rattle.jump_search.proofs.Relaxing.{none_waits, relaxes_added, left_below}
+use Rattle.jump_search.specs.inner.Underway.{estimate_of, Relaxes}
+use Rattle.jump_search.proofs.Relaxing.{relaxes_added, left_below}
 use Rattle.jump_search.proofs.front.Front.note.Goals as goal
 
 pub returns-in-Dearer : goal.returns-in-Dearer
@@ -15,16 +15,21 @@ returns-in-Dearer c =
     )
 
 pub returns-in_ok-relax-in-Known : goal.returns-in_ok-relax-in-Known
-returns-in_ok-relax-in-Known c = inl c.in_ok-relax-in-Known.ensures
+returns-in_ok-relax-in-Known c =
+    inl c.in_ok-relax-in-Known.ensures
 
-pub returns-in_ok-meet-in-New : goal.returns-in_ok-meet-in-New
-returns-in_ok-meet-in-New c =
+pub returns-in_ok-meet_and_drop-in-New : goal.returns-in_ok-meet_and_drop-in-New
+returns-in_ok-meet_and_drop-in-New c =
     let rect = c.args.rect.now in let node = c.args.node in
     let nodes = c.args.self.now.nodes in let queue = c.args.self.now.waiting in
-    let q = c.requires.queued in
-    let met = c.in_ok-meet-in-New.ensures in
+    let met = c.in_ok-meet_and_drop-in-New.ensures in
     let few = subst (λ (ns : List Node). length ns ≤ 4294967296) met.nodes met.few in
-    inl (subst (λ (ns : List Node). Relaxes rect node nodes ns queue c.meet.new.self.waiting) (sym met.nodes)
-    (subst (λ (m : Queue). Relaxes rect node nodes (nodes ++ node ∷ []) queue m) (sym met.waiting)
-    (relaxes_added rect node nodes queue c.requires.waiting c.in-New.ensures
-    (none_waits q.0 rect q.1.0 nodes queue q.1.1.0) few)))
+    let longer = map.insert queue (length nodes) (estimate_of rect node) in
+    inl (
+      longer,
+      (
+        subst (λ (ns : List Node). Relaxes rect node nodes ns queue longer) (sym met.nodes)
+            (relaxes_added rect node nodes queue c.requires.waiting c.in-New.ensures few),
+        met.waiting,
+      ),
+    )

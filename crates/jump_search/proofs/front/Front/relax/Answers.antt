@@ -1,15 +1,16 @@
-use Rattle.std.proofs.Common.{ℕ, ◌≡◌, ◌<◌, Some, Option, List, set, sym, ap, subst, ◌∙◌, arith}
+use Rattle.std.proofs.Common.{ℕ, ◌≡◌, ◌<◌, Some, Option, List, sym, ap, subst, ◌∙◌, arith}
 use Rattle.std.specs.List.{slice_get}
 use Rattle.std.proofs.lemmas.Option.{slice_get_within}
-use Rattle.open_heap.specs.Queue.{Queue}
+use Rattle.std.specs.FinMap as map
 use Rattle.nav_types.specs.declared.directions.Dir.{Dir}
 use Rattle.jump_search.specs.declared.nodes.Node.{Node}
 use Rattle.jump_search.specs.declared.states.JumpState.{JumpState}
 use Rattle.jump_search.specs.inner.Numbered.{HasState}
 use Rattle.jump_search.specs.inner.Searched.{IsKeptRun}
-use Rattle.jump_search.specs.inner.Underway.{Relaxes}
+use Rattle.jump_search.specs.inner.Underway.{estimate_of, Relaxes}
+use Rattle.jump_search.proofs.Dropping.{drops_none}
 use Rattle.jump_search.proofs.Listing.{one_item}
-use Rattle.jump_search.proofs.Relaxing.{lower_waits, relaxes_lowered, relaxes_none, relaxes_tied}
+use Rattle.jump_search.proofs.Relaxing.{lower_unopened, lower_waits, relaxes_lowered, relaxes_none, relaxes_tied}
 use Rattle.jump_search.proofs.front.Front.relax.Goals as goal
 
 same_known : (nodes : List Node) (number : ℕ) (state : JumpState) (a : Node) → HasState nodes state number
@@ -29,8 +30,13 @@ returns-then-node-known c =
     let number = c.args.number in
     let a = c.at-known.result.now in
     let same = same_known nodes number node.state a c.requires.has c.at-known.ensures in
-    relaxes_none c.args.rect.now node nodes c.args.self.now.waiting number a c.at-known.ensures same
-    c.if-node-known.true
+    let queue = c.args.self.now.waiting in (
+      queue,
+      (
+        relaxes_none c.args.rect.now node nodes queue number a c.at-known.ensures same c.if-node-known.true,
+        drops_none c.args.all nodes queue,
+      ),
+    )
 
 pub returns-then-node-known-2 : goal.returns-then-node-known-2
 returns-then-node-known-2 c =
@@ -44,9 +50,26 @@ returns-then-node-known-2 c =
     let one : IsKeptRun node.state.arrived run a.run =
     subst (λ (d : Option Dir). IsKeptRun d run a.run) (sym c.requires.arrived) kept.one in
     let two : IsKeptRun node.state.arrived run node.run =
-    subst (λ (d : Option Dir). IsKeptRun d run node.run) (sym c.requires.arrived) kept.other in
-    subst (λ (ns : List Node). Relaxes rect node nodes ns queue queue) (sym c.put.ensures)
-    (relaxes_tied rect node nodes queue number run a c.at-known.ensures same c.if-node-known-2.true one two kept.either)
+    subst (λ (d : Option Dir). IsKeptRun d run node.run) (sym c.requires.arrived) kept.other in (
+      queue,
+      (
+        subst (λ (ns : List Node). Relaxes rect node nodes ns queue queue) (sym c.put.ensures)
+            (relaxes_tied rect node nodes queue number run a c.at-known.ensures same c.if-node-known-2.true one two
+            kept.either),
+        drops_none c.args.all c.put.new.self queue,
+      ),
+    )
+
+pub lower_and_drop-requires-clause-waits : goal.lower_and_drop-requires-clause-waits
+lower_and_drop-requires-clause-waits c =
+    let q = c.requires.queued in
+    let nodes = c.args.self.now.nodes in
+    let a = c.at-known.result.now in
+    let same = same_known nodes c.args.number c.args.node.state a c.requires.has c.at-known.ensures in
+    let most = c.if-node-known.false in
+    let differ = c.if-node-known-2.false in
+    lower_waits q.0 c.args.rect.now q.1.0 nodes c.args.self.now.waiting c.args.number a c.args.node q.1.1.0
+    c.at-known.ensures (sym same) (omega (arith, most, differ))
 
 pub returns : goal.returns
 returns c =
@@ -59,9 +82,13 @@ returns c =
     let most = c.if-node-known.false in
     let differ = c.if-node-known-2.false in
     let less : node.cost < a.cost = omega (arith, most, differ) in
-    let waits = lower_waits q.0 rect q.1.0 nodes queue number a node q.1.1.0 c.at-known.ensures (sym same) q.1.1.1
+    let unopened = lower_unopened q.0 rect q.1.0 nodes queue number a node q.1.1.0 c.at-known.ensures (sym same) q.1.1.1
     less in
-    subst (λ (ns : List Node). Relaxes rect node nodes ns queue c.lower.new.self.waiting) (sym c.in_ok-lower.ensures.nodes)
-    (subst (λ (m : Queue). Relaxes rect node nodes (set nodes number node) queue m) (sym c.in_ok-lower.ensures.waiting)
-    (relaxes_lowered rect node nodes queue number a waits.0 c.requires.waiting waits.1.1.0 c.at-known.ensures same
-    less waits.1.0))
+    let lowered = map.insert queue number (estimate_of rect node) in (
+      lowered,
+      (
+        subst (λ (ns : List Node). Relaxes rect node nodes ns queue lowered) (sym c.in_ok-lower_and_drop.ensures.nodes)
+            (relaxes_lowered rect node nodes queue number a c.requires.waiting unopened c.at-known.ensures same less),
+        c.in_ok-lower_and_drop.ensures.waiting,
+      ),
+    )

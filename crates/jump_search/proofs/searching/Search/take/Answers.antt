@@ -4,17 +4,8 @@ use Rattle.jump_search.specs.declared.nodes.Node.{Node}
 use Rattle.jump_search.specs.inner.Underway.{opened_count, IsFollowable, Follows}
 use Rattle.jump_search.proofs.Listing.{one_item}
 use Rattle.jump_search.proofs.Framing.{framed_none}
-use Rattle.jump_search.proofs.Taking.{next_node, skipped, followable_opened, count_opened, node_free, opened_underway}
+use Rattle.jump_search.proofs.Taking.{next_node, followable_opened, count_opened, node_free, opened_underway}
 use Rattle.jump_search.proofs.searching.Search.take.Goals as goal
-
-pub returns-then-skips-clause-underway : goal.returns-then-skips-clause-underway
-returns-then-skips-clause-underway g c = λ start floor free taken.
-    let passes = g.R.View.passes c.args.problem.now.runs.now c.args.problem.now.class in
-    let hit = g.A.Aim.hit c.args.problem.now.aim.now (g.R.View.extent c.args.problem.now.runs.now) in
-    let front = c.args.front.now in
-    let skip = c.skips.ensures c.if-skips.true in
-    skipped c.args.problem.now.all passes hit start c.args.rect.now floor front.nodes front.waiting c.args.self.now.best
-    c.args.entry skip.1.0 taken skip.1.1.0 skip.0 skip.1.1.1
 
 pub at-requires : goal.at-requires
 at-requires g c =
@@ -41,7 +32,7 @@ follow-requires-clause-followable g c =
     let front = c.args.front.now in
     let a = c.at.result.now in
     let t = c.requires.taken in
-    subst (λ (ns : List Node). IsFollowable passes hit c.args.rect.now a.state a.cost ns front.waiting)
+    subst (λ (ns : List Node). IsFollowable c.args.problem.now.all passes hit c.args.rect.now a.state a.cost ns front.waiting)
     (sym c.put.ensures)
     (followable_opened c.args.problem.now.all passes hit t.0 c.args.rect.now t.1.0 front.nodes front.waiting c.args.self.now.best
     c.args.entry a t.1.1.1 c.at.ensures)
@@ -85,7 +76,7 @@ returns-clause-opened g c =
     c.args.entry t.1.1.1 in
     let is = one_item front.nodes c.args.entry.key has.0 a has.1.known c.at.ensures in
     let not = subst (λ (n : Node). IsFalse n.opened) is has.1.unopened in
-    let same = c.in_ok-follow.ensures.gains.later.opened ∙ ap opened_count c.put.ensures in
+    let same = c.in_ok-follow.ensures.later.opened ∙ ap opened_count c.put.ensures in
     let count = count_opened front.nodes c.follow.new.self.nodes c.args.entry.key a c.at.ensures not same in
     let was = c.requires.opened in
     omega (arith, count, was)
