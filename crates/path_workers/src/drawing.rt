@@ -13,13 +13,14 @@ use std::alloc::Global;
 use std::thread::{Threads, join};
 use turn_core::{Report, Request, Solver};
 
-/// The jobs of a turn on a version, the order in which they are drawn, the gate that is passed before each, and what is
-/// told beside the answers.
+/// The jobs of a turn on a version, the order in which they are drawn, the board that hands out its places, the gate that is
+/// passed before each job, and what is told beside the answers.
 #[derive(Drop)]
 pub(crate) struct Turn<'a, G> {
     pub version: &'a Version,
     pub jobs: &'a [Request],
     pub order: &'a [u32],
+    pub claims: &'a Claims,
     pub gate: &'a G,
     pub report: Report,
 }
@@ -33,16 +34,10 @@ pub(crate) struct Worked {
 }
 
 /// Draws jobs and solves each, until none is left. The gate is passed once before each job.
-fn draw_all<G: Gate>(
-    alloc: Global,
-    turn: &Turn<'_, G>,
-    claims: &Claims,
-    seat: Seat,
-    mut rooms: Rooms,
-) -> Worked
-    requires jobs { claims.now.jobs ≡ length turn.now.order.now }
+fn draw_all<G: Gate>(alloc: Global, turn: &Turn<'_, G>, seat: Seat, mut rooms: Rooms) -> Worked
+    requires jobs { turn.now.claims.now.jobs ≡ length turn.now.order.now }
     requires order { All (λ job. job < length turn.now.jobs.now) turn.now.order.now }
-    requires own { seat.board ≡ claims.now }
+    requires own { seat.board ≡ turn.now.claims.now }
     requires list { seat.drawn ≡ [] }
     requires live { seat.ended ≡ false }
     ensures { HasWorked turn.now.version.now.map turn.now.version.now.standing turn.now.report turn.now.jobs.now
@@ -51,7 +46,7 @@ fn draw_all<G: Gate>(
     match rooms.take(alloc) {
         Ok(pool) => {
             let solver = Solver::in_pool(turn.version, turn.report, pool);
-            draw_with(alloc, turn, claims, seat, solver, rooms)
+            draw_with(alloc, turn, seat, solver, rooms)
         }
         Err(NoMemory) => Worked {
             seat,
@@ -65,14 +60,13 @@ fn draw_all<G: Gate>(
 fn draw_with<G: Gate>(
     alloc: Global,
     turn: &Turn<'_, G>,
-    claims: &Claims,
     mut seat: Seat,
     mut solver: Solver<'_>,
     mut rooms: Rooms,
 ) -> Worked
-    requires jobs { claims.now.jobs ≡ length turn.now.order.now }
+    requires jobs { turn.now.claims.now.jobs ≡ length turn.now.order.now }
     requires order { All (λ job. job < length turn.now.jobs.now) turn.now.order.now }
-    requires own { seat.board ≡ claims.now }
+    requires own { seat.board ≡ turn.now.claims.now }
     requires list { seat.drawn ≡ [] }
     requires live { seat.ended ≡ false }
     requires solver { solver ≡ record { state = turn.now.version.now; report = turn.now.report } }
@@ -81,7 +75,7 @@ fn draw_with<G: Gate>(
 {
     let mut answered = Sequence::new(alloc);
     'drawing: loop {
-        match claims.claim(seat) {
+        match turn.claims.claim(seat) {
             Drawn::Job(place, next) => {
                 seat = next;
                 let job = turn.order[place as usize];
@@ -129,14 +123,13 @@ pub(crate) fn draw_by<R: Threads + Sync, G: Gate + Sync>(
     rt: &R,
     alloc: Global,
     turn: &Turn<'_, G>,
-    claims: &Claims,
     seat: Seat,
     workers: u64,
     mut rooms: Rooms,
 ) -> Worked
-    requires jobs { claims.now.jobs ≡ length turn.now.order.now }
+    requires jobs { turn.now.claims.now.jobs ≡ length turn.now.order.now }
     requires order { All (λ job. job < length turn.now.jobs.now) turn.now.order.now }
-    requires own { seat.board ≡ claims.now }
+    requires own { seat.board ≡ turn.now.claims.now }
     requires list { seat.drawn ≡ [] }
     requires live { seat.ended ≡ false }
     requires some { 1 ≤ workers }
@@ -145,12 +138,13 @@ pub(crate) fn draw_by<R: Threads + Sync, G: Gate + Sync>(
         turn.now.order.now seat result }
 {
     if workers == 1 {
-        return draw_all(alloc, turn, claims, seat, rooms);
+        return draw_all(alloc, turn, seat, rooms);
     }
     let Turn {
         version,
         jobs,
         order,
+        claims,
         gate,
         report,
     } = *turn;
@@ -170,10 +164,11 @@ pub(crate) fn draw_by<R: Threads + Sync, G: Gate + Sync>(
                 version,
                 jobs,
                 order,
+                claims,
                 gate,
                 report,
             };
-            draw_by(rt, alloc, &turn, claims, one, workers - half, rooms)
+            draw_by(rt, alloc, &turn, one, workers - half, rooms)
         },
         || -> Worked
             requires { IsSync R.row × (claims.now.jobs ≡ length order.now)
@@ -186,10 +181,11 @@ pub(crate) fn draw_by<R: Threads + Sync, G: Gate + Sync>(
                 version,
                 jobs,
                 order,
+                claims,
                 gate,
                 report,
             };
-            draw_by(rt, alloc, &turn, claims, other, half, others)
+            draw_by(rt, alloc, &turn, other, half, others)
         },
     );
     let mut rooms = first.rooms;

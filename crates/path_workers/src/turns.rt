@@ -103,18 +103,19 @@ impl<'a, G: Gate + Sync> Workers<'a, G> {
     {
         let jobs = jobs.as_slice();
         let order = longest_first(alloc, version, jobs, report)?;
+        let count = jobs.len();
+        let (claims, seat) = Claims::start(alloc, count as u64)?;
         let turn = Turn {
             version,
             jobs,
             order: &order,
+            claims: &claims,
             gate: self.gate,
             report,
         };
-        let count = jobs.len();
-        let (claims, seat) = Claims::start(alloc, count as u64)?;
         let workers = u64::from(self.count).min(count as u64).max(1);
         let own = rooms.take_all(alloc);
-        let worked = draw_by(rt, alloc, &turn, &claims, seat, workers, own);
+        let worked = draw_by(rt, alloc, &turn, seat, workers, own);
         *rooms = worked.rooms;
         let answered = worked.answered?;
         // Of the jobs that were drawn, each was answered: so all of them have their answer, and none has two.

@@ -11,7 +11,7 @@ use Rattle.path_workers.proofs.drawing.draw_with.Goals as goal
 pub drawing-smaller : goal.drawing-smaller
 drawing-smaller g c =
     let drawn = c.in-Job.ensures in
-    left_of-falls c.args.claims.now c.drawing.seat c.in-Job.next c.in-Job.place c.drawing.invariant.board drawn.below drawn.above drawn.job
+    left_of-falls c.args.turn.now.claims.now c.drawing.seat c.in-Job.next c.in-Job.place c.drawing.invariant.board drawn.below drawn.above drawn.job
 
 pub drawing-preserved : goal.drawing-preserved
 drawing-preserved g c =

@@ -6,7 +6,7 @@ use Rattle.path_workers.proofs.drawing.draw_with.Given as goal
 
 abbrev pub invariant-drawing : goal.invariant-drawing
 invariant-drawing g l = record {
-  board : l.seat.board ≡ l.claims;
+  board : l.seat.board ≡ l.turn.claims.now;
   live : l.seat.ended ≡ false;
   credit : l.seat.credit ≡ l.fn.seat.credit;
   numbers : job_numbers l.answered ≡ jobs_at l.turn.order.now l.seat.drawn;
