@@ -134,22 +134,23 @@ def steps(program):
 
 
 def turns(program):
-    print("turns: median and 99 of 100 of 300 turns of so many short paths among blobs, by the side and by 1 and 4 workers")
+    print("turns: 300 turns of so many short paths among blobs, by the side: the medians with 1 worker, with 1 in another")
+    print("  match and with 4, and the 99ths of 100; the two matches with 1 tell how far times differ by themselves")
     for side in (256, 512, 2048):
         for many in (1, 8, 50, 200):
             lines, posts = short_turns(side, many, 300)
-            times = {1: [], 4: []}
+            times = [[], [], []]
             # Matches are opened anew for each 30 turns, so that none has the better processor for long.
             for first in range(0, 300, 30):
-                crew = (1, 4) if first % 60 else (4, 1)
-                matches = [opened(program, lines, workers) for workers in crew]
+                order = [(first // 30 + place) % 3 for place in range(3)]
+                matches = [opened(program, lines, (1, 1, 4)[place]) for place in order]
                 for match in matches:
                     match.play(posts[first])
-                for workers, its in zip(crew, in_turns(matches, posts[first : first + 30])):
-                    times[workers] += its
+                for place, its in zip(order, in_turns(matches, posts[first : first + 30])):
+                    times[place] += its
                 for match in matches:
                     match.close()
-            told(f"{side} by {side}, {many} paths", *(sorted(times[workers])[place] for workers in (1, 4) for place in (149, 296)))
+            told(f"{side} by {side}, {many} paths", *(sorted(its)[place] for place in (149, 296) for its in times))
 
 
 def workers(program):
