@@ -13,7 +13,7 @@ pub enum Target {
 impl Aim for Target {
     ghost use Rattle.std.specs.Prelude.{IsTrue};
     ghost use Rattle.nav_types.specs.Cells.{IsInside};
-    ghost use Rattle.goal_shapes.specs.Goals.{contains_framed};
+    ghost use Rattle.goal_shapes.specs.inner.Framing.{contains_framed};
     ghost use Rattle.goal_reach.specs.declared.targets.Target.TheVariants.{Goal as GoalTarget, Near};
     ghost use Rattle.goal_reach.specs.Targets.{hit_by, framed_by, IsSoundTarget};
 

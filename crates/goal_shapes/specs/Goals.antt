@@ -1,15 +1,12 @@
 -- Goals: their cells, how remote a cell is from them, and their boxes.
 -- All numbers are raw: the raw number of a navcell's side is 65536. A place along a unit vector is raw times 65536.
-use Rattle.std.specs.Prelude.{◌≡◌, ℕ, ◌+◌, ◌-◌, ◌*◌, ◌^◌, min, Bool, true, ◌&&◌, ◌||◌, nat_le, List, [], ◌∷◌, ℤ, pos, ◌-ℤ◌, unsigned_abs, IsTrue}
-use Rattle.std.proofs.Common.{arith, leb-true, le-leb, refl}
-use Rattle.std.proofs.lemmas.Bool.{and_parts, and_from}
+use Rattle.std.specs.Prelude.{◌≡◌, ℕ, ◌+◌, ◌-◌, ◌*◌, ◌^◌, min, Bool, true, ◌&&◌, ◌||◌, nat_le, List, [], ◌∷◌, ℤ, pos, ◌-ℤ◌, unsigned_abs}
 use Rattle.std.specs.List.{list_any}
 use Rattle.std.specs.Ordering.{int_eq}
 use Rattle.nav_types.specs.declared.cells.Cell.{Cell}
 use Rattle.fixed_point.specs.Raw.{floor_of}
 use Rattle.fixed_point.specs.declared.plane.Rectangle.{Rectangle}
 use Rattle.fixed_point.specs.Plane.{square, from_centre, along, across, centre_along, centre_across, squared_past}
-use Rattle.fixed_point.proofs.Squares.{root_le}
 use Rattle.goal_shapes.specs.declared.goals.Goal.{Goal}
 use Rattle.goal_shapes.specs.declared.goals.Goal.TheVariants.{Point, Circle, NotCircle, Square, NotSquare}
 
@@ -141,21 +138,3 @@ framed (Circle x z r) cell = is_near_circle x z r cell
 framed (NotCircle x z r) cell = true
 framed (Square rectangle) cell = meets_axes rectangle cell
 framed (NotSquare rectangle) cell = true
-
--- ---- each goal cell is framed
-
--- both parts of a sum of squares are near
-both_near : (a b r : ℕ) → IsTrue (nat_le (square a + square b) (square r))
-    → (IsTrue (nat_le a r)) × (IsTrue (nat_le b r))
-both_near a b r hit = let sum = leb-true (square a + square b) (square r) hit in
-    (le-leb a r (root_le a r (omega arith)), le-leb b r (root_le b r (omega arith)))
-
-pub contains_framed : (goal : Goal) (cell : Cell) → IsTrue (contains goal cell) → IsTrue (framed goal cell)
-unfolding contains framed
-contains_framed (Point x z) cell hit = hit
-contains_framed (Circle x z r) cell hit =
-    let near = both_near (gap cell.i x) (gap cell.j z) (unsigned_abs r) hit in
-    and_from (nat_le (gap cell.i x) (unsigned_abs r)) (nat_le (gap cell.j z) (unsigned_abs r)) near.0 near.1
-contains_framed (NotCircle x z r) cell hit = refl
-contains_framed (Square rectangle) cell hit = (and_parts (meets_axes rectangle cell) (meets_sides rectangle cell) hit).0
-contains_framed (NotSquare rectangle) cell hit = refl

@@ -1,3 +1,4 @@
 pub mod Goals
 pub mod Limits
 pub mod Words
+pub mod inner

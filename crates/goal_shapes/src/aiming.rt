@@ -4,7 +4,8 @@ use nav_types::{Aim, Cell, Rect, Size};
 
 impl Aim for Goal {
     ghost use Rattle.goal_shapes.specs.Limits.{IsSoundGoal};
-    ghost use Rattle.goal_shapes.specs.Goals.{contains, contains_framed, framed};
+    ghost use Rattle.goal_shapes.specs.Goals.{contains, framed};
+    ghost use Rattle.goal_shapes.specs.inner.Framing.{contains_framed};
 
     ghost sound = { λ goal size. IsSoundGoal size goal };
 

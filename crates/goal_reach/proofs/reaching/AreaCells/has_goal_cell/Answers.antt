@@ -1,6 +1,6 @@
 use Rattle.std.proofs.Common.{◌<◌, arith}
 use Rattle.std.proofs.lemmas.Bool.{false≢true}
-use Rattle.goal_shapes.specs.Goals.{contains_framed}
+use Rattle.goal_shapes.specs.inner.Framing.{contains_framed}
 use Rattle.goal_reach.proofs.Joining.{joined_inside}
 use Rattle.goal_reach.proofs.reaching.AreaCells.has_goal_cell.Goals as goal
 

@@ -1,0 +1,2 @@
+-- What implementations of traits cite besides definitions.
+pub mod Framing
