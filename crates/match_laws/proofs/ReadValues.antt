@@ -28,6 +28,7 @@ use Rattle.script_text.specs.Grammar.{IsDecimal, IsArray, SayEach, IsPlainGoal, 
 use Rattle.script_text.specs.Canon.{is_post_of, is_goal_of}
 use Rattle.script_text.specs.Goals.{goal_decimals}
 use Rattle.script_text.specs.ReadsBack.{AreFixed, IsGoalValue, IsPostValue, IsMapValue}
+use Rattle.script_text.proofs.GrammarClasses.{classes-from}
 use Rattle.script_text.proofs.GrammarValues.{some_if-some}
 
 -- ---- decimals
@@ -173,7 +174,7 @@ map_said m d says = record {
     few_callers = says.few;
     base_inside = nothing_inside m.size m.base says.no_base;
   };
-  classes = array_read (option_map list_of (as_array says.classes)) m.classes says.says_classes;
+  classes = array_read (option_map list_of (as_array says.classes)) m.classes (classes-from says.classes m.classes says.says_classes);
   masks = nothing_masked m.base says.no_base;
 }
 

@@ -23,6 +23,7 @@ use Rattle.script_text.specs.ReadsBack.{IsMapValue}
 use Rattle.script_text.proofs.BackForms.{ReadsTo}
 use Rattle.script_text.proofs.BackTexts.{IsSimple, sorted, text-fixed_text, text-name, reads_sorted}
 use Rattle.script_text.proofs.BackValues.{one_key, simple_list, sorted_list, array_list}
+use Rattle.script_text.proofs.GrammarClasses.{classes-is}
 use Rattle.script_text.proofs.GrammarLines.{map-from, base-from}
 use Rattle.class_config.proofs.ClassLists.{list_of-items_of}
 
@@ -185,7 +186,7 @@ says_map m is =
       says_callers = refl;
       some = is.is.some_caller;
       few = is.is.few_callers;
-      says_classes = classes_back m.classes is.classes;
+      says_classes = classes-is classes m.classes (classes_back m.classes is.classes);
       no_base = refl;
     }
 

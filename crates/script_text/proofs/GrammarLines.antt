@@ -20,6 +20,7 @@ use Rattle.script_text.specs.Forms.{map_by, map_of, entry_by, entry_of, each, ba
 use Rattle.script_text.specs.Grammar.{IsWholeNumber, IsDecimal, IsArray, rectangle_decimals, IsMapLine, IsEntry, IsBaseLine, IsEndLine}
 use Rattle.nav_types.proofs.Sizes.{same_size}
 use Rattle.script_text.proofs.GrammarValues.{then_some, both_some, if_some, some_if-some, under_some, under_is, whole-is, whole-from, whole_in-is, whole_in-from, decimal-is, decimal-from, array_items-is, array_items-from, array-is, array-from, has_items-from, each-is, each-from}
+use Rattle.script_text.proofs.GrammarClasses.{classes-is, classes-from}
 use Rattle.script_text.proofs.Members.{open_one, open_four, has_keys-object, stand-object}
 
 -- ---- options
@@ -282,7 +283,7 @@ map-is d m e =
       says_callers = c.0;
       some = c.1;
       few = c.2;
-      says_classes = under_some classes_of (codes "classes") d o.y m.classes o.fourth p.3;
+      says_classes = classes-is o.y m.classes (under_some classes_of (codes "classes") d o.y m.classes o.fourth p.3);
       no_base = p.4;
     }
 
@@ -295,7 +296,7 @@ map-from d m l =
     let v = under_is (whole_in 1 3) (codes "version") d l.version m.version at.0 (whole_in-from 1 3 l.version m.version l.says_version l.oldest l.newest) in
     let s = under_is size_of (codes "size") d l.size m.size at.1.0 (size-from l.size m.size l.says_size) in
     let c = under_is (whole_in 1 64) (codes "callers") d l.callers m.callers at.1.1.0 (whole_in-from 1 64 l.callers m.callers l.says_callers l.some l.few) in
-    let k = under_is classes_of (codes "classes") d l.classes m.classes at.1.1.1.0 l.says_classes in
+    let k = under_is classes_of (codes "classes") d l.classes m.classes at.1.1.1.0 (classes-from l.classes m.classes l.says_classes) in
     cond-true (has_keys map_keys d) (map_by version size callers classes) None
     (has_keys-object map_keys (l.version ∷ l.size ∷ l.callers ∷ l.classes ∷ []) d refl l.keys)
     ∙ ap (λ o. map_by o size callers classes) v ∙ ap (λ o. map_by (Some m.version) o callers classes) s

@@ -186,7 +186,7 @@ pub two_there : (d a b : Data) → d ≡ array (items_of (a ∷ b ∷ [])) → h
 unfolding has_items
 two_there d a b e = ap (λ found. option_map_or (λ items. length items == 2) found false) (array_items-from d (a ∷ b ∷ []) e)
 
-say_length : {X : Type 0} (Says : X → Data → Type 0) (xs : List X) (ds : List Data) → SayEach Says xs ds → length ds ≡ length xs
+pub say_length : {X : Type 0} (Says : X → Data → Type 0) (xs : List X) (ds : List Data) → SayEach Says xs ds → length ds ≡ length xs
 say_length Says [] [] say = refl
 say_length Says [] (d ∷ ds) say = absurd say
 say_length Says (x ∷ xs) [] say = absurd say

@@ -13,6 +13,7 @@ pub mod FormValues
 pub mod Members
 pub mod StrangeKeys
 pub mod GrammarValues
+pub mod GrammarClasses
 pub mod GrammarLines
 pub mod GoalTable
 pub mod GrammarPosts

@@ -1,6 +1,6 @@
 -- The grammar of the lines of a script: which readings are lines, and what they say. An object has the members that are
 -- listed and no others, in any order. Coordinates and lengths are raw fixed-point numbers, of 65536 to a navcell.
-use Rattle.std.specs.Prelude.{◌≡◌, ◌⊎◌, ℕ, ◌<◌, ◌≤◌, ⊤, List, [], ◌∷◌, IsTrue, ℤ, Some, codes}
+use Rattle.std.specs.Prelude.{◌≡◌, ◌≢◌, ◌⊎◌, ℕ, ◌<◌, ◌≤◌, ⊤, List, [], ◌∷◌, length, All, IsTrue, ℤ, Some, codes}
 use Rattle.serde_json.specs.Data.{Data, number, unsigned, string, array, object, Members, no_members, member}
 use Rattle.serde_json.specs.View.{items_of}
 use Rattle.nav_types.specs.declared.cells.Rect.{Rect}
@@ -9,7 +9,8 @@ use Rattle.nav_types.specs.Cells.{IsRectInside}
 use Rattle.fixed_point.specs.declared.plane.Rectangle.{Rectangle}
 use Rattle.fixed_point.specs.Text.{fixed_value}
 use Rattle.class_config.specs.Forms.{is_class_name}
-use Rattle.class_config.specs.Classes.{classes_of}
+use Rattle.class_config.specs.Classes.{is_clearance}
+use Rattle.class_config.specs.declared.table.PassabilityClass.{PassabilityClass}
 use Rattle.obstruction_shapes.specs.declared.shapes.Shape.{Shape}
 use Rattle.obstruction_shapes.specs.declared.shapes.Shape.TheVariants.{Unit as UnitShape, Square as SquareShape}
 use Rattle.goal_shapes.specs.declared.goals.Goal.{Goal}
@@ -74,6 +75,27 @@ IsArray Says xs d = (items : List Data) × (d ≡ array (items_of items)) × Say
 
 -- ---- the map line and base lines
 
+-- an object with the name of a class and its clearance, which is from 0 to 64 navcells
+pub record IsClassEntry (class : PassabilityClass) (d : Data) : Type 0 where
+  pub name : Data
+  pub clearance : Data
+  pub keys : IsObject (codes "name" ∷ codes "clearance" ∷ []) (name ∷ clearance ∷ []) d
+  pub says_name : IsName class.name name
+  pub says_clearance : IsDecimal class.clearance clearance
+  pub limits : IsTrue (is_clearance class.clearance)
+
+-- no two classes have one name
+abbrev pub HaveOwnNames : List PassabilityClass → Type 0
+HaveOwnNames [] = ⊤
+HaveOwnNames (class ∷ classes) = All (λ other. other.name ≢ class.name) classes × HaveOwnNames classes
+
+-- an array of 1 to 16 classes, each of another name
+pub record IsClassTable (classes : List PassabilityClass) (d : Data) : Type 0 where
+  pub says : IsArray IsClassEntry classes d
+  pub some : 1 ≤ length classes
+  pub few : length classes ≤ 16
+  pub own_names : HaveOwnNames classes
+
 pub record IsMapLine (m : Map) (d : Data) : Type 0 where
   pub version : Data
   pub size : Data
@@ -87,7 +109,7 @@ pub record IsMapLine (m : Map) (d : Data) : Type 0 where
   pub says_callers : IsWholeNumber m.callers callers
   pub some : 1 ≤ m.callers
   pub few : m.callers ≤ 64
-  pub says_classes : classes_of classes ≡ Some m.classes
+  pub says_classes : IsClassTable m.classes classes
   pub no_base : m.base ≡ []
 
 -- an array of five whole numbers: a rectangle of the map, and a mask
