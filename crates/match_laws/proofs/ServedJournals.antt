@@ -9,7 +9,7 @@ use Rattle.nav_types.specs.Cells.{IsRectInside}
 use Rattle.posts.specs.declared.posts.Post.{Post}
 use Rattle.posts.specs.Maps.{Map, with_base}
 use Rattle.posts.specs.Callers.{of_caller, list_of}
-use Rattle.turn_core.specs.Facts.{HaveLists}
+use Rattle.path_service.specs.machine.Facts.{HaveLists}
 use Rattle.input_lines.specs.Lines.{full_lines, tail_of}
 use Rattle.script_text.specs.declared.forms.CallerPost.{CallerPost}
 use Rattle.script_text.specs.declared.parts.Rules.{Rules}

@@ -7,10 +7,10 @@ use Rattle.std.proofs.lemmas.Option.{slice_get-get_or}
 use Rattle.posts.specs.declared.posts.Post.{Post}
 use Rattle.posts.specs.declared.replies.Reply.{Reply}
 use Rattle.posts.specs.Callers.{list_of}
-use Rattle.turn_core.specs.declared.events.Why.TheVariants.{Callers, Collected}
-use Rattle.turn_core.specs.States.{State}
-use Rattle.turn_core.specs.Table.{why_no_caller, why_collected}
-use Rattle.turn_core.proofs.Reaching.{none_or, none_unless}
+use Rattle.path_service.specs.declared.events.Why.TheVariants.{Callers, Collected}
+use Rattle.path_service.specs.machine.States.{State}
+use Rattle.path_service.specs.machine.Table.{why_no_caller, why_collected}
+use Rattle.path_service.proofs.machine.Reaching.{none_or, none_unless}
 use Rattle.path_service.specs.Callers.{CallerState}
 use Rattle.path_service.specs.CallerSteps.{HasListsOf, PostsInStep, CollectsInStep}
 

@@ -4,9 +4,9 @@ use Rattle.std.proofs.lemmas.List.{length-map, take-append-drop}
 use Rattle.posts.specs.declared.posts.Post.{Post}
 use Rattle.posts.specs.declared.replies.Reply.{Reply}
 use Rattle.posts.specs.Callers.{of_caller, list_of}
-use Rattle.turn_core.specs.States.{State}
-use Rattle.turn_core.specs.Facts.{running_turns, staged_turns, all_turns, Facts}
-use Rattle.turn_core.proofs.Keeping.{lists_front}
+use Rattle.path_service.specs.machine.States.{State}
+use Rattle.path_service.specs.machine.Facts.{running_turns, staged_turns, all_turns, Facts}
+use Rattle.path_service.proofs.machine.Keeping.{lists_front}
 use Rattle.path_service.specs.declared.ports.Port.{Port}
 use Rattle.path_service.specs.declared.closing.ClosedCaller.{ClosedCaller}
 use Rattle.path_service.specs.declared.drivers.Driver.TheInside.{Inside}

@@ -9,19 +9,20 @@ use Rattle.posts.specs.declared.replies.TurnReplies.{TurnReplies}
 use Rattle.posts.specs.Maps.{Map}
 use Rattle.posts.specs.Posts.{jobs, post_count}
 use Rattle.posts.specs.Callers.{of_caller, list_of}
-use Rattle.turn_core.specs.declared.events.Event.TheVariants.{Deliver}
+use Rattle.path_service.specs.declared.events.Event.TheVariants.{Deliver}
 use Rattle.turn_core.specs.Solving.{AreAnswersTo}
 use Rattle.turn_core.specs.Words.{Standing, MapState, bare}
 use Rattle.turn_core.specs.Turns.{after, after_turn, standing, replies_in, AreTurnReplies, IsTurnTold, IsOneThread}
 use Rattle.turn_core.specs.ReadyTurns.{Ready}
-use Rattle.turn_core.specs.States.{State, Run}
-use Rattle.turn_core.specs.Effects.{IsStep, joined_up}
-use Rattle.turn_core.specs.Facts.{running_turns, staged_turns, HaveLists, Facts}
-use Rattle.turn_core.specs.Arrival.{answered_run, at_end}
-use Rattle.turn_core.proofs.Reaching.{deliver_step}
-use Rattle.turn_core.proofs.Keeping.{kept, lists_front, lists_back}
-use Rattle.turn_core.proofs.CallerLists.{joined_up_at, of_caller_push}
-use Rattle.turn_core.proofs.Settling.{as_many, replies_counted}
+use Rattle.path_service.specs.machine.States.{State, Run}
+use Rattle.path_service.specs.machine.Effects.{IsStep, joined_up}
+use Rattle.path_service.specs.machine.Facts.{running_turns, staged_turns, HaveLists, Facts}
+use Rattle.path_service.specs.machine.Arrival.{answered_run, at_end}
+use Rattle.path_service.proofs.machine.Reaching.{deliver_step}
+use Rattle.path_service.proofs.machine.Keeping.{kept, lists_front, lists_back}
+use Rattle.path_service.proofs.machine.CallerLists.{joined_up_at, of_caller_push}
+use Rattle.turn_core.proofs.ReplyCounts.{as_many}
+use Rattle.path_service.proofs.machine.Settling.{replies_counted}
 use Rattle.turn_core.proofs.Threads.{standing_more}
 use Rattle.turn_core.proofs.TurnByTurn.{told_more, replies_end}
 use Rattle.path_service.specs.declared.ports.Port.{Port}

@@ -5,8 +5,8 @@ use Rattle.std.proofs.lemmas.List.{drop_at}
 use Rattle.posts.specs.declared.posts.Post.{Post}
 use Rattle.posts.specs.Posts.{post_count}
 use Rattle.posts.specs.Callers.{list_of}
-use Rattle.turn_core.specs.Effects.{joined_up, added_up}
-use Rattle.turn_core.proofs.CallerLists.{first_at, rest_at}
+use Rattle.path_service.specs.machine.Effects.{joined_up, added_up}
+use Rattle.path_service.proofs.machine.CallerLists.{first_at, rest_at}
 use Rattle.path_service.specs.Services.{past_first}
 use Rattle.path_service.specs.inner.Holding.{taken_before, AreLast}
 

@@ -9,7 +9,7 @@ use Rattle.request_lanes.specs.Ends.{LaneId, Posting}
 use Rattle.path_service.specs.declared.ports.Port.{Port}
 use Rattle.path_service.specs.Callers.{CallerId, HasPostLane, HasReplyLane}
 use Rattle.path_service.specs.inner.Ports.{posted_in, told_in, sent_in, ids_from, id_of, IsInRoom}
-use Rattle.turn_core.specs.Facts.{Facts}
+use Rattle.path_service.specs.machine.Facts.{Facts}
 use Rattle.path_service.specs.declared.drivers.Driver.TheInside.{Inside}
 use Rattle.path_service.specs.Services.{DriverState, told_of}
 use Rattle.path_service.specs.inner.Holding.{AreLast, turn_of, run_of, state_with, machine_of, driver_of, HoldsDriver}

@@ -5,14 +5,14 @@ use Rattle.posts.specs.declared.posts.Post.{Post}
 use Rattle.posts.specs.declared.replies.TurnReplies.{TurnReplies}
 use Rattle.posts.specs.Maps.{Map}
 use Rattle.posts.specs.Callers.{of_caller, list_of}
-use Rattle.turn_core.specs.declared.events.Event.{Event}
-use Rattle.turn_core.specs.declared.events.Event.TheVariants.{Stage}
-use Rattle.turn_core.specs.States.{State, Run}
-use Rattle.turn_core.specs.Effects.{IsStep, joined_up, Reaches}
-use Rattle.turn_core.specs.Facts.{all_turns, Facts}
-use Rattle.turn_core.specs.Arrival.{post_events, CanStage, in_stage}
-use Rattle.turn_core.proofs.Reaching.{reach_step, reach_none, all_post, stage_step}
-use Rattle.turn_core.proofs.Keeping.{kept_run_of}
+use Rattle.path_service.specs.declared.events.Event.{Event}
+use Rattle.path_service.specs.declared.events.Event.TheVariants.{Stage}
+use Rattle.path_service.specs.machine.States.{State, Run}
+use Rattle.path_service.specs.machine.Effects.{IsStep, joined_up, Reaches}
+use Rattle.path_service.specs.machine.Facts.{all_turns, Facts}
+use Rattle.path_service.specs.machine.Arrival.{post_events, CanStage, in_stage}
+use Rattle.path_service.proofs.machine.Reaching.{reach_step, reach_none, all_post, stage_step}
+use Rattle.path_service.proofs.machine.Keeping.{kept_run_of}
 use Rattle.path_service.specs.Services.{in_hand}
 use Rattle.path_service.specs.Steps.{staging}
 use Rattle.path_service.specs.inner.Holding.{AreLast, state_with}

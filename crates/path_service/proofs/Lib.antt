@@ -1,3 +1,4 @@
+pub mod machine
 pub mod Zips
 pub mod PortLists
 pub mod LaneSteps

@@ -10,10 +10,10 @@ use Rattle.posts.specs.Posts.{post_count}
 use Rattle.posts.proofs.PostCounts.{count_none}
 use Rattle.turn_core.specs.Words.{bare}
 use Rattle.turn_core.specs.Turns.{standing, replies_in, IsOneThread}
-use Rattle.turn_core.specs.States.{opening}
-use Rattle.turn_core.specs.Facts.{Facts}
-use Rattle.turn_core.proofs.Keeping.{facts_at_opening}
-use Rattle.turn_core.proofs.CallerLists.{none_at}
+use Rattle.path_service.specs.machine.States.{opening}
+use Rattle.path_service.specs.machine.Facts.{Facts}
+use Rattle.path_service.proofs.machine.Keeping.{facts_at_opening}
+use Rattle.path_service.proofs.machine.CallerLists.{none_at}
 use Rattle.path_service.specs.declared.ports.Port.{Port}
 use Rattle.path_service.specs.declared.runs.AnsweredRun.{AnsweredRun}
 use Rattle.path_service.specs.declared.drivers.Driver.TheInside.{Inside}

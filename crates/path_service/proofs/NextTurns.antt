@@ -10,16 +10,16 @@ use Rattle.posts.specs.Maps.{Map}
 use Rattle.posts.specs.Callers.{list_of}
 use Rattle.posts.specs.Posts.{post_count}
 use Rattle.posts.proofs.PostCounts.{count_none}
-use Rattle.turn_core.specs.declared.events.Event.{Event}
-use Rattle.turn_core.specs.declared.events.Event.TheVariants.{Stage}
+use Rattle.path_service.specs.declared.events.Event.{Event}
+use Rattle.path_service.specs.declared.events.Event.TheVariants.{Stage}
 use Rattle.turn_core.specs.Words.{Standing, MapState}
 use Rattle.turn_core.specs.ReadyTurns.{Ready}
-use Rattle.turn_core.specs.States.{State}
-use Rattle.turn_core.specs.Effects.{joined_up, Reaches}
-use Rattle.turn_core.specs.Facts.{Facts}
-use Rattle.turn_core.specs.Arrival.{post_events}
-use Rattle.turn_core.proofs.Reaching.{reach-append}
-use Rattle.turn_core.proofs.CallerLists.{none_at}
+use Rattle.path_service.specs.machine.States.{State}
+use Rattle.path_service.specs.machine.Effects.{joined_up, Reaches}
+use Rattle.path_service.specs.machine.Facts.{Facts}
+use Rattle.path_service.specs.machine.Arrival.{post_events}
+use Rattle.path_service.proofs.machine.Reaching.{reach-append}
+use Rattle.path_service.proofs.machine.CallerLists.{none_at}
 use Rattle.path_service.specs.declared.ports.Port.{Port}
 use Rattle.path_service.specs.declared.intakes.Intake.{Intake}
 use Rattle.path_service.specs.declared.drivers.Driver.TheInside.{Inside}

@@ -6,8 +6,8 @@ use Rattle.posts.specs.declared.posts.Post.{Post}
 use Rattle.posts.specs.declared.replies.Reply.{Reply}
 use Rattle.posts.specs.Callers.{list_of}
 use Rattle.posts.proofs.PostCounts.{count_more}
-use Rattle.turn_core.specs.Effects.{joined_up}
-use Rattle.turn_core.proofs.CallerLists.{joined_nothing}
+use Rattle.path_service.specs.machine.Effects.{joined_up}
+use Rattle.path_service.proofs.machine.CallerLists.{joined_nothing}
 use Rattle.path_service.specs.declared.ports.Port.{Port}
 use Rattle.path_service.specs.inner.Zips.{zipped, AllPaired}
 use Rattle.path_service.specs.inner.Ports.{gained, sends, joins, posted_in, told_in, sent_in, ids_from, id_of, HasRoom, IsInRoom, PortHasLooked, Fills, FillAll}

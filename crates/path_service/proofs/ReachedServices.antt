@@ -6,12 +6,12 @@ use Rattle.posts.specs.declared.posts.Post.{Post}
 use Rattle.posts.specs.Callers.{of_caller, list_of}
 use Rattle.turn_core.specs.Words.{bare}
 use Rattle.turn_core.specs.Turns.{replies_in}
-use Rattle.turn_core.specs.States.{State}
-use Rattle.turn_core.specs.Facts.{running_turns, staged_turns, all_turns, HaveLists}
-use Rattle.turn_core.specs.Arrival.{CanArrive}
-use Rattle.turn_core.proofs.CallerLists.{of_caller-append}
-use Rattle.turn_core.proofs.Settling.{as_many}
-use Rattle.turn_core.proofs.Arriving.{arrives}
+use Rattle.path_service.specs.machine.States.{State}
+use Rattle.path_service.specs.machine.Facts.{running_turns, staged_turns, all_turns, HaveLists}
+use Rattle.path_service.specs.machine.Arrival.{CanArrive}
+use Rattle.path_service.proofs.machine.CallerLists.{of_caller-append}
+use Rattle.turn_core.proofs.ReplyCounts.{as_many}
+use Rattle.path_service.proofs.machine.Arriving.{arrives}
 use Rattle.path_service.specs.Callers.{EndedState, ended_id, AreNumbered}
 use Rattle.path_service.specs.Services.{DriverState, in_hand}
 use Rattle.path_service.specs.Closings.{ClosedState, closed_by, HasLeft, PostedIsFound, IsClosedBy, posted_by, count_by, IsReachedByMachine}

@@ -6,18 +6,18 @@ use Rattle.posts.specs.declared.replies.TurnReplies.{TurnReplies}
 use Rattle.posts.specs.Posts.{jobs}
 use Rattle.posts.specs.Callers.{of_caller, list_of}
 use Rattle.grid_versions.specs.Versions.{map_state}
-use Rattle.turn_core.specs.declared.events.Event.TheVariants.{Start}
+use Rattle.path_service.specs.declared.events.Event.TheVariants.{Start}
 use Rattle.turn_core.specs.Solving.{AreAnswersTo}
 use Rattle.turn_core.specs.Words.{MapState, bare}
 use Rattle.turn_core.specs.Turns.{after_turn, standing, replies_in}
 use Rattle.turn_core.specs.ReadyTurns.{Ready}
-use Rattle.turn_core.specs.States.{State, stands_after_done}
-use Rattle.turn_core.specs.Effects.{IsStep, Reaches, begun}
-use Rattle.turn_core.specs.Facts.{Facts}
-use Rattle.turn_core.specs.Arrival.{answering, answered_run, in_run}
-use Rattle.turn_core.proofs.Reaching.{start_step, turn_answered}
+use Rattle.path_service.specs.machine.States.{State, stands_after_done}
+use Rattle.path_service.specs.machine.Effects.{IsStep, Reaches, begun}
+use Rattle.path_service.specs.machine.Facts.{Facts}
+use Rattle.path_service.specs.machine.Arrival.{answering, answered_run, in_run}
+use Rattle.path_service.proofs.machine.Reaching.{start_step, turn_answered}
 use Rattle.turn_core.proofs.TurnByTurn.{same_version}
-use Rattle.turn_core.proofs.Keeping.{kept}
+use Rattle.path_service.proofs.machine.Keeping.{kept}
 use Rattle.path_service.specs.declared.runs.AnsweredRun.{AnsweredRun}
 use Rattle.path_service.specs.declared.drivers.Driver.TheInside.{Inside}
 use Rattle.path_service.specs.Services.{DriverState}

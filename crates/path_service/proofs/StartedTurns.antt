@@ -8,9 +8,9 @@ use Rattle.grid_versions.specs.Versions.{map_state}
 use Rattle.turn_core.specs.Words.{Standing, MapState}
 use Rattle.turn_core.specs.Turns.{after_turn}
 use Rattle.turn_core.specs.ReadyTurns.{Ready, after_edits_of}
-use Rattle.turn_core.specs.States.{State}
-use Rattle.turn_core.specs.Effects.{begun}
-use Rattle.turn_core.specs.Arrival.{in_run}
+use Rattle.path_service.specs.machine.States.{State}
+use Rattle.path_service.specs.machine.Effects.{begun}
+use Rattle.path_service.specs.machine.Arrival.{in_run}
 use Rattle.path_service.specs.declared.ports.Port.{Port}
 use Rattle.path_service.specs.declared.intakes.Intake.{Intake}
 use Rattle.path_service.specs.declared.runs.AnsweredRun.{AnsweredRun}

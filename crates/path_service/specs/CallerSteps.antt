@@ -3,9 +3,9 @@ use Rattle.std.specs.Prelude.{◌≡◌, ◌<◌, None, Some, List, [], ◌∷�
 use Rattle.posts.specs.declared.posts.Post.{Post}
 use Rattle.posts.specs.declared.replies.Reply.{Reply}
 use Rattle.posts.specs.Callers.{list_of}
-use Rattle.turn_core.specs.declared.events.Event.TheVariants.{Post as Posting, Collect}
-use Rattle.turn_core.specs.States.{State}
-use Rattle.turn_core.specs.Effects.{IsStep, posted, collected}
+use Rattle.path_service.specs.declared.events.Event.TheVariants.{Post as Posting, Collect}
+use Rattle.path_service.specs.machine.States.{State}
+use Rattle.path_service.specs.machine.Effects.{IsStep, posted, collected}
 use Rattle.path_service.specs.Callers.{CallerState}
 
 -- The machine's lists for a caller are the caller's: what it posted, how many replies it collected, and the replies to it,

@@ -6,10 +6,10 @@ use Rattle.posts.specs.declared.replies.TurnReplies.{TurnReplies}
 use Rattle.posts.specs.Maps.{Map}
 use Rattle.posts.specs.Callers.{of_caller, list_of}
 use Rattle.turn_core.specs.Turns.{replies_in, IsOneThread}
-use Rattle.turn_core.specs.States.{State, opening}
-use Rattle.turn_core.specs.Effects.{IsMachineRun}
-use Rattle.turn_core.specs.Arrival.{arrival, HasArrived}
-use Rattle.turn_core.specs.Facts.{all_turns, HaveLists}
+use Rattle.path_service.specs.machine.States.{State, opening}
+use Rattle.path_service.specs.machine.Effects.{IsMachineRun}
+use Rattle.path_service.specs.machine.Arrival.{arrival, HasArrived}
+use Rattle.path_service.specs.machine.Facts.{all_turns, HaveLists}
 use Rattle.request_lanes.specs.Ends.{Leaves}
 use Rattle.path_service.specs.declared.closing.ClosedCaller.{ClosedCaller}
 use Rattle.path_service.specs.Callers.{EndedState, ended_id, AreNumbered}

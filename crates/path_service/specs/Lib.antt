@@ -1,3 +1,4 @@
+pub mod machine
 pub mod Callers
 pub mod Services
 pub mod Steps

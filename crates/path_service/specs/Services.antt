@@ -3,8 +3,8 @@ use Rattle.std.specs.Prelude.{ℕ, Bool, false, List, [], ◌∷◌, drop, repli
 use Rattle.posts.specs.declared.posts.Post.{Post}
 use Rattle.posts.specs.declared.replies.Reply.{Reply}
 use Rattle.posts.specs.Maps.{Map}
-use Rattle.turn_core.specs.Table.{first}
-use Rattle.turn_core.specs.States.{State, opening}
+use Rattle.path_service.specs.machine.Table.{first}
+use Rattle.path_service.specs.machine.States.{State, opening}
 use Rattle.path_service.specs.Callers.{CallerId}
 
 -- A driver: the state of the turn machine as it knows it, and by the callers' numbers who they are, of how many posts it

@@ -7,13 +7,13 @@ use Rattle.posts.specs.declared.replies.Reply.{Reply}
 use Rattle.posts.specs.Maps.{Map}
 use Rattle.posts.specs.Posts.{post_count}
 use Rattle.posts.specs.Callers.{list_of}
-use Rattle.turn_core.specs.declared.events.Event.{Event}
-use Rattle.turn_core.specs.declared.events.Event.TheVariants.{Stage, Start, Deliver}
+use Rattle.path_service.specs.declared.events.Event.{Event}
+use Rattle.path_service.specs.declared.events.Event.TheVariants.{Stage, Start, Deliver}
 use Rattle.turn_core.specs.Words.{Standing}
 use Rattle.turn_core.specs.Turns.{after_turn, AreTurnReplies}
-use Rattle.turn_core.specs.States.{State, Run, stands_after_done}
-use Rattle.turn_core.specs.Effects.{IsStep, Reaches, begun, joined_up}
-use Rattle.turn_core.specs.Arrival.{post_events, answering, answered_run, in_run}
+use Rattle.path_service.specs.machine.States.{State, Run, stands_after_done}
+use Rattle.path_service.specs.machine.Effects.{IsStep, Reaches, begun, joined_up}
+use Rattle.path_service.specs.machine.Arrival.{post_events, answering, answered_run, in_run}
 use Rattle.path_service.specs.Services.{DriverState, in_hand}
 
 -- the stage of a turn of so many posts: none where it has no post

@@ -3,7 +3,7 @@ ghost use Rattle.std.specs.Prelude.{◌≡◌, ◌<◌, [], false, true, All, If
 ghost use Rattle.posts.specs.declared.replies.Reply.{Reply as AReply};
 ghost use Rattle.posts.specs.Callers.{list_of};
 ghost use Rattle.turn_core.specs.Words.{bare};
-ghost use Rattle.turn_core.specs.Table.{last_turn, running_turn};
+ghost use Rattle.path_service.specs.machine.Table.{last_turn, running_turn};
 ghost use Rattle.path_service.specs.Callers.{ended_id, HasPostLane, HasReplyLane};
 ghost use Rattle.path_service.specs.Services.{started_on, told_of, with_machine};
 ghost use Rattle.path_service.specs.Steps.{HasReceived, HasStaged, HasStarted, HasBrokenOff, HasDelivered, HasSentSome};

@@ -2,7 +2,7 @@
 ghost use Rattle.std.specs.Prelude.{◌≡◌, ◌∷◌, List, false};
 ghost use Rattle.posts.specs.declared.posts.Post.{Post};
 ghost use Rattle.posts.specs.declared.replies.Reply.{Reply};
-ghost use Rattle.turn_core.specs.States.{State};
+ghost use Rattle.path_service.specs.machine.States.{State};
 ghost use Rattle.path_service.specs.Callers.{CallerState, EndedState};
 ghost use Rattle.path_service.specs.CallerSteps.{HasListsOf, PostsInStep, CollectsInStep};
 ghost use Rattle.path_service.specs.Services.{DriverState};

@@ -6,13 +6,17 @@
 //! ```
 //!
 //! Each [`Caller`] has two lanes. The [`Driver`] takes as a turn what has come, and takes in the next one while workers
-//! answer it. It is seen as the state of the turn machine of [`turn_core`], and each of its calls is a run of that
-//! machine. Texts and scripts are unknown here.
+//! answer it. Texts and scripts are unknown here.
+//!
+//! How turns are staged, run and delivered is said in `specs/machine` as a machine with states, [`Event`]s and effects.
+//! Nothing here runs it: the driver is seen as its state, and each of the driver's calls is a run of it. The crate
+//! `turn_model` is the machine itself, event by event.
 #![tactic(auto)]
 
 mod callers;
 mod closing;
 mod drivers;
+mod events;
 mod intakes;
 mod laws;
 mod ports;
@@ -22,5 +26,6 @@ mod services;
 pub use callers::{Caller, Callers, EndedCaller, EndedCallers};
 pub use closing::{Closed, ClosedCaller, ClosedCallers};
 pub use drivers::Driver;
+pub use events::{Event, Takes, Why};
 pub use laws::{closed_services_are_reached, collected_replies_are_steps, posts_are_steps};
 pub use services::start_service;

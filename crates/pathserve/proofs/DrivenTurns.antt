@@ -7,11 +7,11 @@ use Rattle.nav_types.specs.declared.limits.TheConstants.{MAX_STAGED_POSTS}
 use Rattle.posts.specs.declared.posts.Post.{Post}
 use Rattle.posts.specs.declared.replies.Reply.{Reply}
 use Rattle.posts.specs.Posts.{post_count}
-use Rattle.turn_core.specs.declared.events.Event.{Event}
-use Rattle.turn_core.specs.declared.events.Event.TheVariants.{Post as Posting, Stage, Start, Claim, Finish, Deliver, Collect}
-use Rattle.turn_core.specs.States.{State, Run}
-use Rattle.turn_core.specs.Effects.{IsStep, IsMachineRun, joined_up, delivered}
-use Rattle.turn_core.specs.Arrival.{posts_of, post_events, answered_run, in_run}
+use Rattle.path_service.specs.declared.events.Event.{Event}
+use Rattle.path_service.specs.declared.events.Event.TheVariants.{Post as Posting, Stage, Start, Claim, Finish, Deliver, Collect}
+use Rattle.path_service.specs.machine.States.{State, Run}
+use Rattle.path_service.specs.machine.Effects.{IsStep, IsMachineRun, joined_up, delivered}
+use Rattle.path_service.specs.machine.Arrival.{posts_of, post_events, answered_run, in_run}
 use Rattle.path_service.specs.Services.{DriverState, in_hand, with_machine}
 use Rattle.path_service.specs.Steps.{staging, HasStaged, HasStarted, HasDelivered}
 use Rattle.std.proofs.lemmas.Bool.{both_ways}

@@ -2,8 +2,8 @@
 use Rattle.std.proofs.Common.{◌≡◌, ℕ, suc, ◌+◌, ◌<◌, ◌≤◌, List, [], ◌∷◌, ◌++◌, length, set, refl, sym, ap, ◌∙◌, arith, append-nil, append_assoc, length-append}
 use Rattle.posts.specs.declared.posts.Post.{Post}
 use Rattle.posts.specs.Callers.{list_of}
-use Rattle.turn_core.specs.Effects.{joined_up}
-use Rattle.turn_core.proofs.CallerLists.{joined_nothing}
+use Rattle.path_service.specs.machine.Effects.{joined_up}
+use Rattle.path_service.proofs.machine.CallerLists.{joined_nothing}
 
 -- the next caller's posts are joined to its own
 joined_next : (lists turn : List (List Post)) (posts : List Post) → length turn < length lists

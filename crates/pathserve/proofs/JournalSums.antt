@@ -4,8 +4,8 @@ use Rattle.std.proofs.lemmas.List.Sums.{sum_by-cons}
 use Rattle.posts.specs.declared.posts.Post.{Post}
 use Rattle.posts.specs.Callers.{list_of, of_caller}
 use Rattle.posts.specs.Posts.{post_count}
-use Rattle.turn_core.specs.Effects.{first_list, joined_up}
-use Rattle.turn_core.proofs.CallerLists.{joined_up_at}
+use Rattle.path_service.specs.machine.Effects.{first_list, joined_up}
+use Rattle.path_service.proofs.machine.CallerLists.{joined_up_at}
 
 -- the posts of each caller in all turns
 abbrev pub joined_turns : List (List (List Post)) → List (List Post)

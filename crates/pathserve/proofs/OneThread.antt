@@ -14,7 +14,7 @@ use Rattle.posts.specs.declared.notes.Report.TheVariants.{Answers}
 use Rattle.turn_core.specs.Words.{Standing, bare}
 use Rattle.posts.specs.Posts.{jobs}
 use Rattle.turn_core.specs.Turns.{after_turn, OneThread, TellNumbers, IsTurnTold, IsOneThread, replies_in}
-use Rattle.turn_core.proofs.Arriving.{answers_turn}
+use Rattle.path_service.proofs.machine.Arriving.{answers_turn}
 use Rattle.turn_core.proofs.OneNote.{answers_tell_nothing, notes_of_answers}
 use Rattle.answer_text.specs.Answers.{turn_text}
 use Rattle.answer_text.specs.Noted.{noted_text}

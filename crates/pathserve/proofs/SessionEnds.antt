@@ -9,12 +9,13 @@ use Rattle.posts.specs.Callers.{of_caller, list_of}
 use Rattle.posts.specs.Posts.{post_count}
 use Rattle.turn_core.specs.Words.{bare}
 use Rattle.turn_core.specs.Turns.{replies_in, IsOneThread}
-use Rattle.turn_core.specs.States.{State, opening}
-use Rattle.turn_core.specs.Facts.{Facts, HaveLists, running_turns, staged_turns, all_turns}
-use Rattle.turn_core.specs.Arrival.{arrival}
-use Rattle.turn_core.proofs.CallerLists.{of_caller-append}
-use Rattle.turn_core.proofs.Keeping.{facts_at_opening, kept_run_of}
-use Rattle.turn_core.proofs.Settling.{all_done, as_many}
+use Rattle.path_service.specs.machine.States.{State, opening}
+use Rattle.path_service.specs.machine.Facts.{Facts, HaveLists, running_turns, staged_turns, all_turns}
+use Rattle.path_service.specs.machine.Arrival.{arrival}
+use Rattle.path_service.proofs.machine.CallerLists.{of_caller-append}
+use Rattle.path_service.proofs.machine.Keeping.{facts_at_opening, kept_run_of}
+use Rattle.path_service.proofs.machine.Settling.{all_done}
+use Rattle.turn_core.proofs.ReplyCounts.{as_many}
 use Rattle.request_lanes.specs.Ends.{Closing}
 use Rattle.path_service.specs.declared.closing.ClosedCaller.{ClosedCaller}
 use Rattle.path_service.specs.Callers.{CallerId, EndedState, ended_id, AreNumbered}

@@ -5,8 +5,8 @@ use Rattle.std.proofs.lemmas.Bool.{and_parts, and_from}
 use Rattle.std.proofs.lemmas.List.Folds.{list_all-append}
 use Rattle.posts.specs.declared.posts.Post.{Post}
 use Rattle.posts.specs.Callers.{of_caller, list_of}
-use Rattle.turn_core.specs.Effects.{joined_up}
-use Rattle.turn_core.proofs.CallerLists.{joined_up_at, none_at, of_caller_push}
+use Rattle.path_service.specs.machine.Effects.{joined_up}
+use Rattle.path_service.proofs.machine.CallerLists.{joined_up_at, none_at, of_caller_push}
 use Rattle.script_text.specs.declared.faults.ScriptFault.{ScriptFault}
 use Rattle.script_text.specs.declared.faults.ScriptFault.TheVariants as fault
 use Rattle.script_text.specs.declared.parts.Part.{Part}
@@ -18,7 +18,7 @@ use Rattle.script_text.proofs.ReadNext.{goes_nowhere}
 use Rattle.script_text.proofs.ReadCalls.{fault_then, goes_then, stuck_then, turns_of-append}
 use Rattle.input_lines.proofs.ToldLines.{told-same, told-then}
 use Rattle.pathserve.specs.inner.WholeScripts.{AllTold}
-use Rattle.turn_core.proofs.CallerLists.{joined_nothing}
+use Rattle.path_service.proofs.machine.CallerLists.{joined_nothing}
 
 -- ---- a refusal behind what went on
 

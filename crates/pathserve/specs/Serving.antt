@@ -7,7 +7,7 @@ use Rattle.posts.specs.Maps.{Map}
 use Rattle.posts.specs.Callers.{of_caller}
 use Rattle.posts.specs.Posts.{post_count}
 use Rattle.turn_core.specs.Turns.{IsOneThread}
-use Rattle.turn_core.specs.Facts.{HaveLists}
+use Rattle.path_service.specs.machine.Facts.{HaveLists}
 use Rattle.request_lanes.specs.Ends.{Closing}
 use Rattle.path_service.specs.declared.closing.ClosedCaller.{ClosedCaller}
 use Rattle.input_lines.specs.Lines.{full_lines}

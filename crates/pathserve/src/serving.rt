@@ -6,7 +6,7 @@ ghost use Rattle.io_edges.specs.Faults.{Rose};
 ghost use Rattle.io_edges.specs.Passing.{HasGiven};
 ghost use Rattle.posts.specs.Callers.{list_of};
 ghost use Rattle.posts.specs.Posts.{post_count};
-ghost use Rattle.turn_core.specs.Effects.{joined_up};
+ghost use Rattle.path_service.specs.machine.Effects.{joined_up};
 ghost use Rattle.script_text.specs.Canon.{HaveLines};
 ghost use Rattle.script_text.specs.ReadsBack.{canon_script};
 ghost use Rattle.script_text.specs.Reader.{HaveLinesAt, HoldsRefused, callers_of, rules_at};

@@ -13,7 +13,7 @@ use Rattle.grid_versions.specs.Editing.{edit_reply}
 use Rattle.turn_core.specs.Solving.{AreAnswersTo}
 use Rattle.turn_core.specs.Words.{Standing, edited}
 use Rattle.turn_core.specs.Turns.{after, after_turn, AreTurnReplies}
-use Rattle.turn_core.specs.Effects.{first_answer, given, given_turn}
+use Rattle.turn_core.specs.Given.{first_answer, given, given_turn}
 use Rattle.turn_core.specs.inner.ReplyLists.{edits_told, edits_told_in, list_ahead, edits_past_list, HaveEdits, lists_ahead, AllHaveEdits, list_filled, answers_past_list, HaveAnswers, lists_filled, AllHaveAnswers}
 use Rattle.turn_core.proofs.Answering.{given_turn_are}
 

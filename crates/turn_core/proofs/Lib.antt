@@ -8,13 +8,8 @@ pub mod Searchable
 pub mod KeptFields
 pub mod TurnByTurn
 pub mod Threads
-pub mod CallerLists
+pub mod ReplyCounts
 pub mod Sweeping
 pub mod FilledReplies
 pub mod TurnEdits
 pub mod Answering
-pub mod Keeping
-pub mod OneRun
-pub mod Settling
-pub mod Reaching
-pub mod Arriving

@@ -1,12 +1,11 @@
 -- A journal that one thread answers, turn by turn.
-use Rattle.std.proofs.Common.{◌≡◌, ℕ, ◌+◌, ◌<◌, List, [], ◌∷◌, ◌++◌, Option, None, Some, length, take, get_or, refl, sym, ap, ◌∙◌, subst}
+use Rattle.std.proofs.Common.{◌≡◌, ℕ, ◌+◌, ◌<◌, List, [], ◌∷◌, ◌++◌, Some, length, take, get_or, refl, sym, ap, ◌∙◌, subst}
 use Rattle.std.specs.Prelude.{◌↔◌, slice_get}
 use Rattle.std.proofs.lemmas.List.{take_more}
 use Rattle.nav_types.specs.Regions.{HasTallies, HasRelabelled}
 use Rattle.posts.specs.declared.posts.Post.{Post}
 use Rattle.posts.specs.declared.posts.Request.{Request}
 use Rattle.posts.specs.declared.replies.Answer.{Answer}
-use Rattle.posts.specs.declared.replies.Answer.TheVariants.{Nowhere}
 use Rattle.posts.specs.declared.replies.Reply.{Reply}
 use Rattle.posts.specs.declared.replies.TurnReplies.{TurnReplies}
 use Rattle.posts.specs.Maps.{Map}
@@ -14,7 +13,6 @@ use Rattle.grid_versions.specs.Versions.{map_state, passes_of}
 use Rattle.turn_core.specs.Words.{Standing, MapState, bare, TellsNumbers}
 use Rattle.turn_core.specs.Solving.{IsAnswerTo, AreAnswersTo}
 use Rattle.turn_core.specs.Turns.{after_turn, standing, OneThread, TellNumbers, IsTurnTold, replies_in, IsOneThread}
-use Rattle.turn_core.specs.Effects.{known}
 use Rattle.turn_core.proofs.Itemwise.{itemwise_by_place}
 use Rattle.turn_core.proofs.OneAnswer.{answers_itemwise}
 use Rattle.turn_core.proofs.Threads.{standing_more, thread_more}
@@ -36,12 +34,6 @@ pub answers_next : (m : Map) (s : Standing) (requests : List Request) (answers :
 answers_next m s requests answers i request answer lt are is =
     subst (λ (rs : List Request). AreAnswersTo m s rs (answers ++ answer ∷ [])) (sym (take_more requests i request lt))
     (answers_end m s (take i requests) answers (get_or requests i request) answer are is)
-
--- the answers that are known, and one more
-pub known_end : (answers : List (Option Answer)) (answer : Answer) → known (answers ++ Some answer ∷ []) ≡ known answers ++ answer ∷ []
-known_end [] answer = refl
-known_end (None ∷ answers) answer = ap (λ (l : List Answer). Nowhere ∷ l) (known_end answers answer)
-known_end (Some other ∷ answers) answer = ap (λ (l : List Answer). other ∷ l) (known_end answers answer)
 
 -- ---- answers by their places
 

@@ -4,11 +4,6 @@ pub mod Solving
 pub mod Notes
 pub mod Solvers
 pub mod Turns
+pub mod Given
 pub mod ReadyTurns
-pub mod States
-pub mod Table
-pub mod Refusals
-pub mod Effects
-pub mod Facts
-pub mod Arrival
 pub mod inner

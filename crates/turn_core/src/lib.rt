@@ -7,12 +7,10 @@
 //!
 //! A [`Solver`] answers one request after another and keeps its search's memory and its last flow field; what it answers
 //! does not depend on what it answered before. [`answer_turn`] does a whole turn by one thread: the sequential
-//! specification, as a program. How turns are staged, run and delivered is said in `specs/` as a machine with states,
-//! events and effects; nothing here runs it. `path_service` is proved to follow it, and `turn_model` is it, event by event.
+//! specification, as a program. `path_service` says how turns are staged, run and delivered beside each other.
 #![tactic(auto)]
 
 mod edited_turns;
-mod events;
 mod journals;
 mod last_fields;
 pub mod laws;
@@ -27,7 +25,6 @@ mod searches;
 mod solving;
 mod turn_versions;
 
-pub use events::{Event, Takes, Why};
 pub use journals::{answer_turn, one_thread};
 pub use jump_search::Pool;
 pub use named_goals::goal_of;

@@ -5,9 +5,9 @@ use Rattle.std.specs.Prelude.{slice_get}
 use Rattle.posts.specs.declared.replies.Reply.{Reply}
 use Rattle.posts.specs.Callers.{list_of}
 use Rattle.turn_model.specs.declared.machines.delivered.DeliveredTurn.{DeliveredTurn}
-use Rattle.turn_core.specs.Effects.{joined_up}
+use Rattle.path_service.specs.machine.Effects.{joined_up}
 use Rattle.turn_model.specs.inner.Runs.{gathered, replies_to}
-use Rattle.turn_core.proofs.CallerLists.{joined_up_at}
+use Rattle.path_service.proofs.machine.CallerLists.{joined_up_at}
 
 -- no list stands at a place past the end
 pub no_list : {A : Type 0} (xs : List (List A)) (c : ℕ) → slice_get xs c ≡ None → [] ≡ list_of xs c

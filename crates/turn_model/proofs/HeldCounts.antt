@@ -3,10 +3,10 @@ use Rattle.std.proofs.Common.{◌≡◌, ℕ, ◌+◌, List, Option, None, Some,
 use Rattle.posts.specs.Callers.{of_caller, list_of}
 use Rattle.turn_model.specs.declared.machines.running.RunningTurn.{RunningTurn}
 use Rattle.turn_model.specs.declared.machines.Machine.TheInside.{Inside}
-use Rattle.turn_core.specs.Facts.{running_turns, staged_turns, Facts}
+use Rattle.path_service.specs.machine.Facts.{running_turns, staged_turns, Facts}
 use Rattle.turn_model.specs.inner.Runs.{option_run_of, option_posts_of, posts_held}
 use Rattle.turn_model.specs.inner.Machines.{state_of}
-use Rattle.turn_core.proofs.Settling.{replies_counted}
+use Rattle.path_service.proofs.machine.Settling.{replies_counted}
 
 running_count : (o : Option RunningTurn) (c : ℕ) → length (of_caller c (running_turns (option_run_of o))) ≡ length (posts_held o c)
 running_count None c = refl

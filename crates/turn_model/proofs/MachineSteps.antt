@@ -15,10 +15,10 @@ use Rattle.posts.specs.Maps.{Map}
 use Rattle.posts.specs.Posts.{jobs}
 use Rattle.posts.specs.Callers.{list_of}
 use Rattle.grid_versions.specs.Versions.{map_state}
-use Rattle.turn_core.specs.declared.events.Event.{Event}
-use Rattle.turn_core.specs.declared.events.Event.TheVariants.{Post as Posting, Stage, Start, Claim, Finish, Deliver}
-use Rattle.turn_core.specs.declared.events.Event.TheVariants.{Collect}
-use Rattle.turn_core.specs.declared.events.Why.{Why}
+use Rattle.path_service.specs.declared.events.Event.{Event}
+use Rattle.path_service.specs.declared.events.Event.TheVariants.{Post as Posting, Stage, Start, Claim, Finish, Deliver}
+use Rattle.path_service.specs.declared.events.Event.TheVariants.{Collect}
+use Rattle.path_service.specs.declared.events.Why.{Why}
 use Rattle.turn_model.specs.declared.machines.running.RunningTurn.{RunningTurn}
 use Rattle.turn_model.specs.declared.machines.delivered.DeliveredTurn.{DeliveredTurn}
 use Rattle.turn_model.specs.declared.machines.Machine.TheInside.{Inside}
@@ -26,22 +26,24 @@ use Rattle.turn_core.specs.Solving.{IsAnswerTo, AreAnswersTo}
 use Rattle.turn_core.specs.Words.{Standing, MapState, bare}
 use Rattle.turn_core.specs.Turns.{after_turn, standing, IsTurnTold}
 use Rattle.turn_core.specs.ReadyTurns.{Ready, after_edits_of}
-use Rattle.turn_core.specs.States.{State, Run, stands_after_done, stands_in_run}
-use Rattle.turn_core.specs.Table.{unless, or_else, why_not, why_none_staged, why_running, running_turn, why_no_caller}
-use Rattle.turn_core.specs.Table.{why_no_claim, why_no_finish, why_unanswered, why_no_delivery, why_collected}
-use Rattle.turn_core.specs.Table.{last_turn}
-use Rattle.turn_core.specs.Effects.{joined_up, known, given_turn, started, claimed, finished, delivered, collected}
-use Rattle.turn_core.specs.Effects.{AnswersJob, IsStep, IsCollect}
-use Rattle.turn_core.specs.Facts.{WhileRunning, Facts}
+use Rattle.path_service.specs.machine.States.{State, Run, stands_after_done, stands_in_run}
+use Rattle.path_service.specs.machine.Table.{unless, or_else, why_not, why_none_staged, why_running, running_turn, why_no_caller}
+use Rattle.path_service.specs.machine.Table.{why_no_claim, why_no_finish, why_unanswered, why_no_delivery, why_collected}
+use Rattle.path_service.specs.machine.Table.{last_turn}
+use Rattle.path_service.specs.machine.Effects.{joined_up, known, started, claimed, finished, delivered, collected}
+use Rattle.turn_core.specs.Given.{given_turn}
+use Rattle.path_service.specs.machine.Effects.{AnswersJob, IsStep, IsCollect}
+use Rattle.path_service.specs.machine.Facts.{WhileRunning, Facts}
 use Rattle.turn_model.specs.inner.Runs.{run_of, option_run_of, option_posts_of, version_for_next, IsReadyOn, posts_in, gathered}
 use Rattle.turn_model.specs.inner.Runs.{replies_to, with_claim, IsHeldOn, HasUnclaimed, HasJob, HasPlace, AnswersAfter}
 use Rattle.turn_model.specs.inner.Runs.{AnswersHeld, PutsIn, PutsAnswer, HaveCome}
 use Rattle.turn_model.specs.inner.Machines.{state_of, HoldsRun, HoldsStaged, HoldsState}
-use Rattle.turn_core.proofs.CallerLists.{none_at}
+use Rattle.path_service.proofs.machine.CallerLists.{none_at}
 use Rattle.turn_core.proofs.Threads.{standing_more, one_turn}
-use Rattle.turn_core.proofs.Answering.{length_answers, solves_known, given_turn_are}
+use Rattle.path_service.proofs.machine.JobAnswers.{length_answers, solves_known}
+use Rattle.turn_core.proofs.Answering.{given_turn_are}
 use Rattle.turn_core.proofs.TurnByTurn.{answers_moved}
-use Rattle.turn_core.proofs.Keeping.{first_none, second_none, unless_none}
+use Rattle.path_service.proofs.machine.Keeping.{first_none, second_none, unless_none}
 use Rattle.std.proofs.lemmas.Bool.{ltb-true}
 use Rattle.turn_model.proofs.DeliveredReplies.{gathered_at, gathered_push}
 

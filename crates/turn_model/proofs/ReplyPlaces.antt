@@ -14,7 +14,7 @@ use Rattle.posts.specs.Callers.{list_of}
 use Rattle.turn_model.specs.declared.machines.delivered.DeliveredTurn.{DeliveredTurn}
 use Rattle.turn_model.specs.declared.machines.delivered.ReplyPlace.{ReplyPlace}
 use Rattle.turn_model.specs.inner.Runs.{replies_to, beginning, HasCome, HaveCome}
-use Rattle.turn_core.proofs.CallerLists.{zeros_at}
+use Rattle.path_service.proofs.machine.CallerLists.{zeros_at}
 
 get_back : {A : Type 0} (xs ys : List A) (k : ℕ) → length xs ≤ k → slice_get (xs ++ ys) k ≡ slice_get ys (k - length xs)
 get_back [] ys k h = ap (slice_get ys) (let e : k ≡ k - 0 = omega arith in e)

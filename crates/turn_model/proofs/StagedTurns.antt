@@ -4,10 +4,10 @@ use Rattle.std.specs.Prelude.{nat_le}
 use Rattle.std.proofs.lemmas.Bool.{le-leb, lt-leb}
 use Rattle.std.proofs.lemmas.List.{drop_all, drop_more, get_or-drop, drop-drop}
 use Rattle.posts.specs.declared.posts.Post.{Post}
-use Rattle.turn_core.specs.declared.events.Why.TheVariants.{Posted}
-use Rattle.turn_core.specs.Table.{first, or_else, unless, why_few}
-use Rattle.turn_core.specs.Effects.{next_posts, added_up}
-use Rattle.turn_core.proofs.CallerLists.{first_at}
+use Rattle.path_service.specs.declared.events.Why.TheVariants.{Posted}
+use Rattle.path_service.specs.machine.Table.{first, or_else, unless, why_few}
+use Rattle.path_service.specs.machine.Effects.{next_posts, added_up}
+use Rattle.path_service.proofs.machine.CallerLists.{first_at}
 
 first_drop : (i : ℕ) (ns : List ℕ) → first (drop i ns) ≡ slice_index ns i
 first_drop i ns = first_at (drop i ns) ∙ get_or-drop i ns 0 0 ∙ ap (slice_index ns) (add-zero i)

@@ -1,6 +1,6 @@
 -- The texts of refused steps.
 use Rattle.std.specs.Prelude.{ℕ, List, ◌++◌, codes}
-use Rattle.turn_core.specs.Refusals.{why_text}
+use Rattle.path_service.specs.machine.Refusals.{why_text}
 use Rattle.turn_model.specs.declared.refusals.StepRefusal.{StepRefusal}
 use Rattle.turn_model.specs.declared.refusals.StepRefusal.TheVariants.{NotEnabled, NoMemory}
 

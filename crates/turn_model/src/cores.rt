@@ -1,19 +1,19 @@
 //! The turn machine, event by event.
 ghost use Rattle.std.specs.Prelude.{◌≡◌, ◌↔◌, Err, IfOk, IsOk, IsSome, None, OnErr, Some};
-ghost use Rattle.turn_core.specs.declared.events.Why.{Why as Cause};
-ghost use Rattle.turn_core.specs.States.{opening};
-ghost use Rattle.turn_core.specs.Table.{why_not};
-ghost use Rattle.turn_core.specs.Effects.{IsStep, IsCollect, TakesNoMemory};
-ghost use Rattle.turn_core.specs.Facts.{Facts};
+ghost use Rattle.path_service.specs.declared.events.Why.{Why as Cause};
+ghost use Rattle.path_service.specs.machine.States.{opening};
+ghost use Rattle.path_service.specs.machine.Table.{why_not};
+ghost use Rattle.path_service.specs.machine.Effects.{IsStep, IsCollect, TakesNoMemory};
+ghost use Rattle.path_service.specs.machine.Facts.{Facts};
 
 use crate::machines::Machine;
 use crate::refusals::StepRefusal;
 use grid_versions::MapSpec;
 use nav_types::NoMemory;
+use path_service::Event;
 use posts::Reply;
 use std::alloc::Global;
 use std::marker::Model;
-use turn_core::Event;
 
 /// The turn machine of a map. Contracts see its state (`State`), of which all holds that holds of each state
 /// that the machine reaches (`Facts`).
@@ -23,8 +23,8 @@ pub struct Core {
 }
 
 impl Model for Core {
-    ghost use Rattle.turn_core.specs.States.{State};
-    ghost use Rattle.turn_core.specs.Facts.{Facts};
+    ghost use Rattle.path_service.specs.machine.States.{State};
+    ghost use Rattle.path_service.specs.machine.Facts.{Facts};
 
     ghost Value = { State };
 

@@ -6,16 +6,16 @@ ghost use Rattle.posts.specs.declared.replies.Reply.{Reply};
 ghost use Rattle.posts.specs.Maps.{Map};
 ghost use Rattle.posts.specs.Posts.{jobs};
 ghost use Rattle.posts.specs.Callers.{list_of};
-ghost use Rattle.turn_core.specs.declared.events.Event.{Event};
-ghost use Rattle.turn_core.specs.declared.events.Event.TheVariants.{Stage, Deliver};
+ghost use Rattle.path_service.specs.declared.events.Event.{Event};
+ghost use Rattle.path_service.specs.declared.events.Event.TheVariants.{Stage, Deliver};
 ghost use Rattle.turn_core.specs.Solving.{AreAnswersTo};
 ghost use Rattle.turn_core.specs.Words.{bare};
 ghost use Rattle.turn_core.specs.Turns.{after_turn, AreTurnReplies, OneThread};
-ghost use Rattle.turn_core.specs.States.{State, opening, stands_after_done};
-ghost use Rattle.turn_core.specs.Effects.{IsStep, IsMachineRun, joined_up};
-ghost use Rattle.turn_core.specs.Facts.{Facts};
-ghost use Rattle.turn_core.specs.Arrival.{post_events, answering, arrival, CanStage, answered_run, in_stage, in_run};
-ghost use Rattle.turn_core.specs.Arrival.{at_end, CanArrive, HasArrived};
+ghost use Rattle.path_service.specs.machine.States.{State, opening, stands_after_done};
+ghost use Rattle.path_service.specs.machine.Effects.{IsStep, IsMachineRun, joined_up};
+ghost use Rattle.path_service.specs.machine.Facts.{Facts};
+ghost use Rattle.path_service.specs.machine.Arrival.{post_events, answering, arrival, CanStage, answered_run, in_stage, in_run};
+ghost use Rattle.path_service.specs.machine.Arrival.{at_end, CanArrive, HasArrived};
 
 /// A law: what holds of each state that the machine reaches holds of the state in which it opens.
 pub fn facts_hold_at_opening()

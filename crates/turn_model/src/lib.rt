@@ -1,7 +1,7 @@
-//! The turn machine of [`turn_core`] as a program, one event a step: a reference model.
+//! The turn machine of [`path_service`] as a program, one event a step: a reference model.
 //!
-//! [`Core`] is what the machine's definitions are tried and shown by. The service of `path_service` is proved against the
-//! same definitions and does not run it.
+//! [`Core`] is what the machine's definitions are tried and shown by. The service is proved against the same
+//! definitions and does not run it.
 #![tactic(auto)]
 
 mod cores;
@@ -10,5 +10,5 @@ mod machines;
 mod refusals;
 
 pub use cores::Core;
+pub use path_service::{Event, Takes, Why};
 pub use refusals::StepRefusal;
-pub use turn_core::{Event, Takes, Why};

@@ -2,10 +2,10 @@
 ghost use Rattle.std.specs.Prelude.{◌≡◌, ◌<◌, ◌≤◌, IfOk, IsOk, OnErr, None, length, slice_set};
 ghost use Rattle.nav_types.specs.declared.limits.TheConstants.{MAX_CALLERS};
 ghost use Rattle.posts.specs.Callers.{list_of};
-ghost use Rattle.turn_core.specs.States.{opening};
-ghost use Rattle.turn_core.specs.Table.{why_not, last_turn, running_turn};
-ghost use Rattle.turn_core.specs.Effects.{Effect, TakesNoMemory};
-ghost use Rattle.turn_core.specs.Facts.{Facts};
+ghost use Rattle.path_service.specs.machine.States.{opening};
+ghost use Rattle.path_service.specs.machine.Table.{why_not, last_turn, running_turn};
+ghost use Rattle.path_service.specs.machine.Effects.{Effect, TakesNoMemory};
+ghost use Rattle.path_service.specs.machine.Facts.{Facts};
 
 mod causes;
 mod delivered;
@@ -15,12 +15,13 @@ mod staging;
 use delivered::{DeliveredTurn, ReplyPlace};
 use grid_versions::{MapSpec, Version};
 use nav_types::NoMemory;
+use path_service::{Event, Takes, Why};
 use posts::{Post, Posts, Reply, empty_lists, push_post};
 use running::RunningTurn;
 use staging::NextTurn;
 use std::alloc::Global;
 use std::marker::Model;
-use turn_core::{AnsweredTurn, Event, Takes, Why, bare_version};
+use turn_core::{AnsweredTurn, bare_version};
 
 /// The turn machine: the version after the turns that are delivered, and what the callers posted, have
 /// taken from them, and collected, with the place that each has come to among the turns. Contracts see a state
@@ -39,7 +40,7 @@ pub(crate) struct Machine {
 }
 
 impl Model for Machine {
-    ghost use Rattle.turn_core.specs.States.{State};
+    ghost use Rattle.path_service.specs.machine.States.{State};
 
     ghost Value = { State };
 

@@ -3,9 +3,9 @@ ghost use Rattle.std.specs.Prelude.{◌≡◌, Some};
 ghost use Rattle.turn_model.specs.Refusals.{refusal_text};
 
 use nav_types::NoMemory;
+use path_service::Why;
 use std::error::Error;
 use std::fmt;
-use turn_core::Why;
 
 /// Why a step was not made.
 #[derive(Clone, Copy, Debug, PartialEq, Eq)]

@@ -9,10 +9,10 @@ use Rattle.posts.specs.Posts.{post_count}
 use Rattle.turn_core.specs.Words.{MapState, bare}
 use Rattle.turn_core.specs.Turns.{standing, IsOneThread}
 use Rattle.turn_core.specs.ReadyTurns.{Ready}
-use Rattle.turn_core.specs.States.{State, Run}
-use Rattle.turn_core.specs.Effects.{begun, first_list, joined_up}
-use Rattle.turn_core.specs.Facts.{Facts}
-use Rattle.turn_core.specs.Arrival.{answered_run}
+use Rattle.path_service.specs.machine.States.{State, Run}
+use Rattle.path_service.specs.machine.Effects.{begun, first_list, joined_up}
+use Rattle.path_service.specs.machine.Facts.{Facts}
+use Rattle.path_service.specs.machine.Arrival.{answered_run}
 use Rattle.path_service.specs.declared.runs.AnsweredRun.{AnsweredRun}
 use Rattle.path_service.specs.declared.drivers.Driver.TheInside.{Inside}
 use Rattle.path_service.specs.Services.{DriverState}

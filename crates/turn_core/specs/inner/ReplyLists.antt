@@ -12,7 +12,7 @@ use Rattle.posts.specs.Maps.{Map}
 use Rattle.grid_versions.specs.Editing.{edit_reply}
 use Rattle.turn_core.specs.Words.{Standing, edited}
 use Rattle.turn_core.specs.Turns.{after}
-use Rattle.turn_core.specs.Effects.{first_answer}
+use Rattle.turn_core.specs.Given.{first_answer}
 use Rattle.turn_core.specs.inner.Sweeps.{swept, left, EachHas}
 
 -- the replies to the edits among posts

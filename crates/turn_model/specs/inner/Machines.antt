@@ -4,7 +4,7 @@ use Rattle.turn_model.specs.declared.machines.running.RunningTurn.{RunningTurn}
 use Rattle.turn_model.specs.declared.machines.Machine.TheInside.{Inside}
 use Rattle.turn_core.specs.Words.{MapState, bare}
 use Rattle.turn_core.specs.Turns.{standing}
-use Rattle.turn_core.specs.States.{State}
+use Rattle.path_service.specs.machine.States.{State}
 use Rattle.turn_model.specs.inner.Runs.{option_run_of, option_posts_of, version_for_next, posts_in, gathered, IsHeldOn, IsReadyOn}
 use Rattle.turn_model.specs.inner.Runs.{HaveCome}
 

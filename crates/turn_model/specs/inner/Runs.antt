@@ -15,8 +15,8 @@ use Rattle.turn_model.specs.declared.machines.delivered.DeliveredTurn.{Delivered
 use Rattle.turn_model.specs.declared.machines.delivered.ReplyPlace.{ReplyPlace}
 use Rattle.turn_core.specs.Solving.{IsAnswerTo}
 use Rattle.turn_core.specs.ReadyTurns.{Ready, after_edits_of}
-use Rattle.turn_core.specs.States.{Run}
-use Rattle.turn_core.specs.Effects.{joined_up, begun}
+use Rattle.path_service.specs.machine.States.{Run}
+use Rattle.path_service.specs.machine.Effects.{joined_up, begun}
 
 -- the running turn that is held, as one of a state
 abbrev pub run_of : RunningTurn → Run

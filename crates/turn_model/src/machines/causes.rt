@@ -1,15 +1,15 @@
 //! Why an event is not enabled.
 ghost use Rattle.std.specs.Prelude.{◌≡◌, ◌-◌, ◌≤◌, None, length, slice_index_or};
 ghost use Rattle.nav_types.specs.declared.limits.TheConstants.{MAX_CALLERS};
-ghost use Rattle.turn_core.specs.Table.{or_else, why_no_caller, why_not_each, why_staged, why_few, why_none_staged};
-ghost use Rattle.turn_core.specs.Table.{why_running, why_no_claim, why_no_finish, why_answered, why_unanswered};
-ghost use Rattle.turn_core.specs.Table.{why_no_delivery, why_collected};
+ghost use Rattle.path_service.specs.machine.Table.{or_else, why_no_caller, why_not_each, why_staged, why_few, why_none_staged};
+ghost use Rattle.path_service.specs.machine.Table.{why_running, why_no_claim, why_no_finish, why_answered, why_unanswered};
+ghost use Rattle.path_service.specs.machine.Table.{why_no_delivery, why_collected};
 ghost use Rattle.turn_model.specs.inner.Runs.{option_run_of, option_posts_of};
 
 use crate::machines::running::RunningTurn;
 use crate::machines::staging::number_at;
+use path_service::{Takes, Why};
 use posts::{Answer, Posts};
-use turn_core::{Takes, Why};
 
 /// The first cause, where there is one, else the second.
 pub(crate) fn or_else(first: Option<Why>, second: Option<Why>) -> Option<Why>

@@ -2,8 +2,8 @@
 ghost use Rattle.std.specs.Prelude.{◌≡◌, ◌+◌, ◌<◌, ◌≤◌, [], IfOk, None, Some, length, replicate, slice_set};
 ghost use Rattle.std.specs.Prelude.{vec_capacity};
 ghost use Rattle.posts.specs.Posts.{jobs};
-ghost use Rattle.turn_core.specs.Table.{why_unanswered};
-ghost use Rattle.turn_core.specs.Effects.{begun, known};
+ghost use Rattle.path_service.specs.machine.Table.{why_unanswered};
+ghost use Rattle.path_service.specs.machine.Effects.{begun, known};
 ghost use Rattle.turn_model.specs.inner.Runs.{run_of, version_for_next, posts_held, answers_held, with_claim, IsHeldOn, HasUnclaimed};
 ghost use Rattle.turn_model.specs.inner.Runs.{HasJob, HasPlace, AnswersHeld, PutsAnswer};
 

@@ -1,6 +1,6 @@
 //! The next turn, out of what the callers posted.
 ghost use Rattle.std.specs.Prelude.{◌≡◌, ◌+◌, ◌++◌, ◌∷◌, ◌<◌, ◌^◌, [], IfOk, OnOk, drop, length, map, take, slice_index};
-ghost use Rattle.turn_core.specs.Effects.{next_posts, added_up};
+ghost use Rattle.path_service.specs.machine.Effects.{next_posts, added_up};
 
 use nav_types::{NoMemory, Sequence};
 use posts::{Post, Posts, TurnPosts, copied_items};

@@ -6,7 +6,7 @@ use Rattle.io_edges.proofs.Passed.{given_none, given_more}
 use Rattle.posts.specs.declared.posts.Post.{Post}
 use Rattle.posts.specs.Posts.{post_count}
 use Rattle.posts.proofs.PostCounts.{count_none}
-use Rattle.turn_core.specs.Effects.{joined_up}
+use Rattle.path_service.specs.machine.Effects.{joined_up}
 use Rattle.script_text.specs.declared.faults.ScriptFault.{ScriptFault}
 use Rattle.script_text.specs.declared.faults.ScriptFault.TheVariants as fault
 use Rattle.script_text.specs.Reader.{callers_of}

@@ -1,4 +1,4 @@
-use Rattle.turn_core.proofs.Settling.{as_many}
+use Rattle.turn_core.proofs.ReplyCounts.{as_many}
 use Rattle.turn_core.proofs.laws.replies_are_as_many_as_posts.Goals as goal
 
 pub returns : goal.returns

@@ -1,4 +1,4 @@
-use Rattle.turn_core.proofs.Arriving.{arrives, arrives_alone}
+use Rattle.path_service.proofs.machine.Arriving.{arrives, arrives_alone}
 use Rattle.turn_model.proofs.laws.each_journal_is_reached.Goals as goal
 
 pub returns-clause-reached : goal.returns-clause-reached

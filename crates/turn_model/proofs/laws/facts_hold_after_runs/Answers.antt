@@ -1,4 +1,4 @@
-use Rattle.turn_core.proofs.Keeping.{kept_run_of}
+use Rattle.path_service.proofs.machine.Keeping.{kept_run_of}
 use Rattle.turn_model.proofs.laws.facts_hold_after_runs.Goals as goal
 
 pub returns : goal.returns

@@ -1,4 +1,4 @@
-use Rattle.turn_core.proofs.OneRun.{one_replies, one_state}
+use Rattle.path_service.proofs.machine.OneRun.{one_replies, one_state}
 use Rattle.turn_model.proofs.laws.one_run.Goals as goal
 
 pub returns-clause-replies : goal.returns-clause-replies

@@ -1,4 +1,4 @@
-use Rattle.turn_core.proofs.Settling.{settled}
+use Rattle.path_service.proofs.machine.Settling.{settled}
 use Rattle.turn_model.proofs.laws.settled_posts_have_one_reply.Goals as goal
 
 pub returns : goal.returns

@@ -1,4 +1,4 @@
-use Rattle.turn_core.proofs.Reaching.{turn_answered}
+use Rattle.path_service.proofs.machine.Reaching.{turn_answered}
 use Rattle.turn_model.proofs.laws.staged_turns_are_answered.Goals as goal
 
 pub returns : goal.returns

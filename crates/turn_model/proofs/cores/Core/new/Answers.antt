@@ -1,6 +1,6 @@
 use Rattle.std.proofs.Common.{sym, subst}
-use Rattle.turn_core.specs.Facts.{Facts}
-use Rattle.turn_core.proofs.Keeping.{facts_at_opening}
+use Rattle.path_service.specs.machine.Facts.{Facts}
+use Rattle.path_service.proofs.machine.Keeping.{facts_at_opening}
 use Rattle.turn_model.proofs.cores.Core.new.Goals as goal
 
 pub invariant_of-result : goal.invariant_of-result

@@ -1,13 +1,13 @@
 use Rattle.std.proofs.Common.{◌≡◌, Option, Result, None, sym, subst, IfOk}
 use Rattle.std.specs.Prelude.{IsSome, ◌↔◌}
 use Rattle.posts.specs.declared.replies.Reply.{Reply}
-use Rattle.turn_core.specs.declared.events.Event.{Event}
+use Rattle.path_service.specs.declared.events.Event.{Event}
 use Rattle.turn_model.specs.declared.refusals.StepRefusal.{StepRefusal}
-use Rattle.turn_core.specs.States.{State}
-use Rattle.turn_core.specs.Table.{why_not}
-use Rattle.turn_core.specs.Effects.{IsCollect}
-use Rattle.turn_core.specs.Facts.{Facts}
-use Rattle.turn_core.proofs.Keeping.{kept}
+use Rattle.path_service.specs.machine.States.{State}
+use Rattle.path_service.specs.machine.Table.{why_not}
+use Rattle.path_service.specs.machine.Effects.{IsCollect}
+use Rattle.path_service.specs.machine.Facts.{Facts}
+use Rattle.path_service.proofs.machine.Keeping.{kept}
 use Rattle.turn_model.proofs.MachineSteps.{handed_is}
 use Rattle.turn_model.proofs.cores.Core.step.Goals as goal
 use Rattle.turn_model.proofs.cores.Core.step.Goals.{in-Ok, in-Err}

@@ -1,9 +1,9 @@
 use Rattle.std.proofs.Common.{◌≡◌, Option, None, refl, sym, ap, ◌∙◌, subst}
-use Rattle.turn_core.specs.declared.events.Event.TheVariants.{Claim}
+use Rattle.path_service.specs.declared.events.Event.TheVariants.{Claim}
 use Rattle.turn_model.specs.declared.machines.running.RunningTurn.{RunningTurn}
-use Rattle.turn_core.specs.States.{State}
-use Rattle.turn_core.specs.Table.{why_not, last_turn}
-use Rattle.turn_core.specs.Effects.{claimed}
+use Rattle.path_service.specs.machine.States.{State}
+use Rattle.path_service.specs.machine.Table.{why_not, last_turn}
+use Rattle.path_service.specs.machine.Effects.{claimed}
 use Rattle.turn_model.specs.inner.Machines.{state_of, HoldsState}
 use Rattle.turn_model.proofs.MachineSteps.{unclaimed_held, claimed_holds, claimed_is}
 use Rattle.turn_model.proofs.machines.Machine.claim.Goals as goal

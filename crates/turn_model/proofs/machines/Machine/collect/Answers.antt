@@ -2,12 +2,12 @@ use Rattle.std.proofs.Common.{◌≡◌, ℕ, ◌+◌, List, None, Some, set, sl
 use Rattle.std.specs.Prelude.{slice_get}
 use Rattle.posts.specs.declared.replies.Reply.{Reply}
 use Rattle.posts.specs.Callers.{list_of}
-use Rattle.turn_core.specs.declared.events.Event.TheVariants.{Collect}
+use Rattle.path_service.specs.declared.events.Event.TheVariants.{Collect}
 use Rattle.turn_model.specs.declared.machines.delivered.DeliveredTurn.{DeliveredTurn}
-use Rattle.turn_core.specs.States.{State}
-use Rattle.turn_core.specs.Table.{why_not}
-use Rattle.turn_core.specs.Effects.{collected}
-use Rattle.turn_core.specs.Facts.{Facts}
+use Rattle.path_service.specs.machine.States.{State}
+use Rattle.path_service.specs.machine.Table.{why_not}
+use Rattle.path_service.specs.machine.Effects.{collected}
+use Rattle.path_service.specs.machine.Facts.{Facts}
 use Rattle.turn_model.specs.inner.Runs.{HasCome, replies_to}
 use Rattle.turn_model.specs.inner.Machines.{state_of}
 use Rattle.turn_model.proofs.MachineSteps.{caller_replies, place_within, reply_left}

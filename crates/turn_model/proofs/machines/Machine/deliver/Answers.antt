@@ -2,17 +2,17 @@ use Rattle.std.proofs.Common.{◌≡◌, ◌≤◌, List, [], ◌∷◌, ◌++�
 use Rattle.std.specs.Prelude.{vec_capacity}
 use Rattle.posts.specs.declared.replies.TurnReplies.{TurnReplies}
 use Rattle.posts.specs.Posts.{jobs}
-use Rattle.turn_core.specs.declared.events.Event.TheVariants.{Deliver}
+use Rattle.path_service.specs.declared.events.Event.TheVariants.{Deliver}
 use Rattle.turn_model.specs.declared.machines.running.RunningTurn.{RunningTurn}
 use Rattle.turn_model.specs.declared.machines.delivered.DeliveredTurn.{DeliveredTurn}
 use Rattle.turn_model.specs.declared.machines.Machine.TheInside.{Inside}
 use Rattle.turn_core.specs.Solving.{AreAnswersTo}
 use Rattle.turn_core.specs.Words.{MapState}
 use Rattle.turn_core.specs.ReadyTurns.{after_edits_of}
-use Rattle.turn_core.specs.States.{State}
-use Rattle.turn_core.specs.Table.{why_not}
-use Rattle.turn_core.specs.Effects.{delivered}
-use Rattle.turn_core.specs.Facts.{Facts}
+use Rattle.path_service.specs.machine.States.{State}
+use Rattle.path_service.specs.machine.Table.{why_not}
+use Rattle.path_service.specs.machine.Effects.{delivered}
+use Rattle.path_service.specs.machine.Facts.{Facts}
 use Rattle.turn_model.specs.inner.Runs.{version_for_next, answers_held}
 use Rattle.turn_model.specs.inner.Machines.{HoldsRun, HoldsStaged}
 use Rattle.turn_model.proofs.MachineSteps.{answers_given, delivered_holds, delivered_is, version_is}

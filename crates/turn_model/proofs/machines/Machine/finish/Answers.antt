@@ -1,10 +1,10 @@
 use Rattle.std.proofs.Common.{◌≡◌, None, refl, sym, ap, ◌∙◌, subst}
 use Rattle.posts.specs.declared.replies.Answer.{Answer}
-use Rattle.turn_core.specs.declared.events.Event.TheVariants.{Finish}
-use Rattle.turn_core.specs.States.{State}
-use Rattle.turn_core.specs.Table.{why_not, last_turn}
-use Rattle.turn_core.specs.Effects.{finished, AnswersJob}
-use Rattle.turn_core.specs.Facts.{Facts}
+use Rattle.path_service.specs.declared.events.Event.TheVariants.{Finish}
+use Rattle.path_service.specs.machine.States.{State}
+use Rattle.path_service.specs.machine.Table.{why_not, last_turn}
+use Rattle.path_service.specs.machine.Effects.{finished, AnswersJob}
+use Rattle.path_service.specs.machine.Facts.{Facts}
 use Rattle.turn_model.specs.inner.Machines.{state_of}
 use Rattle.turn_model.proofs.MachineSteps.{job_held, place_held, while_held, finished_holds, finished_is, answers_job}
 use Rattle.turn_model.proofs.machines.Machine.finish.Goals as goal

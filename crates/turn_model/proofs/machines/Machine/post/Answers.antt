@@ -2,8 +2,8 @@ use Rattle.std.proofs.Common.{ℕ, [], ◌∷◌, ◌++◌, List, refl, ap, ◌�
 use Rattle.std.specs.Prelude.{slice_set}
 use Rattle.posts.specs.declared.posts.Post.{Post}
 use Rattle.posts.specs.Callers.{list_of}
-use Rattle.turn_core.specs.States.{State}
-use Rattle.turn_core.specs.Effects.{posted}
+use Rattle.path_service.specs.machine.States.{State}
+use Rattle.path_service.specs.machine.Effects.{posted}
 use Rattle.turn_model.specs.inner.Machines.{state_of}
 use Rattle.turn_model.proofs.machines.Machine.post.Goals as goal
 

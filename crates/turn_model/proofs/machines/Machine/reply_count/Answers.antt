@@ -1,7 +1,7 @@
 use Rattle.std.proofs.Common.{◌≡◌, ◌-◌, length, sym, ap, ◌∙◌, subst, arith}
 use Rattle.posts.specs.Callers.{list_of}
-use Rattle.turn_core.specs.States.{State}
-use Rattle.turn_core.specs.Facts.{Facts}
+use Rattle.path_service.specs.machine.States.{State}
+use Rattle.path_service.specs.machine.Facts.{Facts}
 use Rattle.turn_model.specs.inner.Machines.{state_of}
 use Rattle.turn_model.proofs.HeldCounts.{held_count}
 use Rattle.turn_model.proofs.machines.Machine.reply_count.Goals as goal

@@ -1,9 +1,9 @@
 use Rattle.std.proofs.Common.{◌≡◌, None, Some, refl, sym, ap, ◌∙◌, subst}
-use Rattle.turn_core.specs.declared.events.Event.TheVariants.{Start}
+use Rattle.path_service.specs.declared.events.Event.TheVariants.{Start}
 use Rattle.turn_model.specs.declared.machines.running.RunningTurn.{RunningTurn}
-use Rattle.turn_core.specs.States.{State}
-use Rattle.turn_core.specs.Table.{why_not}
-use Rattle.turn_core.specs.Effects.{started}
+use Rattle.path_service.specs.machine.States.{State}
+use Rattle.path_service.specs.machine.Table.{why_not}
+use Rattle.path_service.specs.machine.Effects.{started}
 use Rattle.turn_model.specs.inner.Machines.{state_of}
 use Rattle.turn_model.proofs.MachineSteps.{start_none, started_holds, started_is}
 use Rattle.turn_model.proofs.machines.Machine.start.Goals as goal

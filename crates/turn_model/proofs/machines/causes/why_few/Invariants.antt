@@ -1,5 +1,5 @@
 use Rattle.std.proofs.Common.{◌≡◌, drop}
-use Rattle.turn_core.specs.Table.{why_few}
+use Rattle.path_service.specs.machine.Table.{why_few}
 use Rattle.turn_model.proofs.machines.causes.why_few.Given as goal
 
 abbrev pub invariant-loop-caller : goal.invariant-loop-caller

@@ -1,5 +1,5 @@
 use Rattle.std.proofs.Common.{◌≡◌, drop}
-use Rattle.turn_core.specs.Table.{why_unanswered}
+use Rattle.path_service.specs.machine.Table.{why_unanswered}
 use Rattle.turn_model.proofs.machines.causes.why_unanswered.Given as goal
 
 abbrev pub invariant-loop-job : goal.invariant-loop-job

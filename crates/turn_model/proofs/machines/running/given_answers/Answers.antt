@@ -2,10 +2,10 @@ use Rattle.std.proofs.Common.{◌≡◌, ℕ, ◌+◌, List, [], ◌∷◌, ◌+
 use Rattle.std.specs.Prelude.{◌≤◌}
 use Rattle.std.specs.Vec.Iter.{into_iter_items}
 use Rattle.posts.specs.declared.replies.Answer.{Answer}
-use Rattle.turn_core.specs.Table.{why_unanswered}
-use Rattle.turn_core.specs.Effects.{known}
-use Rattle.turn_core.proofs.Answering.{no_gap, length_known}
-use Rattle.turn_core.proofs.TurnByTurn.{known_end}
+use Rattle.path_service.specs.machine.Table.{why_unanswered}
+use Rattle.path_service.specs.machine.Effects.{known}
+use Rattle.path_service.proofs.machine.JobAnswers.{no_gap, length_known}
+use Rattle.path_service.proofs.machine.JobAnswers.{known_end}
 use Rattle.turn_model.proofs.machines.running.given_answers.Goals as goal
 
 pub unreachable-requires : goal.unreachable-requires

@@ -1,7 +1,7 @@
 use Rattle.std.proofs.Common.{◌≡◌, ◌≤◌, ◌++◌, length}
 use Rattle.std.specs.Prelude.{vec_capacity}
 use Rattle.std.specs.Vec.Iter.{into_iter_items}
-use Rattle.turn_core.specs.Effects.{known}
+use Rattle.path_service.specs.machine.Effects.{known}
 use Rattle.turn_model.proofs.machines.running.given_answers.Given as goal
 
 abbrev pub invariant-loop-answer : goal.invariant-loop-answer

@@ -1,6 +1,6 @@
 use Rattle.std.proofs.Common.{◌≡◌, ℕ, ◌+◌, ◌≤◌, List, [], ◌∷◌, ◌++◌, length, map, take, drop, slice_index, ap, ◌∙◌, arith}
 use Rattle.posts.specs.declared.posts.Post.{Post}
-use Rattle.turn_core.specs.Effects.{next_posts, added_up}
+use Rattle.path_service.specs.machine.Effects.{next_posts, added_up}
 use Rattle.turn_model.proofs.StagedTurns.{turn_more, taken_more, turn_end, taken_end}
 use Rattle.turn_model.proofs.machines.staging.next_turn.Goals as goal
 

@@ -1,5 +1,5 @@
 use Rattle.std.proofs.Common.{◌≡◌, ◌++◌, drop, length, map}
-use Rattle.turn_core.specs.Effects.{next_posts, added_up}
+use Rattle.path_service.specs.machine.Effects.{next_posts, added_up}
 use Rattle.turn_model.proofs.machines.staging.next_turn.Given as goal
 
 abbrev pub invariant-loop-caller : goal.invariant-loop-caller

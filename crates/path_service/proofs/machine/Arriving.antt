@@ -10,22 +10,23 @@ use Rattle.posts.specs.declared.replies.Reply.{Reply}
 use Rattle.posts.specs.Maps.{Map}
 use Rattle.posts.specs.Posts.{requests, jobs}
 use Rattle.posts.specs.Callers.{of_caller, list_of}
-use Rattle.turn_core.specs.declared.events.Event.TheVariants.{Stage, Deliver, Collect}
-use Rattle.turn_core.specs.declared.events.Why.TheVariants.{Callers, Collected}
+use Rattle.path_service.specs.declared.events.Event.TheVariants.{Stage, Deliver, Collect}
+use Rattle.path_service.specs.declared.events.Why.TheVariants.{Callers, Collected}
 use Rattle.turn_core.specs.Solving.{AreAnswersTo}
 use Rattle.turn_core.specs.Words.{Standing, bare, edited}
 use Rattle.turn_core.specs.Turns.{after, after_turn, AreReplies, AreTurnReplies, OneThread}
-use Rattle.turn_core.specs.States.{State, opening, stands_after_done}
-use Rattle.turn_core.specs.Table.{why_no_caller, why_collected}
-use Rattle.turn_core.specs.Effects.{joined_up, IsStep, IsMachineRun, Reaches}
-use Rattle.turn_core.specs.Facts.{HaveLists, Facts}
-use Rattle.turn_core.specs.Arrival.{post_events, answering, whole_turn, turn_events, collect_events, arrival, CanStage, answered_run, in_stage, in_run, at_end, CanArrive, HasArrived}
-use Rattle.turn_core.proofs.CallerLists.{of_caller_push}
+use Rattle.path_service.specs.machine.States.{State, opening, stands_after_done}
+use Rattle.path_service.specs.machine.Table.{why_no_caller, why_collected}
+use Rattle.path_service.specs.machine.Effects.{joined_up, IsStep, IsMachineRun, Reaches}
+use Rattle.path_service.specs.machine.Facts.{HaveLists, Facts}
+use Rattle.path_service.specs.machine.Arrival.{post_events, answering, whole_turn, turn_events, collect_events, arrival, CanStage, answered_run, in_stage, in_run, at_end, CanArrive, HasArrived}
+use Rattle.path_service.proofs.machine.CallerLists.{of_caller_push}
 use Rattle.turn_core.proofs.Threads.{one_thread_lem, standing_more}
-use Rattle.turn_core.proofs.Keeping.{facts_at_opening, kept_run_of}
-use Rattle.turn_core.proofs.OneRun.{one_state}
-use Rattle.turn_core.proofs.Settling.{as_many, taken_done, all_done}
-use Rattle.turn_core.proofs.Reaching.{reach-append, reach_none, reach_step, none_or, none_unless, all_post, stage_step, turn_answered, deliver_step}
+use Rattle.path_service.proofs.machine.Keeping.{facts_at_opening, kept_run_of}
+use Rattle.path_service.proofs.machine.OneRun.{one_state}
+use Rattle.turn_core.proofs.ReplyCounts.{as_many}
+use Rattle.path_service.proofs.machine.Settling.{taken_done, all_done}
+use Rattle.path_service.proofs.machine.Reaching.{reach-append, reach_none, reach_step, none_or, none_unless, all_post, stage_step, turn_answered, deliver_step}
 use Rattle.std.proofs.lemmas.Bool.{lt-ltb}
 
 -- A turn

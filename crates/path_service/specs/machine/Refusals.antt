@@ -1,7 +1,7 @@
 -- The texts of why an event is not enabled.
 use Rattle.std.specs.Prelude.{ℕ, List, ◌++◌, codes, decimal}
-use Rattle.turn_core.specs.declared.events.Why.{Why}
-use Rattle.turn_core.specs.declared.events.Why.TheVariants.{Callers, Staged, Posted, NoneStaged, Running, NoneRunning, AllClaimed, Claimed, Answered, Unclaimed, Unanswered, Collected}
+use Rattle.path_service.specs.declared.events.Why.{Why}
+use Rattle.path_service.specs.declared.events.Why.TheVariants.{Callers, Staged, Posted, NoneStaged, Running, NoneRunning, AllClaimed, Claimed, Answered, Unclaimed, Unanswered, Collected}
 
 -- why an event is not enabled
 abbrev pub why_text : Why → List ℕ

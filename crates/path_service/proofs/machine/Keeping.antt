@@ -9,18 +9,20 @@ use Rattle.posts.specs.declared.replies.Reply.{Reply}
 use Rattle.posts.specs.Maps.{Map}
 use Rattle.posts.specs.Posts.{jobs}
 use Rattle.posts.specs.Callers.{of_caller, list_of}
-use Rattle.turn_core.specs.declared.events.Event.{Event}
-use Rattle.turn_core.specs.declared.events.Event.TheVariants.{Post as Posting, Stage, Start, Claim, Finish, Deliver, Collect}
-use Rattle.turn_core.specs.declared.events.Why.{Why}
+use Rattle.path_service.specs.declared.events.Event.{Event}
+use Rattle.path_service.specs.declared.events.Event.TheVariants.{Post as Posting, Stage, Start, Claim, Finish, Deliver, Collect}
+use Rattle.path_service.specs.declared.events.Why.{Why}
 use Rattle.turn_core.specs.Words.{Standing, bare}
 use Rattle.turn_core.specs.Turns.{after_turn}
-use Rattle.turn_core.specs.States.{State, Run, opening, stands_after_done, stands_in_run}
-use Rattle.turn_core.specs.Table.{unless, or_else, why_no_caller, why_staged, why_none_staged, why_running, why_no_claim, why_no_finish, why_unanswered, why_no_delivery, last_turn, running_turn}
-use Rattle.turn_core.specs.Effects.{next_posts, added_up, known, given_turn, posted, staged, started, claimed, finished, delivered, collected, AnswersJob, IsStep, IsMachineRun}
-use Rattle.turn_core.specs.Facts.{running_turns, staged_turns, all_turns, HaveLists, IsRunning, WhileRunning, Facts}
-use Rattle.turn_core.proofs.CallerLists.{next_posts_at, length-next_posts, added_up_at, length-added_up, joined_up_at, length-joined_up, lengths_at, none_at, zeros_at, pushed_at, raised_at, of_caller_push, take_further, length_further}
+use Rattle.path_service.specs.machine.States.{State, Run, opening, stands_after_done, stands_in_run}
+use Rattle.path_service.specs.machine.Table.{unless, or_else, why_no_caller, why_staged, why_none_staged, why_running, why_no_claim, why_no_finish, why_unanswered, why_no_delivery, last_turn, running_turn}
+use Rattle.path_service.specs.machine.Effects.{next_posts, added_up, known, posted, staged, started, claimed, finished, delivered, collected, AnswersJob, IsStep, IsMachineRun}
+use Rattle.turn_core.specs.Given.{given_turn}
+use Rattle.path_service.specs.machine.Facts.{running_turns, staged_turns, all_turns, HaveLists, IsRunning, WhileRunning, Facts}
+use Rattle.path_service.proofs.machine.CallerLists.{next_posts_at, length-next_posts, added_up_at, length-added_up, joined_up_at, length-joined_up, lengths_at, none_at, zeros_at, pushed_at, raised_at, of_caller_push, take_further, length_further}
 use Rattle.turn_core.proofs.Threads.{thread_more}
-use Rattle.turn_core.proofs.Answering.{solves_known, given_turn_are, length-given_turn, answers_none, none_answered_at, answers_set}
+use Rattle.path_service.proofs.machine.JobAnswers.{solves_known, length-given_turn, answers_none, none_answered_at, answers_set}
+use Rattle.turn_core.proofs.Answering.{given_turn_are}
 
 -- the first cause is none, and so is the second
 pub first_none : (a b : Option Why) → or_else a b ≡ None → a ≡ None

@@ -10,19 +10,20 @@ use Rattle.posts.specs.declared.replies.Reply.{Reply}
 use Rattle.posts.specs.Maps.{Map}
 use Rattle.posts.specs.Posts.{jobs}
 use Rattle.posts.specs.Callers.{of_caller, list_of}
-use Rattle.turn_core.specs.declared.events.Event.{Event}
-use Rattle.turn_core.specs.declared.events.Event.TheVariants.{Post as Posting, Stage, Start, Claim, Finish, Deliver}
-use Rattle.turn_core.specs.declared.events.Why.{Why}
-use Rattle.turn_core.specs.declared.events.Why.TheVariants.{Callers, Posted, AllClaimed, Claimed, Unclaimed}
+use Rattle.path_service.specs.declared.events.Event.{Event}
+use Rattle.path_service.specs.declared.events.Event.TheVariants.{Post as Posting, Stage, Start, Claim, Finish, Deliver}
+use Rattle.path_service.specs.declared.events.Why.{Why}
+use Rattle.path_service.specs.declared.events.Why.TheVariants.{Callers, Posted, AllClaimed, Claimed, Unclaimed}
 use Rattle.turn_core.specs.Solving.{IsAnswerTo, AreAnswersTo}
 use Rattle.turn_core.specs.Words.{Standing}
 use Rattle.turn_core.specs.Turns.{after_turn, AreTurnReplies}
-use Rattle.turn_core.specs.States.{State, Run, stands_after_done}
-use Rattle.turn_core.specs.Table.{first, unless, or_else, why_not_each, why_staged, why_few, why_none_staged, why_running, why_answered, why_unanswered, why_no_delivery, last_turn, running_turn}
-use Rattle.turn_core.specs.Effects.{next_posts, added_up, joined_up, begun, known, given_turn, started, delivered, IsStep, IsMachineRun, Reaches}
-use Rattle.turn_core.specs.Facts.{all_turns, Facts}
-use Rattle.turn_core.specs.Arrival.{posts_of, post_events, finishes, answering, CanStage, answered_run, in_stage, in_run, at_end}
-use Rattle.turn_core.proofs.CallerLists.{first_at, rest_at, next_posts_at, length-next_posts, lengths_at}
+use Rattle.path_service.specs.machine.States.{State, Run, stands_after_done}
+use Rattle.path_service.specs.machine.Table.{first, unless, or_else, why_not_each, why_staged, why_few, why_none_staged, why_running, why_answered, why_unanswered, why_no_delivery, last_turn, running_turn}
+use Rattle.path_service.specs.machine.Effects.{next_posts, added_up, joined_up, begun, known, started, delivered, IsStep, IsMachineRun, Reaches}
+use Rattle.turn_core.specs.Given.{given_turn}
+use Rattle.path_service.specs.machine.Facts.{all_turns, Facts}
+use Rattle.path_service.specs.machine.Arrival.{posts_of, post_events, finishes, answering, CanStage, answered_run, in_stage, in_run, at_end}
+use Rattle.path_service.proofs.machine.CallerLists.{first_at, rest_at, next_posts_at, length-next_posts, lengths_at}
 use Rattle.turn_core.proofs.Threads.{one_turn}
 use Rattle.turn_core.proofs.Answering.{given_turn_are}
 

@@ -1,7 +1,7 @@
 //! Events of the turn machine, and why one is not enabled.
 ghost use Rattle.std.specs.Prelude.{◌≡◌, ◌++◌, Some, decimal};
 ghost use Rattle.std.specs.Fmt.{DisplaysOnOk};
-ghost use Rattle.turn_core.specs.Refusals.{why_text};
+ghost use Rattle.path_service.specs.machine.Refusals.{why_text};
 
 use nav_types::Sequence;
 use posts::Post;

@@ -3,8 +3,8 @@ use Rattle.std.proofs.Common.{◌≡◌, ◌⊎◌, ℕ, zero, suc, ◌+◌, ◌
 use Rattle.std.proofs.lemmas.Grind.{flat_map-append}
 use Rattle.posts.specs.declared.posts.Post.{Post}
 use Rattle.posts.specs.Callers.{of_caller, list_of}
-use Rattle.turn_core.specs.Table.{first}
-use Rattle.turn_core.specs.Effects.{first_list, next_posts, added_up, joined_up}
+use Rattle.path_service.specs.machine.Table.{first}
+use Rattle.path_service.specs.machine.Effects.{first_list, next_posts, added_up, joined_up}
 
 pub first_at : (ns : List ℕ) → first ns ≡ slice_index ns 0
 first_at [] = refl

@@ -4,11 +4,11 @@ use Rattle.posts.specs.declared.posts.Post.{Post}
 use Rattle.posts.specs.declared.replies.Answer.{Answer}
 use Rattle.posts.specs.Posts.{jobs}
 use Rattle.posts.specs.Callers.{list_of}
-use Rattle.turn_core.specs.declared.events.Event.{Event}
-use Rattle.turn_core.specs.declared.events.Event.TheVariants.{Post as Posting, Stage, Start, Claim, Finish, Deliver, Collect}
-use Rattle.turn_core.specs.declared.events.Why.{Why}
-use Rattle.turn_core.specs.declared.events.Why.TheVariants.{Callers, Staged, Posted, NoneStaged, Running, NoneRunning, AllClaimed, Claimed, Answered, Unclaimed, Unanswered, Collected}
-use Rattle.turn_core.specs.States.{State, Run}
+use Rattle.path_service.specs.declared.events.Event.{Event}
+use Rattle.path_service.specs.declared.events.Event.TheVariants.{Post as Posting, Stage, Start, Claim, Finish, Deliver, Collect}
+use Rattle.path_service.specs.declared.events.Why.{Why}
+use Rattle.path_service.specs.declared.events.Why.TheVariants.{Callers, Staged, Posted, NoneStaged, Running, NoneRunning, AllClaimed, Claimed, Answered, Unclaimed, Unanswered, Collected}
+use Rattle.path_service.specs.machine.States.{State, Run}
 
 -- no cause where the condition holds, else the given one
 abbrev pub unless : Bool → Why → Option Why

@@ -10,7 +10,7 @@ use Rattle.posts.specs.Callers.{of_caller, list_of}
 use Rattle.turn_core.specs.Solving.{IsAnswerTo}
 use Rattle.turn_core.specs.Words.{Standing, bare}
 use Rattle.turn_core.specs.Turns.{after_turn, OneThread}
-use Rattle.turn_core.specs.States.{State, Run, stands_after_done}
+use Rattle.path_service.specs.machine.States.{State, Run, stands_after_done}
 
 -- the running turn, where there is one
 abbrev pub running_turns : Option Run → List (List (List Post))

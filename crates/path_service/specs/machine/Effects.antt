@@ -1,23 +1,18 @@
 -- What the events of the machine do, and runs of it.
 use Rattle.std.specs.Prelude.{ℕ, ◌≡◌, ◌+◌, Option, None, Some, List, [], ◌∷◌, ◌++◌, drop, take, length, map, replicate, slice_get, slice_index, slice_set}
 use Rattle.posts.specs.declared.posts.Post.{Post}
-use Rattle.posts.specs.declared.posts.Post.TheVariants.{Edit as Editing, Ask as Asking}
 use Rattle.posts.specs.declared.posts.Request.{Request}
 use Rattle.posts.specs.declared.replies.Answer.{Answer}
 use Rattle.posts.specs.declared.replies.Answer.TheVariants.{Nowhere}
 use Rattle.posts.specs.declared.replies.Reply.{Reply}
-use Rattle.posts.specs.declared.replies.Reply.TheVariants.{Edit as Edited, Answer as Answered}
-use Rattle.posts.specs.Maps.{Map}
-use Rattle.posts.specs.Posts.{requests, jobs}
+use Rattle.posts.specs.Posts.{jobs}
 use Rattle.posts.specs.Callers.{list_of}
-use Rattle.grid_versions.specs.Editing.{edit_reply}
-use Rattle.turn_core.specs.declared.events.Event.{Event}
-use Rattle.turn_core.specs.declared.events.Event.TheVariants.{Post as Posting, Stage, Start, Claim, Finish, Deliver, Collect}
+use Rattle.path_service.specs.declared.events.Event.{Event}
+use Rattle.path_service.specs.declared.events.Event.TheVariants.{Post as Posting, Stage, Start, Claim, Finish, Deliver, Collect}
 use Rattle.turn_core.specs.Solving.{IsAnswerTo}
-use Rattle.turn_core.specs.Words.{Standing, edited}
-use Rattle.turn_core.specs.Turns.{after}
-use Rattle.turn_core.specs.States.{State, Run, stands_after_done, stands_in_run}
-use Rattle.turn_core.specs.Table.{first, why_not}
+use Rattle.turn_core.specs.Given.{given_turn}
+use Rattle.path_service.specs.machine.States.{State, Run, stands_after_done, stands_in_run}
+use Rattle.path_service.specs.machine.Table.{first, why_not}
 
 -- the first list, or the empty one
 abbrev pub first_list : {A : Type 0} → List (List A) → List A
@@ -49,23 +44,6 @@ abbrev pub known : List (Option Answer) → List Answer
 known [] = []
 known (None ∷ answers) = Nowhere ∷ known answers
 known (Some answer ∷ answers) = answer ∷ known answers
-
--- the first answer
-abbrev pub first_answer : List Answer → Answer
-first_answer [] = Nowhere
-first_answer (answer ∷ answers) = answer
-
--- the replies to the posts of one caller: an edit gets its own, and each request the next of the answers
-abbrev pub given : Map → Standing → List Post → List Answer → List Reply
-given m s [] answers = []
-given m s (Editing edit ∷ posts) answers = Edited (edit_reply m s edit) ∷ given m (edited m s (Editing edit)) posts answers
-given m s (Asking request ∷ posts) answers = Answered (first_answer answers) ∷ given m (edited m s (Asking request)) posts (drop 1 answers)
-
--- the replies to the posts of a turn, caller by caller, where its jobs get these answers
-abbrev pub given_turn : Map → Standing → List (List Post) → List Answer → List (List Reply)
-given_turn m s [] answers = []
-given_turn m s (posts ∷ turn) answers =
-    given m s posts answers ∷ given_turn m (after m s posts) turn (drop (length (requests posts)) answers)
 
 -- a caller posts
 abbrev pub posted : State → ℕ → Post → State

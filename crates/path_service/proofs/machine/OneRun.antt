@@ -5,11 +5,11 @@ use Rattle.posts.specs.declared.posts.Request.{Request}
 use Rattle.posts.specs.declared.replies.Answer.{Answer}
 use Rattle.posts.specs.declared.replies.Reply.{Reply}
 use Rattle.posts.specs.Posts.{jobs}
-use Rattle.turn_core.specs.declared.events.Event.{Event}
-use Rattle.turn_core.specs.declared.events.Event.TheVariants.{Post as Posting, Stage, Start, Claim, Finish, Deliver, Collect}
+use Rattle.path_service.specs.declared.events.Event.{Event}
+use Rattle.path_service.specs.declared.events.Event.TheVariants.{Post as Posting, Stage, Start, Claim, Finish, Deliver, Collect}
 use Rattle.turn_core.specs.Solving.{IsAnswerTo}
-use Rattle.turn_core.specs.States.{State, Run, stands_in_run}
-use Rattle.turn_core.specs.Effects.{finished, AnswersJob, IsStep, IsMachineRun}
+use Rattle.path_service.specs.machine.States.{State, Run, stands_in_run}
+use Rattle.path_service.specs.machine.Effects.{finished, AnswersJob, IsStep, IsMachineRun}
 use Rattle.turn_core.proofs.Threads.{same_cons}
 use Rattle.turn_core.proofs.OneAnswer.{one_answer_to}
 

@@ -6,11 +6,11 @@ use Rattle.posts.specs.declared.replies.Reply.{Reply}
 use Rattle.posts.specs.Maps.{Map}
 use Rattle.posts.specs.Posts.{jobs}
 use Rattle.posts.specs.Callers.{of_caller, list_of}
-use Rattle.turn_core.specs.declared.events.Event.{Event}
-use Rattle.turn_core.specs.declared.events.Event.TheVariants.{Post as Posting, Stage, Start, Claim, Finish, Deliver, Collect}
-use Rattle.turn_core.specs.States.{State, Run}
-use Rattle.turn_core.specs.Facts.{HaveLists, all_turns}
-use Rattle.turn_core.specs.Effects.{added_up, joined_up}
+use Rattle.path_service.specs.declared.events.Event.{Event}
+use Rattle.path_service.specs.declared.events.Event.TheVariants.{Post as Posting, Stage, Start, Claim, Finish, Deliver, Collect}
+use Rattle.path_service.specs.machine.States.{State, Run}
+use Rattle.path_service.specs.machine.Facts.{HaveLists, all_turns}
+use Rattle.path_service.specs.machine.Effects.{added_up, joined_up}
 
 -- a caller posts these posts, one after another
 abbrev pub posts_of : ℕ → List Post → List Event

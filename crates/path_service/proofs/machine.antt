@@ -1,0 +1,7 @@
+pub mod CallerLists
+pub mod JobAnswers
+pub mod Keeping
+pub mod OneRun
+pub mod Settling
+pub mod Reaching
+pub mod Arriving
