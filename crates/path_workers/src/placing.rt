@@ -30,35 +30,13 @@ pub(crate) struct Answered {
 
 /// Places for the answers to jobs and for their notes.
 #[derive(Drop)]
-struct Places {
-    answers: Vec<Answer>,
-    notes: Vec<Note>,
+pub(crate) struct Places {
+    pub answers: Vec<Answer>,
+    pub notes: Vec<Note>,
 }
 
-/// The answers and the notes by the numbers of their jobs, which are those below `count`, each once.
-pub(crate) fn in_order(
-    alloc: Global,
-    count: usize,
-    answered: Sequence<Answered>,
-) -> Result<NotedAnswers, NoMemory>
-    requires { Lists (λ job. job < count) (job_numbers answered) }
-    ensures answers { IfOk result (λ noted. (map : Map) (standing : Standing) (report : Report) (jobs : List Request)
-        → length jobs ≡ count → AnswerTheirJobs map standing report jobs answered
-        → AreAnswersTo map standing jobs noted.answers) }
-    ensures notes { IfOk result (λ noted. (map : Map) (standing : Standing) (report : Report) (jobs : List Request)
-        → length jobs ≡ count → AnswerTheirJobs map standing report jobs answered
-        → AreNotes map standing report jobs noted.notes) }
-{
-    let blank = blank_places(alloc, count)?;
-    let Places { answers, notes } = placed(blank, answered.into_items());
-    Ok(NotedAnswers {
-        answers: Answers::from(answers),
-        notes: Notes::from(notes),
-    })
-}
-
-/// So many places.
-fn blank_places(alloc: Global, count: usize) -> Result<Places, NoMemory>
+/// So many places, made before the first job is drawn, so that no answer that was found is lost for want of its place.
+pub(crate) fn blank_places(alloc: Global, count: usize) -> Result<Places, NoMemory>
     ensures answers { IfOk result (λ places. length places.answers.items ≡ count) }
     ensures notes { IfOk result (λ places. length places.notes.items ≡ count) }
 {
@@ -69,6 +47,25 @@ fn blank_places(alloc: Global, count: usize) -> Result<Places, NoMemory>
         notes.push_reserved(Note::Nothing);
     }
     Ok(Places { answers, notes })
+}
+
+/// The answers and the notes in the places of their jobs, whose numbers are those of the places, each once. It takes no
+/// memory.
+pub(crate) fn in_order(places: Places, answered: Sequence<Answered>) -> NotedAnswers
+    requires jobs { Lists (λ job. job < length places.answers.items) (job_numbers answered) }
+    requires notes { length places.notes.items ≡ length places.answers.items }
+    ensures answers { (map : Map) (standing : Standing) (report : Report) (jobs : List Request)
+        → length jobs ≡ length places.answers.items → AnswerTheirJobs map standing report jobs answered
+        → AreAnswersTo map standing jobs result.answers }
+    ensures notes { (map : Map) (standing : Standing) (report : Report) (jobs : List Request)
+        → length jobs ≡ length places.answers.items → AnswerTheirJobs map standing report jobs answered
+        → AreNotes map standing report jobs result.notes }
+{
+    let Places { answers, notes } = placed(places, answered.into_items());
+    NotedAnswers {
+        answers: Answers::from(answers),
+        notes: Notes::from(notes),
+    }
 }
 
 /// The places with each answer, and each note, in that of its job.

@@ -5,7 +5,7 @@ ghost use Rattle.turn_core.specs.Notes.{AreNotes};
 ghost use Rattle.path_workers.specs.Sharing.{worth_workers};
 
 use crate::drawing::{Turn, draw_by};
-use crate::placing::{NotedAnswers, in_order};
+use crate::placing::{NotedAnswers, blank_places, in_order};
 use crate::ranking::longest_first;
 use crate::rooms::Rooms;
 use crate::sharing::worth_workers;
@@ -104,6 +104,7 @@ impl<'a, G: Gate + Sync> Workers<'a, G> {
         let jobs = jobs.as_slice();
         let order = longest_first(alloc, version, jobs, report)?;
         let count = jobs.len();
+        let places = blank_places(alloc, count)?;
         let (claims, seat) = Claims::start(alloc, count as u64)?;
         let turn = Turn {
             version,
@@ -120,7 +121,7 @@ impl<'a, G: Gate + Sync> Workers<'a, G> {
         let answered = worked.answered?;
         // Of the jobs that were drawn, each was answered: so all of them have their answer, and none has two.
         let _drawings = claims.close(worked.seat);
-        in_order(alloc, count, answered)
+        Ok(in_order(places, answered))
     }
 
     /// As many of the workers, at their gate, as the jobs are worth ([`worth_workers`]).

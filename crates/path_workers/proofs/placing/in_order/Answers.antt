@@ -1,4 +1,4 @@
-use Rattle.std.proofs.Common.{◌<◌, List, sym, ◌∙◌, subst}
+use Rattle.std.proofs.Common.{◌<◌, List, length, refl, sym, ◌∙◌, subst}
 use Rattle.nav_types.specs.Counting.{Lists}
 use Rattle.posts.specs.declared.replies.Answer.{Answer}
 use Rattle.posts.specs.declared.notes.Note.{Note}
@@ -12,24 +12,30 @@ use Rattle.path_workers.proofs.placing.in_order.Goals as goal
 pub placed-answers-requires : goal.placed-answers-requires
 placed-answers-requires c =
     let all = c.into_items.result.items in
-    let lists = subst (λ (answered : List Answered). Lists (λ job. job < c.args.count) (job_numbers answered)) (sym c.into_items.ensures) c.requires in
+    let blank = c.args.places in
+    let count = length blank.answers.items in
+    let lists = subst (λ (answered : List Answered). Lists (λ job. job < count) (job_numbers answered)) (sym c.into_items.ensures) c.requires.jobs in
     record {
-      answers = below_all c.in_ok-blank.blank.answers.items all c.args.count c.in_ok-blank.ensures.answers lists;
-      notes = below_all c.in_ok-blank.blank.notes.items all c.args.count c.in_ok-blank.ensures.notes lists;
+      answers = below_all blank.answers.items all count refl lists;
+      notes = below_all blank.notes.items all count c.requires.notes lists;
     }
 
 pub returns-clause-answers : goal.returns-clause-answers
 returns-clause-answers c = λ map standing report jobs many answers.
     let all = c.into_items.result.items in
-    let lists = subst (λ (answered : List Answered). Lists (λ job. job < c.args.count) (job_numbers answered)) (sym c.into_items.ensures) c.requires in
+    let blank = c.args.places in
+    let count = length blank.answers.items in
+    let lists = subst (λ (answered : List Answered). Lists (λ job. job < count) (job_numbers answered)) (sym c.into_items.ensures) c.requires.jobs in
     subst (λ (placed : List Answer). AreAnswersTo map standing jobs placed) (sym (c.from.ensures ∙ c.placed-answers.ensures.answers))
-    (placed_are c.in_ok-blank.blank.answers.items all c.args.count c.in_ok-blank.ensures.answers lists map standing report jobs many
+    (placed_are blank.answers.items all count refl lists map standing report jobs many
     (subst (λ (answered : List Answered). AnswerTheirJobs map standing report jobs answered) (sym c.into_items.ensures) answers))
 
 pub returns-clause-notes : goal.returns-clause-notes
 returns-clause-notes c = λ map standing report jobs many answers.
     let all = c.into_items.result.items in
-    let lists = subst (λ (answered : List Answered). Lists (λ job. job < c.args.count) (job_numbers answered)) (sym c.into_items.ensures) c.requires in
+    let blank = c.args.places in
+    let count = length blank.answers.items in
+    let lists = subst (λ (answered : List Answered). Lists (λ job. job < count) (job_numbers answered)) (sym c.into_items.ensures) c.requires.jobs in
     subst (λ (placed : List Note). AreNotes map standing report jobs placed) (sym (c.from-2.ensures ∙ c.placed-answers.ensures.notes))
-    (placed_notes c.in_ok-blank.blank.notes.items all c.args.count c.in_ok-blank.ensures.notes lists map standing report jobs many
+    (placed_notes blank.notes.items all count c.requires.notes lists map standing report jobs many
     (subst (λ (answered : List Answered). AnswerTheirJobs map standing report jobs answered) (sym c.into_items.ensures) answers))
