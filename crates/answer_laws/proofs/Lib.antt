@@ -1,0 +1,14 @@
+pub mod Deciding
+pub mod Paths
+pub mod Distances
+pub mod Listing
+pub mod Numbers
+pub mod Choosing
+pub mod Tallying
+pub mod Fields
+pub mod Smoothing
+pub mod Framing
+pub mod Opening
+pub mod Requests
+pub mod Telling
+pub mod Noting
