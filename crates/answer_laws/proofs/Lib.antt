@@ -12,3 +12,5 @@ pub mod Opening
 pub mod Requests
 pub mod Telling
 pub mod Noting
+pub mod Bounding
+pub mod Limiting

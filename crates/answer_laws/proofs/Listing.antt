@@ -1,7 +1,7 @@
 -- Lists: numbers below a bound, lists put together, in order, and with each thing once; and what they count.
-use Rattle.std.proofs.Common.{ℕ, zero, suc, ◌≡◌, ◌≢◌, ◌*◌, ◌<◌, ◌⊎◌, List, [], ◌∷◌, ◌++◌, length, map, refl, inl, inr, sym, subst, ◌∙◌, arith, Some}
+use Rattle.std.proofs.Common.{ℕ, zero, suc, ◌≡◌, ◌≢◌, ◌*◌, ◌<◌, ◌≤◌, ◌⊎◌, List, [], ◌∷◌, ◌++◌, length, length-append, map, refl, ap, inl, inr, sym, subst, ◌∙◌, arith, Some}
 use Rattle.std.specs.List.{AllPairs, Contains, slice_get}
-use Rattle.std.proofs.lemmas.Bool.{cases_eq}
+use Rattle.std.proofs.lemmas.Bool.{cases_eq, cases_lt}
 use Rattle.std.proofs.lemmas.Option.{slice_get-get_or}
 use Rattle.std.proofs.lemmas.List.Elements.{Contains-append_left, Contains-append_right, Contains-append_cases}
 use Rattle.nav_types.specs.declared.cells.Cell.{Cell}
@@ -9,8 +9,9 @@ use Rattle.nav_types.specs.declared.cells.Size.{Size}
 use Rattle.nav_types.specs.Cells.{IsInside}
 use Rattle.nav_types.specs.Places.{place_of, cell_of}
 use Rattle.nav_types.specs.Counting.{Counts}
+use Rattle.nav_types.proofs.Counting.{no_longer}
 use Rattle.nav_types.proofs.CellPlaces.{place_of-lt, cell_of-place_of}
-use Rattle.nav_types.proofs.Items.{Contains-head, Contains-tail, Contains-cons_cases, Contains-none, Contains-map, AllPairs-nil, AllPairs-tail, AllPairs-front, head_apart}
+use Rattle.nav_types.proofs.Items.{IsOnce, Contains-head, Contains-tail, Contains-cons_cases, Contains-none, Contains-map, AllPairs-nil, AllPairs-tail, AllPairs-front, head_apart}
 use Rattle.answer_laws.proofs.Deciding.{Decided, some_in}
 
 -- the numbers below a bound
@@ -238,3 +239,31 @@ pub place_in_list : {A : Type 0} (xs : List A) (x : A) → Contains xs x → (k 
 place_in_list {A} xs x inside =
     let P = λ (y : A). slice_get xs inside.0 ≡ Some y in
     (inside.0, subst P inside.2 (slice_get-get_or xs inside.0 x inside.1))
+
+-- ---- how long lists are
+
+pub fewer : {A : Type 0} (xs ys : List A) → IsOnce xs → ((a : A) → Contains xs a → Contains ys a) → length xs ≤ length ys
+fewer xs ys once within = elim (cases_lt (length ys) (length xs)) [
+  | inl longer ↦ absurd (no_longer xs ys once (λ a inside lacks. lacks (within a inside)) longer)
+  | inr most ↦ most
+]
+
+pub below_length : (n : ℕ) → length (below n) ≡ n
+below_length zero = refl
+below_length (suc n) = ap suc (below_length n)
+
+pub gathered_few : {A B : Type 0} (f : A → List B) (most : ℕ) → ((a : A) → length (f a) ≤ most) → (xs : List A)
+    → length (gathered f xs) ≤ most * length xs
+gathered_few f most each [] = omega arith
+gathered_few f most each (x ∷ xs) = omega (arith, length-append (f x) (gathered f xs), each x, gathered_few f most each xs)
+
+pub only_few : {A P : Type 0} (decided : Decided P) (a : A) → length (only_where decided a) ≤ 1
+only_few (inl holds) a = omega arith
+only_few (inr fails) a = omega arith
+
+-- there are no more things of a kind than a list has that has them all
+pub counts_few : {A : Type 0} (Kind : A → Type 0) (count : ℕ) → Counts Kind count → (list : List A) → ((a : A) → Kind a → Contains list a)
+    → count ≤ length list
+counts_few Kind count counts list all =
+    let few = fewer counts.0 list counts.1.0.once (λ a inside. all a (counts.1.0.each a inside)) in
+    omega (arith, few, counts.1.1)

@@ -1,8 +1,9 @@
 -- The opened number of a search: which jump states are opened is decided, and there are finitely many.
-use Rattle.std.proofs.Common.{ℕ, zero, suc, ◌≡◌, ◌+◌, ◌<◌, ◌≤◌, ◌⊎◌, Bool, Option, Some, None, List, [], ◌∷◌, ◌++◌, map, get_or, replicate, IsTrue, refl, inl, inr, ap, sym, subst, ◌∙◌, arith}
+use Rattle.std.proofs.Common.{ℕ, zero, suc, ◌≡◌, ◌+◌, ◌*◌, ◌<◌, ◌≤◌, ◌⊎◌, Bool, Option, Some, None, List, [], ◌∷◌, ◌++◌, length, map, get_or, replicate, IsTrue, refl, inl, inr, ap, sym, subst, ◌∙◌, arith}
 use Rattle.std.specs.Prelude.{IsFalse}
 use Rattle.std.specs.List.{Contains}
 use Rattle.std.proofs.lemmas.Bool.{both_ways, cases_eq, false_from_ne_true}
+use Rattle.std.proofs.lemmas.List.{length-map}
 use Rattle.std.proofs.lemmas.Option.{same_Some}
 use Rattle.std.proofs.Math.Nat.{mul-le-mul_left}
 use Rattle.nav_types.specs.declared.cells.Cell.{Cell}
@@ -26,7 +27,7 @@ use Rattle.jump_search.proofs.Measuring.{octile_run}
 use Rattle.answer_laws.proofs.Deciding.{Decided, decided_test, decided_both, decided_either, decided_not, decided_as, decided_some, LeastNumber}
 use Rattle.answer_laws.proofs.Paths.{IsVia, least_via, via_holds, via_of_short, ViaUpTo, put_together}
 use Rattle.answer_laws.proofs.Distances.{HasAll, decided_same_cell, decided_less, decided_leads, decided_step, all_dirs, in_all_dirs}
-use Rattle.answer_laws.proofs.Listing.{below, in_below, gathered, in_gathered, from_gathered, only_where, in_only_where, from_only_where, counted}
+use Rattle.answer_laws.proofs.Listing.{below, in_below, gathered, in_gathered, from_gathered, only_where, in_only_where, from_only_where, counted, gathered_few, counts_few}
 use Rattle.answer_laws.proofs.Smoothing.{decided_most, block, in_block}
 
 -- ---- directions and states
@@ -364,3 +365,15 @@ module _ (passes : Cell → Bool) (cells : List Cell) (whole : HasAll passes cel
           (λ state opened.
           let jumps = opened.pruned.jumps in
           in_gathered only states state state (jumped_in jumps.0 state jumps.1.0) (in_only_where (decided_opened rect bound state) state opened))
+
+      states_few : length states ≤ 1 + 8 * length cells
+      unfolding states arrivals_at
+      states_few =
+          let each : (cell : Cell) → length (arrivals_at cell) ≤ 8 = λ cell. omega (arith, length-map all_dirs (state_by cell)) in
+          omega (arith, gathered_few arrivals_at 8 each cells)
+
+      pub opened_few : (rect : Rect) (bound count : ℕ) → Counts (IsOpened passes hit start rect bound) count → count ≤ 1 + 8 * length cells
+      opened_few rect bound count counts =
+          let few = counts_few (IsOpened passes hit start rect bound) count counts states
+          (λ state opened. let jumps = opened.pruned.jumps in jumped_in jumps.0 state jumps.1.0) in
+          omega (arith, few, states_few)

@@ -1,5 +1,5 @@
 -- How many regions, region edges and areas there are, and how many pairs of class and chunk were changed.
-use Rattle.std.proofs.Common.{ℕ, ◌≡◌, ◌≢◌, ◌+◌, ◌<◌, ◌/◌, ◌⊎◌, ◌==◌, ◌&&◌, Bool, true, false, List, IsTrue, refl, inl, inr, ap, sym, subst, eq-eqb}
+use Rattle.std.proofs.Common.{ℕ, ◌≡◌, ◌≢◌, ◌+◌, ◌*◌, ◌<◌, ◌≤◌, ◌/◌, ◌⊎◌, ◌==◌, ◌&&◌, Bool, true, false, List, length, IsTrue, refl, inl, inr, ap, sym, subst, arith, eq-eqb}
 use Rattle.std.specs.List.{Contains}
 use Rattle.std.proofs.lemmas.Bool.{and_from, true≢false, false≢true}
 use Rattle.nav_types.specs.declared.cells.Cell.{Cell}
@@ -13,7 +13,7 @@ use Rattle.nav_types.proofs.Items.{same_pair}
 use Rattle.nav_types.proofs.Regions.{lies_in, one_region}
 use Rattle.answer_laws.proofs.Deciding.{Decided, decided_test, decided_both, decided_either, decided_not, decided_as, decided_some}
 use Rattle.answer_laws.proofs.Distances.{HasAll, decided_leads, decided_same_cell, decided_same_number, all_dirs, in_all_dirs}
-use Rattle.answer_laws.proofs.Listing.{below, in_below, from_below, gathered, in_gathered, from_gathered, only_where, in_only_where, from_only_where, counted}
+use Rattle.answer_laws.proofs.Listing.{below, in_below, from_below, gathered, in_gathered, from_gathered, only_where, in_only_where, from_only_where, counted, below_length, gathered_few, only_few, counts_few}
 use Rattle.answer_laws.proofs.Numbers.{regions, areas, region_of, decided_first, decided_same_chunk}
 
 -- ---- things by class
@@ -44,6 +44,17 @@ module _ {B : Type 0} (classes : ℕ) (cells : List Cell) (Kind : ℕ → Cell �
       let inner = from_gathered (λ c. only_where (decide outer.0 c) (name outer.0 c)) cells b outer.1.1 in
       let item = from_only_where (decide outer.0 inner.0) (name outer.0 inner.0) b inner.1.1 in
       (outer.0, (inner.0, (from_below classes outer.0 outer.1.0, (item.0, item.1))))
+
+-- there are no more of these than one for each class and cell
+by_class_few : {B : Type 0} (classes : ℕ) (cells : List Cell) (Kind : ℕ → Cell → Type 0) (decide : (class : ℕ) (cell : Cell) → Decided (Kind class cell))
+    (name : ℕ → Cell → B) → length (by_class classes cells Kind decide name) ≤ length cells * classes
+unfolding by_class
+by_class_few {B} classes cells Kind decide name =
+    let one : ℕ → Cell → List B = λ class cell. only_where (decide class cell) (name class cell) in
+    let inner : (class : ℕ) → length (gathered (one class) cells) ≤ length cells =
+    λ class. omega (arith, gathered_few (one class) 1 (λ cell. only_few (decide class cell) (name class cell)) cells) in
+    subst (λ (n : ℕ). length (gathered (λ class. gathered (one class) cells) (below classes)) ≤ length cells * n) (below_length classes)
+    (gathered_few (λ class. gathered (one class) cells) (length cells) inner (below classes))
 
 -- cells of classes are counted
 cells_counted : (classes : ℕ) (cells : List Cell) (Kind : ℕ → Cell → Type 0) → ((class : ℕ) (cell : Cell) → Decided (Kind class cell))
@@ -186,6 +197,14 @@ module _ (classes : ℕ) (cells : List Cell) (passes : ℕ → Cell → Bool) (w
       (in_by_class classes cells (λ class from. AreAcross class from edge.to) (λ class from. decided_across class from edge.to) (edge_name edge.to)
       e.0 edge.from is.0 (whole e.0 edge.from near.passable) across))
 
+  pub edges_few : (count : ℕ) → Counts EdgeKind count → count ≤ (length cells * classes) * length cells
+  unfolding edges_to
+  edges_few count counts =
+      let each : (to : Cell) → length (edges_to to) ≤ length cells * classes =
+      λ to. by_class_few classes cells (λ class from. AreAcross class from to) (λ class from. decided_across class from to) (edge_name to) in
+      let few = counts_few EdgeKind count counts (gathered edges_to cells) all_edges in
+      omega (arith, few, gathered_few edges_to (length cells * classes) each cells)
+
   pub tallies : (regions : ℕ) × ((edges : ℕ) × ((areas : ℕ) × HasTallies classes passes regions edges areas))
   tallies =
       let some_regions = cells_counted classes cells (λ class cell. IsRegionFirst (passes class) cell) decided_region_first
@@ -215,7 +234,7 @@ decided_same_test true false = inr true≢false
 decided_same_test false true = inr false≢true
 decided_same_test false false = inl refl
 
-changed_passes : (before now : Bool) → before ≢ now → (before ≡ true) ⊎ (now ≡ true)
+pub changed_passes : (before now : Bool) → before ≢ now → (before ≡ true) ⊎ (now ≡ true)
 changed_passes true now changed = inl refl
 changed_passes false true changed = inr refl
 changed_passes false false changed = absurd (changed refl)

@@ -12,8 +12,8 @@ mod laws;
 mod walking;
 
 pub use laws::{
-    each_journal_has_an_answer, each_request_has_a_note, each_request_has_an_answer,
-    each_turn_has_an_answer, each_turn_has_numbers,
+    answers_fit, each_journal_has_an_answer, each_request_has_a_note, each_request_has_an_answer,
+    each_turn_has_an_answer, each_turn_has_numbers, notes_fit, numbers_fit,
 };
 pub use walking::{
     cells_are_numbered, classes_are_tallied, corners_are_smoothed, distances_exist,
