@@ -1,0 +1,167 @@
+//! All bits of the planes of a map that is wider and higher than a word, also after a change, and the runs over them
+//! against those cell by cell.
+
+use crate::fixtures::figures::goal_of;
+use crate::fixtures::maps::holds;
+use crate::fixtures::versions::{after, version_of};
+use crate::fixtures::views::stop_of;
+use class_planes::{ClassPlane, PlaneRuns};
+use goal_shapes::{Goal, check};
+use grid_versions::Version;
+use jump_scan::CellRuns;
+use nav_types::{Cell, Class, Dir, Rect, Size, View};
+use std::alloc::Global;
+
+/// The size of the map.
+const SIDES: [u16; 2] = [130, 70];
+
+/// Whether the cell is none of those at the ends of words that are blocked.
+fn is_open(i: u16, j: u16) -> bool {
+    let blocked = i == 63 || i == 64 || i == 127 || i == 128 || j == 63 || j == 64;
+    !blocked || (u32::from(i) + 2 * u32::from(j)) % 5 == 0
+}
+
+/// The version of the map with the blocked cells.
+fn blocked(alloc: Global) -> Option<Version> {
+    let mut cells = Vec::new(alloc);
+    for j in 0..SIDES[1] {
+        for i in 0..SIDES[0] {
+            if !is_open(i, j) {
+                cells.push((Rect::of_cell(Cell::new(i, j)), 1)).ok()?;
+            }
+        }
+    }
+    version_of(alloc, SIDES, (1, "0"), &cells)
+}
+
+/// Whether the bit of the place is set. Past the last word none is.
+fn is_set(words: &[u64], place: u16) -> bool {
+    match words.get(usize::from(place) / 64) {
+        Some(word) => (*word >> (place % 64)) & 1 == 1,
+        None => false,
+    }
+}
+
+/// Whether the cell lies in the map, is open, and the wall does not hold it.
+fn is_free(size: Size, wall: Rect, cell: Cell) -> bool {
+    size.has(cell) && is_open(cell.i, cell.j) && !holds(wall, cell)
+}
+
+/// The first cell, of the map or past its border, whose bit in its row or its column is wrong, where no cell of the wall
+/// is passable.
+fn wrong_cell(plane: &ClassPlane, wall: Rect) -> Option<Cell> {
+    let size = plane.size();
+    for j in 0..size.h + 1 {
+        let row = plane.row_words(j);
+        for i in 0..200 {
+            if is_set(row, i) != is_free(size, wall, Cell::new(i, j)) {
+                return Some(Cell::new(i, j));
+            }
+        }
+    }
+    for i in 0..size.w + 1 {
+        let column = plane.column_words(i);
+        for j in 0..200 {
+            if is_set(column, j) != is_free(size, wall, Cell::new(i, j)) {
+                return Some(Cell::new(i, j));
+            }
+        }
+    }
+    None
+}
+
+/// Whether the version has a plane of the map with all bits right.
+fn is_plane_right(version: &Version, wall: Rect) -> bool {
+    match version.planes().plane(Class::new(0)) {
+        Some(plane) => {
+            let size = plane.size();
+            [size.w, size.h] == SIDES && wrong_cell(plane, wall).is_none()
+        }
+        None => false,
+    }
+}
+
+/// No cell.
+const NOWHERE: Rect = Rect {
+    i0: 1,
+    j0: 1,
+    i1: 0,
+    j1: 0,
+};
+
+/// The cells that a square over words and bands covers.
+const WALL: Rect = Rect {
+    i0: 30,
+    j0: 31,
+    i1: 128,
+    j1: 64,
+};
+
+/// Whether all bits are right before and after the square comes. None where there is no memory.
+fn are_planes_right(alloc: Global) -> Option<bool> {
+    let version = blocked(alloc)?;
+    let edit = "add 1 1 square 5210112 3145728 65536 0 3227648 1097728";
+    let next = after(&version, alloc, edit)?;
+    Some(is_plane_right(&version, NOWHERE) && is_plane_right(&next.version, WALL))
+}
+
+#[test]
+fn all_bits_are_those_of_the_cells(rt: HostRuntime) {
+    assert!(rt; are_planes_right(rt.alloc()) == Some(true));
+}
+
+/// The first direction in which the runs by words and by cells from the cell have unlike stops.
+fn unlike_from(version: &Version, from: Cell, goal: &Goal) -> Option<Dir> {
+    let class = Class::new(0);
+    let by_words = PlaneRuns::new(version, version.planes(), Class::new(0));
+    let by_cells = CellRuns::new(version);
+    for dir in Dir::ALL {
+        if stop_of(&by_words, class, from, dir, goal)
+            != stop_of(&by_cells, class, from, dir, goal)
+        {
+            return Some(dir);
+        }
+    }
+    None
+}
+
+/// The first passable cell from which the runs have unlike stops in some direction.
+fn unlike(version: &Version, goal: &Goal) -> Option<(Cell, Dir)> {
+    let size = version.size();
+    if version.classes() < 1 {
+        return None;
+    }
+    for j in 0..size.h {
+        for i in 0..size.w {
+            let cell = Cell::new(i, j);
+            if version.passable(Class::new(0), cell) {
+                if let Some(dir) = unlike_from(version, cell, goal) {
+                    return Some((cell, dir));
+                }
+            }
+        }
+    }
+    None
+}
+
+/// Whether the runs stop at the same cells, where they look for the goal of a text. None where that is no sound goal.
+fn stop_alike(version: &Version, goal: &str) -> Option<bool> {
+    let Ok(goal) = check(goal_of(goal)?, version.size()) else {
+        return None;
+    };
+    Some(unlike(version, &goal).is_none())
+}
+
+#[test]
+fn runs_stop_at_the_same_cells_by_words_and_by_cells(rt: HostRuntime) {
+    let Some(version) = blocked(rt.alloc()) else {
+        panic!(rt; "no map");
+    };
+    // one cell, and the cells from (60, 30) to (90, 50)
+    for goal in [
+        "point 8486912 2654208",
+        "square 4947968 2654208 65536 0 1015807 688127",
+    ] {
+        assert!(rt; stop_alike(&version, goal) == Some(true), "{goal}");
+    }
+}

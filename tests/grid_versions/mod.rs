@@ -1,0 +1,267 @@
+//! Small maps, and one of the largest size.
+
+use crate::fixtures::versions::{after, version_of};
+use crate::fixtures::views::shared;
+use grid_versions::{EditReply, Next, Refusal, Version};
+use nav_types::{Areas, Cell, Class, Rect, View};
+use std::alloc::Global;
+
+/// The rectangle of the columns from the first number to the second, and the rows up to the third, with the fourth as its
+/// mask.
+fn wall_of([i0, i1, j1, mask]: [u16; 4]) -> (Rect, u16) {
+    (Rect { i0, j0: 0, i1, j1 }, mask)
+}
+
+/// The numbers of regions, edges and areas.
+fn numbers_of(version: &Version) -> [u64; 3] {
+    let tallies = version.tallies();
+    [tallies.regions, tallies.edges, tallies.areas]
+}
+
+// The sides of a map of one class, its wall, the numbers of regions, edges and areas, and how many cells are passable.
+const WALLS: [([u16; 2], [u16; 4], [u64; 3], u32); 7] = [
+    // one cell of nine is blocked
+    ([3, 3], [1, 1, 0, 1], [1, 0, 1], 8),
+    // two chunks that are joined along their border
+    ([100, 10], [0, 9, 9, 0], [2, 1, 1], 1000),
+    // the wall stands along the border
+    ([100, 10], [95, 96, 9, 1], [2, 0, 2], 980),
+    // the wall leaves a gap in the last row
+    ([100, 10], [95, 96, 8, 1], [2, 1, 1], 982),
+    // the wall parts the first chunk
+    ([100, 10], [50, 50, 9, 1], [3, 1, 2], 990),
+    // the wall parts the two chunks in the east, and leaves a gap in the last rows
+    ([100, 100], [97, 97, 96, 1], [5, 5, 1], 9903),
+    // nothing is passable
+    ([100, 100], [0, 99, 99, 1], [0, 0, 0], 0),
+];
+
+#[test]
+fn regions_edges_and_areas_are_counted(rt: HostRuntime) {
+    for (sides, wall, wanted, passable) in WALLS {
+        let Some(version) = version_of(rt.alloc(), sides, (1, "0"), &[wall_of(wall)]) else {
+            panic!(rt; "no map");
+        };
+        assert!(rt;
+            numbers_of(shared(&version)) == wanted && passable_in(&version, 0) == Some(passable),
+            "in {sides:?} with {wall:?}"
+        );
+    }
+}
+
+// Cells of 100 by 10 whose wall is the column 50, with the place of the chunk, the region and the area.
+const CELLS: [([u16; 2], Option<(u32, u16, u32)>); 6] = [
+    ([0, 0], Some((0, 1, 1))),
+    ([49, 9], Some((0, 1, 1))),
+    ([50, 4], Some((0, 0, 0))),
+    ([51, 9], Some((0, 2, 2))),
+    ([96, 0], Some((1, 1, 2))),
+    ([100, 0], None),
+];
+
+/// The place of the cell's chunk, its region and its area; none where the cell lies outside the map.
+fn place_in(version: &Version, [i, j]: [u16; 2]) -> Option<(u32, u16, u32)> {
+    let (class, cell) = (Class::new(0), Cell::new(i, j));
+    if version.classes() < 1 || !version.size().has(cell) {
+        return None;
+    }
+    let region = version.region(class, cell);
+    Some((region.chunk, region.region, version.area(class, cell)))
+}
+
+#[test]
+fn cells_have_their_regions_and_areas(rt: HostRuntime) {
+    let wall = wall_of([50, 50, 9, 1]);
+    let Some(version) = version_of(rt.alloc(), [100, 10], (1, "0"), &[wall]) else {
+        panic!(rt; "no map");
+    };
+    for (cell, wanted) in CELLS {
+        assert!(rt; place_in(&version, cell) == wanted, "at {cell:?}");
+    }
+}
+
+/// A map of so many classes of one clearance, edits that are made on it, further ones that are then made, and what is
+/// there after these.
+#[derive(Drop)]
+struct Turn {
+    sides: [u16; 2],
+    classes: (u8, &'static str),
+    first: &'static str,
+    then: &'static str,
+    replies: &'static [EditReply],
+    /// How many pairs of chunk and class are relabelled, and how many regions, edges and areas there are.
+    numbers: [u64; 4],
+    /// How many cells are passable for the first class, and how many obstructions stand.
+    counts: (u32, u32),
+    /// Cells with their chunks, regions and areas.
+    places: &'static [([u16; 2], (u32, u16, u32))],
+}
+
+const TURNS: [Turn; 6] = [
+    // of two obstructions over a cell, one is removed
+    Turn {
+        sides: [3, 1],
+        classes: (1, "0"),
+        first: "add 1 1 unit 98304 32768 16384\nadd 2 65535 unit 98304 32768 16384",
+        then: "remove 1",
+        replies: &[EditReply::Removed(1)],
+        numbers: [0, 2, 0, 2],
+        counts: (2, 1),
+        places: &[([1, 0], (0, 0, 0))],
+    },
+    // a square over the border of two chunks, with its middle at (95, 0.5), blocks the columns 93 to 96
+    Turn {
+        sides: [192, 1],
+        classes: (1, "1"),
+        first: "",
+        then: "add 7 65535 unit 6225920 32768 32768",
+        replies: &[EditReply::Added(7)],
+        numbers: [2, 2, 0, 2],
+        counts: (188, 1),
+        places: &[
+            ([92, 0], (0, 1, 1)),
+            ([93, 0], (0, 0, 0)),
+            ([97, 0], (1, 1, 2)),
+        ],
+    },
+    // an obstruction over the cell (240, 0) parts the third of four chunks
+    Turn {
+        sides: [300, 1],
+        classes: (1, "0"),
+        first: "",
+        then: "add 1 1 unit 15761408 32768 16384",
+        replies: &[EditReply::Added(1)],
+        numbers: [1, 5, 3, 2],
+        counts: (299, 1),
+        places: &[([299, 0], (3, 1, 2))],
+    },
+    // until it is removed
+    Turn {
+        sides: [300, 1],
+        classes: (1, "0"),
+        first: "add 1 1 unit 15761408 32768 16384",
+        then: "remove 1",
+        replies: &[EditReply::Removed(1)],
+        numbers: [1, 4, 3, 1],
+        counts: (300, 0),
+        places: &[([299, 0], (3, 1, 1))],
+    },
+    // a mask names the classes that an obstruction blocks; the mask 0 names none
+    Turn {
+        sides: [3, 1],
+        classes: (2, "0"),
+        first: "",
+        then: "add 1 2 unit 98304 32768 16384\nadd 2 0 unit 32768 32768 16384",
+        replies: &[EditReply::Added(1), EditReply::Added(2)],
+        numbers: [1, 3, 0, 3],
+        counts: (3, 2),
+        places: &[],
+    },
+    // a move, and each refusal but that of a full store; an add is judged by its shape before its number
+    Turn {
+        sides: [3, 1],
+        classes: (1, "0"),
+        first: "add 1 1 unit 98304 32768 16384",
+        then: "move 1 32768 32768\nmove 2 32768 32768\nmove 1 196608 32768\nadd 1 1 unit 196608 32768 16384\n\
+            add 1 1 unit 163840 32768 16384\nremove 2",
+        replies: &[
+            EditReply::Moved(1),
+            EditReply::Refused(Refusal::UnknownId),
+            EditReply::Refused(Refusal::BadShape),
+            EditReply::Refused(Refusal::BadShape),
+            EditReply::Refused(Refusal::DuplicateId),
+            EditReply::Refused(Refusal::UnknownId),
+        ],
+        numbers: [1, 1, 0, 1],
+        counts: (2, 1),
+        places: &[([0, 0], (0, 0, 0))],
+    },
+];
+
+/// The relabelled number, and the numbers of regions, edges and areas.
+fn all_numbers_of(next: &Next) -> [u64; 4] {
+    let [regions, edges, areas] = numbers_of(&next.version);
+    [u64::from(next.relabelled), regions, edges, areas]
+}
+
+/// How many cells are passable for the class, by asking for each; none where the map has no such class, or where the version
+/// says otherwise whether there are any.
+fn passable_in(version: &Version, class: u8) -> Option<u32> {
+    if class >= version.classes() {
+        return None;
+    }
+    let (class, size) = (Class::new(class), version.size());
+    let mut count: u32 = 0;
+    for j in 0..size.h {
+        for i in 0..size.w {
+            let passable = version.passable(class, Cell::new(i, j));
+            count = count.saturating_add(u32::from(passable));
+        }
+    }
+    if version.has_passable(class) == (count > 0) {
+        Some(count)
+    } else {
+        None
+    }
+}
+
+/// What the edits of a turn make of its map. None where a text is none of its form, or there is no memory.
+fn made(alloc: Global, turn: &Turn) -> Option<Next> {
+    let open = version_of(alloc, turn.sides, turn.classes, &[])?;
+    let begun = after(&open, alloc, turn.first)?;
+    after(&begun.version, alloc, turn.then)
+}
+
+/// Whether this is what is there after a turn.
+fn is_made(turn: &Turn, next: &Next) -> bool {
+    let version = &next.version;
+    for (cell, place) in turn.places {
+        if place_in(version, *cell) != Some(*place) {
+            return false;
+        }
+    }
+    next.replies.as_slice() == turn.replies
+        && all_numbers_of(next) == turn.numbers
+        && passable_in(version, 0) == Some(turn.counts.0)
+        && version.shapes().count() == turn.counts.1
+}
+
+#[test]
+fn edits_make_what_the_table_says(rt: HostRuntime) {
+    for turn in &TURNS {
+        let Some(next) = made(rt.alloc(), turn) else {
+            panic!(rt; "{}", turn.then);
+        };
+        assert!(rt; is_made(turn, &next), "{}", turn.then);
+    }
+}
+
+/// The version after edits, where so many pairs are relabelled and there are so many regions, edges and areas.
+fn updated(version: &Version, alloc: Global, edits: &str) -> Option<Version> {
+    let next = after(version, alloc, edits)?;
+    if all_numbers_of(&next) != [16, 7744, 14_784, 16] {
+        return None;
+    }
+    Some(next.version)
+}
+
+/// The version of the largest map with 16 classes after an obstruction over the cell (1024, 1024) has come, and has gone
+/// and come again 500 times, where each of these updates has the same numbers.
+fn often_updated(alloc: Global) -> Option<Version> {
+    let comes = "add 1 65535 unit 67141632 67141632 16384";
+    let open = version_of(alloc, [2048, 2048], (16, "0"), &[])?;
+    let mut version = updated(&open, alloc, comes)?;
+    for _ in 0..500 {
+        let open = updated(&version, alloc, "remove 1")?;
+        version = updated(&open, alloc, comes)?;
+    }
+    Some(version)
+}
+
+#[test]
+fn a_thousand_updates_of_the_largest_map(rt: HostRuntime) {
+    let Some(version) = often_updated(rt.alloc()) else {
+        panic!(rt; "an update has other numbers");
+    };
+    assert!(rt; passable_in(&version, 15) == Some(4_194_303));
+}

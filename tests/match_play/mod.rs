@@ -1,0 +1,169 @@
+//! Matches tell what the examples are answered, however their bytes are cut.
+
+use answer_text::turn_text;
+use io_edges::MemorySource;
+use match_play::{EndedTurn, Match, MatchFault, PostedMatch, Report};
+use nav_types::{Bytes, NoMemory};
+use script_text::{ScriptFault, ScriptReader, have_lines};
+use std::alloc::Global;
+use std::test::*;
+
+mod examples;
+
+use examples::{FIRST, FIRST_ANSWERS, SKIRMISH, SKIRMISH_ANSWERS};
+
+/// A map of 3 by 3 cells.
+const MAP_LINE: &str =
+    "{\"version\":1,\"size\":[3,3],\"callers\":1,\"classes\":[{\"name\":\"default\",\"clearance\":\"0\"}]}\n";
+
+/// Parts of a text, one after another.
+fn joined(alloc: Global, parts: &[&str]) -> Result<Bytes, NoMemory> {
+    let mut bytes = Bytes::new(alloc);
+    for part in parts {
+        bytes.extend(part.as_bytes())?;
+    }
+    Ok(bytes)
+}
+
+/// Feeds a match with a script by pieces of so many bytes.
+fn feed_by(alloc: Global, game: &mut Match, script: &[u8], size: usize) -> Result<(), MatchFault> {
+    for piece in script.chunks(size) {
+        let mut left = piece;
+        game.feed(alloc, &mut left)?;
+    }
+    Ok(())
+}
+
+/// Whether a script that is fed by pieces of so many bytes ends so, and is answered so.
+fn is_answered(
+    alloc: Global,
+    script: &[&str],
+    size: usize,
+    ends: Result<(), MatchFault>,
+    answers: &[&str],
+) -> Result<bool, NoMemory> {
+    let script = joined(alloc, script)?;
+    let answers = joined(alloc, answers)?;
+    let mut game = Match::open(alloc, Report::Answers);
+    let ended = feed_by(alloc, &mut game, script.as_slice(), size);
+    Ok(ended == ends && game.waiting() == answers.as_slice())
+}
+
+#[test]
+fn examples_are_answered(rt: HostRuntime) {
+    for size in [1, 7, 4096] {
+        assert!(rt; is_answered(rt.alloc(), FIRST, size, Ok(()), FIRST_ANSWERS) == Ok(true));
+        assert!(rt; is_answered(rt.alloc(), SKIRMISH, size, Ok(()), SKIRMISH_ANSWERS) == Ok(true));
+    }
+}
+
+#[test]
+fn a_bad_line_stops_a_match(rt: HostRuntime) {
+    let script = [MAP_LINE, "{\"end\":2}\n", "{\"end\":1}\n"];
+    for size in [1, 7, 4096] {
+        let ends = Err(MatchFault::BadLine(2));
+        assert!(rt; is_answered(rt.alloc(), &script, size, ends, &["bad line 2\n"]) == Ok(true));
+    }
+}
+
+/// Whether a script without its last newline ends so, and is answered so; and whether nothing is taken behind its end.
+fn is_ended(
+    alloc: Global,
+    script: &[&str],
+    ends: Result<(), MatchFault>,
+    answers: &[&str],
+) -> Result<bool, NoMemory> {
+    let script = joined(alloc, script)?;
+    let answers = joined(alloc, answers)?;
+    let mut game = Match::open(alloc, Report::Answers);
+    let fed = match script.as_slice().split_last() {
+        Some((_, whole)) => feed_by(alloc, &mut game, whole, 7),
+        None => Ok(()),
+    };
+    let ended = game.finish(alloc);
+    let mut more = script.as_slice();
+    let behind = game.feed(alloc, &mut more);
+    let left = more == script.as_slice();
+    let told = game.waiting() == answers.as_slice();
+    Ok(fed == Ok(()) && ended == ends && behind == Err(MatchFault::Ended) && left && told)
+}
+
+#[test]
+fn a_script_may_end_without_a_newline(rt: HostRuntime) {
+    assert!(rt; is_ended(rt.alloc(), FIRST, Ok(()), FIRST_ANSWERS) == Ok(true));
+    assert!(rt; is_ended(rt.alloc(), &[MAP_LINE], Ok(()), &[]) == Ok(true));
+    let begun = [MAP_LINE, "{\"caller\":0,\"remove\":1}\n"];
+    let ends = Err(MatchFault::BadLine(3));
+    assert!(rt; is_ended(rt.alloc(), &begun, ends, &["bad line 3\n"]) == Ok(true));
+}
+
+/// Ends the next turn of a script in a match by posts, and gives its text.
+fn end_next(
+    alloc: Global,
+    reader: &mut ScriptReader,
+    source: &mut MemorySource,
+    game: &mut PostedMatch,
+    turn: u64,
+) -> Result<Bytes, ScriptFault> {
+    let Some(posts) = reader.next_turn(alloc, source)? else {
+        return Err(ScriptFault::ReadFault);
+    };
+    if !have_lines(game.version().map(), &posts) {
+        return Err(ScriptFault::ReadFault);
+    }
+    match game.end_turn(alloc, Report::Answers, posts) {
+        Ok(EndedTurn { replies, .. }) => Ok(turn_text(alloc, turn, &replies)?),
+        Err(_) => Err(ScriptFault::NoMemory),
+    }
+}
+
+/// The text of a match whose turns are the posts of a script, one or two, and the match as a script.
+fn played(alloc: Global, script: &[&str], two: bool) -> Result<(Bytes, Bytes), ScriptFault> {
+    let script = joined(alloc, script)?;
+    let mut source = MemorySource::new(alloc, script.as_slice(), 4096, &[])?;
+    let mut reader = ScriptReader::new(alloc)?;
+    let map = reader.read_map(alloc, &mut source)?;
+    let mut game = PostedMatch::open(alloc, &map)?;
+    let mut text = end_next(alloc, &mut reader, &mut source, &mut game, 1)?;
+    if two {
+        let second = end_next(alloc, &mut reader, &mut source, &mut game, 2)?;
+        text.extend(second.as_slice())?;
+    }
+    Ok((text, game.script(alloc)?))
+}
+
+/// Whether a match by posts tells the same, and its script is answered alike by a match that is fed.
+fn is_played(
+    alloc: Global,
+    script: &[&str],
+    two: bool,
+    answers: &[&str],
+) -> Result<bool, ScriptFault> {
+    let (text, again) = played(alloc, script, two)?;
+    let answers = joined(alloc, answers)?;
+    let mut game = Match::open(alloc, Report::Answers);
+    let ended = feed_by(alloc, &mut game, again.as_slice(), 7);
+    let same = text.as_slice() == answers.as_slice();
+    Ok(same && ended == Ok(()) && game.take(alloc).as_slice() == answers.as_slice())
+}
+
+#[test]
+fn posts_are_answered_as_their_script(rt: HostRuntime) {
+    assert!(rt; is_played(rt.alloc(), FIRST, false, FIRST_ANSWERS) == Ok(true));
+    assert!(rt; is_played(rt.alloc(), SKIRMISH, true, SKIRMISH_ANSWERS) == Ok(true));
+}
+
+/// How many turns stand in a view: whether a match has one before its map, and behind it.
+fn has_views(alloc: Global) -> Result<bool, NoMemory> {
+    let map = joined(alloc, &[MAP_LINE])?;
+    let mut game = Match::open(alloc, Report::Answers);
+    let before = game.view(alloc)?.is_none();
+    let ended = feed_by(alloc, &mut game, map.as_slice(), 3);
+    let behind = game.view(alloc)?.is_some();
+    Ok(before && ended == Ok(()) && behind)
+}
+
+#[test]
+fn a_view_comes_with_the_map(rt: HostRuntime) {
+    assert!(rt; has_views(rt.alloc()) == Ok(true));
+}

@@ -1,0 +1,225 @@
+//! The causes of bad lines, as values and as text.
+
+use super::{MAP_1, MAP_2, MAP_3, read_behind};
+use class_config::ClassName;
+use nav_types::Size;
+use script_text::{Cause, GoalKey, Key, Wanted};
+use std::alloc::Global;
+use std::process::Abort;
+use std::test::*;
+
+/// Whether a cause says this text.
+fn says(alloc: Global, cause: &Cause, text: &str) -> bool {
+    match format!(in alloc; "{cause}") {
+        Ok(said) => said.as_str() == text,
+        Err(_) => false,
+    }
+}
+
+/// Whether a script that goes on so behind a map line is bad for this cause.
+fn has_cause(alloc: Global, map: &str, lines: &str, cause: &Cause) -> bool {
+    match read_behind(alloc, map, lines) {
+        Ok(outcome) => outcome.cause == Some(*cause),
+        Err(_) => false,
+    }
+}
+
+/// Lines, the cause of the bad one, and what that says.
+type Row = (&'static str, Cause, &'static str);
+
+/// Checks the causes of scripts that go on so behind a map line.
+fn have_causes(rt: &impl Abort, alloc: Global, map: &str, rows: &[Row]) {
+    for (lines, cause, text) in rows {
+        assert!(rt; has_cause(alloc, map, lines, cause), "{lines}");
+        assert!(rt; says(alloc, cause, text), "{lines}");
+    }
+}
+
+/// What a script has in the place of its map line.
+const NO_MAP_LINE: [Row; 3] = [
+    (
+        "",
+        Cause::NoLine,
+        "the script must begin with a map line, and has no line",
+    ),
+    (
+        "{\"end\":1}\n",
+        Cause::NotHere,
+        "the map line must be line 1 alone, and base lines must stand between it and the turns",
+    ),
+    (
+        "{\"version\":4,\"size\":[5,4],\"callers\":2,\"classes\":[{\"name\":\"a\",\"clearance\":\"0\"}]}\n",
+        Cause::WrongValue {
+            key: Key::Version,
+            wanted: Wanted::Whole { least: 1, most: 3 },
+        },
+        "the key \"version\" must have a whole number from 1 to 3",
+    ),
+];
+
+#[test]
+fn a_script_without_its_map_line_has_a_cause(rt: HostRuntime) {
+    have_causes(&rt, rt.alloc(), "", &NO_MAP_LINE);
+}
+
+/// Lines behind a map line of version 3.
+const THIRD_LINES: [Row; 13] = [
+    (
+        "{\"caller\":0,\n",
+        Cause::NotJson,
+        "the line must be one JSON value in UTF-8",
+    ),
+    (
+        "{\"caller\":0,\"end\":1}\n",
+        Cause::NoSuchForm,
+        "the line must be an object with exactly the keys of one form",
+    ),
+    (
+        "{\"caller\":0,\"move\":1}\n",
+        Cause::MissingKey { key: Key::To },
+        "the line must have the key \"to\" too",
+    ),
+    (
+        " \r\n",
+        Cause::BlankLine,
+        "the line must be one JSON value, and is blank",
+    ),
+    (
+        "\u{feff}{\"end\":1}\n",
+        Cause::ByteOrderMark,
+        "the line must be one JSON value, and begins with a byte order mark",
+    ),
+    (
+        "{\"caller\":2,\"remove\":\"1\"}\n",
+        Cause::WrongValue {
+            key: Key::Caller,
+            wanted: Wanted::Caller { callers: 2 },
+        },
+        "the key \"caller\" must have the number of a caller, which is a whole number below 2",
+    ),
+    (
+        "{\"caller\":0,\"remove\":1,\"caller\":2}\n",
+        Cause::WrongValue {
+            key: Key::Caller,
+            wanted: Wanted::Caller { callers: 2 },
+        },
+        "the key \"caller\" must have the number of a caller, which is a whole number below 2",
+    ),
+    (
+        "{\"region\":\"a\",\"at\":[1.5,\"0\"],\"caller\":0}\n",
+        Cause::WrongValue {
+            key: Key::At,
+            wanted: Wanted::TwoDecimals,
+        },
+        "the key \"at\" must have an array of two decimals in quotes with at most 16 places, from -32768 to below 32768",
+    ),
+    (
+        "{\"caller\":0,\"path\":\"a\",\"from\":[\"0\",\"0\"],\"goal\":{\"circle\":[\"1\",\"1\"]}}\n",
+        Cause::WrongValue {
+            key: Key::OfGoal(GoalKey::Circle),
+            wanted: Wanted::ThreeDecimals,
+        },
+        "the key \"circle\" must have an array of three decimals in quotes with at most 16 places, from -32768 to below 32768",
+    ),
+    (
+        "{\"caller\":0,\"path\":\"a\",\"from\":[\"0\",\"0\"],\"goal\":{\"centre\":[\"1\",\"1\"]}}\n",
+        Cause::WrongValue {
+            key: Key::Goal,
+            wanted: Wanted::Goal { version: 3 },
+        },
+        "the key \"goal\" must have an object with exactly one key: point, circle, not-circle, square, not-square or, from version 3 on, obstruction",
+    ),
+    (
+        "{\"end\":1}\n{\"end\":1}\n",
+        Cause::WrongValue {
+            key: Key::End,
+            wanted: Wanted::Turn { number: 2 },
+        },
+        "the key \"end\" must have the number of this turn, 2",
+    ),
+    (
+        "{\"caller\":0,\"remove\":1}\n{\"base\":[]}\n",
+        Cause::NotHere,
+        "the map line must be line 1 alone, and base lines must stand between it and the turns",
+    ),
+    (
+        "{\"caller\":0,\"remove\":1}\n",
+        Cause::EndsInsideTurn,
+        "the script must not end inside a turn: its end line is missing",
+    ),
+];
+
+#[test]
+fn lines_of_version_3_have_causes(rt: HostRuntime) {
+    have_causes(&rt, rt.alloc(), MAP_3, &THIRD_LINES);
+}
+
+#[test]
+fn base_lines_have_causes(rt: HostRuntime) {
+    let size = Size::new(5, 4).expect(&rt, "the size");
+    let rows = [
+        (
+            "{\"base\":[[0,0,4,3,1],[0,0,5,0,1]]}\n",
+            Cause::WrongRectangle { number: 2, size },
+            "the key \"base\" must have an array of arrays [i0,j0,i1,j1,mask] with i0 <= i1, j0 <= j1 and mask <= 65535, on a map of 5 by 4; array 2 is wrong",
+        ),
+        (
+            "{\"base\":1}\n",
+            Cause::WrongValue {
+                key: Key::Base,
+                wanted: Wanted::Rectangles { size },
+            },
+            "the key \"base\" must have an array of arrays [i0,j0,i1,j1,mask] with i0 <= i1, j0 <= j1 and mask <= 65535, on a map of 5 by 4",
+        ),
+    ];
+    have_causes(&rt, rt.alloc(), MAP_3, &rows);
+}
+
+#[test]
+fn a_key_of_no_form_is_told(rt: HostRuntime) {
+    let Some(key) = ClassName::new(b"fly") else {
+        return;
+    };
+    let text = "the line must have the keys of one form, and no form has the key \"fly\"";
+    let rows = [(
+        "{\"caller\":0,\"fly\":1}\n",
+        Cause::UnknownKey { key },
+        text,
+    )];
+    have_causes(&rt, rt.alloc(), MAP_3, &rows);
+}
+
+/// What is told of a form of version 3 before it.
+const THIRD: &str = "the map line must name version 3 or later for this";
+
+/// Lines behind a map line of version 2.
+const SECOND_LINES: [Row; 3] = [
+    (
+        "{\"caller\":0,\"move\":1,\"to\":[\"0\",\"0\"]}\n",
+        Cause::LaterVersion { version: 3 },
+        THIRD,
+    ),
+    (
+        "{\"caller\":0,\"path\":\"a\",\"from\":[\"0\",\"0\"],\"goal\":{\"obstruction\":[1,\"0\"]}}\n",
+        Cause::LaterVersion { version: 3 },
+        THIRD,
+    ),
+    (
+        "{\"caller\":0,\"add\":1,\"unit\":[\"0\",\"0\",\"1\"]}\n",
+        Cause::MissingMask,
+        "an add line must have the key \"mask\" from version 2 on",
+    ),
+];
+
+/// Lines behind a map line of version 1.
+const FIRST_LINES: [Row; 1] = [(
+    "{\"caller\":0,\"add\":1,\"unit\":[\"0\",\"0\",\"1\"],\"mask\":1}\n",
+    Cause::LaterVersion { version: 2 },
+    "the map line must name version 2 or later for this",
+)];
+
+#[test]
+fn forms_of_other_versions_have_causes(rt: HostRuntime) {
+    have_causes(&rt, rt.alloc(), MAP_2, &SECOND_LINES);
+    have_causes(&rt, rt.alloc(), MAP_1, &FIRST_LINES);
+}

@@ -1,0 +1,118 @@
+//! Lines and their forms, scripts that are read, and the causes of bad lines.
+
+use io_edges::MemorySource;
+use nav_types::{Bytes, NoMemory};
+use posts::{Journal, MapSpec};
+use script_text::{Cause, ScriptFault, ScriptReader, have_lines, write_journal, write_map};
+use std::alloc::Global;
+
+mod causes;
+mod lines;
+mod pushing;
+mod reading;
+
+/// A map line of version 1 with 2 callers and a map of 5 by 4 navcells.
+const MAP_1: &str =
+    "{\"version\":1,\"size\":[5,4],\"callers\":2,\"classes\":[{\"name\":\"a\",\"clearance\":\"0\"}]}\n";
+
+/// The same of version 2.
+const MAP_2: &str =
+    "{\"version\":2,\"size\":[5,4],\"callers\":2,\"classes\":[{\"name\":\"a\",\"clearance\":\"0\"}]}\n";
+
+/// The same of version 3.
+const MAP_3: &str =
+    "{\"version\":3,\"size\":[5,4],\"callers\":2,\"classes\":[{\"name\":\"a\",\"clearance\":\"0\"}]}\n";
+
+/// What a script gives: its map, at most nine turns, the fault that ends it, and the cause where that is a bad line.
+#[derive(Drop)]
+struct Outcome {
+    map: Option<MapSpec>,
+    turns: Journal,
+    fault: Option<ScriptFault>,
+    cause: Option<Cause>,
+}
+
+/// How many turns a script gives, and the fault that ends it.
+type Ending = (usize, Option<ScriptFault>);
+
+/// Reads a script, where a read takes so many bytes at most, and the reads of these numbers fail.
+fn read_script(
+    alloc: Global,
+    script: &[u8],
+    piece: usize,
+    fails: &[u64],
+) -> Result<Outcome, NoMemory> {
+    let mut source = MemorySource::new(alloc, script, piece.max(1), fails)?;
+    let mut reader = ScriptReader::new(alloc)?;
+    let mut outcome = Outcome {
+        map: None,
+        turns: Journal::new(alloc),
+        fault: None,
+        cause: None,
+    };
+    match reader.read_map(alloc, &mut source) {
+        Ok(map) => {
+            outcome.map = Some(map);
+            read_turns(alloc, &mut reader, &mut source, &mut outcome);
+        }
+        Err(fault) => end_by(alloc, &reader, fault, &mut outcome),
+    }
+    Ok(outcome)
+}
+
+/// Reads the turns behind the map.
+fn read_turns(
+    alloc: Global,
+    reader: &mut ScriptReader,
+    source: &mut MemorySource,
+    outcome: &mut Outcome,
+) {
+    for _ in 0..9u32 {
+        match reader.next_turn(alloc, source) {
+            Ok(Some(turn)) => {
+                if outcome.turns.push(turn).is_err() {
+                    outcome.fault = Some(ScriptFault::NoMemory);
+                    return;
+                }
+            }
+            Ok(None) => return,
+            Err(fault) => {
+                end_by(alloc, reader, fault, outcome);
+                return;
+            }
+        }
+    }
+}
+
+/// Ends an outcome by a fault that the reader met.
+fn end_by(alloc: Global, reader: &ScriptReader, fault: ScriptFault, outcome: &mut Outcome) {
+    outcome.fault = Some(fault);
+    match fault {
+        ScriptFault::BadLine(_) => outcome.cause = reader.cause(alloc).ok(),
+        _ => {}
+    }
+}
+
+/// Reads a script of lines behind a map line.
+fn read_behind(alloc: Global, map: &str, lines: &str) -> Result<Outcome, NoMemory> {
+    let mut script = Bytes::new(alloc);
+    script.extend(map.as_bytes())?;
+    script.extend(lines.as_bytes())?;
+    read_script(alloc, script.as_slice(), 7, &[])
+}
+
+/// The canonical script of what was read, where there is a map.
+fn written(alloc: Global, outcome: &Outcome) -> Option<Bytes> {
+    let map = outcome.map.as_ref()?;
+    let mut script = write_map(alloc, map).ok()?;
+    let mut number: u64 = 0;
+    for turn in outcome.turns.as_slice() {
+        if !have_lines(map, turn) {
+            return None;
+        }
+        number = number.wrapping_add(1);
+        let mut text = write_journal(alloc, map, number, turn).ok()?;
+        script.append(&mut text).ok()?;
+    }
+    Some(script)
+}
