@@ -10,7 +10,7 @@ use std::alloc::Global;
 const FIRST: Chunk = Chunk { cj: 0, ci: 0 };
 
 // The rows of one chunk from the first row up, joined by `/`, with `#` for an impassable cell; then the
-// region numbers in the order of cells.
+// region numbers in the order of cells, as `Cells` of `examples/check.py` has them.
 const CHUNKS: [(&str, &str); 8] = [
     (
         "..#.....#./....#..#../#..#....../#..##.#.../#...###..#/....####../.#.#..##../##..#.....",

@@ -1,7 +1,7 @@
 use crate::fixtures::texts::fields_of;
 use fixed_point::{Fixed, NotFixed};
 
-/// In each line a text, its raw number and its canonical text.
+/// In each line a text, its raw number and its canonical text. `tools/test_lines.py values` makes such a line.
 const VALUES: &str = "\
 0;0;0
 -0;0;0

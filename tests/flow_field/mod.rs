@@ -24,7 +24,7 @@ const MAPS: &str = "\
 ";
 
 /// Lines as in `MAPS`, the step to take at the start, and how many cells have a distance, the greatest of the distances and
-/// their sum.
+/// their sum, as `flow` of `examples/check.py` has them.
 const SUMMARIES: [(&str, Option<Dir>, FlowSummary); 4] = [
     (
         ".../.../...;0,0;2,2;2,2",

@@ -13,7 +13,7 @@ use nav_types::{Areas, Cell, CellByCell, Class, FreeCells, Rect};
 use std::alloc::Global;
 
 /// In each line the rows of a map from the first up, `#` impassable, a point in halves of a navcell, and its start
-/// cell.
+/// cell. `tools/test_lines.py starts` makes such a line.
 const STARTS: &str = "\
 .#.;3,1;0,0
 ...;3,1;1,0

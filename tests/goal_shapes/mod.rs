@@ -4,7 +4,7 @@ use goal_shapes::{Goal, GoalRefusal, cell_box, check, contains, remoteness};
 use nav_types::{Cell, Size};
 
 /// In each line a goal with its numbers raw, the columns and rows of a map, the goal's box, and cells with 1 where they
-/// are goal cells and with their remoteness.
+/// are goal cells and with their remoteness. `tools/test_lines.py goals` makes such a line.
 const GOALS: &str = "\
 not-square 610610 221923 46341 46341 169049 180423;14 11;0 0 13 10;8 2 0 5905425047,8 3 0 8942428823,9 1 0 5540315787,10 1 1 2503312011,12 3 1 1067146601,10 9 1 0
 not-square 351043 387808 -39975 -51818 268826 278884;9 16;0 0 8 15;4 3 0 7164314635,4 8 0 8602656866,8 5 0 6508044190,7 2 1 2044583838,2 3 1 1924711435,0 12 1 0

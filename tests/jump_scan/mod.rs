@@ -9,7 +9,7 @@ use nav_types::{Class, Dir, DirSet, View};
 use std::alloc::Global;
 
 /// In each line the rows of a map from the first up, `#` impassable, the cells that are hit, where a run begins, its
-/// direction, and its stop, or `-` where it has none.
+/// direction, and its stop, or `-` where it has none. `tools/test_lines.py runs` makes such a line.
 const RUNS: &str = "\
 ...../...../...../.#.../...../.....;3,0 4,4;2,4;E;4,4
 ....#../......./......./...#..#/...#...;6,1 2,3;2,0;N;2,3
@@ -37,7 +37,7 @@ const RUNS: &str = "\
 ";
 
 /// In each line the rows of a map, a cell, the direction of the step that came to it, or `-` for a start, and the
-/// successors.
+/// successors. `tools/test_lines.py successors` makes such a line.
 const SUCCESSORS: &str = "\
 ....#/#.#../.#.#./##.../..#.#/..#.#;3,4;W;N
 .#..../..#.../..#..#;5,0;W;N W NW

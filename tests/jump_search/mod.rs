@@ -17,7 +17,8 @@ use std::sync::ledger::{Blank, Ledger};
 use std::test::Fail;
 
 /// In each line the rows of a map from the first up, `#` impassable, the start and the targets, and then the end, the
-/// cost and the waypoints of the answer, and how many jump states are opened.
+/// cost and the waypoints of the answer, and how many jump states are opened. `tools/test_lines.py jumps` makes such a
+/// line.
 const TABLE: &str = "\
 ..../..../..../..../..../..../..../..../....;0,5;1,7;1,7;158218;1,6 1,7;3
 ......../....#.../#.#.#..#/...#...#/#.#.#.../.###....;6,3;1,3;1,3;644116;5,2 5,0 3,0 2,1 1,1 1,3;11

@@ -16,7 +16,7 @@ const MAPS: [&str; 3] = [
 ];
 
 /// In each line the rows of a map from the first up, `#` impassable, the start and the target, the end, the cost and
-/// the waypoints of the chosen walk, and the smoothed waypoints.
+/// the waypoints of the chosen walk, and the smoothed waypoints. `tools/test_lines.py smooth` makes such a line.
 const TABLE: &str = "\
 .../.../...;0,0;2,1;2,1;158218;1,1 2,1;2,1
 .../.../...;1,1;1,1;1,1;0;;

@@ -5,7 +5,8 @@ use nav_types::{Cell, Size};
 use obstruction_shapes::{Shape, blocks, check, reach_rect};
 
 /// In each line a shape with its numbers raw, a clearance, a row, and the columns of that row whose cells the shape
-/// blocks and those whose cells it does not block, at and beside the rim.
+/// blocks and those whose cells it does not block, at and beside the rim. `tools/test_lines.py blocks` makes such a
+/// line.
 const BLOCKS: &str = "\
 square 1998847 1638400 65536 0 71130 65536;621137;30;21 30 35;20
 unit 127915 1343487 0;65536;15;;5 19
@@ -165,7 +166,7 @@ unit 655359 2126509 605668;233025;31;22;23
 unit 1441793 236602 65536;65536;36;;11 28";
 
 /// In each line a shape with its numbers raw, a clearance, the columns and the rows of a map, and the rectangle of near
-/// cells, or none.
+/// cells, or none. `tools/test_lines.py reaches` makes such a line.
 const REACHES: &str = "\
 square 425984 196607 32768 56756 0 504638;27558;46 3;0 0 14 2
 square 753664 1703936 -46341 46341 121563 0;2478699;32 44;0 0 31 43

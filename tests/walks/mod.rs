@@ -8,7 +8,7 @@ use std::alloc::Global;
 use walks::plain_search;
 
 /// In each line the rows of a map from the first up, `#` impassable, the start and the targets, and then the end, the
-/// cost and the waypoints of the answer.
+/// cost and the waypoints of the answer. `tools/test_lines.py walks` makes such a line.
 const TABLE: &str = "\
 .../.#./...;0,0;2,2;2,2;262144;2,0 2,2
 .../.../...;1,1;1,2 2,1 0,1 1,0;1,0;65536;1,0
