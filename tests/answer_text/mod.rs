@@ -1,4 +1,4 @@
-//! Replies of every kind with their lines, the text of a turn, and the summary of no turn.
+//! Replies of every kind with their lines, the text of a turn, and summaries.
 
 use answer_text::{noted_text, summary_text, turn_text, write_reply};
 use nav_types::{Bytes, Cell, Cost, NoMemory};
@@ -49,6 +49,11 @@ const SECOND_PROFILE: &str = "turn 2 regions 1 edges 0 areas 1 relabelled 1\n\
 const NONE: &str =
     "summary turns 0 posts 0 added 0 removed 0 refused 0 goal 0 near 0 nowhere 0 cost 0 corners 0\n\
     last regions 0 edges 0 areas 0\n";
+
+/// The summary of the two turns.
+const BOTH: &str =
+    "summary turns 2 posts 10 added 1 removed 1 refused 2 goal 2 near 1 nowhere 1 cost 381072 corners 4\n\
+    last regions 1 edges 0 areas 1\n";
 
 /// A path from the first cell along the first row, with these columns of its waypoints.
 fn path(
@@ -251,6 +256,19 @@ fn is_second_written(alloc: Global) -> Result<bool, NoMemory> {
 fn turns_are_written_caller_by_caller(rt: HostRuntime) {
     assert!(rt; is_first_written(rt.alloc()) == Ok(true));
     assert!(rt; is_second_written(rt.alloc()) == Ok(true));
+}
+
+/// Whether the summary of the two turns is that above.
+fn is_summed(alloc: Global) -> Result<bool, NoMemory> {
+    let mut turns = AllReplies::new(alloc);
+    turns.push(first_turn(alloc)?)?;
+    turns.push(second_turn(alloc)?)?;
+    Ok(is_text(summary_text(alloc, &turns), BOTH))
+}
+
+#[test]
+fn a_summary_counts_all_turns_and_ends_with_the_last(rt: HostRuntime) {
+    assert!(rt; is_summed(rt.alloc()) == Ok(true));
 }
 
 #[test]

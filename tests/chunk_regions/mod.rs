@@ -1,10 +1,12 @@
 use crate::fixtures::counted::Counted;
 use crate::fixtures::labelling::labelled;
 use crate::fixtures::maps::{block, drawn};
-use chunk_regions::Labels;
-use nav_types::{Cell, Chunk, Size};
+use chunk_regions::{ChunkBits, Labels, relabel};
+use nav_types::{Cell, Chunk, NoMemory, Size, Ticks};
 use navcell_grid::Grid;
 use std::alloc::Global;
+use std::marker::Brand;
+use std::sync::ledger::{Blank, Ledger};
 
 /// The first chunk of a map.
 const FIRST: Chunk = Chunk { cj: 0, ci: 0 };
@@ -164,5 +166,85 @@ fn is_whole(
 fn whole_chunks_have_their_regions(rt: HostRuntime) {
     for line in WHOLE {
         assert!(rt; is_whole(rt.alloc(), line) == Some(true));
+    }
+}
+
+// The rows of a chunk, the number of a row that changes, what it changes to, and the region numbers that are then in the
+// order of cells: where a row comes to have more runs of passable cells, where it comes to have fewer, and where all that
+// changes are the first row or the last.
+const CHANGES: [(&str, u16, &str, &str); 4] = [
+    (
+        "..#../#####/.#.#./.....",
+        1,
+        "#.#.#",
+        "1 1 0 2 2 0 1 0 2 0 3 0 3 0 3 3 3 3 3 3",
+    ),
+    (
+        "..#../#.#.#/.#.#./.....",
+        1,
+        "#####",
+        "1 1 0 2 2 0 0 0 0 0 3 0 3 0 3 3 3 3 3 3",
+    ),
+    (
+        "..#../#.#.#/.#.#./.....",
+        0,
+        "#####",
+        "0 0 0 0 0 0 1 0 2 0 3 0 3 0 3 3 3 3 3 3",
+    ),
+    (
+        "..#../#.#.#/.#.#./.....",
+        3,
+        "##.##",
+        "1 1 0 2 2 0 1 0 2 0 3 0 4 0 5 0 0 4 0 0",
+    ),
+];
+
+/// The bits of a chunk of which one row is drawn so, where `#` is an impassable cell, and the others are clear.
+fn bits_of(row: u16, drawn: &str) -> ChunkBits {
+    let mut bits = 0u128;
+    for (column, tile) in drawn.bytes().enumerate() {
+        if tile != b'#' {
+            bits |= 1 << column;
+        }
+    }
+    let mut chunk = ChunkBits::new();
+    chunk.set_row(row, bits);
+    chunk
+}
+
+/// The labels after a row has changed, where the work is counted in a ledger of its own.
+fn changed_row<L: Ledger>(
+    alloc: Global,
+    before: &Labels,
+    row: u16,
+    drawn: &str,
+    blank: Blank,
+) -> Result<Labels, NoMemory> {
+    let mut ticks = Ticks::<L>::new(blank);
+    relabel(
+        alloc,
+        before,
+        row,
+        row + 1,
+        &bits_of(row, drawn),
+        &mut ticks,
+    )
+}
+
+/// Whether the regions of a chunk have these numbers once a row has changed. None where there is no map, or no memory.
+fn has_changed(alloc: Global, rows: &str, row: u16, changed: &str, numbers: &str) -> Option<bool> {
+    let map = drawn(alloc, rows)?;
+    let before = labelled(alloc, &map, FIRST)?;
+    let labels = changed_row::<Brand>(alloc, &before, row, changed, Blank::new(1)).ok()?;
+    Some(are_numbers(&labels, numbers))
+}
+
+#[test]
+fn a_changed_row_changes_the_regions(rt: HostRuntime) {
+    for (rows, row, changed, numbers) in CHANGES {
+        assert!(rt;
+            has_changed(rt.alloc(), rows, row, changed, numbers) == Some(true),
+            "row {row} of {rows}"
+        );
     }
 }

@@ -7,7 +7,7 @@ use std::alloc::Global;
 use std::test::Fail;
 
 /// Texts with the number of their classes and the raw clearance of the last of them, where they have classes.
-const TEXTS: [(&str, Option<(u8, i32)>); 17] = [
+const TEXTS: [(&str, Option<(u8, i32)>); 18] = [
     (
         "[{\"name\":\"a\",\"clearance\":\"64\"}]",
         Some((1, 4_194_304)),
@@ -32,6 +32,10 @@ const TEXTS: [(&str, Option<(u8, i32)>); 17] = [
     ),
     (
         "[{\"name\":\"a\",\"clearance\":\"1\"},{\"name\":\"a\",\"clearance\":\"2\"}]",
+        None,
+    ),
+    (
+        "[{\"name\":\"a\",\"clearance\":\"1\"},{\"name\":\"b\",\"clearance\":\"1\"},{\"name\":\"b\",\"clearance\":\"2\"}]",
         None,
     ),
     ("[{\"name\":\"a\"}]", None),

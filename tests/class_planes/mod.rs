@@ -5,10 +5,10 @@ use crate::fixtures::figures::goal_of;
 use crate::fixtures::maps::holds;
 use crate::fixtures::versions::{after, version_of};
 use crate::fixtures::views::stop_of;
-use class_planes::{ClassPlane, PlaneRuns};
+use class_planes::{ChangedPart, ClassPlane, PlaneRuns, Planes};
 use goal_shapes::{Goal, check};
 use grid_versions::Version;
-use jump_scan::CellRuns;
+use jump_scan::{CellRuns, Runs};
 use nav_types::{Cell, Class, Dir, Rect, Size, View};
 use std::alloc::Global;
 
@@ -110,10 +110,10 @@ fn all_bits_are_those_of_the_cells(rt: HostRuntime) {
     assert!(rt; are_planes_right(rt.alloc()) == Some(true));
 }
 
-/// The first direction in which the runs by words and by cells from the cell have unlike stops.
-fn unlike_from(version: &Version, from: Cell, goal: &Goal) -> Option<Dir> {
+/// The first direction in which the runs by words of some planes and by cells from the cell have unlike stops.
+fn unlike_from(version: &Version, planes: &Planes, from: Cell, goal: &Goal) -> Option<Dir> {
     let class = Class::new(0);
-    let by_words = PlaneRuns::new(version, version.planes(), Class::new(0));
+    let by_words = PlaneRuns::new(version, planes, Class::new(0));
     let by_cells = CellRuns::new(version);
     for dir in Dir::ALL {
         if stop_of(&by_words, class, from, dir, goal)
@@ -126,7 +126,7 @@ fn unlike_from(version: &Version, from: Cell, goal: &Goal) -> Option<Dir> {
 }
 
 /// The first passable cell from which the runs have unlike stops in some direction.
-fn unlike(version: &Version, goal: &Goal) -> Option<(Cell, Dir)> {
+fn unlike(version: &Version, planes: &Planes, goal: &Goal) -> Option<(Cell, Dir)> {
     let size = version.size();
     if version.classes() < 1 {
         return None;
@@ -135,7 +135,7 @@ fn unlike(version: &Version, goal: &Goal) -> Option<(Cell, Dir)> {
         for i in 0..size.w {
             let cell = Cell::new(i, j);
             if version.passable(Class::new(0), cell) {
-                if let Some(dir) = unlike_from(version, cell, goal) {
+                if let Some(dir) = unlike_from(version, planes, cell, goal) {
                     return Some((cell, dir));
                 }
             }
@@ -145,11 +145,11 @@ fn unlike(version: &Version, goal: &Goal) -> Option<(Cell, Dir)> {
 }
 
 /// Whether the runs stop at the same cells, where they look for the goal of a text. None where that is no sound goal.
-fn stop_alike(version: &Version, goal: &str) -> Option<bool> {
+fn stop_alike(version: &Version, planes: &Planes, goal: &str) -> Option<bool> {
     let Ok(goal) = check(goal_of(goal)?, version.size()) else {
         return None;
     };
-    Some(unlike(version, &goal).is_none())
+    Some(unlike(version, planes, &goal).is_none())
 }
 
 #[test]
@@ -162,6 +162,56 @@ fn runs_stop_at_the_same_cells_by_words_and_by_cells(rt: HostRuntime) {
         "point 8486912 2654208",
         "square 4947968 2654208 65536 0 1015807 688127",
     ] {
-        assert!(rt; stop_alike(&version, goal) == Some(true), "{goal}");
+        assert!(rt;
+            stop_alike(&version, version.planes(), goal) == Some(true),
+            "{goal}"
+        );
     }
+}
+
+/// The first passable cell beside which other cells are passable by words than by cells.
+fn unlike_beside(version: &Version) -> Option<Cell> {
+    let (class, size) = (Class::new(0), version.size());
+    let by_words = PlaneRuns::new(version, version.planes(), Class::new(0));
+    let by_cells = CellRuns::new(version);
+    for j in 0..size.h {
+        for i in 0..size.w {
+            let cell = Cell::new(i, j);
+            if version.passable(Class::new(0), cell)
+                && by_words.beside(class, cell) != by_cells.beside(class, cell)
+            {
+                return Some(cell);
+            }
+        }
+    }
+    None
+}
+
+#[test]
+fn cells_beside_a_cell_are_the_same_by_words_and_by_cells(rt: HostRuntime) {
+    let Some(version) = blocked(rt.alloc()) else {
+        panic!(rt; "no map");
+    };
+    assert!(rt; unlike_beside(&version).is_none());
+}
+
+/// Whether the planes of the map, brought up to date by a call of its own with the rows of a later version, have all bits
+/// right, and runs over them stop where they do cell by cell. None where there is no memory.
+fn are_planes_updated(alloc: Global) -> Option<bool> {
+    let version = blocked(alloc)?;
+    let edit = "add 1 1 square 5210112 3145728 65536 0 3227648 1097728";
+    let next = after(&version, alloc, edit)?.version;
+    let part = ChangedPart {
+        rect: WALL,
+        classes: 1,
+    };
+    let planes = version.planes().updated(alloc, &next, &[part]).ok()?;
+    let plane = planes.plane(Class::new(0))?;
+    let alike = stop_alike(&next, &planes, "point 8486912 2654208")?;
+    Some(wrong_cell(plane, WALL).is_none() && alike)
+}
+
+#[test]
+fn planes_are_brought_up_to_date(rt: HostRuntime) {
+    assert!(rt; are_planes_updated(rt.alloc()) == Some(true));
 }

@@ -26,6 +26,7 @@ const STARTS: &str = "\
 .../.#./...;3,3;1,0
 ####/####/###.;1,1;3,2
 ###/###;3,1;
+..##..;6,1;1,0
 ";
 
 /// A coordinate in halves of a navcell.

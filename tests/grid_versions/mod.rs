@@ -2,8 +2,10 @@
 
 use crate::fixtures::versions::{after, version_of};
 use crate::fixtures::views::shared;
-use grid_versions::{EditReply, Next, Refusal, Version};
-use nav_types::{Areas, Cell, Class, Rect, View};
+use fixed_point::Fixed;
+use grid_versions::{Edit, EditReply, Edits, Next, Refusal, Version};
+use nav_types::{Areas, Cell, Class, NoMemory, Rect, Rows, View};
+use obstruction_shapes::{Obstruction, Shape};
 use std::alloc::Global;
 
 /// The rectangle of the columns from the first number to the second, and the rows up to the third, with the fourth as its
@@ -97,7 +99,7 @@ struct Turn {
     places: &'static [([u16; 2], (u32, u16, u32))],
 }
 
-const TURNS: [Turn; 6] = [
+const TURNS: [Turn; 10] = [
     // of two obstructions over a cell, one is removed
     Turn {
         sides: [3, 1],
@@ -146,6 +148,36 @@ const TURNS: [Turn; 6] = [
         counts: (300, 0),
         places: &[([299, 0], (3, 1, 1))],
     },
+    // one over the first cell of the third chunk, so that its edge to the second one goes
+    Turn {
+        sides: [300, 1],
+        classes: (1, "0"),
+        first: "",
+        then: "add 1 1 unit 12615680 32768 16384",
+        replies: &[EditReply::Added(1)],
+        numbers: [1, 4, 2, 2],
+        counts: (299, 1),
+        places: &[
+            ([191, 0], (1, 1, 1)),
+            ([192, 0], (2, 0, 0)),
+            ([193, 0], (2, 1, 2)),
+        ],
+    },
+    // the same in a column
+    Turn {
+        sides: [1, 300],
+        classes: (1, "0"),
+        first: "",
+        then: "add 1 1 unit 32768 12615680 16384",
+        replies: &[EditReply::Added(1)],
+        numbers: [1, 4, 2, 2],
+        counts: (299, 1),
+        places: &[
+            ([0, 191], (1, 1, 1)),
+            ([0, 192], (2, 0, 0)),
+            ([0, 193], (2, 1, 2)),
+        ],
+    },
     // a mask names the classes that an obstruction blocks; the mask 0 names none
     Turn {
         sides: [3, 1],
@@ -175,6 +207,35 @@ const TURNS: [Turn; 6] = [
         numbers: [1, 1, 0, 1],
         counts: (2, 1),
         places: &[([0, 0], (0, 0, 0))],
+    },
+    // where all is refused, all stays as it is
+    Turn {
+        sides: [3, 1],
+        classes: (1, "0"),
+        first: "add 1 1 unit 98304 32768 16384",
+        then: "remove 2\nmove 2 32768 32768\nmove 1 196608 32768\nadd 1 1 unit 32768 32768 16384\n\
+            add 2 1 unit 196608 32768 16384",
+        replies: &[
+            EditReply::Refused(Refusal::UnknownId),
+            EditReply::Refused(Refusal::UnknownId),
+            EditReply::Refused(Refusal::BadShape),
+            EditReply::Refused(Refusal::DuplicateId),
+            EditReply::Refused(Refusal::BadShape),
+        ],
+        numbers: [0, 2, 0, 2],
+        counts: (2, 1),
+        places: &[([1, 0], (0, 0, 0)), ([2, 0], (0, 2, 2))],
+    },
+    // a line of half length 9.97 whose unit vector has the length 255/256: the cell 10 columns away lies 9.96 along it
+    Turn {
+        sides: [12, 1],
+        classes: (1, "0"),
+        first: "",
+        then: "add 1 65535 square 32768 32768 65280 0 653393 0",
+        replies: &[EditReply::Added(1)],
+        numbers: [1, 1, 0, 1],
+        counts: (1, 1),
+        places: &[([10, 0], (0, 0, 0)), ([11, 0], (0, 1, 1))],
     },
 ];
 
@@ -264,4 +325,77 @@ fn a_thousand_updates_of_the_largest_map(rt: HostRuntime) {
         panic!(rt; "an update has other numbers");
     };
     assert!(rt; passable_in(&version, 15) == Some(4_194_303));
+}
+
+/// The add of a unit with its middle in the middle of a cell.
+fn unit_on(id: u32, [i, j]: [u16; 2], half: i32) -> Edit {
+    let shape = Shape::Unit {
+        x: Fixed::centre(i),
+        z: Fixed::centre(j),
+        half: Fixed::from_raw(half),
+    };
+    let mask = u16::MAX;
+    Edit::Add {
+        id,
+        obstruction: Obstruction { shape, mask },
+    }
+}
+
+/// A unit on each of the forty cells of the first row, and two on the cell (5, 5), of which the one of number 100 is the
+/// larger, so that it reaches into the rows beside it.
+fn crowd(alloc: Global) -> Result<Edits, NoMemory> {
+    let mut edits = Edits::new(alloc);
+    for i in 0..40u16 {
+        edits.push(unit_on(u32::from(i), [i, 0], 16384))?;
+    }
+    edits.push(unit_on(50, [5, 5], 16384))?;
+    edits.push(unit_on(100, [5, 5], 39321))?;
+    Ok(edits)
+}
+
+/// What is left where the larger one is removed again.
+fn crowd_without_one(alloc: Global) -> Option<Next> {
+    let open = version_of(alloc, [40, 7], (1, "0"), &[])?;
+    let edits = crowd(alloc).ok()?;
+    let full = open.after(alloc, &edits).ok()?;
+    after(&full.version, alloc, "remove 100")
+}
+
+#[test]
+fn one_of_a_crowd_is_removed(rt: HostRuntime) {
+    let Some(next) = crowd_without_one(rt.alloc()) else {
+        panic!(rt; "no version");
+    };
+    assert!(rt; all_numbers_of(&next) == [0, 1, 0, 1]);
+    assert!(rt; place_in(&next.version, [5, 5]) == Some((0, 0, 0)));
+    assert!(rt; passable_in(&next.version, 0) == Some(239));
+}
+
+/// Whether the version has the row, with these numbers.
+fn row_is(version: &Version, j: u16, numbers: [u16; 6]) -> bool {
+    let size = version.size();
+    if size.w != 6 || j >= size.h {
+        return false;
+    }
+    let mut row = [0; 6];
+    version.row_bits(j, &mut row);
+    row == numbers
+}
+
+/// The version of three rows with a wall for class 1 up to the second row, after a unit has come that blocks the cell
+/// (4, 2) for both classes.
+fn walled(alloc: Global) -> Option<Version> {
+    let open = version_of(alloc, [6, 3], (2, "0"), &[wall_of([1, 2, 1, 2])])?;
+    let next = after(&open, alloc, "add 1 3 unit 294912 163840 16384")?;
+    Some(next.version)
+}
+
+#[test]
+fn rows_have_a_bit_for_each_class(rt: HostRuntime) {
+    let Some(version) = walled(rt.alloc()) else {
+        panic!(rt; "no map");
+    };
+    assert!(rt; row_is(&version, 0, [0, 2, 2, 0, 0, 0]));
+    assert!(rt; row_is(&version, 1, [0, 2, 2, 0, 0, 0]));
+    assert!(rt; row_is(&version, 2, [0, 0, 0, 0, 3, 0]));
 }

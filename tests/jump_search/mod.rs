@@ -1,7 +1,7 @@
 //! The jump searches over small maps that are drawn as text, and over a wide open one.
 
 use crate::fixtures::counted::Counted;
-use crate::fixtures::maps::drawn;
+use crate::fixtures::maps::{block, drawn};
 use crate::fixtures::searches::{Search, is_fit, is_found, search_of};
 use crate::fixtures::texts::fields_of;
 use crate::fixtures::versions::drawn_for;
@@ -9,7 +9,7 @@ use class_planes::{PlaneRuns, Planes};
 use grid_versions::Version;
 use jump_scan::CellRuns;
 use jump_search::{JumpSearch, Pool, Question, jump_search, jump_search_with};
-use nav_types::{Class, NoMemory, Size, Ticks, View};
+use nav_types::{Cell, Class, NoMemory, Size, Ticks, View};
 use navcell_grid::Grid;
 use std::alloc::Global;
 use std::marker::Brand;
@@ -92,6 +92,8 @@ const TABLE: &str = "\
     .#..#;2,0;4,8;4,8;748042;1,0 1,3 2,4 2,5 4,5 4,8;13
 #..#/..../..../..../..../..#./..../..../..../..../....;1,6;1,1 0,2 0,3 0,9;0,3;223754;0,5 0,3;6
 #....../.####../###..../###.#../.#....#/....###/....###;5,0;2,4;2,4;458752;5,4 2,4;7
+............/.###########/............/....#......./............/............/............/............/\
+    ............/............;11,9;7,0;7,0;1500742;6,4 3,4 1,2 0,2 0,0 7,0;15
 ";
 
 /// Whether the search in a pool that has served other maps answers as it should.
@@ -257,4 +259,32 @@ fn asks_few_cells(alloc: Global) -> Option<bool> {
 #[test]
 fn searches_of_a_wide_map_ask_few_cells(rt: HostRuntime) {
     assert!(rt; asks_few_cells(rt.alloc()) == Some(true));
+}
+
+/// A map of 700 by 3 cells whose middle row can be passed at the columns 100 and 612 alone, which lie 512 apart.
+fn two_gates(alloc: Global) -> Option<Grid> {
+    let mut map = Grid::new(alloc, Size::new(700, 3)?).ok()?;
+    for i in 0..700 {
+        if i != 100 && i != 612 {
+            block(&mut map, Cell::new(i, 1));
+        }
+    }
+    block(&mut map, Cell::new(300, 2));
+    Some(map)
+}
+
+/// Whether the searches go from the first cell to the last by the second gate. None where there is no memory.
+fn passes_the_second_gate(alloc: Global) -> Option<bool> {
+    let end = "699,2";
+    let search = search_of(alloc, ["0,0", end, end, "45940736", "612,0 612,2 699,2"])?;
+    let map = two_gates(alloc)?;
+    let mut pool = Pool::new(alloc).ok()?;
+    let again = answers_in_pool(&mut pool, alloc, &map, &search).ok()?;
+    let anew = answers_counted::<Brand>(alloc, &map, &search, 6, Blank::new(1)).ok()?;
+    Some(again && anew)
+}
+
+#[test]
+fn cells_512_apart_are_two(rt: HostRuntime) {
+    assert!(rt; passes_the_second_gate(rt.alloc()) == Some(true));
 }

@@ -4,7 +4,8 @@ use crate::fixtures::maps::drawn;
 use crate::fixtures::searches::{are_cells, is_fit, is_found, search_of};
 use crate::fixtures::texts::fields_of;
 use line_smooth::{clear, smooth};
-use nav_types::{Aim, Cell, CellByCell, Class, FreeCells, View};
+use nav_types::{Aim, Cell, CellByCell, Class, FreeCells, Size, View};
+use navcell_grid::Grid;
 use std::alloc::Global;
 use walks::{Found, Waypoints, plain_search};
 
@@ -130,4 +131,30 @@ fn smooths_as_the_table_says(rt: HostRuntime) {
             "{line}"
         );
     }
+}
+
+/// The waypoints of a walk over an open map that goes a step to the east and one to the north-east in turn, so many steps.
+fn stairs(alloc: Global, steps: u16) -> Option<Waypoints> {
+    let mut points = Waypoints::new(alloc);
+    for step in 1..=steps {
+        points.push(Cell::new(step, step / 2)).ok()?;
+    }
+    Some(points)
+}
+
+/// The smoothed waypoints of such a walk of 138 steps.
+fn smoothed_stairs(alloc: Global) -> Option<Waypoints> {
+    let map = Grid::new(alloc, Size::new(139, 70)?).ok()?;
+    let cells = CellByCell { view: &map };
+    let points = stairs(alloc, 138)?;
+    smooth(alloc, &cells, Class::new(0), Cell::new(0, 0), &points).ok()
+}
+
+/// Three lines are the fewest that pass over 64 places each at most, and each goes as far as it may.
+#[test]
+fn a_line_passes_over_64_places_at_most(rt: HostRuntime) {
+    let Some(points) = smoothed_stairs(rt.alloc()) else {
+        panic!(rt; "no map");
+    };
+    assert!(rt; are_cells("64,32 128,64 138,69", points.as_slice()));
 }

@@ -1,9 +1,9 @@
 //! A service whose turns are staged beside each other.
 
-use crate::fixtures::turns::{answers_to, map_of, path_asked, point, unit};
-use grid_versions::{EditReply, Version};
+use crate::fixtures::turns::{answers_to, map_of, path_asked, point, stays, unit};
+use grid_versions::{Edit, EditReply, Version};
 use nav_types::{Cell, Cost, NoMemory};
-use path_service::{Driver, start_service};
+use path_service::{Caller, Closed, Driver, EndedCallers, start_service};
 use std::alloc::Global;
 use std::sync::Wait;
 use std::sync::atomic::{AtomicBool, AtomicU64, Ordering};
@@ -118,5 +118,152 @@ fn a_turn_is_staged_beside_one_that_runs(rt: HostRuntime) -> Result<(), Fail> {
         )
     );
     let _ = driver;
+    Ok(())
+}
+
+/// Whether it is the reply of this place, a path that stays in the first navcell.
+fn is_short_path(collected: Option<(u64, Reply)>, place: u64) -> bool {
+    match collected {
+        Some((at, reply)) => at == place && stays(Some(&reply)),
+        None => false,
+    }
+}
+
+/// Whether it is the first reply, an obstruction of number 1 that was added.
+fn is_added(collected: Option<(u64, Reply)>) -> bool {
+    matches!(collected, Some((0, Reply::Edit(EditReply::Added(1)))))
+}
+
+/// Whether it is the second post, which removes the obstruction of number 1.
+fn is_removal(posted: Option<(u64, Post)>) -> bool {
+    matches!(posted, Some((1, Post::Edit(Edit::Remove { id: 1 }))))
+}
+
+/// Starts the staged turn by the runner and stages what was posted since, then delivers the first of the two turns. Gives
+/// how many posts were staged beside it and then.
+fn start_and_stage<W: Runner + Sync, R: Threads + Wait + Sync>(
+    rt: &R,
+    driver: &mut Driver,
+    caller: &mut Caller,
+    post: Post,
+    runner: &W,
+) -> Option<(u64, u64)> {
+    let beside = driver.start(rt, runner).ok()?;
+    caller.post(rt, post).ok()?;
+    let then = driver.stage(rt).ok()?;
+    driver.deliver(rt).ok()?;
+    Some((beside, then))
+}
+
+/// Runs the staged turn and another with this post, which is staged while the first one runs.
+fn run_two<R: Threads + Wait + Sync>(
+    rt: &R,
+    alloc: Global,
+    driver: &mut Driver,
+    caller: &mut Caller,
+    post: Post,
+) -> Option<(u64, u64)> {
+    let run = |version: &Version, jobs: &Jobs| -> Result<Answers, NoMemory> {
+        answers_to(alloc, version, jobs)
+    };
+    let staged = |_posts: u64| {};
+    let runner = RunBy {
+        run: &run,
+        staged: &staged,
+    };
+    let counts = start_and_stage(rt, driver, caller, post, &runner)?;
+    run_staged(rt, driver, &runner)?;
+    Some(counts)
+}
+
+/// Runs the staged turn.
+fn run_one<R: Threads + Wait + Sync>(rt: &R, alloc: Global, driver: &mut Driver) -> Option<u64> {
+    let run = |version: &Version, jobs: &Jobs| -> Result<Answers, NoMemory> {
+        answers_to(alloc, version, jobs)
+    };
+    let staged = |_posts: u64| {};
+    let runner = RunBy {
+        run: &run,
+        staged: &staged,
+    };
+    run_staged(rt, driver, &runner)
+}
+
+#[test]
+fn a_turn_that_is_staged_later_stands_on_the_one_that_runs(rt: HostRuntime) -> Result<(), Fail> {
+    let alloc: Global = rt.alloc();
+    let map = map_of(alloc, 3, 1, 1, &[]).expect(&rt, "the map");
+    let (mut driver, callers) = start_service(&rt, alloc, map)?;
+    let mut callers = callers;
+    let mut caller = callers.take_first().expect(&rt, "the caller");
+    assert!(rt; caller.post(&rt, Post::Edit(unit(1, 3))).ok() == Some(0));
+    assert!(rt; stage_first(&rt, &mut driver) == Some(1));
+    let path = path_asked("default", 1, point(5)).expect(&rt, "the path");
+    let counts = run_two(&rt, alloc, &mut driver, &mut caller, Post::Ask(path));
+    assert!(rt; counts == Some((0, 1)));
+    assert!(rt; is_added(caller.collect(&rt)));
+    assert!(rt; is_short_path(caller.collect(&rt), 1));
+    Ok(())
+}
+
+/// The ends of two callers.
+fn both_ended(alloc: Global, first: Caller, second: Caller) -> Result<EndedCallers, NoMemory> {
+    let mut ended = EndedCallers::new(alloc);
+    ended.push(first.end())?;
+    ended.push(second.end())?;
+    Ok(ended)
+}
+
+/// How many turns a closed service has, and how many posts of each of two callers the first of them has.
+fn turns_of(closed: &Closed) -> Option<(usize, usize, usize)> {
+    let turn = closed.journal().get(0)?;
+    Some((
+        closed.journal().len(),
+        turn.get(0)?.len(),
+        turn.get(1)?.len(),
+    ))
+}
+
+/// Whether what is left in the lanes of the first caller is no post and its second reply, and in those of the second its
+/// second post and the reply to the first.
+fn has_left<R: Wait>(rt: &R, closed: Closed) -> Option<bool> {
+    let mut callers = closed.into_callers();
+    let mut first = callers.take_first()?;
+    let mut second = callers.take_first()?;
+    let first_has = first.posts_left.take(rt).is_none()
+        && is_short_path(first.replies_left.take(rt), 1)
+        && first.replies_left.take(rt).is_none();
+    let second_has = is_removal(second.posts_left.take(rt))
+        && second.posts_left.take(rt).is_none()
+        && is_added(second.replies_left.take(rt))
+        && second.replies_left.take(rt).is_none();
+    Some(first_has && second_has && callers.is_empty())
+}
+
+/// Two callers post three times, and once more behind the turn. One collects its first reply, and both end.
+#[test]
+fn a_closed_service_keeps_what_was_not_taken(rt: HostRuntime) -> Result<(), Fail> {
+    let alloc: Global = rt.alloc();
+    let map = map_of(alloc, 3, 1, 2, &[]).expect(&rt, "the map");
+    let (mut driver, callers) = start_service(&rt, alloc, map)?;
+    let mut callers = callers;
+    let mut first = callers.take_first().expect(&rt, "the first caller");
+    let mut second = callers.take_first().expect(&rt, "the second caller");
+    for place in 0..2 {
+        let path = path_asked("default", 1, point(5)).expect(&rt, "the path");
+        assert!(rt; first.post(&rt, Post::Ask(path)).ok() == Some(place));
+    }
+    assert!(rt; second.post(&rt, Post::Edit(unit(1, 3))).ok() == Some(0));
+    assert!(rt; stage_first(&rt, &mut driver) == Some(3));
+    assert!(rt; run_one(&rt, alloc, &mut driver) == Some(0));
+    assert!(rt; is_short_path(first.collect(&rt), 0));
+    assert!(rt; second.post(&rt, Post::Edit(Edit::Remove { id: 1 })).ok() == Some(1));
+    let ended = both_ended(alloc, first, second)?;
+    let Ok(closed) = driver.close(&rt, ended) else {
+        panic!(rt; "memory");
+    };
+    assert!(rt; turns_of(&closed) == Some((1, 2, 1)));
+    assert!(rt; closed.replies().len() == 1 && closed.map().callers() == 2);
+    assert!(rt; has_left(&rt, closed) == Some(true));
     Ok(())
 }

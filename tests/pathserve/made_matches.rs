@@ -79,7 +79,7 @@ fn numbers_make_matches(rt: HostRuntime) {
 }
 
 /// What is told of the match that 7 makes.
-const SUMMARY: &str =
+pub(crate) const SUMMARY: &str =
     "summary turns 50 posts 1573 added 436 removed 163 refused 190 goal 743 near 41 nowhere 0 cost 1595806862 corners 2020\n\
 last regions 393 edges 570 areas 43\n";
 

@@ -21,6 +21,7 @@ mod side_by_side;
 mod turn_by_turn;
 
 use scripts::{COVER, COVER_ANSWERS, SCRIPTS};
+use side_by_side::{FOUR_ANSWERS, FOUR_PATHS};
 
 /// A map of 3 by 3 cells, without its newline.
 const MAP_LINE: &str =
@@ -173,27 +174,11 @@ fn other_words_read_nothing(rt: HostRuntime) {
     }
 }
 
-/// Four times the same path, and the answers to it.
-const FOUR_ALIKE: (&str, &str) = (
-    "{\"version\":1,\"size\":[3,3],\"callers\":1,\"classes\":[{\"name\":\"default\",\"clearance\":\"0\"}]}\n\
-{\"caller\":0,\"path\":\"default\",\"from\":[\"0.5\",\"0.5\"],\"goal\":{\"point\":[\"2.5\",\"2.5\"]}}\n\
-{\"caller\":0,\"path\":\"default\",\"from\":[\"0.5\",\"0.5\"],\"goal\":{\"point\":[\"2.5\",\"2.5\"]}}\n\
-{\"caller\":0,\"path\":\"default\",\"from\":[\"0.5\",\"0.5\"],\"goal\":{\"point\":[\"2.5\",\"2.5\"]}}\n\
-{\"caller\":0,\"path\":\"default\",\"from\":[\"0.5\",\"0.5\"],\"goal\":{\"point\":[\"2.5\",\"2.5\"]}}\n\
-{\"end\":1}\n",
-    "turn 1 regions 1 edges 0 areas 1 relabelled 0\n\
-0 0 path 0 0 2 2 goal 185364 1 2.5,2.5\n\
-0 1 path 0 0 2 2 goal 185364 1 2.5,2.5\n\
-0 2 path 0 0 2 2 goal 185364 1 2.5,2.5\n\
-0 3 path 0 0 2 2 goal 185364 1 2.5,2.5\n",
-);
-
 #[test]
 fn any_number_of_workers_answers_alike(rt: HostRuntime) {
-    let (script, answers) = FOUR_ALIKE;
-    for workers in ["1", "2", "64"] {
+    for workers in ["1", "2", "3", "64"] {
         let words = ["replay", "--workers", workers];
-        let bytes = script.as_bytes();
+        let bytes = FOUR_PATHS.as_bytes();
         assert!(rt;
             runs_to(
                 &rt,
@@ -203,7 +188,7 @@ fn any_number_of_workers_answers_alike(rt: HostRuntime) {
                 &[],
                 &[],
                 Status::Done,
-                answers
+                FOUR_ANSWERS
             ),
             "{workers} workers"
         );

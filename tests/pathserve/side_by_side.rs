@@ -7,21 +7,21 @@ use std::sync::atomic::{AtomicBool, AtomicU64, Ordering};
 use std::test::*;
 use std::thread;
 
-/// A turn with four times the same path, which is long enough that a turn of four is shared.
-const FOUR_PATHS: &str =
+/// A turn with four paths of unlike ends, each long enough that a turn of four is shared.
+pub(crate) const FOUR_PATHS: &str =
     "{\"version\":1,\"size\":[2048,1],\"callers\":1,\"classes\":[{\"name\":\"default\",\"clearance\":\"0\"}]}\n\
 {\"caller\":0,\"path\":\"default\",\"from\":[\"0.5\",\"0.5\"],\"goal\":{\"point\":[\"2047.5\",\"0.5\"]}}\n\
-{\"caller\":0,\"path\":\"default\",\"from\":[\"0.5\",\"0.5\"],\"goal\":{\"point\":[\"2047.5\",\"0.5\"]}}\n\
-{\"caller\":0,\"path\":\"default\",\"from\":[\"0.5\",\"0.5\"],\"goal\":{\"point\":[\"2047.5\",\"0.5\"]}}\n\
-{\"caller\":0,\"path\":\"default\",\"from\":[\"0.5\",\"0.5\"],\"goal\":{\"point\":[\"2047.5\",\"0.5\"]}}\n\
+{\"caller\":0,\"path\":\"default\",\"from\":[\"300.5\",\"0.5\"],\"goal\":{\"point\":[\"2047.5\",\"0.5\"]}}\n\
+{\"caller\":0,\"path\":\"default\",\"from\":[\"100.5\",\"0.5\"],\"goal\":{\"point\":[\"2047.5\",\"0.5\"]}}\n\
+{\"caller\":0,\"path\":\"default\",\"from\":[\"200.5\",\"0.5\"],\"goal\":{\"point\":[\"2047.5\",\"0.5\"]}}\n\
 {\"end\":1}\n";
 
 /// The answers to it.
-const FOUR_ANSWERS: &str = "turn 1 regions 22 edges 21 areas 1 relabelled 0\n\
+pub(crate) const FOUR_ANSWERS: &str = "turn 1 regions 22 edges 21 areas 1 relabelled 0\n\
 0 0 path 0 0 2047 0 goal 134152192 1 2047.5,0.5\n\
-0 1 path 0 0 2047 0 goal 134152192 1 2047.5,0.5\n\
-0 2 path 0 0 2047 0 goal 134152192 1 2047.5,0.5\n\
-0 3 path 0 0 2047 0 goal 134152192 1 2047.5,0.5\n";
+0 1 path 300 0 2047 0 goal 114491392 1 2047.5,0.5\n\
+0 2 path 100 0 2047 0 goal 127598592 1 2047.5,0.5\n\
+0 3 path 200 0 2047 0 goal 121044992 1 2047.5,0.5\n";
 
 /// Counts passes, and holds the first one until three others have come.
 #[derive(Drop)]

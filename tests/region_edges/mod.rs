@@ -26,7 +26,7 @@ fn crossing(alloc: Global, map: &Grid, side: Side) -> Option<Edges> {
 }
 
 // The side, the part round the border with the first row first, and the edges.
-const BORDERS: [(Side, &str, &[(u16, u16)]); 10] = [
+const BORDERS: [(Side, &str, &[(u16, u16)]); 11] = [
     (Side::East, "......", &[(1, 1)]),
     (Side::East, "...#../....#.", &[]),
     (Side::East, "....##/####..", &[]),
@@ -36,6 +36,12 @@ const BORDERS: [(Side, &str, &[(u16, u16)]); 10] = [
         Side::East,
         ".#####/.#..../.#####/....../......",
         &[(1, 2), (2, 1)],
+    ),
+    // two regions meet in the first row and in the last, and one in between meets the second of them
+    (
+        Side::East,
+        "....../...#../..#.../...#../......",
+        &[(1, 1), (2, 1)],
     ),
     (Side::North, ".#/.#/.#/.#/#./#.", &[]),
     (Side::North, "..#/..#/..#/.#./.#./...", &[(1, 1), (2, 1)]),

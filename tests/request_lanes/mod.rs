@@ -66,3 +66,19 @@ fn what_is_taken_is_what_was_posted(rt: HostRuntime) -> Result<(), Fail> {
     assert!(rt; taken == u64::from(POSTED));
     Ok(())
 }
+
+/// What a lane tells of each post is its place, from 0 on, and it takes no post for another.
+#[test]
+fn posts_are_told_their_places(rt: HostRuntime) -> Result<(), Fail> {
+    let (lane_in, lane_out) = lane::<u32>(&rt, rt.alloc())?;
+    let (mut lane_in, mut lane_out) = (lane_in, lane_out);
+    for (place, number) in [(0, 7), (1, 7), (2, 5)] {
+        assert!(rt; lane_in.post(&rt, number).ok() == Some(place));
+    }
+    assert!(rt; lane_out.take(&rt) == Some((0, 7)));
+    let mut whole = lane_out.finish(&rt, lane_in.end());
+    assert!(rt; whole.take(&rt) == Some((1, 7)));
+    assert!(rt; whole.take(&rt) == Some((2, 5)));
+    assert!(rt; whole.take(&rt) == None);
+    Ok(())
+}
