@@ -5,6 +5,7 @@ import os
 import pathlib
 import re
 import signal
+import subprocess
 import sys
 from unittest import mock
 
@@ -22,6 +23,11 @@ ALL_CELLS = check.Cells
 def base_scripts():
     files = sorted((HOME / "bench" / "scripts").glob("*.script")) + sorted((HOME / "examples").glob("*.script"))
     return {file.stem: file.read_bytes() for file in files}
+
+
+def row_scripts():
+    """The scripts that are small enough to be answered under all words by the client: those above, and bench/rows."""
+    return base_scripts() | {file.stem: file.read_bytes() for file in sorted((HOME / "bench" / "rows").glob("*.script"))}
 
 
 class Read(check.Service):
@@ -185,3 +191,71 @@ def run(program, words, script, env=None, seconds=SECONDS):
     for file in files:
         os.close(file)
     return out, said, status
+
+
+# ---- scripts with what is wanted of them
+
+
+class Trial:
+    """A script under a word, with the status and the text that are wanted: those that stand beside it or are predicted.
+
+    Of a whole script that is served, what was read of it is kept in place of the text."""
+
+    def __init__(self, name, script, word, stored=None):
+        self.name, self.script, self.word = f"{name} {word}", script, word
+        if word == "serve":
+            text, self.status, known = read(script)
+            self.wanted = text if self.status else known
+        else:
+            text, self.status = predicted(script, word)
+            self.wanted = stored or text
+
+    def is_passed(self, program, seconds=SECONDS):
+        out, _, status = run(program, [self.word], self.script, seconds=seconds)
+        if status != self.status:
+            return False
+        if self.word == "serve" and status == 0:
+            return not served_wrong(self.wanted, out)
+        return out == self.wanted
+
+
+def row_trials():
+    """The small scripts under all words, against the answers that stand beside them or are predicted."""
+    trials = []
+    for name, script in row_scripts().items():
+        answers = HOME / "examples" / f"{name}.answers"
+        stored = answers.read_bytes() if answers.exists() else None
+        trials += [Trial(name, script, word, stored if word == "replay" else None) for word in (*check.WORDS, "serve")]
+    return trials
+
+
+class FaultTrial:
+    """A word whose input can't be read, or whose output takes nothing, with the status that is wanted."""
+
+    def __init__(self, word, status):
+        self.word, self.status = word, status
+        self.name = f"{word} with a {'read' if status == 4 else 'write'} that fails"
+
+    def is_passed(self, program, seconds=SECONDS):
+        script = base_scripts()["version-1"]
+        with open("/dev/full", "wb") as full:
+            how = {"input": script, "stdout": full} if self.status == 5 else {"stdin": os.open("/", os.O_RDONLY), "stdout": subprocess.DEVNULL}
+            try:
+                ran = subprocess.run([program, self.word], stderr=subprocess.DEVNULL, timeout=seconds, **how)
+            except subprocess.TimeoutExpired:
+                return False
+            finally:
+                if "stdin" in how:
+                    os.close(how["stdin"])
+        return ran.returncode == self.status
+
+
+def fault_trials():
+    return [FaultTrial(word, status) for word in (*check.WORDS, "serve") for status in (4, 5)]
+
+
+def made_trials(count, seed=1):
+    """Scripts that the client makes, under all words but `serve`."""
+    maker = check.Maker(seed)
+    scripts = [maker.script() for _ in range(count)]
+    return [Trial(f"made {at}", script, word) for at, script in enumerate(scripts) for word in check.WORDS]
