@@ -35,8 +35,9 @@ class Pathserve(unittest.TestCase):
         made = tempfile.TemporaryDirectory()
         self.addCleanup(made.cleanup)
         self.top = made.name
-        for name in ("pathserve", "VERSION"):
-            shutil.copy(os.path.join(TOP, name), self.top)
+        os.mkdir(f"{self.top}/include")
+        for name in ("pathserve", "VERSION", "include/pathserve.h"):
+            shutil.copy(os.path.join(TOP, name), os.path.join(self.top, name))
         for name, text in {
             "crates.txt": "low:\npathserve_bin: low\nlow_tests: low\n",
             "HANDLES": "Handles allowed: none.\n",
@@ -75,7 +76,7 @@ class Pathserve(unittest.TestCase):
         self.assertEqual((status, out.split()[0]), (0, "usage:"))
         status, out, _ = self.run_it("--version")
         version = read("VERSION").decode().strip()
-        self.assertEqual((status, out.splitlines()), (0, [f"pathserve {version}, commit unknown", "a-kit", "not proved"]))
+        self.assertEqual((status, out.splitlines()), (0, [f"pathserve {version}, answers 1, commit unknown", "a-kit", "not proved"]))
         self.assertFalse(self.is_built())
 
     def test_right_words_run(self):
