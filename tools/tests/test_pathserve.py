@@ -1,4 +1,5 @@
 """The script `./pathserve`: over a small repository with a command rt and a compiler that only pretend."""
+import concurrent.futures
 import os
 import shutil
 import stat
@@ -71,9 +72,20 @@ class Pathserve(unittest.TestCase):
             self.assertEqual(self.run_it(*words)[0], 2, words)
         self.assertFalse(self.is_built())
 
+    def test_wrong_words_are_told(self):
+        write(f"{self.top}/my.script", "")
+        for words, told in (
+            (["replay", f"{self.top}/my.script"], f"replay reads standard input: ./pathserve replay < {self.top}/my.script;"),
+            (["replay", "no.script"], '"no.script" can\'t stand after replay;'), (["--proved", "replay"], 'there is no option "--proved";'),
+            (["--unproved", "prove"], '"prove" can\'t stand after --unproved;'), (["smooth", "--worker", "3"], 'there is no option "--worker" after smooth;'),
+        ):
+            status, out, said = self.run_it(*words)
+            self.assertEqual((status, out, said.partition(" ./pathserve --help")[0]), (2, "", f"pathserve: {told}"))
+
     def test_help_and_version_answer_at_once(self):
-        status, out, _ = self.run_it("--help")
-        self.assertEqual((status, out.split()[0]), (0, "usage:"))
+        for words in (["--help"], ["-h"], ["help"], ["replay", "--help"], ["make", "-h"]):
+            status, out, _ = self.run_it(*words)
+            self.assertEqual((status, out.split()[0]), (0, "usage:"))
         status, out, _ = self.run_it("--version")
         version = read("VERSION").decode().strip()
         self.assertEqual((status, out.splitlines()), (0, [f"pathserve {version}, answers 1, commit unknown", "a-kit", "not proved"]))
@@ -131,6 +143,36 @@ class Pathserve(unittest.TestCase):
         for words in (["prove"], ["replay"]):
             status, _, said = self.run_it(*words, with_rt=False)
             self.assertEqual(status, 11, said)
+
+    def test_without_python(self):
+        os.mkdir(f"{self.top}/few")
+        for name in ("awk", "cat", "cut", "date", "dirname", "find", "grep", "head", "mkdir", "readlink", "sed", "sha256sum", "sh", "sort"):
+            os.symlink(shutil.which(name), f"{self.top}/few/{name}")
+        ran = subprocess.run([f"{self.top}/pathserve", "replay"], input="", capture_output=True, text=True, env={"PATH": f"{self.top}/bin:{self.top}/few"})
+        self.assertEqual((ran.returncode, ran.stdout), (10, ""))
+        self.assertEqual(ran.stderr.count("\n"), 1)
+        self.assertIn("the command python3 is missing, which the Rattle kit runs on (Debian: apt-get install python3)", ran.stderr)
+
+    def test_who_sits_at_a_terminal_is_told_that_it_waits(self):
+        self.run_it("replay")
+        near, far = os.openpty()
+        self.addCleanup(os.close, near)
+        for words, is_told in ((["replay"], True), (["make", "7"], False)):
+            os.write(near, b"\x04\x04")  # the end of what is typed
+            ran = subprocess.run([f"{self.top}/pathserve", *words], stdin=far, capture_output=True, text=True, timeout=60, env={"PATH": f"{self.top}/bin:/usr/bin:/bin"})
+            self.assertEqual("waits for a script on standard input, up to Ctrl-D" in ran.stderr, is_told, ran.stderr)
+        os.close(far)
+
+    @unittest.skipUnless(shutil.which("flock"), "there is no flock")
+    def test_two_calls_at_once_build_once(self):
+        builder = f"import time\ntime.sleep(3)\nopen({self.top + '/builds'!r}, 'a').write('built\\n')\n{BUILDER}"
+        write(f"{self.top}/tools/unproved_build.py", builder)
+        with concurrent.futures.ThreadPoolExecutor(2) as pool:
+            ran = [it.result() for it in [pool.submit(self.run_it, "replay") for _ in range(2)]]
+        self.assertEqual([it[:2] for it in ran], [(0, "built replay\n")] * 2)
+        self.assertEqual(sum("this one waits for it" in it[2] for it in ran), 1)
+        with open(f"{self.top}/builds", encoding="utf-8") as it:
+            self.assertEqual(it.read(), "built\n")
 
     def test_sources_that_do_not_compile(self):
         write(f"{self.top}/tools/unproved_build.py", "import sys\nsys.exit('an error')\n")
