@@ -13,6 +13,7 @@ import random
 import sys
 
 from measure import Bench, bases, end, map_line, path
+import commands  # (of tools, where measure.py finds it)
 
 QUERIES = 200
 
@@ -148,8 +149,8 @@ def script(name):
 
 
 def main(words):
-    if not words or any(word not in MAPS for word in words[1:]):
-        sys.exit(__doc__)
+    if not words or words[0].startswith("-") or any(word not in MAPS for word in words[1:]):
+        return commands.usage(__doc__, words)
     bench = Bench(words[0])
     print(f"{'map':14}{'a path':>10}{'0 A.D.':>10}{'ratio':>8}")
     for name in words[1:] or MAPS:
@@ -159,4 +160,4 @@ def main(words):
 
 
 if __name__ == "__main__":
-    main(sys.argv[1:])
+    commands.run(lambda: main(sys.argv[1:]))

@@ -8,11 +8,15 @@ queries are drawn from fixed seeds, so that each run counts the same. `times.py`
 """
 
 import collections
+import os
 import random
 import re
 import subprocess
 import sys
 import tempfile
+
+sys.path.append(os.path.join(os.path.dirname(os.path.abspath(__file__)), "..", "tools"))
+import commands  # noqa: E402
 
 
 class Bench:
@@ -345,12 +349,12 @@ PARTS = [basics, reading, near, growth, classes, paths, small, profile, fields, 
 
 def main(words):
     names = {part.__name__: part for part in PARTS}
-    if not words or any(word not in names for word in words[1:]):
-        sys.exit(__doc__)
+    if not words or words[0].startswith("-") or any(word not in names for word in words[1:]):
+        return commands.usage(__doc__, words)
     bench = Bench(words[0])
     for part in [names[word] for word in words[1:]] or PARTS:
         part(bench)
 
 
 if __name__ == "__main__":
-    main(sys.argv[1:])
+    commands.run(lambda: main(sys.argv[1:]))

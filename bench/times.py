@@ -14,6 +14,7 @@ import time
 
 import beside_0ad
 from measure import add, bases, drawn, end, largest_area, map_line, path, remove, scattered, scattered_squares, short_turns
+import commands  # (of tools, where measure.py finds it)
 
 
 class Match:
@@ -245,11 +246,11 @@ PARTS = [maps, steps, turns, workers, dearest, memory, course]
 
 def main(words):
     names = {part.__name__: part for part in PARTS}
-    if not words or any(word not in names for word in words[1:]):
-        sys.exit(__doc__)
+    if not words or words[0].startswith("-") or any(word not in names for word in words[1:]):
+        return commands.usage(__doc__, words)
     for part in [names[word] for word in words[1:]] or PARTS:
         part(words[0])
 
 
 if __name__ == "__main__":
-    main(sys.argv[1:])
+    commands.run(lambda: main(sys.argv[1:]))

@@ -699,7 +699,7 @@ def main(words):
         text, status = predicted(sys.stdin.buffer.read(), words[0][2:].replace("predict", "replay"))
         sys.stdout.buffer.write(text)
         return status
-    if len(words) == 4 and words[0] == "--make":
+    if len(words) == 4 and words[0] == "--make" and words[2].isdecimal() and words[3].isdecimal():
         maker = Maker(int(words[3]))
         os.makedirs(words[1], exist_ok=True)
         for k in range(int(words[2])):
@@ -708,21 +708,22 @@ def main(words):
                 with open(f"{words[1]}/{k}{end}", "wb") as file:
                     file.write(data)
         return 0
-    if not 1 <= len(words) <= 3 or words[0].startswith("-"):
-        print(__doc__, file=sys.stderr)
-        return 2
+    if not 1 <= len(words) <= 3 or words[0].startswith("-") or not all(it.isdecimal() for it in words[1:]):
+        is_asked = words in (["-h"], ["--help"])
+        print(__doc__, file=sys.stdout if is_asked else sys.stderr)
+        return 0 if is_asked else 2
     count, seed = int(words[1]) if len(words) > 1 else 100, int(words[2]) if len(words) > 2 else 1
     maker, differ, posts = Maker(seed), 0, 0
     for k, word in itertools.product(range(count), WORDS):
         script = maker.script() if word == "replay" else script
-        ran = subprocess.run([words[0], word], input=script, stdout=subprocess.PIPE)
+        ran = subprocess.run([words[0], word], input=script, capture_output=True)
         wanted, status = predicted(script, word)
         posts += wanted.count(b"\n")
         if (ran.stdout, ran.returncode) == (wanted, status):
             continue
         differ += 1
         print(f"script {k} of seed {seed}, {word}: status {ran.returncode}, predicted {status}")
-        sys.stdout.flush()
+        print(ran.stderr.decode(errors="replace"), end="", flush=True)
         sys.stdout.buffer.write(script)
         answers = itertools.zip_longest(ran.stdout.decode().splitlines(), wanted.decode().splitlines())
         got, want = next((pair for pair in answers if pair[0] != pair[1]), ("the same", "the same"))
@@ -733,4 +734,10 @@ def main(words):
 
 
 if __name__ == "__main__":
-    sys.exit(main(sys.argv[1:]))
+    try:
+        ended = main(sys.argv[1:])
+        sys.stdout.flush()
+    except OSError as it:
+        print(f"check.py: {it}", file=sys.stderr)
+        os._exit(5)  # (what waits to be written can't be)
+    sys.exit(ended)

@@ -1,11 +1,9 @@
 #!/usr/bin/env python3
-"""A game that asks the service turn by turn, over a pipe: client.py out/pathserve (or out/pathserve-unproved)."""
+"""A game that asks the service turn by turn, over a pipe: client.py PROGRAM (out/pathserve or out/pathserve-unproved)."""
 import json
 import math
 import subprocess
 import sys
-
-service = subprocess.Popen([sys.argv[1], "replay"], stdin=subprocess.PIPE, stdout=subprocess.PIPE, text=True)
 
 
 def decimal(number):
@@ -13,27 +11,51 @@ def decimal(number):
     return f"{math.floor(number * 65536) / 65536:.16f}"
 
 
-def send(line):
-    service.stdin.write(json.dumps(line) + "\n")
+class Service:
+    def __init__(self, program, map_line):
+        self.process = subprocess.Popen([program, "replay"], stdin=subprocess.PIPE, stdout=subprocess.PIPE, text=True)
+        self.send([map_line])
+
+    def send(self, lines):
+        try:
+            for line in lines:
+                self.process.stdin.write(json.dumps(line) + "\n")
+            self.process.stdin.flush()
+        except BrokenPipeError:
+            pass  # the service has ended, and its last answer says why
+
+    def play(self, turn, posts):
+        """Sends the posts of a turn, and gives its answers: the turn line, and one line for each post."""
+        self.send([*posts, {"end": turn}])
+        # (read before the next turn is sent: where nobody reads, the pipe fills and the service waits)
+        answers = [self.process.stdout.readline().rstrip() for _ in range(1 + len(posts))]
+        if not answers[0].startswith("turn "):
+            raise RuntimeError(answers[0] or f"the service has ended with status {self.process.wait()}")
+        return answers
+
+    def close(self):
+        """The exit status of the service."""
+        self.process.stdin.close()
+        return self.process.wait()
 
 
-def play(turn, posts):
-    """Sends the posts of a turn, and gives its answers: the turn line, and one line for each post."""
-    for line in [*posts, {"end": turn}]:
-        send(line)
-    service.stdin.flush()
-    # (read before the next turn is sent: where nobody reads, the pipe fills and the service waits)
-    answers = [service.stdout.readline().rstrip() for _ in range(1 + len(posts))]
-    if not answers[0].startswith("turn "):
-        raise RuntimeError(answers[0] or "the service has ended: look at its exit status")
-    return answers
+def main(words):
+    if len(words) != 1 or words[0].startswith("-"):
+        is_asked = words in (["-h"], ["--help"])
+        print(__doc__, file=sys.stdout if is_asked else sys.stderr)
+        return 0 if is_asked else 2
+    classes = [{"name": "infantry", "clearance": decimal(0.5)}]
+    service = Service(words[0], {"version": 3, "size": [12, 8], "callers": 1, "classes": classes})
+    ask = {"caller": 0, "path": "infantry", "from": ["1.5", "1.5"], "goal": {"point": [decimal(10.5), decimal(1.5)]}}
+    print(*service.play(1, [ask]), sep="\n")
+    # what comes next may depend on those answers
+    wall = {"caller": 0, "add": 1, "unit": [decimal(6), decimal(1.5), decimal(1)], "mask": 1}
+    print(*service.play(2, [wall, ask]), sep="\n", flush=True)
+    return service.close()
 
 
-send({"version": 3, "size": [12, 8], "callers": 1, "classes": [{"name": "infantry", "clearance": decimal(0.5)}]})
-ask = {"caller": 0, "path": "infantry", "from": ["1.5", "1.5"], "goal": {"point": [decimal(10.5), decimal(1.5)]}}
-print(*play(1, [ask]), sep="\n")
-# what comes next may depend on those answers
-wall = {"caller": 0, "add": 1, "unit": [decimal(6), decimal(1.5), decimal(1)], "mask": 1}
-print(*play(2, [wall, ask]), sep="\n")
-service.stdin.close()
-sys.exit(service.wait())
+if __name__ == "__main__":
+    try:
+        sys.exit(main(sys.argv[1:]))
+    except (OSError, RuntimeError) as it:
+        sys.exit(f"client.py: {it}")

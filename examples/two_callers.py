@@ -9,7 +9,6 @@ import json
 import subprocess
 import sys
 
-PROGRAM = sys.argv[1]
 MAP = {"version": 3, "size": [64, 64], "callers": 2, "classes": [{"name": "infantry", "clearance": "0.5"}]}
 
 
@@ -32,10 +31,10 @@ def text_of(lines):
     return "".join(json.dumps(line) + "\n" for line in lines)
 
 
-def serve():
+def serve(program):
     """Has both callers served, and gives the lines of the journal and those of the answers to it."""
     script = text_of([MAP, *POSTS[0], *POSTS[1], {"end": 1}])
-    done = subprocess.run([PROGRAM, "serve"], input=script, stdout=subprocess.PIPE, text=True, check=True)
+    done = subprocess.run([program, "serve"], input=script, stdout=subprocess.PIPE, text=True, check=True)
     lines = done.stdout.splitlines()
     journal = [line for line in lines if line.startswith("{")]
     return journal, lines[len(journal) :]
@@ -57,26 +56,44 @@ def posts_of(caller, journal):
 
 def play(service, turn):
     """Sends the lines of a turn, and gives its answers: the turn line, and one line for each post."""
-    service.stdin.write("".join(line + "\n" for line in turn))
-    service.stdin.flush()
+    try:
+        service.stdin.write("".join(line + "\n" for line in turn))
+        service.stdin.flush()
+    except BrokenPipeError:
+        pass  # the service has ended, and its last answer says why
     return [service.stdout.readline().rstrip("\n") for _ in turn]
 
 
-def agree(journal, answers):
-    """Whether each turn of the journal, played on its own, has the answers that stand next."""
-    service = subprocess.Popen([PROGRAM, "replay"], stdin=subprocess.PIPE, stdout=subprocess.PIPE, text=True)
+def first_difference(program, journal, answers):
+    """The first turn of the journal that has other answers when it is played than stand next, in words, or None."""
+    service = subprocess.Popen([program, "replay"], stdin=subprocess.PIPE, stdout=subprocess.PIPE, text=True)
     service.stdin.write(journal[0] + "\n")
     place = 0
     for turn in turns_of(journal[1:]):
-        if play(service, turn) != answers[place : place + len(turn)]:
-            return False
+        told = play(service, turn)
+        pairs = zip(told, answers[place : place + len(turn)])
+        differs = next((pair for pair in pairs if pair[0] != pair[1]), None)
+        if differs:
+            return "{} in place of {}".format(*differs)
         place += len(turn)
     service.stdin.close()
-    return service.wait() == 0 and place == len(answers)
+    return None if service.wait() == 0 and place == len(answers) else "the answers do not end together"
 
 
-journal, answers = serve()
-in_order = all(posts_of(caller, journal) == POSTS[caller] for caller in (0, 1))
-same = agree(journal, answers)
-print(f"{len(turns_of(journal[1:]))} turns, {len(answers)} lines of answers;", "they agree" if in_order and same else "THEY DIFFER")
-sys.exit(0 if in_order and same else 1)
+def main(words):
+    if len(words) != 1 or words[0].startswith("-"):
+        is_asked = words in (["-h"], ["--help"])
+        print(__doc__, file=sys.stdout if is_asked else sys.stderr)
+        return 0 if is_asked else 2
+    journal, answers = serve(words[0])
+    in_order = all(posts_of(caller, journal) == POSTS[caller] for caller in (0, 1))
+    differs = first_difference(words[0], journal, answers) if in_order else "a caller's posts are out of order"
+    print(f"{len(turns_of(journal[1:]))} turns, {len(answers)} lines of answers;", f"THEY DIFFER: {differs}" if differs else "they agree", flush=True)
+    return 1 if differs else 0
+
+
+if __name__ == "__main__":
+    try:
+        sys.exit(main(sys.argv[1:]))
+    except (OSError, subprocess.CalledProcessError) as it:
+        sys.exit(f"two_callers.py: {it}")

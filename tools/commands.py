@@ -34,6 +34,13 @@ def parser_of(text):
     return argparse.ArgumentParser(description=about, epilog=more, formatter_class=argparse.RawDescriptionHelpFormatter)
 
 
+def usage(text, words):
+    """Tells how a command is used, and gives its status: 0 where it was asked, and else 2."""
+    is_asked = words in (["-h"], ["--help"])
+    print(text, file=sys.stdout if is_asked else sys.stderr)
+    return 0 if is_asked else 2
+
+
 def say(text):
     print(f"{os.path.basename(sys.argv[0])}: {text}", file=sys.stderr, flush=True)
 

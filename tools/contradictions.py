@@ -18,7 +18,7 @@ class Contradiction:
         self.turn, self.text, self.post, self.cell = turn, text, post, cell
 
     def __str__(self):
-        place = f"turn {self.turn}"
+        place = f"turn {self.turn}" if self.turn else "the answers"
         if self.post:
             place += f", script line {self.post.line}, post {self.post.caller} {self.post.number}"
         return f"{place}: {self.text}" + (f" at {self.cell[0]} {self.cell[1]}" if self.cell else "")
@@ -218,10 +218,10 @@ def check_note(ground, k, labels, path, text):
 
 
 class Match:
-    """A script with its answers, turn by turn. `ground` is what the answers say stands."""
+    """A script with its answers, turn by turn. `ground` is what the answers say stands, and `done` is told each turn's number."""
 
-    def __init__(self, script, answers):
-        self.script, self.answers = script, answers
+    def __init__(self, script, answers, done=lambda turn: None):
+        self.script, self.answers, self.done = script, answers, done
         self.ground = mapscript.Ground(script.map)
         self.labels = [mapscript.Labels(self.ground, k) for k in range(len(script.map.classes))]
         self.found = []
@@ -250,6 +250,7 @@ class Match:
                 if behind:
                     self.add(turn.number, f"its reply stands behind that to post {behind[0]} {behind[1]}", post)
             yield turn, line, replies
+            self.done(turn.number)
         self.check_end()
 
     def answered(self):
@@ -340,4 +341,4 @@ class Match:
         if self.answers.bad != self.script.bad and (self.answers.bad or last == len(self.script.turns)):
             self.add(last, f"the first bad line is {self.script.bad}, and not {self.answers.bad} (0 for none)")
         for number, line in self.answers.odd:
-            self.add(0, f"line {number} of the answers has no form of an answer: {line[:80]}")
+            self.add(0, f"line {number} has no form of an answer: {line[:80]}")

@@ -9,6 +9,7 @@ import re
 import sys
 
 sys.path.insert(0, os.path.dirname(os.path.abspath(__file__)))
+import commands
 import layers
 import specs
 
@@ -63,4 +64,4 @@ def page():
 
 
 if __name__ == "__main__":
-    sys.exit(specs.put(PAGE, page(), "crates.py", sys.argv[1:], __doc__))
+    commands.run(lambda: specs.put(PAGE, page, "crates.py", sys.argv[1:], __doc__))

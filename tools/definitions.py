@@ -8,6 +8,7 @@ import re
 import sys
 
 sys.path.insert(0, os.path.dirname(os.path.abspath(__file__)))
+import commands
 import specs
 
 PAGE = "docs/DEFINITIONS.md"
@@ -69,4 +70,4 @@ def page():
 
 
 if __name__ == "__main__":
-    sys.exit(specs.put(PAGE, page(), "definitions.py", sys.argv[1:], __doc__))
+    commands.run(lambda: specs.put(PAGE, page, "definitions.py", sys.argv[1:], __doc__))

@@ -19,12 +19,12 @@ and about a tenth too much. Nothing of the game is copied but numbers.
 The numbers of rectangles and obstructions, and each template that the mod lacks, are told on standard error. The status is
 2 where a map cannot be made.
 """
-import argparse
 import json
 import math
 import random
 import sys
 
+import commands
 import game_files
 import mapscript
 from game_files import HEIGHT_UNITS as HEIGHT, SIDE
@@ -317,8 +317,7 @@ class Map:
 
 
 def words():
-    about, _, more = __doc__.partition("\n\n")
-    parser = argparse.ArgumentParser(description=about, epilog=more, formatter_class=argparse.RawDescriptionHelpFormatter)
+    parser = commands.parser_of(__doc__)
     parser.add_argument("map", nargs="?", help="a map's name below maps/, without its ending")
     parser.add_argument("--mod", required=True, help="the folder mods/public of the game, or the public.zip in it")
     parser.add_argument("--list", action="store_true", help="write the names of all maps, and nothing else")
@@ -343,7 +342,7 @@ def main():
         classes = [it for it in said.classes.split(",") if it]
         made = Map(mod, said.map, classes, round(said.more * SIDE), said.civ)
     except game_files.NotThere as it:
-        print(f"from_0ad.py: {it}", file=sys.stderr)
+        commands.say(it)
         return 2
     for it in made.lines(said.paths, said.seed):
         print(it)
@@ -356,4 +355,4 @@ def main():
 
 
 if __name__ == "__main__":
-    sys.exit(main())
+    commands.run(main)

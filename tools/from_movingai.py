@@ -22,12 +22,11 @@ shorter: --check holds each walk to that, with 0.001 for the scenario's rounding
 and says so where some have none. The status is 0 where all of them agree, 1 where some differ, and 2 where no path has a
 length to compare, or a file is missing or has another form.
 """
-import argparse
 import json
 import math
 import random
-import sys
 
+import commands
 import contradictions
 import mapscript
 
@@ -171,8 +170,7 @@ def checked(rows, queries, answers):
 
 
 def words():
-    about, _, more = __doc__.partition("\n\n")
-    parser = argparse.ArgumentParser(description=about, epilog=more, formatter_class=argparse.RawDescriptionHelpFormatter)
+    parser = commands.parser_of(__doc__)
     parser.add_argument("map", help="the .map file")
     parser.add_argument("scenario", nargs="?", help="the .scen file; without it the script asks for --paths N")
     parser.add_argument("--most", type=int, default=0, metavar="N", help="only the first N queries of the scenario")
@@ -186,7 +184,7 @@ def words():
 
 
 def lines_of(name):
-    return mapscript.bytes_of(name).decode("latin-1").splitlines()
+    return commands.bytes_of(name).decode("latin-1").splitlines()
 
 
 def main():
@@ -197,9 +195,9 @@ def main():
             queries = read_scenario(lines_of(said.scenario), rows, said.most)
         else:
             queries = drawn(rows, said.paths, said.seed)
-        answers = contradictions.Answers(mapscript.bytes_of(said.check)) if said.check else None
-    except (BadFile, mapscript.Unreadable) as it:
-        print(f"from_movingai.py: {it}", file=sys.stderr)
+        answers = contradictions.Answers(commands.bytes_of(said.check)) if said.check else None
+    except (BadFile, commands.Unreadable) as it:
+        commands.say(it)
         return 2
     if answers:
         return checked(rows, queries, answers)
@@ -209,4 +207,4 @@ def main():
 
 
 if __name__ == "__main__":
-    sys.exit(main())
+    commands.run(main)

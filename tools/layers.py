@@ -9,6 +9,7 @@ import sys
 import textwrap
 
 sys.path.insert(0, os.path.dirname(os.path.abspath(__file__)))
+import commands
 import specs
 
 PAGE = "docs/ARCHITECTURE.md"
@@ -51,4 +52,4 @@ def page():
 
 
 if __name__ == "__main__":
-    sys.exit(specs.put(PAGE, page(), "layers.py", sys.argv[1:], __doc__))
+    commands.run(lambda: specs.put(PAGE, page, "layers.py", sys.argv[1:], __doc__))

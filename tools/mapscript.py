@@ -6,24 +6,13 @@ A row of cells is a whole number whose bit i is set where column i is blocked.
 import os
 import sys
 
-sys.path.insert(0, os.path.join(os.path.dirname(os.path.abspath(__file__)), "..", "examples"))
+EXAMPLES = os.path.join(os.path.dirname(os.path.dirname(os.path.abspath(__file__))), "examples")
+if not os.path.isfile(os.path.join(EXAMPLES, "check.py")):  # (a file of this name stands here too)
+    sys.exit(f"{EXAMPLES}/check.py is missing: the folder examples must stand beside tools")
+sys.path.insert(0, EXAMPLES)
 import check  # noqa: E402
 
 SIDE, CHUNK = check.SIDE, check.CHUNK
-
-
-class Unreadable(Exception):
-    """A file that cannot be read, in words."""
-
-
-def bytes_of(name):
-    try:
-        with open(name, "rb") as file:
-            return file.read()
-    except FileNotFoundError:
-        raise Unreadable(f"no such file: {name}") from None
-    except OSError as it:
-        raise Unreadable(f"{name} cannot be read: {it.strerror}") from None
 
 
 class Post:

@@ -10,6 +10,7 @@ import re
 import sys
 
 sys.path.insert(0, os.path.dirname(os.path.abspath(__file__)))
+import commands
 import specs
 
 PAGE = "docs/PROVED.md"
@@ -154,4 +155,4 @@ def page():
 
 
 if __name__ == "__main__":
-    sys.exit(specs.put(PAGE, page(), "reading_list.py", sys.argv[1:], __doc__))
+    commands.run(lambda: specs.put(PAGE, page, "reading_list.py", sys.argv[1:], __doc__))

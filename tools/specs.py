@@ -7,6 +7,8 @@ import os
 import re
 import sys
 
+import commands
+
 TOP = os.path.dirname(os.path.dirname(os.path.abspath(__file__)))
 MARKS = r"(?:(?:pub|abbrev|unfoldable|record|data|ruleset)\s+)+"
 ITEM = re.compile(rf"{MARKS}(?!use\b|mod\b)(\S+)")
@@ -76,14 +78,15 @@ def read(file):
         return it.read()
 
 
-def put(file, made, tool, words, usage):
+def put(file, page, tool, words, text):
     """Writes a page that a script makes; with `--check` only says whether it is current. Returns the exit status."""
-    if words == ["--check"]:
+    if words not in ([], ["--check"]):
+        return commands.usage(text, words)
+    made = page()
+    if words:
         is_current = read(file) == made
         print(f"{file} is {'current' if is_current else f'not current: run tools/{tool}'}")
         return 0 if is_current else 1
-    if words:
-        sys.exit(usage)
     with open(os.path.join(TOP, file), "w", encoding="utf-8") as it:
         it.write(made)
     return 0

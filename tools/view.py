@@ -17,16 +17,18 @@ contradicts nothing, so it is told as `answers end after turn N of M`, and what 
 some replies are there contradicts.
 
 The status is 0 where the answers are whole and nothing contradicts, 1 where something does, 3 where nothing does and the
-answers end before their script, and 2 where a file is missing, the script has no map line, a picture is asked of a turn
-without answers, or the words are others. It is not noticed where a walk is longer than it need be, or another of equal cost.
+answers end before their script, 5 where writing failed, and 2 where a file is missing, the script has no map line, a picture
+is asked of a turn without answers, or the words are others. It is not noticed where a walk is longer than it need be, or
+another of equal cost.
 """
-import argparse
 import base64
 import json
 import os
 import sys
+import time
 import zlib
 
+import commands
 import contradictions
 import mapscript
 import pictures
@@ -131,8 +133,7 @@ def panels(match, words, caller):
 
 
 def words():
-    about, _, more = __doc__.partition("\n\n")
-    parser = argparse.ArgumentParser(description=about, epilog=more, formatter_class=argparse.RawDescriptionHelpFormatter)
+    parser = commands.parser_of(__doc__)
     parser.add_argument("script", help="the script, as it was given to the program")
     parser.add_argument("answers", help="what the program wrote for it")
     kind = parser.add_mutually_exclusive_group()
@@ -141,8 +142,21 @@ def words():
     kind.add_argument("--check", action="store_true", help="only tell contradictions")
     parser.add_argument("--scale", type=int, help="points a navcell in a picture (as fits by itself)")
     parser.add_argument("--caller", type=int, help="only this caller's paths in a picture")
+    parser.add_argument("--most", type=int, default=20, metavar="N", help="how many contradictions are told (20)")
     parser.add_argument("--title", help="the page's title (the script's name by itself)")
     return parser.parse_args()
+
+
+class Progress:
+    """Tells on standard error how many turns are done, every ten seconds."""
+
+    def __init__(self, most):
+        self.most, self.told = most, time.monotonic()
+
+    def tell(self, turn):
+        if time.monotonic() - self.told >= 10:
+            self.told = time.monotonic()
+            commands.say(f"{turn} of {self.most} turns looked at")
 
 
 def made(said, match):
@@ -156,24 +170,27 @@ def made(said, match):
     if said.check:
         match.go_through()
         return b""
-    return page(match, said.title or os.path.basename(said.script)).encode()
+    return page(match, said.title or os.path.basename(said.script)).encode("utf-8", "replace")
 
 
 def main():
     said = words()
     try:
-        script = mapscript.Script(mapscript.bytes_of(said.script))
-        answers = contradictions.Answers(mapscript.bytes_of(said.answers))
+        script = mapscript.Script(commands.bytes_of(said.script))
+        answers = contradictions.Answers(commands.bytes_of(said.answers))
         if script.map is None:
             raise Unknown(f"{said.script} has no map line")
-        match = contradictions.Match(script, answers)
+        match = contradictions.Match(script, answers, Progress(len(script.turns)).tell)
         out = made(said, match)
-    except (Unknown, mapscript.Unreadable) as it:
-        print(f"view.py: {it}", file=sys.stderr)
+    except (Unknown, commands.Unreadable) as it:
+        commands.say(it)
         return 2
     sys.stdout.buffer.write(out)
-    for it in match.found:
+    sys.stdout.flush()
+    for it in match.found[:said.most]:
         print(f"contradiction: {it}", file=sys.stderr)
+    if len(match.found) > said.most:
+        print(f"and {len(match.found) - said.most} more (--most {len(match.found)} tells them all)", file=sys.stderr)
     early = match.ends_early()
     if early:
         print(early, file=sys.stderr)
@@ -181,4 +198,4 @@ def main():
 
 
 if __name__ == "__main__":
-    sys.exit(main())
+    commands.run(main)

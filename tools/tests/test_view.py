@@ -1,5 +1,7 @@
 """The viewer: what it finds wrong, the page and the pictures."""
 import base64
+import contextlib
+import io
 import json
 import re
 import struct
@@ -62,7 +64,7 @@ class Contradictions(unittest.TestCase):
             ("0 0 moved 1\n", "", "it is to be 'moved 1'"),
             ("1 1 region 0 0 0 0\n", "", "there is no reply"),
             ("turn 2 regions", "1 2 region 0 0 0 0\nturn 2 regions", "a reply to no post: 1 2"),
-            ("turn 2 regions", "hello\nturn 2 regions", "line 6 of the answers has no form"),
+            ("turn 2 regions", "hello\nturn 2 regions", "the answers: line 6 has no form"),
             ("0 0 moved 1\n", "0 0 moved 1\n0 0 moved 1\n", "one line answers it, and behind it stands 'moved 1'"),
         ]
         for old, new, text in cases:
@@ -94,6 +96,22 @@ class Contradictions(unittest.TestCase):
             out, status, told = tool("tools/view.py", "--check", "examples/first.script", file.name)
         self.assertEqual((out, status), (b"", 1))
         self.assertIn("contradiction: turn 1, script line 2, post 0 0: the walk costs 343582, and not 343583", told)
+
+    def test_of_many_only_some_are_told(self):
+        lines = len(read("README.md").decode().splitlines())
+        out, status, told = tool("tools/view.py", "--check", "examples/skirmish.script", "README.md")
+        self.assertEqual((out, status, told.count("contradiction: ")), (b"", 1, 20))
+        self.assertEqual(told.splitlines()[20], f"and {lines - 20} more (--most {lines} tells them all)")
+        told = tool("tools/view.py", "--check", "--most", "3", "examples/skirmish.script", "README.md")[2]
+        self.assertEqual(told.count("contradiction: "), 3)
+
+    def test_progress_is_told(self):
+        progress = view.Progress(50)
+        progress.told -= 11
+        with contextlib.redirect_stderr(io.StringIO()) as told:
+            progress.tell(7)
+            progress.tell(8)
+        self.assertEqual(told.getvalue().partition(": ")[2], "7 of 50 turns looked at\n")
 
     def test_replies_and_turns_stand_in_their_order(self):
         script = read("examples/skirmish.script")
