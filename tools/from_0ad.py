@@ -19,25 +19,20 @@ and about a tenth too much. Nothing of the game is copied but numbers.
 The numbers of rectangles and obstructions, and each template that the mod lacks, are told on standard error. The status is
 2 where a map cannot be made.
 """
-import json
 import math
 import random
 import sys
 
 import commands
 import game_files
+import mapmaking
 import mapscript
 from game_files import HEIGHT_UNITS as HEIGHT, SIDE
+from mapmaking import MOST, decimal, line, map_lines, path_line
 from mapscript import row_bits
 
-TILE, EDGE_TILES, MOST = 4, 3, 2048  # navcells a tile; tiles of the impassable edge; navcells a side of a script's map
+TILE, EDGE_TILES = 4, 3  # navcells a tile; tiles of the impassable edge
 SHORE_FAR = 32767
-
-
-def text(raw):
-    """A raw number as the shortest decimal that has exactly its value."""
-    whole = f"{abs(raw) / SIDE:.16f}".rstrip("0").rstrip(".")
-    return "-" + whole if raw < 0 else whole
 
 
 # ---- what the terrain denies
@@ -63,7 +58,7 @@ class Ground:
         tiles = self.denied_tiles(kind)
         for j in range(self.side):
             rows[j] |= tiles[j // TILE]
-        return self.grown(rows, -(-kind.clearance // SIDE))
+        return mapmaking.grown(rows, -(-kind.clearance // SIDE), self.side)
 
     def merge(self, rows, below, is_denied_above):
         for j, bits in enumerate(below):
@@ -141,24 +136,6 @@ class Ground:
             first, last = (side - most) // 2, (side - 1 + most) // 2
             rows.append(self.full & ~row_bits(first, last) if most >= 0 and first <= last else self.full)
         return rows
-
-    def grown(self, rows, by):
-        """Grown along rows and then along columns."""
-        wide = []
-        for row in rows:
-            bits = row
-            for n in range(1, by + 1):
-                bits |= row << n | row >> n
-            wide.append(bits & self.full)
-        if by == 0:
-            return wide
-        found = []
-        for j in range(self.side):
-            bits = 0
-            for row in wide[max(0, j - by):j + by + 1]:
-                bits |= row
-            found.append(bits)
-        return found
 
 
 def spread(places):
@@ -246,10 +223,6 @@ def outline(parts):
 # ---- the script
 
 
-def line(value):
-    return json.dumps(value, separators=(",", ":"))
-
-
 def asked(rng, rows, side, names, count):
     """Path lines for each class between cells that the terrain leaves to it."""
     for k, name in names:
@@ -260,8 +233,8 @@ def asked(rng, rows, side, names, count):
             for _ in range(2):
                 j, bits = rng.choice(free)
                 spots = [i for i, it in enumerate(bin(bits)[:1:-1]) if it == "1"]
-                places.append([f"{rng.choice(spots)}.5", f"{j}.5"])
-            yield {"caller": 0, "path": name, "from": places[0], "goal": {"point": places[1]}}
+                places.append((rng.choice(spots), j))
+            yield path_line(name, *places)
 
 
 def chosen(kinds, names):
@@ -303,16 +276,13 @@ class Map:
                     self.rows[k][j] |= bits
 
     def lines(self, paths, seed):
-        classes = [{"name": it.name, "clearance": text(self.clearance(it))} for it in self.kinds]
-        yield line({"version": 3, "size": [self.side, self.side], "callers": self.callers, "classes": classes})
-        for it in self.base:
-            yield line({"base": [it]})
+        classes = [(it.name, self.clearance(it)) for it in self.kinds]
+        yield from map_lines(self.side, self.side, self.callers, classes, self.base)
         for it in self.inside:
-            yield line({"caller": it.owner, "add": it.number, "square": [text(n) for n in it.numbers], "mask": it.mask})
+            yield line({"caller": it.owner, "add": it.number, "square": [decimal(n) for n in it.numbers], "mask": it.mask})
         yield line({"end": 1})
         names = [(k, it.name) for k, it in enumerate(self.kinds) if it.clearance]
-        for it in asked(random.Random(seed), self.rows, self.side, names, paths):
-            yield line(it)
+        yield from asked(random.Random(seed), self.rows, self.side, names, paths)
         yield line({"end": 2})
 
 

@@ -2,12 +2,16 @@
 """A grid map of the pathfinding literature as a script, and its scenario's optimal lengths against the answers' costs.
 
 Reads `.map` with `type octile` and `.scen` of version 1, as the benchmarks at movingai.com have them (Sturtevant,
-"Benchmarks for Grid-Based Pathfinding", 2012). The script has one class `walker` without a clearance. Cells `.`, `G` and
-`S` are passable, all others are not, be it `@`, a small letter or a space. A map's first row is its northernmost, so row y
-of the map is row height-1-y here.
+"Benchmarks for Grid-Based Pathfinding", 2012). Cells `.`, `G` and `S` are passable, all others are not, be it `@`, a small
+letter or a space. A map's first row is its northernmost, so row y of the map is row height-1-y here.
+
+Without --class the script has one class `walker` without a clearance. With it each class has a clearance, and may have
+letters of its own: `--class infantry:0.5 --class ship:1:WS` has ships walk on `W` and `S`. What a class cannot walk on is
+grown by its clearance, rounded up to whole cells, as in 0 A.D. The paths are asked for by each class.
 
     from_movingai.py arena.map > arena.script                       # 20 random paths
     from_movingai.py arena.map arena.map.scen > arena.script        # the paths of the scenario
+    from_movingai.py --class infantry:0.5 --class siege:1.5 arena.map > arena.script
     ./pathserve replay < arena.script > arena.answers
     tools/view.py arena.script arena.answers > arena.html
     from_movingai.py arena.map arena.map.scen --check arena.answers
@@ -19,26 +23,20 @@ its size is. In a scenario of your own the length may be left out; such a path i
 Both count steps that cut no corner. A diagonal step costs the square root of 2 there, and 92682/65536 here, which is more
 by 0.00011 percent. So a walk that is cheapest here is, measured as there, at most so much longer than the optimum, and no
 shorter: --check holds each walk to that, with 0.001 for the scenario's rounding. It counts the paths that have a length,
-and says so where some have none. The status is 0 where all of them agree, 1 where some differ, and 2 where no path has a
+and says so where some have none. Only the first class is compared, which must be one without a clearance. The status is 0 where all of them agree, 1 where some differ, and 2 where no path has a
 length to compare, or a file is missing or has another form.
 """
-import json
 import math
-import random
 
 import commands
 import contradictions
-import mapscript
+import mapmaking
+from mapmaking import MOST, NoMap
 
 PASSABLE = ".GS"
 STRAIGHT, DIAGONAL = 65536, 92682
 MORE = DIAGONAL / STRAIGHT / math.sqrt(2) - 1  # by how much a diagonal step costs more here
 ROUNDING = 0.001  # of a scenario's lengths
-MOST = 2048
-
-
-class BadFile(Exception):
-    pass
 
 
 def read_map(lines):
@@ -48,18 +46,18 @@ def read_map(lines):
         name, _, value = lines[at].strip().partition(" ")
         head[name], at = value.strip(), at + 1
     if at == len(lines) or head.get("type") != "octile" or not all(head.get(it, "").isdecimal() for it in ("height", "width")):
-        raise BadFile("a map has the lines 'type octile', 'height H', 'width W' and 'map', and then its rows")
+        raise NoMap("a map has the lines 'type octile', 'height H', 'width W' and 'map', and then its rows")
     height, width = int(head["height"]), int(head["width"])
     rows = [it.rstrip("\r\n") for it in lines[at + 1:]]
     while len(rows) > height and not rows[-1]:  # empty lines behind the last row
         rows.pop()
     if len(rows) != height:
-        raise BadFile(f"the map has {len(rows)} rows, and its line 'height' says {height}")
+        raise NoMap(f"the map has {len(rows)} rows, and its line 'height' says {height}")
     for number, row in enumerate(rows):
         if len(row) != width:
-            raise BadFile(f"line {at + 2 + number} of the map has {len(row)} cells, and its line 'width' says {width}")
+            raise NoMap(f"line {at + 2 + number} of the map has {len(row)} cells, and its line 'width' says {width}")
     if not 1 <= min(width, height) <= max(width, height) <= MOST:
-        raise BadFile(f"a script's map has 1 to {MOST} cells a side, and this one is {width} by {height}")
+        raise NoMap(f"a script's map has 1 to {MOST} cells a side, and this one is {width} by {height}")
     return rows
 
 
@@ -74,10 +72,10 @@ def read_query(words, width, height):
     """The query of a scenario's line, and the size of its map."""
     w, h, a, b, c, d = map(int, words[2:8])
     if (w, h) != (width, height):
-        raise BadFile(f"it is for a map of {w} by {h}")
+        raise NoMap(f"it is for a map of {w} by {h}")
     for name, i, y in (("start", a, b), ("goal", c, d)):
         if not (0 <= i < width and 0 <= y < height):
-            raise BadFile(f"{name} {i} {y} is off the map")
+            raise NoMap(f"{name} {i} {y} is off the map")
     return Query((a, b), (c, d), float(words[8]) if len(words) > 8 else None)
 
 
@@ -89,39 +87,25 @@ def read_scenario(lines, rows, most):
             continue
         try:
             found.append(read_query(words, len(rows[0]), len(rows)))
-        except BadFile as it:
-            raise BadFile(f"line {number} of the scenario: {it}") from None
+        except NoMap as it:
+            raise NoMap(f"line {number} of the scenario: {it}") from None
         except ValueError:
-            raise BadFile(f"line {number} of the scenario is not: bucket, map, width, height, start, goal, length") from None
+            raise NoMap(f"line {number} of the scenario is not: bucket, map, width, height, start, goal, length") from None
         if len(found) == most:
             break
     return found
 
 
-def drawn(rows, count, seed):
-    """Queries between passable cells, drawn from a seed; none where no cell is passable."""
-    free = [(i, y) for y, row in enumerate(rows) for i, it in enumerate(row) if it in PASSABLE]
-    draw = random.Random(seed)
-    return [Query(draw.choice(free), draw.choice(free)) for _ in range(count if free else 0)]
+def blocked(rows, kind):
+    """The rows from the south that a class cannot walk on."""
+    letters = kind.ground or PASSABLE
+    bits = [sum(1 << i for i, it in enumerate(row) if it not in letters) for row in reversed(rows)]
+    return mapmaking.grown(bits, kind.room, len(rows[0]))
 
 
-def script(rows, queries):
-    """The lines of the script, all paths in one turn."""
-    height, width = len(rows), len(rows[0])
-
-    def dump(value):
-        return json.dumps(value, separators=(",", ":"))
-
-    def place(cell):
-        return [f"{cell[0]}.5", f"{height - 1 - cell[1]}.5"]
-
-    yield dump({"version": 3, "size": [width, height], "callers": 1, "classes": [{"name": "walker", "clearance": "0"}]})
-    bits = [sum(1 << i for i, it in enumerate(row) if it not in PASSABLE) for row in reversed(rows)]
-    for it in mapscript.rectangles([bits], width):
-        yield dump({"base": [it]})
-    for it in queries:
-        yield dump({"caller": 0, "path": "walker", "from": place(it.start), "goal": {"point": place(it.goal)}})
-    yield dump({"end": 1})
+def cells_of(query, height):
+    """The cells of a query, with rows from the south."""
+    return tuple((i, height - 1 - y) for i, y in (query.start, query.goal))
 
 
 def steps(path):
@@ -174,8 +158,7 @@ def words():
     parser.add_argument("map", help="the .map file")
     parser.add_argument("scenario", nargs="?", help="the .scen file; without it the script asks for --paths N")
     parser.add_argument("--most", type=int, default=0, metavar="N", help="only the first N queries of the scenario")
-    parser.add_argument("--paths", type=int, default=20, metavar="N", help="without a scenario, N random paths between passable cells (20)")
-    parser.add_argument("--seed", type=int, default=1, help="which random paths (1)")
+    mapmaking.add_words(parser, "NAME:CLEARANCE:LETTERS has others than .GS to walk on")
     parser.add_argument("--check", metavar="ANSWERS", help="compare the lengths with these answers, and write no script")
     said = parser.parse_args()
     if said.check and not said.scenario:
@@ -190,19 +173,26 @@ def lines_of(name):
 def main():
     said = words()
     try:
+        kinds = mapmaking.kinds_in(said)
+        if said.check and kinds[0].clearance:
+            raise NoMap("the optimal lengths are those of a class without a clearance, and --check compares the first one")
         rows = read_map(lines_of(said.map))
-        if said.scenario:
-            queries = read_scenario(lines_of(said.scenario), rows, said.most)
-        else:
-            queries = drawn(rows, said.paths, said.seed)
+        queries = read_scenario(lines_of(said.scenario), rows, said.most) if said.scenario else []
         answers = contradictions.Answers(commands.bytes_of(said.check)) if said.check else None
-    except (BadFile, commands.Unreadable) as it:
+    except (NoMap, commands.Unreadable) as it:
         commands.say(it)
         return 2
     if answers:
         return checked(rows, queries, answers)
-    for it in script(rows, queries):
+    width, denied = len(rows[0]), [blocked(rows, it) for it in kinds]
+    if said.scenario:
+        pairs = [[cells_of(it, len(rows)) for it in queries] for _ in kinds]
+    else:
+        pairs = [mapmaking.drawn(it, width, said.paths, said.seed) for it in denied]
+    for it in mapmaking.script(width, kinds, denied, pairs):
         print(it)
+    if not any(pairs) and said.paths:
+        commands.say("no class has a cell to walk on, so no path is asked for")
     return 0
 
 

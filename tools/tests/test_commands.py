@@ -12,7 +12,7 @@ import client
 
 BENCH = ["bench/beside_0ad.py", "bench/broken", "bench/hostile", "bench/load", "bench/measure.py", "bench/refused", "bench/times.py"]
 MAKERS = ["tools/crates.py", "tools/definitions.py", "tools/layers.py", "tools/reading_list.py"]
-OTHERS = ["digests.py", "from_0ad.py", "from_movingai.py", "replays.py", "unproved_build.py", "view.py"]
+OTHERS = ["digests.py", "from_0ad.py", "from_movingai.py", "from_picture.py", "replays.py", "unproved_build.py", "view.py"]
 TOOLS = [f"tools/{it}" for it in OTHERS] + ["examples/check.py", "examples/client.py", "examples/two_callers.py"]
 # commands that write, each with its words
 WRITERS = [

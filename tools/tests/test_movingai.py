@@ -73,6 +73,26 @@ class MovingAi(unittest.TestCase):
         self.assertEqual(status, 1)
         self.assertEqual(out, b"query 3: the walk is 7.65685 long, and the optimum is 7.65\n3 of 4 lengths agree\n")
 
+    def test_classes_keep_away_from_what_they_cannot_walk_on(self):
+        words = ["--class", "scout:0", "--class", "siege:0.5", "--class", "ship:0:WS", self.map]
+        script = mapscript.Script(tool("tools/from_movingai.py", *words, "--paths", "2")[0])
+        rows = [[bin(it | 1 << 7)[:2:-1] for it in mine] for mine in mapscript.base_rows(script.map)]
+        self.assertEqual(rows[0], ["0001001", "0000000", "0000000", "0001000", "0001000"])
+        self.assertEqual(rows[1], ["0011111", "0011111", "0011100", "0011100", "0011100"])
+        self.assertEqual(rows[2], ["1111111"] * 3 + ["1010111"] + ["1111111"])
+        self.assertEqual([it.values[2] for it in script.turns[0].posts], ["scout"] * 2 + ["siege"] * 2 + ["ship"] * 2)
+        # a scenario is asked for by each class, and the first is compared
+        script = tool("tools/from_movingai.py", *words, self.scenario)[0]
+        self.assertEqual([it.values[2] for it in mapscript.Script(script).turns[0].posts], ["scout"] * 4 + ["siege"] * 4 + ["ship"] * 4)
+        answers = self.file("answers", check.predicted(script)[0])
+        self.assertEqual(tool("tools/from_movingai.py", *words, self.scenario, "--check", answers)[:2], (b"4 of 4 lengths agree\n", 0))
+        _, status, told = tool("tools/from_movingai.py", "--class", "siege:0.5", self.map, self.scenario, "--check", answers)
+        self.assertEqual((status, "a class without a clearance" in told), (2, True))
+
+    def test_a_map_without_a_free_cell_is_told(self):
+        _, status, told = tool("tools/from_movingai.py", self.file("full.map", "type octile\nheight 1\nwidth 2\nmap\n@@\n"))
+        self.assertEqual((status, told), (0, "from_movingai.py: no class has a cell to walk on, so no path is asked for\n"))
+
     def test_paths_without_a_scenario(self):
         out = {it: tool("tools/from_movingai.py", self.map, "--paths", "30", "--seed", it)[0] for it in ("1", "2")}
         script = mapscript.Script(out["1"])
