@@ -7,6 +7,8 @@ Those of docs/pictures are made so, at the top of the repository:
     tools/view.py --svg 1 valley.script valley.answers > docs/pictures/valley.svg
     tools/view.py --svg 1:infantry,1:siege,2:siege examples/skirmish.script examples/skirmish.answers > docs/pictures/skirmish.svg
 """
+import collections
+import math
 import struct
 import zlib
 
@@ -14,6 +16,7 @@ import contradictions
 from mapscript import SIDE
 
 CALLERS = ["#0072b2", "#d55e00", "#007a5a", "#a3357a", "#8a6500", "#111111"]
+SHADES = [("#000000", 0), ("#000000", 0.45), ("#ffffff", 0.4)]  # into which colour, and how far
 CELLS = {"free": "#fbfaf7", "base": "#4b535d", "near": "#e3d3a8", "body": "#a9823f"}
 LINE, OTHER, GRID, INK, ALARM, HALO = "#5f4514", "#9a927f", "#e4e1da", "#1b1f24", "#c8102e", "#ffffff"
 MARGIN, HEAD = 8, 22  # points about a panel, and above it for its name
@@ -34,14 +37,16 @@ class Panel:
             if mask >> k & 1:
                 for j, bits in contradictions.mapscript.blocked_rows(square, 0, self.w, self.h).items():
                     self.body[j] |= bits & ~self.base[j]
-        self.paths = []
+        self.paths, counts = [], collections.Counter()
         for post in turn.in_order():
             said = replies.get((post.caller, post.number), [""])
-            if post.kind == "path" and post.values[2] == name and caller in (None, post.caller):
-                self.add_path(post, said)
+            if post.kind == "path" and post.values[2] == name:
+                if caller in (None, post.caller):
+                    self.add_path(ink_of(map_.callers, post.caller, counts[post.caller]), said)
+                counts[post.caller] += 1
         self.marks = [it.cell for it in match.found if it.turn == turn.number and it.cell]
 
-    def add_path(self, post, said):
+    def add_path(self, ink, said):
         if not said[0].startswith("path "):
             return
         try:
@@ -50,7 +55,7 @@ class Panel:
             kept = [contradictions.middle(it) for it in smooth]
         except contradictions.Wrong:
             return
-        self.paths.append((post.caller, path, [path.start, *kept] if kept else []))
+        self.paths.append((ink, path, [path.start, *kept] if kept else []))
 
     def runs(self, what):
         """The runs `(row, first, last)` of cells that are blocked by `base`, `near` or `body`."""
@@ -63,10 +68,31 @@ class Panel:
                 bits = bits >> last + 1 << last + 1
 
 
+def ink_of(callers, caller, nth):
+    """The colour of a path: a shade of its caller's, or one of all colours where there is one caller."""
+    hue, shade = (caller, nth) if callers > 1 else (nth, nth // len(CALLERS))
+    into, part = SHADES[shade % len(SHADES)]
+    return "#" + bytes(round(a + (b - a) * part) for a, b in zip(rgb(CALLERS[hue % len(CALLERS)]), rgb(into))).hex()
+
+
+def rgb(text):
+    return bytes.fromhex(text[1:])
+
+
 def corners(square):
     x, z, ux, uz, hw, hh = (it / SIDE for it in square)
     n = ux * ux + uz * uz
     return [(x + a * hw / n * ux - b * hh / n * uz, z + a * hw / n * uz + b * hh / n * ux) for a, b in ((1, 1), (1, -1), (-1, -1), (-1, 1))]
+
+
+def beside(places, far):
+    """The places of a line that runs so far beside another one, so that both are seen."""
+    found = []
+    for (a, b), (c, d) in zip(places, places[1:]):
+        size = math.hypot(c - a, d - b) or 1
+        x, z = (d - b) / size * far, (a - c) / size * far
+        found += [(a + x, b + z), (c + x, d + z)]
+    return found
 
 
 def middles(cells):
@@ -85,10 +111,14 @@ class Drawing:
     def points(self, places):
         return " ".join(f"{num(x * self.scale)},{num((self.panel.h - z) * self.scale)}" for x, z in places)
 
-    def line(self, places, ink, width, dash=""):
-        style = f' stroke-dasharray="{dash}"' if dash else ""
-        for color, wide, more in ((HALO, width + 2, ""), (ink, width, style)):
-            self.out.append(f'<polyline points="{self.points(places)}" stroke="{color}" stroke-width="{num(wide)}"{more}/>')
+    def line(self, places, ink, width):
+        for color, wide in ((HALO, width + 2), (ink, width)):
+            self.out.append(f'<polyline points="{self.points(places)}" stroke="{color}" stroke-width="{num(wide)}"/>')
+
+    def smoothed(self, places, width):
+        """A thin line that runs beside that of a path which is so wide."""
+        places = beside(places, (width / 2 + 1.5) / self.scale)
+        self.out.append(f'<polyline points="{self.points(places)}" stroke="{INK}" stroke-width="{num(max(1, width / 2))}" stroke-dasharray="5 4"/>')
 
     def cells(self):
         s, panel = self.scale, self.panel
@@ -118,14 +148,13 @@ class Drawing:
 
     def paths(self):
         wide = max(1.5, min(4, self.scale * 0.16))
-        for caller, path, kept in self.panel.paths:
-            ink = CALLERS[caller % len(CALLERS)]
+        for ink, path, kept in self.panel.paths:
             self.line(middles(path.places()), ink, wide)
             if kept:
-                self.line(middles(kept), INK, wide / 2, "5 4")
-        for caller, path, _ in self.panel.paths:  # ends stand over all lines
-            self.end(path.start, CALLERS[caller % len(CALLERS)], "start")
-            self.end(path.end, CALLERS[caller % len(CALLERS)], path.word)
+                self.smoothed(middles(kept), wide)
+        for ink, path, _ in self.panel.paths:  # ends stand over all lines
+            self.end(path.start, ink, "start")
+            self.end(path.end, ink, path.word)
         for i, j in self.panel.marks:
             x, y, r = (i + 0.5) * self.scale, (self.panel.h - j - 0.5) * self.scale, max(6, self.scale / 2)
             lines = f"M{num(x - r)} {num(y - r)}L{num(x + r)} {num(y + r)}M{num(x - r)} {num(y + r)}L{num(x + r)} {num(y - r)}"
@@ -154,10 +183,6 @@ def svg(panels, scale=None):
 
 
 # ---- PNG
-
-
-def rgb(text):
-    return bytes.fromhex(text[1:])
 
 
 # What of the points about an end its shape has, of half a side r.
@@ -220,15 +245,14 @@ def png(panel, scale=None):
     for places, is_mine in panel.outlines:
         if scale > 2:
             sheet.line([*places, places[0]], LINE if is_mine else OTHER, 0)
-    for caller, path, kept in panel.paths:
-        ink = CALLERS[caller % len(CALLERS)]
+    for ink, path, kept in panel.paths:
         sheet.line(middles(path.places()), HALO, size + 1)
         sheet.line(middles(path.places()), ink, size)
         if kept:
             sheet.line(middles(kept), INK, size // 2)
-    for caller, path, _ in panel.paths:
-        sheet.end(path.start, CALLERS[caller % len(CALLERS)], "start", size)
-        sheet.end(path.end, CALLERS[caller % len(CALLERS)], path.word, size)
+    for ink, path, _ in panel.paths:
+        sheet.end(path.start, ink, "start", size)
+        sheet.end(path.end, ink, path.word, size)
     for i, j in panel.marks:
         x, z, r = i + 0.5, j + 0.5, max(0.5, 8 / scale)
         for way in (1, -1):

@@ -184,4 +184,15 @@ class Field {
       return this.far[(j + dj) * this.w + i + di] + (n > 3 ? DIAGONAL : STRAIGHT) === here;
     }) || null;
   }
+
+  /** The cells of the walk from a cell along the field. */
+  walk(i, j) {
+    const found = [[i, j]];
+    for (let next = this.next(i, j); next; next = this.next(i, j)) {
+      i += next[1];
+      j += next[2];
+      found.push([i, j]);
+    }
+    return found;
+  }
 }

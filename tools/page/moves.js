@@ -1,7 +1,7 @@
 // What the page says of a place and a post, its lists, and how it is moved through.
 const KEYS = [
   ["← →", "turn before, turn after"], ["Home End", "first turn, last turn"], ["c", "next class"], ["p", "next caller"],
-  ["+ − 0", "zoom in, zoom out, whole map"], ["1 .. 8", "layers, in their order"], ["f", "field of the chosen post"], ["n", "next contradiction"],
+  ["+ − 0", "zoom in, zoom out, whole map"], ["1 .. 9", "layers, in their order"], ["f", "field of the chosen post"], ["n", "next contradiction"],
   ["j k", "post after, post before"], ["g", "go to a line of the script"], ["t", "dark or light"], ["Esc", "choose nothing"],
 ];
 const WHAT = ["passable", "blocked by the base map", "blocked by a clearance", "blocked by an obstruction"];
@@ -12,7 +12,7 @@ const ROWS = 300; // of a longer list only the part about the chosen post stands
 function aboutCell(i, j) {
   const at = j * data.w + i, lines = [`cell ${i} ${j}: ${WHAT[cells.state[at]]} for ${data.classes[state.k].name}`];
   if (cells.region && cells.state[at] === FREE) lines.push(`chunk ${Math.floor(i / CHUNK)} ${Math.floor(j / CHUNK)}, region ${cells.region[at]}, area ${cells.area[at]}`);
-  if (field && field.far[at] >= 0) lines.push(`far ${field.far[at]}, next ${(field.next(i, j) || ["none"])[0]}`);
+  if (field && field.far[at] >= 0) lines.push(`far ${field.far[at]}, next ${(field.next(i, j) || ["none"])[0]}, ${count(field.walk(i, j).length - 1, "step")} along the field`);
   return lines;
 }
 
@@ -45,13 +45,22 @@ function postAt(x, z) {
 const count = (n, name) => `${n} ${n === 1 ? name : name.endsWith("s") ? name + "es" : name + "s"}`;
 const brief = (it, most = 200) => (it.length > most ? it.slice(0, most) + " .." : it);
 
+/** Marks the path under the pointer and the walk from there along the field. */
+function pointed(post, walk) {
+  if (post === state.near && !walk && !state.walk) return;
+  state.near = post;
+  state.walk = walk;
+  redraw();
+}
+
 function tipped(event) {
   const { x, z } = pointOf(event), i = Math.floor(x), j = Math.floor(z), tip = by("tip");
   tip.hidden = i < 0 || j < 0 || i >= data.w || j >= data.h || !cells;
-  if (tip.hidden) return;
+  if (tip.hidden) return pointed(null, null);
   tip.replaceChildren(...aboutCell(i, j).map((it) => made("div", it)));
   for (const it of standingAt(x, z).slice(0, 3)) tip.append(made("div", `obstruction ${it.id}, mask ${it.mask}, of caller ${it.post.c}, line ${it.post.l}`));
-  const post = postAt(x, z);
+  const post = postAt(x, z), walk = field && field.far[j * data.w + i] > 0 ? field.walk(i, j) : null;
+  pointed(post, walk && walk.map(([a, b]) => [a + 0.5, b + 0.5]));
   if (post) tip.append(made("div", `line ${post.l}, post ${post.c} ${post.n}: ${brief(post.x, 120)}`), made("div", `→ ${brief(post.r.join("; "), 120)}`));
   for (const it of wrongHere()) if (it.at[0] === i && it.at[1] === j) tip.append(made("b", `✕ ${it.text}`));
   tip.querySelectorAll("b").forEach((it) => (it.className = "bad"));
@@ -60,11 +69,26 @@ function tipped(event) {
   tip.style.top = `${Math.min(event.clientY - side.top + 16, side.height - tip.offsetHeight - 8)}px`;
 }
 
+/** Puts a line under the layers, for what could not be shown. */
+function noted(text) {
+  by("note").textContent = text;
+  by("note").hidden = !text;
+}
+
+/** What of a chosen post is not what is shown. */
+function elsewhere(post) {
+  const lines = [];
+  if (post.turn !== state.turn) lines.push(`of turn ${data.turns[post.turn].t}; turn ${now().t} is shown`);
+  if (post.cls && post.cls !== data.classes[state.k].name) lines.push(`for ${post.cls}; ${data.classes[state.k].name} is shown`);
+  if (state.caller >= 0 && state.caller !== post.c) lines.push(`of caller ${post.c}; caller ${state.caller} is shown`);
+  return lines;
+}
+
 function fieldSaid(post) {
-  if (!field) return [];
+  if (!field) return state.why ? [state.why] : [];
   const mine = [field.count, field.most, field.sum].join(" "), said = noteOf(post, "flow").slice(1).join(" ");
   const lines = [`field: ${field.count} cells, farthest ${field.most}, sum ${field.sum}`];
-  if (said) lines.push(said === mine ? "the answer says the same" : `✕ the answer says ${said}`);
+  if (said && post.turn === state.turn) lines.push(said === mine ? "the answer says the same" : `✕ the answer says ${said}`);
   return lines;
 }
 
@@ -74,8 +98,8 @@ function chosenShown() {
   if (!it) return;
   const name = it.cls ? `${it.k}, ${it.cls}` : it.k;
   box.replaceChildren(made("strong", `line ${it.l}: post ${it.c} ${it.n}, ${name}`), made("pre", it.x), made("pre", it.r.join("\n") || "no reply"));
-  for (const line of fieldSaid(it)) box.append(made("div", line));
-  for (const bad of now().wrong.filter((b) => b.l === it.l)) box.append(made("b", `✕ ${bad.text}`));
+  for (const line of [...elsewhere(it), ...fieldSaid(it)]) box.append(made("div", line));
+  for (const bad of data.turns[it.turn].wrong.filter((b) => b.l === it.l)) box.append(made("b", `✕ ${bad.text}`));
 }
 
 function listed() {
@@ -100,7 +124,6 @@ function chosen(post, go) {
   listed();
   chosenShown();
   redraw();
-  remembered();
 }
 
 /** Moves the view where not all of some points are on it. */
@@ -116,7 +139,6 @@ function seen(points) {
 
 function turnedTo(n) {
   state.turn = Math.max(0, Math.min(data.turns.length - 1, n));
-  state.post = null;
   by("turn").value = state.turn;
   by("turn-text").textContent = data.turns.length ? `${now().t} of ${data.turns.length}` : "none";
   by("turn-text").title = now().line;
@@ -127,20 +149,17 @@ function renewed() {
   remade();
   listed();
   chosenShown();
-  remembered();
 }
 
 function classed(k) {
   state.k = k;
   by("class").value = k;
-  if (state.post?.cls && state.post.cls !== data.classes[k].name) state.post = null;
   renewed();
 }
 
 function called(c) {
   state.caller = c;
   by("caller").value = c;
-  state.post = null;
   listed();
   chosenShown();
   redraw();
@@ -153,7 +172,6 @@ function layered(name, on) {
   for (const [it] of LAYERS) by("layer-" + it).checked = state.on[it];
   if (name === "field") { refield(); chosenShown(); } else if (name === "regions" || name === "areas") painted();
   else redraw();
-  remembered();
 }
 
 function themed(name) {
@@ -165,7 +183,7 @@ function themed(name) {
 
 function wentTo(number) {
   const at = data.turns.findIndex((it) => it.posts.some((p) => p.l === number));
-  if (at < 0) return;
+  if (at < 0) return noted(`line ${number} has no post of a turn with answers`);
   const post = data.turns[at].posts.find((p) => p.l === number);
   if (post.cls) state.k = Math.max(0, data.classes.findIndex((it) => it.name === post.cls));
   by("class").value = state.k;
@@ -229,12 +247,12 @@ function pointing() {
     if (held && !held.far) { const { x, z } = pointOf(event); chosen(postAt(x, z) || standingAt(x, z)[0]?.post || null, false); }
     held = null;
   });
-  map.addEventListener("pointerleave", () => (by("tip").hidden = true));
+  map.addEventListener("pointerleave", () => { by("tip").hidden = true; pointed(null, null); });
 }
 
 function stepped(step) {
-  const posts = shown(), at = posts.indexOf(state.post);
-  if (posts.length) chosen(posts[(at + step + posts.length) % posts.length], true);
+  const posts = shown(), at = posts.indexOf(state.post), from = at < 0 && step < 0 ? 0 : at;
+  if (posts.length) chosen(posts[(from + step + posts.length) % posts.length], true);
 }
 
 function keyed(event) {
@@ -245,7 +263,7 @@ function keyed(event) {
     "+": () => zoomed(1.5), "=": () => zoomed(1.5), "-": () => zoomed(1 / 1.5), 0: () => { fitted(); redraw(); }, f: () => layered("field", !state.on.field), n: wrongNext,
     j: () => stepped(1), k: () => stepped(-1), g: () => by("line").focus(), t: () => themed(state.theme === "dark" ? "light" : "dark"), Escape: () => chosen(null, false),
   };
-  const layer = /^[1-8]$/.test(event.key) && LAYERS[event.key - 1];
+  const layer = /^[1-9]$/.test(event.key) && LAYERS[event.key - 1];
   if (!layer && !acts[event.key]) return;
   event.preventDefault();
   if (layer) layered(layer[0], !state.on[layer[0]]);
@@ -254,27 +272,43 @@ function keyed(event) {
 
 // ---- the address names what is looked at, so that it can be sent on
 
+let remembering = 0;
+/** Writes the address, once for many moves. */
 function remembered() {
-  const on = LAYERS.filter(([name]) => state.on[name]).map(([name]) => name).join(",");
-  const words = { turn: now().t, class: data.classes[state.k].name, ...(state.post ? { line: state.post.l } : {}), layers: on };
-  history.replaceState(null, "", "#" + Object.entries(words).map(([a, b]) => `${a}=${b}`).join("&"));
+  clearTimeout(remembering);
+  remembering = setTimeout(() => history.replaceState(null, "", "#" + address()), 200);
 }
 
+function address() {
+  const on = LAYERS.filter(([name]) => state.on[name]).map(([name]) => name).join(",");
+  const words = { turn: now().t, class: data.classes[state.k].name };
+  if (state.caller >= 0) words.caller = state.caller;
+  if (state.post) words.line = state.post.l;
+  if (!isWhole()) words.at = [view.x + map.width / view.scale / 2, view.z + map.height / view.scale / 2, view.scale / dpr()].map((it) => +it.toFixed(2)).join(",");
+  Object.assign(words, { layers: on, theme: state.theme });
+  return Object.entries(words).map(([a, b]) => `${a}=${b}`).join("&");
+}
+
+/** Shows what the address names: the turn and the class behind the line, whose post may be of others. */
 function recalled() {
   const words = Object.fromEntries(location.hash.slice(1).split("&").map((it) => it.split("=")));
   if (words.layers !== undefined) for (const [name] of LAYERS) state.on[name] = words.layers.split(",").includes(name);
   for (const [it] of LAYERS) by("layer-" + it).checked = state.on[it];
-  if (words.theme) state.theme = words.theme;
-  state.k = Math.max(0, data.classes.findIndex((it) => it.name === words.class));
-  by("class").value = state.k;
+  if (CALLERS[words.theme]) state.theme = words.theme;
   document.documentElement.dataset.theme = state.theme;
-  turnedTo(Math.max(0, data.turns.findIndex((it) => it.t === +words.turn)));
-  if (words.line) wentTo(+words.line);
-  if (words.at) {
-    const [x, z, scale] = words.at.split(",").map(Number);
-    view = { scale: scale * dpr(), x: x - map.width / scale / dpr() / 2, z: z - map.height / scale / dpr() / 2 };
-    redraw();
-  }
+  state.caller = words.caller >= 0 && words.caller < data.callers ? +words.caller : -1;
+  by("caller").value = state.caller;
+  const post = words.line && data.turns.flatMap((it) => it.posts).find((it) => it.l === +words.line), k = data.classes.findIndex((it) => it.name === words.class);
+  const turn = data.turns.findIndex((it) => it.t === +words.turn);
+  state.post = post || null;
+  state.k = Math.max(0, k >= 0 || !post?.cls ? k : data.classes.findIndex((it) => it.name === post.cls));
+  by("class").value = state.k;
+  turnedTo(Math.max(0, turn >= 0 || !post ? turn : post.turn));
+  if (words.line && !post) noted(`line ${words.line} has no post of a turn with answers`);
+  const [x, z, scale] = (words.at || "").split(",").map(Number);
+  if (scale > 0) view = { scale: scale * dpr(), x: x - map.width / scale / dpr() / 2, z: z - map.height / scale / dpr() / 2 };
+  legended();
+  redraw();
 }
 
 // ---- the panel
@@ -289,10 +323,17 @@ function legended() {
     else { p.moveTo(28, 3); p.lineTo(41, 16); p.lineTo(28, 29); p.lineTo(15, 16); p.closePath(); }
     p.fillStyle = name === "round" ? inks.halo : colour(0); p.fill(); p.stroke();
   };
+  const ramped = (p) => { for (let x = 0; x < 56; x++) { p.fillStyle = `rgb(${rampAt(1 - x / 55).join(",")})`; p.fillRect(x, 0, 1, 32); } };
   rows.push(["outline of an obstruction of the class", stroke(inks.line, [], 3)], ["outline of one for other classes", stroke(inks.other, [8, 8], 3)]);
   for (let c = 0; c < Math.min(data.callers, 6); c++) rows.push([`path of caller ${c}` + (data.callers > 6 ? `, ${c + 6}, ..: its dash tells which` : ""), stroke(colour(c), [], 5)]);
+  if (data.callers === 1) rows.push(["more paths: each has a colour", (p) => CALLERS[state.theme].forEach((ink, n) => { p.fillStyle = ink; p.fillRect(3 + 8.5 * n, 13, 8, 6); })]);
+  else rows.push(["a caller's paths have shades of its colour", (p) => [0, 1, 2].forEach((n) => { p.fillStyle = inkOf({ c: 0, nth: n }); p.fillRect(3 + 17 * n, 13, 16, 6); })]);
+  rows.push(["chosen path, or the one under the pointer", stroke(colour(0), [], 9)], ["where it turns", (p) => { p.lineWidth = 3; p.strokeStyle = colour(0); p.fillStyle = inks.halo; p.beginPath(); p.arc(28, 16, 5, 0, 7); p.fill(); p.stroke(); }]);
   rows.push(["where a path starts", shape("round")], ["where it ends, at the goal", shape("square")], ["where it ends, near the goal", shape("diamond")]);
-  rows.push(["smoothed path", stroke(inks.ink, [10, 8], 3)], ["goal", stroke(colour(0), [16, 6], 4)], ["goal turned inside out", stroke(colour(0), [4, 10], 4)]);
+  rows.push(["smoothed path, beside it", stroke(inks.ink, [10, 8], 3)], ["goal", stroke(colour(0), [16, 6], 4)], ["goal turned inside out", stroke(colour(0), [4, 10], 4)]);
+  rows.push(["cells that the turn blocked", stroke(inks.change, [], 4)], ["cells that the turn freed", stroke(inks.change, [6, 6], 4)]);
+  rows.push(["regions, areas: beside each other in other tints", (p) => TINTS[state.theme].forEach((ink, n) => { p.fillStyle = ink; p.fillRect(9.4 * n, 0, 9.4, 32); })]);
+  rows.push(["field: near to the goal to far from it", ramped], ["the walk along it from the pointer", stroke(inks.ink, [4, 8], 4)], ["step of the field", (p) => { ramped(p); p.strokeStyle = "#111"; p.lineWidth = 3; p.beginPath(); p.moveTo(8, 16); p.lineTo(36, 16); p.moveTo(28, 9); p.lineTo(36, 16); p.lineTo(28, 23); p.stroke(); }]);
   rows.push(["contradiction", (p) => { p.strokeStyle = inks.alarm; p.lineWidth = 4; p.beginPath(); p.arc(28, 16, 13, 0, 7); p.moveTo(20, 8); p.lineTo(36, 24); p.moveTo(20, 24); p.lineTo(36, 8); p.stroke(); }]);
   by("legend").replaceChildren(...rows.map(([text, paint]) => {
     const row = made("li"), sample = Object.assign(document.createElement("canvas"), { width: 56, height: 32 });
@@ -337,31 +378,39 @@ function panelled() {
   by("theme").onclick = () => themed(state.theme === "dark" ? "light" : "dark");
 }
 
+/** Whether the whole map is seen, as at the start. */
+function isWhole() {
+  const was = { ...view };
+  fitted();
+  const isSame = view.scale === was.scale && view.x === was.x && view.z === was.z;
+  view = was;
+  return isSame;
+}
+
 /** Takes the room that the window leaves. A map that was seen whole is so again; else its middle stays in the middle. */
 function sized() {
-  const side = map.getBoundingClientRect(), was = { ...view };
+  const side = map.getBoundingClientRect(), was = { ...view }, wasWhole = isWhole();
   const x = was.x + map.width / was.scale / 2, z = was.z + map.height / was.scale / 2;
-  fitted();
-  const isWhole = view.scale === was.scale && view.x === was.x && view.z === was.z;
   map.width = Math.max(1, Math.round(side.width * dpr()));
   map.height = Math.max(1, Math.round(side.height * dpr()));
-  if (isWhole) fitted();
+  if (wasWhole) fitted();
   else view = { scale: was.scale, x: x - map.width / was.scale / 2, z: z - map.height / was.scale / 2 };
   redraw();
 }
 
 async function started() {
   data = JSON.parse(new TextDecoder().decode(await inflated("data")));
+  numbered();
   base = new Uint8Array(await inflated("base"));
   state.theme = matchMedia("(prefers-color-scheme: dark)").matches ? "dark" : "light";
   sized();
   fitted();
   panelled();
   recalled();
-  legended();
   by("busy").hidden = true;
   pointing();
   window.addEventListener("resize", sized);
+  window.addEventListener("hashchange", recalled);
   document.addEventListener("keydown", keyed);
 }
 const ready = started();

@@ -2,21 +2,24 @@
 const LAYERS = [
   ["paths", "paths", true], ["smooth", "smoothed waypoints", true], ["goals", "all goals", false], ["outlines", "obstructions", true],
   ["chunks", "chunks", false], ["regions", "regions", false], ["areas", "areas", false], ["field", "field of the post", false],
+  ["changes", "changed cells", true],
 ];
-// told apart by the colour-blind (after Okabe and Ito); a caller has a colour and a dash
+// told apart by the colour-blind (after Okabe and Ito); a caller has a colour and a dash, and its paths have shades of it
 const CALLERS = { light: ["#0072b2", "#d55e00", "#007a5a", "#a3357a", "#8a6500", "#111111"], dark: ["#56b4e9", "#ff8c4a", "#2fd3a3", "#f0a3d0", "#f0e442", "#ffffff"] };
+const SHADES = { light: [["#000000", 0], ["#000000", 0.45], ["#ffffff", 0.4]], dark: [["#000000", 0], ["#ffffff", 0.5], ["#000000", 0.4]] };
 const DASHES = [[], [9, 4], [3, 3], [12, 3, 3, 3], [18, 6], [2, 6]];
 const INKS = {
-  light: { cells: ["#fbfaf7", "#4b535d", "#e3d3a8", "#a9823f"], back: "#dcd9d2", line: "#5f4514", other: "#9a927f", chunk: "#5a626c", grid: "#e4e1da", halo: "#ffffff", alarm: "#c8102e", ink: "#111111" },
-  dark: { cells: ["#161b21", "#69747f", "#3b3422", "#9a7a3c"], back: "#0b0e11", line: "#e2c078", other: "#7d7461", chunk: "#8d99a6", grid: "#222931", halo: "#000000", alarm: "#ff5d73", ink: "#ffffff" },
+  light: { cells: ["#fbfaf7", "#4b535d", "#e3d3a8", "#a9823f"], back: "#dcd9d2", line: "#5f4514", other: "#9a927f", chunk: "#5a626c", grid: "#e4e1da", halo: "#ffffff", alarm: "#c8102e", ink: "#111111", change: "#8b1fd1" },
+  dark: { cells: ["#161b21", "#69747f", "#3b3422", "#9a7a3c"], back: "#0b0e11", line: "#e2c078", other: "#7d7461", chunk: "#8d99a6", grid: "#222931", halo: "#000000", alarm: "#ff5d73", ink: "#ffffff", change: "#d58bff" },
 };
 const TINTS = { light: ["#cfe3f2", "#f6dcc4", "#cdeadd", "#efd3e3", "#efe9b5", "#d6d2ee"], dark: ["#1c3c52", "#52331c", "#154536", "#4a2440", "#4a4519", "#2f2b55"] };
 const FAR = [[0, 32, 76], [0, 67, 106], [87, 93, 109], [124, 123, 120], [165, 156, 116], [211, 193, 100], [255, 234, 70]];
 const by = (id) => document.getElementById(id);
 const made = (name, text) => Object.assign(document.createElement(name), { textContent: text ?? "" });
 
-let data, base, cells, field = null, view = { scale: 1, x: 0, z: 0 };
-const state = { turn: 0, k: 0, caller: -1, post: null, theme: "light", on: {} };
+let data, base, cells, changes, field = null, view = { scale: 1, x: 0, z: 0 };
+// `near` is the post under the pointer, `walk` the way along the field from there, and `why` tells why there is no field
+const state = { turn: 0, k: 0, caller: -1, post: null, near: null, walk: null, why: "", theme: "light", on: {} };
 const image = document.createElement("canvas"), map = by("map"), pen = map.getContext("2d");
 for (const [name, , on] of LAYERS) state.on[name] = on;
 
@@ -72,6 +75,18 @@ function goalOf(post) {
   return it && ["square", ...it.square.slice(0, 4), it.square[4] + n[1], it.square[5] + n[1]];
 }
 
+/** Gives each post its turn, and each path its number among those of its caller and class in the turn. */
+function numbered() {
+  for (const [turn, { posts }] of data.turns.entries()) {
+    const counts = {};
+    for (const it of posts) {
+      it.turn = turn;
+      const key = `${it.c} ${it.cls}`;
+      if (it.k === "path") it.nth = counts[key] = (counts[key] ?? -1) + 1;
+    }
+  }
+}
+
 const now = () => data.turns[state.turn] || { posts: [], wrong: [], line: "", t: 0 };
 /** The posts of the turn that the choice of caller and class leaves. */
 const shown = () => now().posts.filter((it) => (state.caller < 0 || it.c === state.caller) && (!it.cls || it.cls === data.classes[state.k].name));
@@ -87,28 +102,62 @@ function wrongHere() {
 const hex = (it) => [1, 3, 5].map((n) => parseInt(it.slice(n, n + 2), 16));
 const packed = ([r, g, b]) => (255 << 24 | b << 16 | g << 8 | r) >>> 0;
 
+function cellsAfter(turn) {
+  return new Cells(data.w, data.h, base, state.k, data.classes[state.k].clearance, standingAfter(turn).values());
+}
+
 function remade() {
-  const { w, h } = data;
   state.standing = standingAfter(state.turn);
-  cells = new Cells(w, h, base, state.k, data.classes[state.k].clearance, state.standing.values());
-  field = null;
+  cells = cellsAfter(state.turn);
+  changes = null;
+  state.near = state.walk = null;
   refield();
 }
 
-function refield() {
-  field = null;
-  const path = state.on.field && state.post && state.post.k === "path" && state.post.cls === data.classes[state.k].name && pathOf(state.post);
-  if (path && cells.free(...path.start)) {
-    cells.label();
-    const { w, h } = data, area = cells.area[path.start[1] * w + path.start[0]], goal = goalOf(state.post), targets = [];
-    if (path.word === "near") targets.push(path.end[1] * w + path.end[0]);
-    else if (goal) {
-      const [i0, j0, i1, j1] = goalBox(goal, w, h);
-      for (let j = j0; j <= j1; j++) for (let i = i0; i <= i1; i++) if (cells.area[j * w + i] === area && isGoal(goal, i, j)) targets.push(j * w + i);
+/** Where the turn blocked cells and freed others, as the sides of those cells, [x0, z0, x1, z1] each. */
+function changesMade() {
+  const { w, h } = data, before = cellsAfter(state.turn - 1).state, after = cells.state, found = [[], []];
+  const kind = (at) => (before[at] === FREE) === (after[at] === FREE) ? -1 : after[at] === FREE ? 1 : 0;
+  for (let j = 0; j <= h; j++) {
+    for (let i = 0; i <= w; i++) {
+      const here = i < w && j < h ? kind(j * w + i) : -1, west = i && j < h ? kind(j * w + i - 1) : -1, south = j && i < w ? kind((j - 1) * w + i) : -1;
+      if (here !== west) for (const it of [here, west]) if (it >= 0) found[it].push([i, j, i, j + 1]);
+      if (here !== south) for (const it of [here, south]) if (it >= 0) found[it].push([i, j, i + 1, j]);
     }
-    field = new Field(cells, targets);
   }
+  return found;
+}
+
+/** The targets of the chosen post's field in the turn and for the class that are shown, or in words why there are none. */
+function fieldTargets(post) {
+  if (!post) return "choose a path to see its field";
+  if (post.k !== "path") return "no field: the chosen post asks for no path";
+  if (post.cls !== data.classes[state.k].name) return `no field: the chosen path is for ${post.cls}`;
+  const path = pathOf(post);
+  if (!path) return "no field: the chosen post has no path";
+  if (!cells.free(...path.start)) return "no field: the start of the chosen path is blocked in this turn";
+  const { w, h } = data, goal = goalOf(post), found = [];
+  if (path.word === "near") return [path.end[1] * w + path.end[0]];
+  if (!goal) return "no field: the obstruction that is the goal does not stand in this turn";
+  cells.label();
+  const area = cells.area[path.start[1] * w + path.start[0]], [i0, j0, i1, j1] = goalBox(goal, w, h);
+  for (let j = j0; j <= j1; j++) for (let i = i0; i <= i1; i++) if (cells.area[j * w + i] === area && isGoal(goal, i, j)) found.push(j * w + i);
+  return found.length ? found : "no field: the goal cannot be walked to in this turn";
+}
+
+function refield() {
+  const targets = state.on.field ? fieldTargets(state.post) : "";
+  state.why = typeof targets === "string" ? targets : "";
+  state.walk = null;
+  field = state.on.field && !state.why ? new Field(cells, targets) : null;
+  noted(state.why);
   painted();
+}
+
+/** The colour of a field's cells, from the farthest at 0 to the goal at 1. */
+function rampAt(part) {
+  const at = part * (FAR.length - 1), low = Math.min(Math.floor(at), FAR.length - 2);
+  return FAR[low].map((it, c) => it + (FAR[low + 1][c] - it) * (at - low));
 }
 
 function painted() {
@@ -117,10 +166,7 @@ function painted() {
   image.height = h;
   const paper = image.getContext("2d"), sheet = paper.createImageData(w, h), out = new Uint32Array(sheet.data.buffer);
   const plain = inks.cells.map((it) => packed(hex(it))), tinted = tints.map(packed);
-  const ramp = Array.from({ length: 256 }, (_, n) => {
-    const at = n / 255 * (FAR.length - 1), low = Math.min(Math.floor(at), FAR.length - 2);
-    return packed(FAR[low].map((it, c) => it + (FAR[low + 1][c] - it) * (at - low)));
-  });
+  const ramp = Array.from({ length: 256 }, (_, n) => packed(rampAt(n / 255)));
   if (state.on.regions || state.on.areas) cells.label();
   for (let j = 0; j < h; j++) {
     for (let i = 0, at = j * w, to = (h - 1 - j) * w; i < w; i++, at++, to++) {
@@ -172,21 +218,47 @@ function drawn() {
   if (s >= 10 * dpr()) rules(seen, 1, inks.grid, 1);
   if (state.on.chunks || state.on.regions) chunkRules(seen, inks);
   if (field) arrows(seen, inks);
+  if (state.on.changes) changesDrawn(seen, inks);
   if (state.on.outlines) outlines(seen, inks);
   const posts = shown();
-  if (state.on.goals) for (const it of posts) if (it.k === "path") goalDrawn(it, colour(it.c), 1.5);
+  if (state.on.goals) for (const it of posts) if (it.k === "path") goalDrawn(it, inkOf(it), 1.5);
   pen.globalAlpha = state.post ? 0.35 : 1; // what is not chosen steps back
   const others = state.on.paths ? posts.filter((it) => it !== state.post) : [];
   for (const it of others) pathDrawn(it, 2);
   for (const it of others) endsDrawn(it); // over all lines
   pen.globalAlpha = 1;
-  if (state.post && posts.includes(state.post)) {
-    if (state.post.k === "path") goalDrawn(state.post, colour(state.post.c), 2.5);
+  if (state.near && state.near !== state.post && posts.includes(state.near)) {
+    pathDrawn(state.near, 4);
+    endsDrawn(state.near);
+  }
+  if (state.post) {
+    pen.globalAlpha = posts.includes(state.post) ? 1 : 0.6; // of another turn or class than is shown
+    if (state.post.k === "path") goalDrawn(state.post, inkOf(state.post), 2.5);
     pathDrawn(state.post, 4);
     endsDrawn(state.post);
     pointDrawn(state.post);
+    pen.globalAlpha = 1;
   }
+  if (state.walk) line(state.walk, inks.ink, 2 * dpr(), [2 * dpr(), 4 * dpr()]);
   for (const it of wrongHere()) cross(it.at, inks);
+  remembered();
+}
+
+function changesDrawn(seen, inks) {
+  changes = changes || changesMade();
+  pen.strokeStyle = inks.change;
+  pen.lineWidth = 2 * dpr();
+  for (const [n, sides] of changes.entries()) {
+    pen.setLineDash(n ? [3 * dpr(), 3 * dpr()] : []);
+    pen.beginPath();
+    for (const [a, b, c, d] of sides) {
+      if (a < seen.i0 || b < seen.j0 || a > seen.i1 || b > seen.j1) continue;
+      pen.moveTo(toX(a), toY(b));
+      pen.lineTo(toX(c), toY(d));
+    }
+    pen.stroke();
+  }
+  pen.setLineDash([]);
 }
 
 function rules(seen, step, ink, width) {
@@ -252,14 +324,29 @@ function label(text, x, y, ink, halo) {
 
 const colour = (c) => CALLERS[state.theme][c % 6];
 
-function line(points, ink, width, dash) {
+/** The colour of a path: a shade of its caller's, or one of all colours where there is one caller. */
+function inkOf(post) {
+  const nth = post.nth ?? 0, [hue, shade] = data.callers > 1 ? [post.c, nth] : [nth, Math.floor(nth / 6)];
+  const [into, part] = SHADES[state.theme][shade % 3], mixed = hex(colour(hue)).map((it, n) => Math.round(it + (hex(into)[n] - it) * part));
+  return `rgb(${mixed.join(",")})`;
+}
+
+/** The places of a line that runs so far beside another one, so that both are seen. */
+function beside(points, far) {
+  return points.slice(1).flatMap(([c, d], n) => {
+    const [a, b] = points[n], size = Math.hypot(c - a, d - b) || 1, x = (d - b) / size * far, z = (a - c) / size * far;
+    return [[a + x, b + z], [c + x, d + z]];
+  });
+}
+
+function line(points, ink, width, dash, halo = 2.5 * dpr()) {
   pen.beginPath();
   points.forEach(([x, z], n) => (n ? pen.lineTo(toX(x), toY(z)) : pen.moveTo(toX(x), toY(z))));
   pen.lineJoin = pen.lineCap = "round";
   pen.setLineDash([]);
   pen.strokeStyle = INKS[state.theme].halo;
-  pen.lineWidth = width + 2.5 * dpr();
-  pen.stroke();
+  pen.lineWidth = width + halo;
+  if (halo) pen.stroke();
   pen.strokeStyle = ink;
   pen.lineWidth = width;
   pen.setLineDash(dash);
@@ -293,14 +380,14 @@ const keptOf = (post) => (state.on.smooth ? noteOf(post, "smooth").slice(1).map(
 function pathDrawn(post, width) {
   const path = pathSeen(post), wide = width * dpr();
   if (!path) return;
-  line(path.points, colour(post.c), wide, DASHES[Math.floor(post.c / 6) % 6].map((it) => it * dpr()));
+  line(path.points, inkOf(post), wide, DASHES[Math.floor(post.c / 6) % 6].map((it) => it * dpr()));
   const kept = keptOf(post);
-  if (kept.length) line([path.points[0], ...kept], INKS[state.theme].ink, Math.max(1, wide / 2), [5 * dpr(), 4 * dpr()]);
+  if (kept.length) line(beside([path.points[0], ...kept], (wide / 2 + 2 * dpr()) / view.scale), INKS[state.theme].ink, Math.max(1, wide / 2), [5 * dpr(), 4 * dpr()], 0);
 }
 
 /** Where a path starts, turns and ends. */
 function endsDrawn(post) {
-  const path = pathSeen(post), ink = colour(post.c), size = Math.max(3.2, Math.min(7, view.scale / dpr() * 0.3)) * dpr();
+  const path = pathSeen(post), ink = inkOf(post), size = Math.max(3.2, Math.min(7, view.scale / dpr() * 0.3)) * dpr();
   if (!path) return;
   for (const [x, z] of keptOf(post)) dot(x, z, size * 0.6, INKS[state.theme].ink, "round");
   if (view.scale > 4 * dpr()) for (const [x, z] of path.points.slice(1, -1)) dot(x, z, size * 0.45, ink, "round");

@@ -1,6 +1,7 @@
 """The viewer: what it finds wrong, the page and the pictures."""
 import base64
 import contextlib
+import html
 import io
 import json
 import re
@@ -22,6 +23,7 @@ CORNER = b"""{"version":1,"size":[3,3],"callers":1,"classes":[{"name":"a","clear
 {"caller":0,"path":"a","from":["0.5","0.5"],"goal":{"point":["2.5","2.5"]}}
 {"end":1}
 """
+KEYED = 'const keyed1 = (key) => document.dispatchEvent(new KeyboardEvent("keydown", { key, bubbles: true }));'
 ROUND = "turn 1 regions 1 edges 0 areas 1 relabelled 0\n0 0 path 0 0 2 2 goal 262144 2 2.5,0.5 2.5,2.5\n"
 
 
@@ -185,6 +187,72 @@ class Page(unittest.TestCase):
         # 84 cells south of the north wall, of which the moved wall takes 18
         self.assertRegex(dom, "field: 66 cells, farthest [0-9]+, sum [0-9]+")
 
+    def run_in(self, code, words, page=None):
+        """What the page's title is after some code that gives a list, run when the page was read."""
+        wanted = f"ready.then(async () => {{ by('title').textContent = '<' + (await (async () => {{ {code} }})()).join('|') + '>'; }});"
+        dom = shown((page or self.page).replace("</body>", f"<script>{KEYED}{wanted}</script></body>"), words)
+        return html.unescape(re.search(r'<h1 id="title">(.*?)</h1>', dom)[1])[1:-1].split("|")
+
+    @needs_browser
+    def test_the_chosen_post_stays(self):
+        # the path of infantry in turn 1, looked at in turn 2 and for siege
+        code = """const said = [], tell = () => said.push([...by("chosen").querySelectorAll("div")].map((it) => it.textContent).join(";"));
+          for (const key of ["f", "ArrowRight", "c", "Escape"]) { keyed1(key); tell(); }
+          return [...said, by("chosen").hidden, by("note").textContent];"""
+        said = self.run_in(code, "turn=1&class=infantry&line=4")
+        self.assertRegex(said[0], "^field: [0-9]+ cells, farthest [0-9]+, sum [0-9]+$")
+        self.assertRegex(said[1], "^of turn 1; turn 2 is shown;field: [0-9]+ cells, farthest [0-9]+, sum [0-9]+$")
+        self.assertEqual(said[2], "of turn 1; turn 2 is shown;for infantry; siege is shown;no field: the chosen path is for infantry")
+        self.assertEqual(said[4:], ["true", "choose a path to see its field"])
+
+    @needs_browser
+    def test_the_address_says_what_is_looked_at(self):
+        code = """for (const key of ["p", "p", "t", "+", "9"]) keyed1(key);
+          await new Promise((done) => setTimeout(done, 1000));
+          const here = location.hash;
+          keyed1("0"); keyed1("t"); keyed1("p"); keyed1("ArrowRight");
+          location.hash = here; recalled();
+          return [here.replace(/&at=[^&]*/, "&at=").replace(/theme=.*/, "theme="), here === "#" + address(), now().t];"""
+        wanted = "#turn=1&class=siege&caller=1&line=5&at=&layers=paths,smooth,outlines&theme="
+        self.assertEqual(self.run_in(code, "turn=1&class=siege&line=5"), [wanted, "true", "1"])
+
+    @needs_browser
+    def test_a_line_without_a_post_is_told(self):
+        self.assertEqual(self.run_in("return [by('note').textContent];", "line=2"), ["line 2 has no post of a turn with answers"])
+
+    @needs_browser
+    def test_the_legend_has_what_is_drawn(self):
+        said = self.run_in("return [...by('legend').querySelectorAll('span')].map((it) => it.textContent);", "")
+        for word in ("chosen path", "where it turns", "smoothed path", "cells that the turn blocked", "cells that the turn freed", "regions, areas", "field:", "step of the field", "the walk along it"):
+            self.assertTrue(any(word in it for it in said), word)
+
+    @needs_browser
+    def test_what_a_turn_changed_and_the_walk_along_a_field(self):
+        made, before = match(read("examples/skirmish.script"), read("examples/skirmish.answers")), []
+        for _ in made.turns():
+            before.append([list(rows) for rows in made.ground.rows])
+        wanted = [str(it) for k in (0, 1) for it in sides_of(*(rows[k] for rows in before), made.script.map.w)]
+        # each cell of the field leads to the goal at its distance
+        code = """const said = []; let wrong = 0, seen = 0;
+          for (const k of [0, 1]) { classed(k); said.push(...changesMade().map((it) => it.length)); }
+          wentTo(8); layered("field", true);
+          for (let j = 0; j < data.h; j++) for (let i = 0; i < data.w; i++) {
+            const far = field.far[j * data.w + i], walk = field.walk(i, j);
+            if (far < 0) continue;
+            const cost = walk.slice(1).reduce((sum, [a, b], n) => sum + (a !== walk[n][0] && b !== walk[n][1] ? DIAGONAL : STRAIGHT), 0);
+            seen++;
+            if (cost !== far || field.far[walk.at(-1)[1] * data.w + walk.at(-1)[0]] !== 0) wrong++;
+          }
+          return [...said, seen, wrong];"""
+        self.assertEqual(self.run_in(code, "turn=2"), [*wanted, "66", "0"])
+
+    @needs_browser
+    def test_the_paths_of_a_caller_have_colours_of_their_own(self):
+        code = "state.theme = 'light'; return [1, 7].flatMap((callers) => { data.callers = callers; return [0, 1, 5, 6, 13].map((nth) => inkOf({ c: 3 % callers, nth })); });"
+        rgb = [pictures.rgb(pictures.ink_of(callers, 3 % callers, nth)) for callers in (1, 7) for nth in (0, 1, 5, 6, 13)]
+        self.assertEqual(self.run_in(code, ""), [f"rgb({','.join(map(str, it))})" for it in rgb])
+        self.assertEqual(len({pictures.ink_of(1, 0, nth) for nth in range(18)}), 18)
+
     @needs_browser
     def test_the_map_stays_in_the_middle_of_a_window_that_changes(self):
         # first seen whole, and then zoomed in: the pointer on the middle of a narrow window is on the middle of the map
@@ -208,6 +276,16 @@ class Page(unittest.TestCase):
         maker = check.Maker(3)
         scripts = [mapscript.Script(maker.script()) for _ in range(8)]
         self.assertIn("<p>0 cells differ</p>", shown(cells_page([it for it in scripts if it.map])))
+
+
+def sides_of(before, after, w):
+    """How many sides the cells have that were blocked, and that were freed, but for those between two of a kind."""
+    found = []
+    for was, now in ((before, after), (after, before)):
+        rows = [0, *(b & ~a for a, b in zip(was, now)), 0]
+        across = sum(bin(a ^ b).count("1") for a, b in zip(rows, rows[1:]))
+        found.append(across + sum(bin(it ^ it << 1).count("1") for it in rows))
+    return found
 
 
 def wanted_cells(script):
@@ -263,6 +341,18 @@ class Pictures(unittest.TestCase):
         names = [it.text for it in root.iter("{http://www.w3.org/2000/svg}text")]
         self.assertEqual(names, ["turn 1, infantry", "turn 1, siege", "turn 2, siege"])
         self.assertEqual(out, read("docs/pictures/skirmish.svg"), "docs/pictures/skirmish.svg was made by another viewer")
+
+    def test_a_smoothed_line_runs_beside_its_path(self):
+        with tempfile.NamedTemporaryFile() as script, tempfile.NamedTemporaryFile() as answers:
+            script.write(CORNER)
+            answers.write(f"{ROUND}0 0 smooth 2 2.5,0.5 2.5,2.5\n".encode())
+            script.flush()
+            answers.flush()
+            out, status, told = tool("tools/view.py", "--svg", "1", "--scale", "10", script.name, answers.name)
+        self.assertEqual(status, 0, told)
+        lines = [(it.get("points"), it.get("stroke")) for it in xml.fromstring(out).iter("{http://www.w3.org/2000/svg}polyline")]
+        # the halo and the colour of the path, and then one line without a halo, to the right of the path's way
+        self.assertEqual(lines, [("5,25 25,25 25,5", "#ffffff"), ("5,25 25,25 25,5", "#0072b2"), ("5,27.3 25,27.3 27.3,25 27.3,5", "#1b1f24")])
 
     def test_png(self):
         words = ["--png", "2:siege", "--scale", "4", "examples/skirmish.script", "examples/skirmish.answers"]
