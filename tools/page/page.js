@@ -102,8 +102,13 @@ function wrongHere() {
 const hex = (it) => [1, 3, 5].map((n) => parseInt(it.slice(n, n + 2), 16));
 const packed = ([r, g, b]) => (255 << 24 | b << 16 | g << 8 | r) >>> 0;
 
+const kept = new Map(); // the cells that were made last, of two turns
 function cellsAfter(turn) {
-  return new Cells(data.w, data.h, base, state.k, data.classes[state.k].clearance, standingAfter(turn).values());
+  const key = `${turn} ${state.k}`, found = kept.get(key) || new Cells(data.w, data.h, base, state.k, data.classes[state.k].clearance, standingAfter(turn).values());
+  kept.delete(key);
+  kept.set(key, found);
+  if (kept.size > 2) kept.delete(kept.keys().next().value);
+  return found;
 }
 
 function remade() {
@@ -246,13 +251,14 @@ function drawn() {
 
 function changesDrawn(seen, inks) {
   changes = changes || changesMade();
+  const step = Math.max(1, Math.ceil(dpr() / view.scale)); // of sides smaller than a point only some
   pen.strokeStyle = inks.change;
   pen.lineWidth = 2 * dpr();
   for (const [n, sides] of changes.entries()) {
     pen.setLineDash(n ? [3 * dpr(), 3 * dpr()] : []);
     pen.beginPath();
     for (const [a, b, c, d] of sides) {
-      if (a < seen.i0 || b < seen.j0 || a > seen.i1 || b > seen.j1) continue;
+      if (a < seen.i0 || b < seen.j0 || a > seen.i1 || b > seen.j1 || (a + b) % step) continue;
       pen.moveTo(toX(a), toY(b));
       pen.lineTo(toX(c), toY(d));
     }
