@@ -52,14 +52,21 @@ class Kept:
             raise Unreadable(f"{self.digests} has not the {values[3]} turns that it tells of")
 
 
+class How:
+    """By which program matches are played, which answers it gives, under which word, and whether its own words are kept."""
+
+    def __init__(self, program, number, word, tells_why):
+        self.program, self.number, self.word, self.tells_why = program, number, word, tells_why
+
+
 class Run:
     """A run of the program over a script, whose answers are read as lines."""
 
-    def __init__(self, program, word, script):
-        self.errors = tempfile.TemporaryFile()
+    def __init__(self, how, word, script):
+        self.errors = tempfile.TemporaryFile() if how.tells_why else None
         with opened(script) as it:
-            words = [program, word, "--workers", "1"]
-            self.process = subprocess.Popen(words, stdin=it, stdout=subprocess.PIPE, stderr=self.errors)
+            words = [how.program, word, "--workers", "1"]
+            self.process = subprocess.Popen(words, stdin=it, stdout=subprocess.PIPE, stderr=self.errors or subprocess.DEVNULL)
         self.lines = self.process.stdout
 
     def __enter__(self):
@@ -70,7 +77,8 @@ class Run:
             self.process.kill()
         self.lines.close()
         self.process.wait()
-        self.errors.close()
+        if self.errors:
+            self.errors.close()
 
     def status(self):
         self.lines.close()
@@ -81,10 +89,15 @@ class Run:
         status = self.status()
         if status in WHOLE:
             return None
+        name = f"by signal {-status}" if status < 0 else f"with status {status}"
+        return Finding(FAILED, ": ".join([f"the program ended {name}", *self.said()]))
+
+    def said(self):
+        """The first line that the program wrote on standard error, where it was kept."""
+        if not self.errors:
+            return []
         self.errors.seek(0)
-        said = self.errors.read(2000).decode("utf-8", "replace").splitlines()[:1]
-        name = f"signal {-status}" if status < 0 else f"status {status}"
-        return Finding(FAILED, ": ".join([f"the program ended by {name}" if status < 0 else f"the program ended with {name}", *said]))
+        return self.errors.read(2000).decode("utf-8", "replace").splitlines()[:1]
 
 
 def has_ended(line, other):
@@ -162,40 +175,44 @@ def at_the_end(run, kept):
     return Finding(DIFFERS, f"the text is the same, and the status is {status} and was {kept.status}")
 
 
-def checked(program, number, word, script):
-    """Whether a program, which gives the answers of a number, gives what is kept beside a script; `word` where none is kept."""
+def checked(how, script):
+    """Whether a program gives what is kept beside a script, under the word that is kept with it."""
     try:
         kept = Kept(script)
         if not kept.has_answers and not kept.has_digests:
             return Finding(OTHER, "no answers are kept beside it")
-        if None not in (number, kept.number) and number != kept.number:
-            return Finding(OTHER, f"it is kept with answers {kept.number}, and the program gives answers {number}")
-        word = kept.word or word
-        with Run(program, word, script) as run:
+        if None not in (how.number, kept.number) and how.number != kept.number:
+            return Finding(OTHER, f"it is kept with answers {kept.number}, and the program gives answers {how.number}")
+        word = kept.word or how.word
+        with Run(how, word, script) as run:
             return by_text(run, script, kept, word) if kept.has_answers else by_digests(run, script, kept)
     except Unreadable as it:
         return Finding(OTHER, str(it))
+    except OSError as it:
+        return Finding(FAILED, f"{it.filename or how.program}: {it.strerror}")
 
 
-def stored(program, number, word, script, with_text, is_anew):
+def stored(how, script, with_text, is_anew):
     """Keeps the answers to a script: their digests, and the text where it is wanted."""
     stem = script.removesuffix(".script")
     try:
         kept = Kept(script)
         if not is_anew and kept.has_digests and (kept.has_answers or not with_text):
             return Finding(THERE)
-        with Run(program, word, script) as run, open(f"{stem}.answers.new" if with_text else os.devnull, "wb") as copy:
+        with Run(how, how.word, script) as run, open(f"{stem}.answers.new" if with_text else os.devnull, "wb") as copy:
             lines = list(digest_lines(copied(run.lines, copy)))
             failure, status = run.failure(), run.status()
     except Unreadable as it:
         return Finding(FAILED, str(it))
+    except OSError as it:
+        return Finding(FAILED, f"{it.filename or how.program}: {it.strerror}")
     if failure:
         if with_text:
             os.remove(copy.name)
         return failure
     count = sum(it.startswith("turn ") for it in lines)
     with open(f"{stem}.digests.new", "w", encoding="ascii") as file:
-        file.write("\n".join([f"answers {number} word {word} status {status} turns {count}", *lines]) + "\n")
+        file.write("\n".join([f"answers {how.number} word {how.word} status {status} turns {count}", *lines]) + "\n")
     for end in ("answers", "digests") if with_text else ("digests",):
         os.replace(f"{stem}.{end}.new", f"{stem}.{end}")
     return Finding(STORED)

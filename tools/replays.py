@@ -21,12 +21,13 @@ end, or there are none, or the words are wrong. That of a part is 0 where its re
 import collections
 import hashlib
 import json
+import multiprocessing
+import multiprocessing.connection
 import os
-import queue
 import re
+import signal
 import subprocess
 import sys
-import threading
 import time
 
 import commands
@@ -35,6 +36,8 @@ from kept import AGREES, CUT, DIFFERS, FAILED, OTHER, STORED, THERE
 
 WORDS = ("replay", "profile", "flow", "smooth")
 KINDS = {False: (AGREES, DIFFERS, FAILED, CUT, OTHER), True: (STORED, THERE, FAILED)}  # by whether answers are stored
+FORK = multiprocessing.get_context("fork")
+BATCH = 40  # the most matches that a process has at a time
 MOST = 100  # findings that a report for readers lists
 SHOWN = 160  # letters of a line there
 HEADER = os.path.join(os.path.dirname(os.path.abspath(__file__)), "..", "include", "pathserve.h")
@@ -67,31 +70,37 @@ def number_of_answers(program):
 # ---- many at once
 
 
-def each(work, items, jobs):
-    """The items with what `work` gives for each, as they come, by so many threads."""
-    items, lock, done = iter(items), threading.Lock(), queue.SimpleQueue()
+def side_by_side(work, items, jobs):
+    """The items with what `work` gives for each, as they come, by so many processes. One that is ended loses no item."""
+    if jobs == 1:
+        yield from ((it, work(it)) for it in items)
+        return
+    size = max(1, min(BATCH, len(items) // (4 * jobs)))
+    waiting, busy = [items[at:at + size] for at in range(0, len(items), size)][::-1], {}
+    tries = collections.Counter()
+    while waiting or busy:
+        while waiting and len(busy) < jobs:
+            near, far = FORK.Pipe(duplex=False)
+            batch = waiting.pop()
+            worker = FORK.Process(target=served, args=(work, batch, far), daemon=True)
+            worker.start()
+            far.close()
+            busy[near] = worker, batch
+        for near in multiprocessing.connection.wait(list(busy)):
+            worker, batch = busy.pop(near)
+            try:
+                yield from zip(batch, near.recv())
+            except (EOFError, OSError):  # each of its matches has a process of its own next, and again
+                tries.update(batch)
+                waiting += [[it] for it in batch if tries[it] < 3]
+                yield from ((it, kept.Finding(FAILED, "what plays it was ended three times")) for it in batch if tries[it] == 3)
+            worker.join()
+            near.close()
 
-    def go():
-        try:
-            while True:
-                with lock:
-                    item = next(items, None)
-                if item is None:
-                    return done.put(None)
-                done.put((item, work(item)))
-        except Exception as fault:
-            done.put(fault)
 
-    for _ in range(jobs):
-        threading.Thread(target=go, daemon=True).start()
-    while jobs:
-        it = done.get()
-        if isinstance(it, Exception):
-            raise it
-        if it is None:
-            jobs -= 1
-        else:
-            yield it
+def served(work, batch, far):
+    signal.signal(signal.SIGINT, signal.SIG_DFL)
+    far.send([work(it) for it in batch])
 
 
 class Progress:
@@ -112,12 +121,10 @@ class Progress:
         print(f"\r{text}\033[K" if self.is_terminal else text, end=end, file=sys.stderr, flush=True)
 
 
-def with_second_try(work):
+def with_second_try(work, item):
     """Does it once more where the program was stopped: what stopped it may be gone."""
-    def go(item):
-        found = work(item)
-        return work(item) if found.kind == FAILED else found
-    return go
+    found = work(item, False)
+    return work(item, True) if found.kind == FAILED else found
 
 
 def report_of(scripts, part, work, jobs, is_storing):
@@ -125,8 +132,7 @@ def report_of(scripts, part, work, jobs, is_storing):
     first, parts = part
     mine = [(place, it) for place, it in enumerate(scripts) if place % parts == first - 1]
     counts, found, progress = collections.Counter(), [], Progress(len(mine))
-    again = with_second_try(work)
-    for (place, script), its in each(lambda it: again(it[1]), mine, jobs):
+    for (place, script), its in side_by_side(lambda it: with_second_try(work, it[1]), mine, jobs):
         counts[its.kind] += 1
         if its.kind not in (AGREES, STORED, THERE):
             found.append({"place": place, "script": script, **its.values()})
@@ -248,10 +254,11 @@ def made(said):
     if said.store and number is None:
         raise commands.Unreadable("the program does not tell the number of its answers: give it by --answers")
 
-    def work(script):
+    def work(script, is_last):
+        how = kept.How(program, number, said.word, tells_why=is_last)
         if said.store:
-            return kept.stored(program, number, said.word, script, said.store == "answers", said.anew)
-        return kept.checked(program, number, said.word, script)
+            return kept.stored(how, script, said.store == "answers", said.anew)
+        return kept.checked(how, script)
 
     jobs = said.jobs or len(os.sched_getaffinity(0))
     return report_of(scripts_of(said.places, said.list), said.part or [1, 1], work, jobs, bool(said.store))

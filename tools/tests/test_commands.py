@@ -7,8 +7,6 @@ import tempfile
 import unittest
 
 from places import PROGRAM, TOP, needs_program, read
-import mapscript  # which finds the examples  # noqa: F401
-import client
 
 BENCH = ["bench/beside_0ad.py", "bench/broken", "bench/hostile", "bench/load", "bench/measure.py", "bench/refused", "bench/times.py"]
 MAKERS = ["tools/crates.py", "tools/definitions.py", "tools/layers.py", "tools/reading_list.py"]
@@ -78,14 +76,15 @@ class Commands(unittest.TestCase):
 class Clients(unittest.TestCase):
     @needs_program
     def test_a_bad_line_in_a_turn_longer_than_a_pipe_is_told(self):
-        classes = [{"name": "infantry", "clearance": "0.5"}]
-        for count in (10, 5000):
-            service = client.Service(PROGRAM, {"version": 3, "size": [12, 8], "callers": 1, "classes": classes})
-            with self.assertRaisesRegex(RuntimeError, "^bad line 2$"):
-                service.play(1, [{"caller": 0, "remove": "one"}, *[{"caller": 0, "remove": 1}] * count])
-            service.process.kill()
-            service.process.wait()
-            service.process.stdout.close()
+        code = """import sys
+sys.path.insert(0, "examples")
+import client
+service = client.Service(sys.argv[1], {"version": 3, "size": [12, 8], "callers": 1, "classes": [{"name": "a", "clearance": "0"}]})
+service.play(1, [{"caller": 0, "remove": "one"}, *[{"caller": 0, "remove": 1}] * int(sys.argv[2])])
+"""
+        for count in ("10", "5000"):
+            status, said, _ = run("-c", code, PROGRAM, count)
+            self.assertEqual((status, said.splitlines()[-1]), (1, "RuntimeError: bad line 2"))
 
     def test_the_readme_shows_the_client(self):
         shown = read("README.md").decode().partition("def play(turn, posts):\n")[2].partition("```")[0]

@@ -92,6 +92,17 @@ class Replays(Pretender):
         lines, status, _ = self.over()
         self.assertEqual((lines[0], status), ("failed: memory.script: the program ended with status 6", 2))
 
+    def test_a_process_that_is_ended_loses_no_match(self):
+        script, answers = skirmish()
+        for n in range(20):
+            self.match(f"{n}", script + b" \n" * n, answers, once="kill -9 $PPID" if n in (4, 11) else None)
+        self.assertEqual(self.over("--jobs", "3")[:2], (["20 matches: 20 agree, 0 differ, 0 failed, 0 cut short, 0 not compared"], 0))
+        self.assertEqual(sum(it.endswith(".done") for it in os.listdir(self.told)), 2)
+        # one that ends its process each time is told
+        self.match("20", script + b"\n\n", answers, once='mv "$name.done" "$name.once"; kill -9 $PPID')
+        lines, status, _ = self.over("--jobs", "3")
+        self.assertEqual((lines, status), (["failed: 20.script: what plays it was ended three times", "21 matches: 20 agree, 0 differ, 1 failed, 0 cut short, 0 not compared"], 2))
+
     def test_what_is_stored_agrees(self):
         script, answers = skirmish()
         for store in ("digests", "answers"):
@@ -148,13 +159,19 @@ class Replays(Pretender):
         self.assertEqual(self.run_it("--sum", *reports)[1:], (2, "replays.py: the reports are of other lists of matches, or of other numbers of parts\n"))
 
     def test_wrong_words(self):
+        self.match("a", *skirmish())
+        write(f"{self.folder}/text", b"no program")
+        os.chmod(f"{self.folder}/text", 0o755)
+        lines, status, _ = self.run_it("--answers", "1", f"{self.folder}/text", self.kept)
+        self.assertEqual((lines[0], status), (f"failed: a.script: {self.folder}/text: Exec format error", 2))
         cases = [(["no-program", self.kept], "no-program is no program; ./pathserve builds one into out/"), ([self.program, "--list", "no.list"], "no such file: no.list")]
         for words, told in cases:
             self.assertEqual(tool("tools/replays.py", *words), (b"", 2, f"replays.py: {told}\n"))
         for words in ([], [self.program], ["--part", "4/3", self.program, self.kept], ["--jobs", "0", self.program, self.kept]):
             self.assertEqual(tool("tools/replays.py", *words)[:2], (b"", 2), words)
         # none is no success
-        self.assertEqual(self.over()[1], 2)
+        os.mkdir(f"{self.kept}/empty")
+        self.assertEqual(self.run_it(self.program, f"{self.kept}/empty")[1], 2)
 
     @needs_program
     def test_the_built_program_gives_what_the_plain_one_predicts(self):
