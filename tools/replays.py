@@ -60,7 +60,10 @@ def scripts_of(places, lists):
 
 def number_of_answers(program):
     """The number of a program's answers, where it tells it, or else that of the header beside this tool, or None."""
-    said = subprocess.run([program, "--version"], stdin=subprocess.DEVNULL, capture_output=True, text=True, errors="replace").stdout
+    try:
+        said = subprocess.run([program, "--version"], stdin=subprocess.DEVNULL, capture_output=True, text=True, errors="replace").stdout
+    except OSError as it:
+        raise commands.Unreadable(f"{program}: {it.strerror}") from None
     found = re.search(r"\banswers (\d+)", said)
     if not found and os.path.isfile(HEADER):
         found = re.search(r"#define PATHSERVE_ANSWERS (\d+)", commands.bytes_of(HEADER).decode())

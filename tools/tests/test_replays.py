@@ -164,6 +164,7 @@ class Replays(Pretender):
         os.chmod(f"{self.folder}/text", 0o755)
         lines, status, _ = self.run_it("--answers", "1", f"{self.folder}/text", self.kept)
         self.assertEqual((lines[0], status), (f"failed: a.script: {self.folder}/text: Exec format error", 2))
+        self.assertEqual(self.run_it(f"{self.folder}/text", self.kept), ([], 2, f"replays.py: {self.folder}/text: Exec format error\n"))
         cases = [(["no-program", self.kept], "no-program is no program; ./pathserve builds one into out/"), ([self.program, "--list", "no.list"], "no such file: no.list")]
         for words, told in cases:
             self.assertEqual(tool("tools/replays.py", *words), (b"", 2, f"replays.py: {told}\n"))
