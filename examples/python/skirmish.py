@@ -3,7 +3,18 @@
 
 PATHSERVE_LIBRARY=libpathserve.so.0 examples/python/skirmish.py
 """
-from pathserve import Goal, PassabilityClass, PostedMatch, Rect, add_square, fixed, move, path, region, remove
+import sys
+
+from pathserve import Goal, PassabilityClass, PostedMatch, Rect, add_square, fixed, load, move, path, region, remove
+
+if sys.argv[1:]:
+    is_asked = sys.argv[1:] in (["-h"], ["--help"])
+    print(__doc__, file=sys.stdout if is_asked else sys.stderr)
+    sys.exit(0 if is_asked else 2)
+try:
+    load()
+except OSError as it:
+    sys.exit(f"skirmish.py: {it}; the variable PATHSERVE_LIBRARY names the library")
 
 INFANTRY, SIEGE = 0, 1
 classes = [PassabilityClass("infantry", fixed(0.5)), PassabilityClass("siege", fixed(1.5))]

@@ -11,7 +11,7 @@ from places import PROGRAM, TOP, needs_program, read
 BENCH = ["bench/beside_0ad.py", "bench/broken", "bench/hostile", "bench/load", "bench/measure.py", "bench/refused", "bench/times.py"]
 MAKERS = ["tools/crates.py", "tools/definitions.py", "tools/layers.py", "tools/reading_list.py"]
 OTHERS = ["digests.py", "from_0ad.py", "from_movingai.py", "from_picture.py", "replays.py", "unproved_build.py", "view.py"]
-TOOLS = [f"tools/{it}" for it in OTHERS] + ["examples/check.py", "examples/client.py", "examples/two_callers.py"]
+TOOLS = [f"tools/{it}" for it in OTHERS] + ["examples/check.py", "examples/client.py", "examples/two_callers.py", "examples/python/skirmish.py"]
 # commands that write, each with its words
 WRITERS = [
     ["tools/digests.py", "examples/skirmish.answers"], ["tools/from_movingai.py", "examples/valley.map"],
@@ -35,7 +35,7 @@ class Commands(unittest.TestCase):
 
     def test_a_missing_word_is_told(self):
         for name in [*BENCH, *TOOLS]:
-            status, said, _ = run(name, stdin=subprocess.DEVNULL)
+            status, said, _ = run(name, stdin=subprocess.DEVNULL, env={**os.environ, "PATHSERVE_LIBRARY": "/no/library"})
             self.assertIn(status, (1, 2), name)
             self.assertTrue(said and "Traceback" not in said, name)
 
