@@ -56,10 +56,13 @@ def run(main):
         status = main()
         sys.stdout.flush()
     except BrokenPipeError:
-        status = left_unwritten()
+        left_unwritten()
+        status = WRITING_FAILED
     except OSError as it:
-        status = left_unwritten()
-        say(f"{it.filename or 'writing failed'}: {it.strerror}")
+        is_writing = it.strerror and not it.filename
+        left_unwritten()
+        say(f"writing failed: {it.strerror}" if is_writing else it)
+        status = WRITING_FAILED if is_writing else 2
     except KeyboardInterrupt:
         status = 130
     sys.exit(status)
@@ -69,4 +72,3 @@ def left_unwritten():
     """Lets go of what waits to be written, at which Python would fail once more at its end."""
     if sys.stdout:
         os.dup2(os.open(os.devnull, os.O_WRONLY), sys.stdout.fileno())
-    return WRITING_FAILED
