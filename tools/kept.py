@@ -15,6 +15,7 @@ import tempfile
 import turns
 from commands import Unreadable, bytes_of, opened
 
+WORDS = ("replay", "profile", "flow", "smooth")
 WHOLE = (0, 3, 7)  # the statuses that a script alone decides
 AGREES, DIFFERS, FAILED, CUT, OTHER, STORED, THERE = "agree", "differ", "failed", "cut short", "not compared", "stored", "there already"
 
@@ -44,7 +45,8 @@ class Kept:
         lines = bytes_of(self.digests).decode("ascii", "replace").splitlines()
         head = (lines or [""])[0].split(" ")
         names, values = head[::2], head[1::2]
-        if names != ["answers", "word", "status", "turns"] or not all(values[it].isdecimal() for it in (0, 2, 3)):
+        is_good = names == ["answers", "word", "status", "turns"] and len(values) == 4 and values[1] in WORDS
+        if not is_good or not all(values[it].isdecimal() for it in (0, 2, 3)):
             raise Unreadable(f"{self.digests} does not begin as digests do")
         self.number, self.word, self.status = int(values[0]), values[1], int(values[2])
         self.lines = lines[1:]
@@ -116,14 +118,16 @@ def by_text(run, script, kept, word):
     if found is None:
         return at_the_end(run, kept)
     turn, line, other = found.turn, found.line, found.other
-    if has_ended(line, other):
-        why = f"the script ends after turn {turn - 1}, and its kept answers go on"
-        return run.failure() or (Finding(CUT, why, turn) if turns.number_of(other) else differing(found))
-    if has_ended(other, line) and not line.startswith(b"bad line "):
+    if has_ended(line, other) and run.failure():
+        return run.failure()
+    is_cut = has_ended(other, line) and not line.startswith(b"bad line ")
+    if turns.word_of(line) != turns.word_of(other) and not (is_cut and other):
+        return Finding(OTHER, f"it is kept under {turns.word_of(other) or 'replay'}, and was run under {word}")
+    if is_cut:
         is_whole = other == b"" and turns.number_of(line)
         return Finding(CUT, f"the kept answers end after turn {turn - 1}" if is_whole else f"the kept answers end within turn {turn}", turn)
-    if turns.word_of(line) != turns.word_of(other):
-        return Finding(OTHER, f"it is kept under {turns.word_of(other) or 'replay'}, and was run under {word}")
+    if has_ended(line, other) and turns.number_of(other):
+        return Finding(CUT, f"the script ends after turn {turn - 1}, and its kept answers go on", turn)
     if is_behind(text_of(line), script):
         return Finding(CUT, f"the script ends within turn {turn}", turn)
     return differing(found)

@@ -32,9 +32,8 @@ import time
 
 import commands
 import kept
-from kept import AGREES, CUT, DIFFERS, FAILED, OTHER, STORED, THERE
+from kept import AGREES, CUT, DIFFERS, FAILED, OTHER, STORED, THERE, WORDS
 
-WORDS = ("replay", "profile", "flow", "smooth")
 KINDS = {False: (AGREES, DIFFERS, FAILED, CUT, OTHER), True: (STORED, THERE, FAILED)}  # by whether answers are stored
 FORK = multiprocessing.get_context("fork")
 BATCH = 40  # the most matches that a process has at a time

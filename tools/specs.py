@@ -5,7 +5,6 @@ name, so a variable of the same name counts too: what is found errs on the large
 """
 import os
 import re
-import sys
 
 import commands
 

@@ -76,11 +76,22 @@ class Replays(Pretender):
         write(f"{self.kept}/odd.script", script)
         write(f"{self.kept}/odd.digests", b"answers 7 word replay status 0 turns 2\nturn 1 00\n")
         write(f"{self.kept}/none.script", script)
+        # a path is the last reply of these: what stands behind it is missing on one side
+        path = script + b'{"caller":1,"path":"siege","from":["1.5","1.5"],"goal":{"point":["1.5","2.5"]}}\n{"end":3}\n'
+        told, more = (check.predicted(path, it)[0] for it in ("replay", "smooth"))
+        self.match("word-1", path, more, told)
+        self.match("word-2", path + b" ", told, more)
+        self.match("word-3", script + b" ", b"{\"version\":3}\n" + answers, answers)
+        for n, head in enumerate(("answers 7 word replay status 0 turns", "answers 7 word make status 0 turns 0", "", "turn 1 00")):
+            write(f"{self.kept}/head-{n}.script", script)
+            write(f"{self.kept}/head-{n}.digests", f"{head}\n".encode())
         lines, status, _ = self.over()
+        heads = [f"not compared: head-{n}.script: head-{n}.digests does not begin as digests do" for n in range(4)]
         self.assertEqual((lines, status), ([
-            "not compared: none.script: no answers are kept beside it", "not compared: number.script: it is kept with answers 6, and the program gives answers 7",
-            "not compared: odd.script: odd.digests has not the 2 turns that it tells of", "not compared: word.script: it is kept under smooth, and was run under replay",
-            "4 matches: 0 agree, 0 differ, 0 failed, 0 cut short, 4 not compared",
+            *heads, "not compared: none.script: no answers are kept beside it", "not compared: number.script: it is kept with answers 6, and the program gives answers 7",
+            "not compared: odd.script: odd.digests has not the 2 turns that it tells of", "not compared: word-1.script: it is kept under smooth, and was run under replay",
+            "not compared: word-2.script: it is kept under replay, and was run under replay", "not compared: word-3.script: it is kept under serve, and was run under replay",
+            "not compared: word.script: it is kept under smooth, and was run under replay", "11 matches: 0 agree, 0 differ, 0 failed, 0 cut short, 11 not compared",
         ], 2))
 
     def test_a_program_that_is_stopped_has_a_second_try(self):

@@ -11,7 +11,7 @@ import unittest
 import xml.etree.ElementTree as xml
 import zlib
 
-from places import TOP, needs_browser, read, shown, tool
+from places import needs_browser, read, shown, tool
 import contradictions
 import mapscript
 import pictures
