@@ -11,6 +11,8 @@ import subprocess
 import sys
 import tempfile
 
+import commands
+
 TOP = os.path.dirname(os.path.dirname(os.path.abspath(__file__)))
 
 
@@ -32,10 +34,16 @@ def laid_out(formatter):
 
 def main(words):
     rt = shutil.which("rt")
-    if words not in ([], ["--check"]) or not rt:
-        print(__doc__.strip() if rt else "format_tests.py: the command rt is missing", file=sys.stderr)
+    if words not in ([], ["--check"]):
+        return commands.usage(__doc__.strip(), words)
+    if not rt:
+        commands.say("the command rt is missing")
         return 2
-    found = [*laid_out(os.path.join(os.path.dirname(os.path.realpath(rt)), "rattle"))]
+    try:
+        found = [*laid_out(os.path.join(os.path.dirname(os.path.realpath(rt)), "rattle"))]
+    except subprocess.SubprocessError as error:
+        commands.say(error)
+        return 2
     for path, made in found:
         print(f"{os.path.relpath(path, TOP)} {'is not laid out: run tools/format_tests.py' if words else 'is laid out'}")
         if not words:
@@ -45,8 +53,4 @@ def main(words):
 
 
 if __name__ == "__main__":
-    try:
-        sys.exit(main(sys.argv[1:]))
-    except (OSError, subprocess.SubprocessError) as error:
-        print(f"format_tests.py: {error}", file=sys.stderr)
-        sys.exit(2)
+    commands.run(lambda: main(sys.argv[1:]))

@@ -8,6 +8,7 @@ import re
 import sys
 
 sys.path.insert(0, os.path.dirname(os.path.abspath(__file__)))
+import commands
 import specs
 import test_folders
 import test_lines
@@ -51,4 +52,4 @@ def page():
 
 
 if __name__ == "__main__":
-    sys.exit(specs.put(PAGE, page(), "test_index.py", sys.argv[1:], __doc__))
+    commands.run(lambda: specs.put(PAGE, page, "test_index.py", sys.argv[1:], __doc__))

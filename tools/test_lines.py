@@ -22,6 +22,8 @@ import re
 import sys
 import types
 
+import commands
+
 TOP = os.path.dirname(os.path.dirname(os.path.abspath(__file__)))
 sys.dont_write_bytecode = True
 
@@ -188,8 +190,7 @@ def main(words):
         print(*found, sep="\n", end="\n" * bool(found))
         return 1 if found else 0
     if len(words) != 2 or words[0] not in TABLES:
-        print(__doc__.strip(), file=sys.stderr)
-        return 2
+        return commands.usage(__doc__.strip(), words)
     try:
         print(line_of(*words))
     except (TypeError, ValueError, KeyError, IndexError) as error:
@@ -199,4 +200,4 @@ def main(words):
 
 
 if __name__ == "__main__":
-    sys.exit(main(sys.argv[1:]))
+    commands.run(lambda: main(sys.argv[1:]))
