@@ -98,3 +98,21 @@ module _ {V : Type 0} where
             let before : keys other ≡ Some found = sym (on_keys.others other differs) ∙ is in
             ap is_some (on_values.others found (λ same. own_key holds at other differs (before ∙ ap (λ k. Some k) same)))
             ∙ holds.full other found before
+
+  module _ (keys : ℕ → Option ℕ) (values values' : ℕ → Option V) (number key : ℕ) (value : V) (holds : Holds keys values)
+      (at : keys number ≡ Some key) (on_values : Changes values values' key (Some value)) where
+    pub reads-write : Changes (reads keys values) (reads keys values') number (Some value)
+    reads-write = record {
+      here = ap (option_and_then values') at ∙ on_values.here;
+      others = λ other differs. kept values values' key (Some value) (keys other) on_values
+          (λ same. differs (holds.apart other number key same at));
+    }
+
+    pub Holds-write : Holds keys values'
+    Holds-write = record {
+      full = λ other found is. elim (cases_eq found key) [
+        | inl same ↦ ap (λ k. is_some (values' k)) same ∙ ap is_some on_values.here
+        | inr differs ↦ ap is_some (on_values.others found differs) ∙ holds.full other found is
+      ];
+      apart = holds.apart;
+    }

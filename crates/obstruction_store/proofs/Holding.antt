@@ -1,5 +1,7 @@
 -- A store's view, read through its keys and its slots, and what each edit makes of it.
-use Rattle.std.proofs.Common.{◌≡◌, ℕ, suc, ◌≤◌, Bool, true, false, ◌&&◌, cond, T, List, [], ◌∷◌, length, Option, None, Some, is_some, IsSome, option_and_then, refl, sym, ap, subst, ◌∙◌, arith}
+use Rattle.std.proofs.Common.{◌≡◌, ℕ, suc, ◌≤◌, Bool, true, false, ◌&&◌, cond, T, List, [], ◌∷◌, length, set, Option, None, Some, is_some, IsSome, option_and_then, refl, sym, ap, subst, inl, inr, ◌∙◌, arith}
+use Rattle.std.proofs.lemmas.Bool.{cases_lt}
+use Rattle.std.proofs.lemmas.List.{get_or_past, get_or-set_same, get_or-set_other}
 use Rattle.std.proofs.lemmas.Map.{lookup-none}
 use Rattle.std.proofs.lemmas.Map.Entries.{lookup_head, lookup_tail, none_past_head}
 use Rattle.std.proofs.lemmas.Map.Keys.{IsDistinct-from_sorted, sorted_head, sorted_tail}
@@ -18,7 +20,7 @@ use Rattle.obstruction_shapes.specs.declared.shapes.Obstruction.{Obstruction}
 use Rattle.slab.specs.Slab.{Slab, Updates}
 use Rattle.obstruction_store.specs.inner.Held.{slot_at, with_entry, held_entries, held_standing, HaveFullSlots, IsHeld}
 use Rattle.obstruction_store.specs.Standing.{Standing, Stands, IsFull}
-use Rattle.obstruction_store.proofs.Changes.{Changes, same_changes, reads, Holds, reads-add, Holds-add, reads-remove, Holds-remove}
+use Rattle.obstruction_store.proofs.Changes.{Changes, same_changes, reads, Holds, reads-add, Holds-add, reads-remove, Holds-remove, reads-write, Holds-write}
 use Rattle.nav_types.proofs.NumberTies.{ties_at, same_at, apart_at}
 
 pub none_from_test : {A : Type 0} (o : Option A) → is_some o ≡ false → o ≡ None
@@ -223,3 +225,31 @@ module _ (keys keys' : BTreeMap ℕ ℕ) (s s' : Slab Obstruction) (number key :
         (Holds-held keys s.slots held) at (on_keys keys keys' number None of_keys) (on_slots s s' key None of_slots) in
         same_standing (held_standing keys s.slots) _ _ number None
         (on_standing keys keys' s.slots s'.slots number None held held' change) (on_remove (held_standing keys s.slots) number)
+
+module _ (keys : BTreeMap ℕ ℕ) (slots slots' : List (Option Obstruction)) (number key : ℕ) (v : Obstruction) (held : IsHeld keys slots)
+    (at : tree.get nat_cmp keys number ≡ Some key) (of_slots : Changes (slot_at slots) (slot_at slots') key (Some v)) where
+  pub IsHeld-write : IsHeld keys slots'
+  IsHeld-write =
+      let holds = Holds-write (tree.get nat_cmp keys) (slot_at slots) (slot_at slots') number key v (Holds-held keys slots held) at
+      of_slots in
+      record { ordered = held.ordered; full = holds.full; apart = holds.apart; few = held.few }
+
+  pub held-write : held_standing keys slots' ≡ map.insert (held_standing keys slots) number v
+  held-write =
+      let change = reads-write (tree.get nat_cmp keys) (slot_at slots) (slot_at slots') number key v (Holds-held keys slots held) at
+      of_slots in
+      same_standing (held_standing keys slots) _ _ number (Some v)
+      (on_standing keys keys slots slots' number (Some v) held IsHeld-write change) (on_insert (held_standing keys slots) number v)
+
+-- a value that is written over the one in a slot
+pub slot_written : (slots : List (Option Obstruction)) (key : ℕ) (v : Obstruction) → IsSome (slot_at slots key)
+    → Changes (slot_at slots) (slot_at (set slots key (Some v))) key (Some v)
+slot_written slots key v some = record {
+  here = get_or-set_same slots key (Some v) None (elim (cases_lt key (length slots)) [
+    | inl low ↦ low
+    | inr past ↦
+        let none : slot_at slots key ≡ None = get_or_past slots key None past in
+        absurd (cc)
+  ]);
+  others = λ other differs. get_or-set_other slots key other (Some v) None differs;
+}

@@ -6,4 +6,3 @@ pub mod TouchingNumbers
 pub mod Reaching
 pub mod Refusing
 pub mod Paging
-pub mod Outcomes

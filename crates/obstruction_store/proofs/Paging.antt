@@ -1,7 +1,7 @@
 -- What stands on the pages of a store, read by the page of a number, and what a new page makes of it.
 use Rattle.std.proofs.Common.{◌≡◌, ◌≢◌, ℕ, zero, suc, ◌+◌, ◌-◌, ◌%◌, ◌<◌, ◌≤◌, true, false, cond, List, [], ◌∷◌, ◌++◌, length, take, replicate, set, Option, None, Some, is_some, IsSome, refl, sym, ap, subst, inl, inr, ◌∙◌, arith}
 use Rattle.std.proofs.lemmas.Bool.{cases_eq}
-use Rattle.std.proofs.lemmas.List.{length-set, length-replicate, get_or-set_same, get_or-set_other, get_or-replicate, append_assoc, append-nil}
+use Rattle.std.proofs.lemmas.List.{length-set, length-replicate, get_or-set_same, get_or-set_other, get_or-replicate, set-get_or, append_assoc, append-nil}
 use Rattle.std.proofs.lemmas.Option.{same_Some, slice_get_within, slice_get-get_or, get_or_from_slice_get}
 use Rattle.std.specs.Prelude.{slice_get, slice_index_or}
 use Rattle.std.specs.Cmp.{nat_cmp_total}
@@ -39,6 +39,11 @@ module _ {X : Type 0} (q : ℕ) where
       → find nat_cmp q (es ++ fs) ≡ found
   find_either es fs None is none = find_past es fs is ∙ none
   find_either es fs (Some v) is none = find_first es fs v is
+
+-- an item put in its own place changes nothing
+pub set_same : {A : Type 0} (xs : List A) (at : ℕ) (x y : A) → slice_get xs at ≡ Some x → y ≡ x → set xs at y ≡ xs
+set_same {A} xs at x y here same =
+    ap (λ (z : A). set xs at z) (same ∙ sym (get_or_from_slice_get xs at x x here)) ∙ set-get_or xs at x
 
 -- ---- the page of a number
 module _ (number : ℕ) where
@@ -79,6 +84,14 @@ pub page_there : (pages : List Standing) (number : ℕ) → length pages ≡ 509
     → slice_get pages (page_of number) ≡ Some (slice_index_or pages (page_of number) map.empty)
 page_there pages number each =
     slice_get-get_or pages (page_of number) map.empty (let small : number % 509 < 509 = omega arith in omega (arith, small, each))
+
+-- the same by its place
+abbrev pub page_on : List Standing → ℕ → Standing
+page_on pages number = slice_index_or pages (page_of number) map.empty
+
+pub page_here : (pages : List Standing) (number at : ℕ) → length pages ≡ 509 → at ≡ page_of number
+    → slice_get pages at ≡ Some (page_on pages number)
+page_here pages number at each of = ap (λ k. slice_get pages k) of ∙ page_there pages number each
 
 -- ---- a new page in place of an old one
 set_here : {A : Type 0} (xs : List A) (k : ℕ) (x : A) → k < length xs → slice_get (set xs k x) k ≡ Some x
@@ -212,17 +225,6 @@ some_stand (suc n) m number was some is = omega arith
 pub counts_one : (pages : List Standing) (count number : ℕ) (was : Obstruction) → ArePages pages count
     → map.get (standing_in pages) number ≡ Some was → 1 ≤ count
 counts_one pages count number was are some = some_stand count (standing_in pages) number was some (sym are.counted)
-
--- to insert over what was removed is to insert
-pub insert_removed : (m : Standing) (number : ℕ) (v : Obstruction)
-    → map.insert (map.remove m number) number v ≡ map.insert m number v
-insert_removed m number v =
-    same_standing m (map.insert (map.remove m number) number v) (map.insert m number v) number (Some v)
-    (record {
-      here = (on_insert (map.remove m number) number v).here;
-      others = λ other differs. (on_insert (map.remove m number) number v).others other differs
-          ∙ (on_remove m number).others other differs;
-    }) (on_insert m number v)
 
 -- ---- pages on which nothing stands
 no_items : {A : Type 0} (xs : List A) → length xs ≡ 0 → xs ≡ []

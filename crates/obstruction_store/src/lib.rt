@@ -3,12 +3,14 @@
 //! They are found, added, moved and removed by their number without a look at the others, and listed in the order of
 //! numbers ([`Store::listed`]). Contracts see a finite map from number to obstruction. Behind it lie pages, each a slab
 //! with an index by number; a store and its copy share each page on which none of them has changed anything since, so
-//! that a copy costs a few pointers. What an obstruction blocks is for other crates to say.
+//! that a copy costs a few pointers. The first edit of a shared page copies it, and later ones change it where it stands.
+//! What an obstruction blocks is for other crates to say.
 #![tactic(auto)]
 
 mod entries;
 mod laws;
 mod listings;
+mod owned_pages;
 mod pages;
 mod refusals;
 mod stores;

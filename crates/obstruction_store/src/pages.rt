@@ -96,6 +96,20 @@ impl Page {
         Ok(self.obstructions.remove(key))
     }
 
+    /// Puts the obstruction in place of the one that stands under the number. `UnknownId` exactly where none stands under
+    /// it, and then the same obstructions stand. It takes no memory.
+    pub fn replace(&mut self, id: u32, obstruction: Obstruction) -> Result<(), UnknownId>
+        ensures replaced { OnOk result (self.new ≡ map.insert self.old id obstruction) }
+        ensures kept { OnErr result (self.new ≡ self.old) }
+        ensures unknown { IsErr result ↔ (map.get self.old id ≡ None) }
+    {
+        let Some(key) = self.keys.get(&id) else {
+            return Err(UnknownId);
+        };
+        self.obstructions[*key] = obstruction;
+        Ok(())
+    }
+
     /// The obstruction of the number. None exactly where none stands under it.
     pub fn get(&self, id: u32) -> Option<&Obstruction>
         ensures { option_copied result ≡ map.get self.now id }
@@ -122,46 +136,6 @@ impl Page {
             obstructions: self.obstructions.clone()?,
         })
     }
-}
-
-/// A copy of the page on which the obstruction stands besides, under a number under which none stands there.
-pub fn with_one(
-    alloc: Global,
-    page: &Page,
-    id: u32,
-    obstruction: Obstruction,
-) -> Result<Page, NoMemory>
-    ensures { IfOk result (λ made. made ≡ map.insert page.now id obstruction) }
-{
-    let mut made = page.copy(alloc)?;
-    let Ok(()) = made.add(id, obstruction) else {
-        return Err(NoMemory);
-    };
-    Ok(made)
-}
-
-/// A copy of the page without the obstruction of the number, which stands there.
-pub fn without(alloc: Global, page: &Page, id: u32) -> Result<Page, NoMemory>
-    ensures { IfOk result (λ made. made ≡ map.remove page.now id) }
-{
-    let mut made = page.copy(alloc)?;
-    let Ok(_) = made.remove(id) else {
-        return Err(NoMemory);
-    };
-    Ok(made)
-}
-
-/// A copy of the page on which the obstruction stands in place of the one that stands there under the number.
-pub fn replaced(
-    alloc: Global,
-    page: &Page,
-    id: u32,
-    obstruction: Obstruction,
-) -> Result<Page, NoMemory>
-    ensures { IfOk result (λ made. made ≡ map.insert page.now id obstruction) }
-{
-    let rest = without(alloc, page, id)?;
-    with_one(alloc, &rest, id, obstruction)
 }
 
 /// Adds what stands on a page. It refuses also where one of its numbers is taken.

@@ -6,7 +6,8 @@ ghost use Rattle.obstruction_store.specs.Standing.{Stands, IsFull, moved};
 ghost use Rattle.obstruction_store.specs.inner.Paged.{page_of};
 
 use crate::listings::Listed;
-use crate::pages::{Page, add_all, replaced, with_one, without};
+use crate::owned_pages::{add_on, remove_on, replace_on};
+use crate::pages::{Page, add_all};
 use crate::refusals::{AddRefusal, MoveRefusal, RemoveRefusal};
 use fixed_point::Fixed;
 use nav_types::limits::MAX_OBSTRUCTIONS;
@@ -77,10 +78,7 @@ impl Store {
             return Err(AddRefusal::StoreFull);
         }
         let at = page_of(id);
-        let Ok(page) = with_one(self.alloc, self.pages.at(at), id, obstruction) else {
-            return Err(AddRefusal::NoMemory);
-        };
-        let Ok(()) = self.pages.set(self.alloc, at, page) else {
+        let Ok(()) = add_on(self.alloc, &mut self.pages, at, id, obstruction) else {
             return Err(AddRefusal::NoMemory);
         };
         self.count += 1;
@@ -100,10 +98,7 @@ impl Store {
         };
         let obstruction = *found;
         let at = page_of(id);
-        let Ok(page) = without(self.alloc, self.pages.at(at), id) else {
-            return Err(RemoveRefusal::NoMemory);
-        };
-        let Ok(()) = self.pages.set(self.alloc, at, page) else {
+        let Ok(()) = remove_on(self.alloc, &mut self.pages, at, id) else {
             return Err(RemoveRefusal::NoMemory);
         };
         self.count -= 1;
@@ -134,10 +129,7 @@ impl Store {
             mask: obstruction.mask,
         };
         let at = page_of(id);
-        let Ok(page) = replaced(self.alloc, self.pages.at(at), id, moved) else {
-            return Err(MoveRefusal::NoMemory);
-        };
-        let Ok(()) = self.pages.set(self.alloc, at, page) else {
+        let Ok(()) = replace_on(self.alloc, &mut self.pages, at, id, moved) else {
             return Err(MoveRefusal::NoMemory);
         };
         Ok(())

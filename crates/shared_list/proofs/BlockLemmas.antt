@@ -1,13 +1,17 @@
 -- Lists in blocks of 32 items: their length, their items, and an item replaced.
 use Rattle.std.proofs.Common.{ℕ, zero, suc, ◌≡◌, ◌+◌, ◌*◌, ◌/◌, ◌%◌, ◌-◌, ◌^◌, ◌<◌, List, [], ◌∷◌, ◌++◌, length, map}
-use Rattle.std.proofs.Common.{set, get_or, refl, ap, sym, subst, ◌∙◌, arith, Some, length-append}
+use Rattle.std.proofs.Common.{set, get_or, refl, ap, sym, subst, ◌∙◌, arith, Option, None, Some, option_map, length-append}
+use Rattle.std.specs.Borrow.{MutBor}
+use Rattle.std.specs.Fn.{Once}
 use Rattle.std.specs.List.{All, flat_map, slice_get}
+use Rattle.std.specs.Prelude.{IfNone, IfSome}
 use Rattle.std.proofs.lemmas.List.{set-append_left, set-append_right, append_assoc, append-nil, get_or-append-add}
-use Rattle.std.proofs.lemmas.List.{get_or-map, length-set, length-map, map-set}
+use Rattle.std.proofs.lemmas.List.{get_or-map, length-set, length-map, map-set, set-get_or}
 use Rattle.std.proofs.lemmas.List.Concat.{flat_map-cons}
 use Rattle.std.proofs.lemmas.List.Elements.{All-set, All-push}
 use Rattle.std.proofs.lemmas.Grind.{flat_map-append}
-use Rattle.std.proofs.lemmas.Option.{slice_get_within, slice_get-get_or, get_or_from_slice_get}
+use Rattle.std.proofs.lemmas.Option.{slice_get_within, slice_get-get_or, slice_get-map, get_or_from_slice_get}
+use Rattle.shared_list.specs.Changing.{IsChangedBy}
 use Rattle.shared_list.specs.inner.Blocks.{AreBlocks, in_blocks}
 use Rattle.nav_types.proofs.Items.{slice_get-append_left}
 
@@ -178,3 +182,69 @@ module _ {A : Type 0} where
       → map f ys ≡ set (map f xs) k new
   held_set f xs ys k y new replaced held = ap (λ zs. map f zs) replaced ∙ map-set f xs k y
       ∙ ap (λ z. set (map f xs) k z) held
+
+-- ---- an item that a function changes
+module _ {A F R : Type 0} (function : Once F (MutBor A × Unit {0}) (R × (MutBor A × Unit {0}))) (f : F) where
+  -- a list is as long as before
+  pub changed_long : (place : ℕ) (given : Option R) (before after : List A)
+      → IfSome given (λ one. IsChangedBy function f place one before after) → IfNone given (after ≡ before)
+      → length after ≡ length before
+  changed_long place None before after changed kept = ap length kept
+  changed_long place (Some one) before after changed kept = ap length changed.set ∙ length-set before place changed.new
+
+  -- the list of all blocks changes as what stands behind the blocks does
+  pub changed_behind : (blocks : List (List A)) (rest after : List A) (at k : ℕ) (given : Option R) → AreBlocks blocks rest
+      → at ≡ 32 * length blocks + k → IfSome given (λ one. IsChangedBy function f k one rest after)
+      → IfSome given (λ one. IsChangedBy function f at one (in_blocks blocks rest) (in_blocks blocks after))
+  changed_behind blocks rest after at k None are is changed = tt
+  changed_behind blocks rest after at k (Some one) are is changed = record {
+    old = changed.old;
+    new = changed.new;
+    here = rest_item blocks rest at k changed.old are is changed.here;
+    gives = changed.gives;
+    set = rest_set blocks rest after at k changed.new are is changed.set;
+  }
+
+module _ {A B F R : Type 0} (value : B → List A) (function : Once F (MutBor A × Unit {0}) (R × (MutBor A × Unit {0}))) (f : F) where
+  -- and as one block does
+  pub changed_in_block : (xs : List B) (rest : List A) (at : ℕ) (x y : B) (given : Option R) → AreBlocks (map value xs) rest
+      → at / 32 < length xs → x ≡ get_or xs (at / 32) x
+      → IfSome given (λ one. IsChangedBy function f (at % 32) one (value x) (value y))
+      → IfSome given (λ one. IsChangedBy function f at one (in_blocks (map value xs) rest)
+      (in_blocks (map value (set xs (at / 32) y)) rest))
+  changed_in_block xs rest at x y None are low is changed = tt
+  changed_in_block xs rest at x y (Some one) are low is changed = record {
+    old = changed.old;
+    new = changed.new;
+    here = block_item (map value xs) rest at (value x) changed.old are
+        (slice_get-map value xs (at / 32) ∙ ap (λ o. option_map value o) (slice_get-get_or xs (at / 32) x low
+        ∙ ap (λ (b : B). Some b) (sym is))) changed.here;
+    gives = changed.gives;
+    set = ap (λ bs. in_blocks bs rest) (map-set value xs (at / 32) y)
+        ∙ block_set (map value xs) rest at (value y) changed.new are (omega (arith, low, length-map xs value))
+        (block_made value xs (at / 32) (at % 32) x (value y) changed.new low is changed.set);
+  }
+
+module _ {A B : Type 0} (value : B → List A) (xs : List B) (rest : List A) (k : ℕ) (x y : B) (is : x ≡ get_or xs k x)
+    (low : k < length xs) where
+  -- a block of the same length keeps the blocks whole
+  pub long_whole : AreBlocks (map value xs) rest → length (value y) ≡ length (value x) → AreBlocks (map value (set xs k y)) rest
+  long_whole are same =
+      let long : length (value x) ≡ 32 = block_long value xs rest k x are low is in
+      subst (λ bs. AreBlocks bs rest) (sym (map-set value xs k y)) (record {
+        whole = All-set (λ (block : List A). length block ≡ 32) (map value xs) k (value y) (same ∙ long) are.whole;
+        behind = are.behind;
+        few = let few = are.few in omega (arith, length-set (map value xs) k (value y), few);
+      })
+
+  -- the same block changes nothing
+  pub same_block : value y ≡ value x → in_blocks (map value (set xs k y)) rest ≡ in_blocks (map value xs) rest
+  same_block same =
+      let was : get_or (map value xs) k (value x) ≡ value x = get_or-map value xs k x (value x) low ∙ ap value (sym is) in
+      ap (λ bs. in_blocks bs rest) (map-set value xs k y
+      ∙ ap (λ (b : List A). set (map value xs) k b) (same ∙ sym was) ∙ set-get_or (map value xs) k (value x))
+
+-- what a value is followed by where there is none
+pub none_then : {R : Type 0} {P Q : Type 0} (given : Option R) → (P → Q) → IfNone given P → IfNone given Q
+none_then None goes is = goes is
+none_then (Some one) goes is = tt

@@ -1,7 +1,8 @@
 //! Blocks of items that lists share together.
 ghost use Rattle.std.specs.Prelude.{◌≡◌, ◌++◌, ◌∷◌, ◌<◌, [], length, slice_get, slice_set, Some, IfOk, OnOk};
-ghost use Rattle.std.specs.Prelude.{OnErr};
+ghost use Rattle.std.specs.Prelude.{IfNone, IfSome, OnErr};
 ghost use Rattle.std.specs.Arc.{arc_value};
+ghost use Rattle.shared_list.specs.Changing.{IsChangedBy};
 
 use nav_types::NoMemory;
 use std::alloc::Global;
@@ -65,6 +66,20 @@ impl<T> Block<T> {
         ensures { self.new ≡ slice_set self.old at (arc_value item) }
     {
         self.items[at] = item;
+    }
+
+    /// Changes the item at a place, counted from 0, by the function, and says what that gives. None where others hold the
+    /// item; then the block stays.
+    pub fn change<R, F: FnOnce(&mut T) -> R + Drop>(&mut self, at: usize, change: F) -> Option<R>
+        requires place { at < length self.old }
+        requires callable { F.IsAlwaysCallable change }
+        ensures changed { IfSome result (λ given. IsChangedBy F.FnOnce change at given self.old self.new) }
+        ensures kept { IfNone result (self.new ≡ self.old) }
+    {
+        let Some(item) = Arc::get_mut(&mut self.items[at]) else {
+            return None;
+        };
+        Some(change(item))
     }
 
     /// The same items, which both blocks hold from then on.

@@ -1,6 +1,7 @@
 //! A list of items that other lists may share.
-ghost use Rattle.std.specs.Prelude.{◌≡◌, ◌++◌, ◌∷◌, ◌<◌, [], length, slice_get, slice_set, Some, IfOk, OnOk, OnErr};
+ghost use Rattle.std.specs.Prelude.{◌≡◌, ◌++◌, ◌∷◌, ◌<◌, [], length, slice_get, slice_set, Some, IfNone, IfOk, IfSome, OnOk, OnErr};
 ghost use Rattle.std.specs.Arc.{arc_value};
+ghost use Rattle.shared_list.specs.Changing.{IsChangedBy};
 
 use crate::blocks::{BLOCK, Block, MOST_BLOCKS, replace};
 use nav_types::NoMemory;
@@ -97,7 +98,22 @@ impl<T> SharedList<T> {
         ensures ok { OnOk result (self.new ≡ slice_set self.old at item) }
         ensures err { OnErr result (self.new ≡ self.old) }
     {
-        let item = Arc::new(alloc, item)?;
+        self.set_shared(alloc, at, Arc::new(alloc, item)?)
+    }
+
+    /// The same of an item that others may hold.
+    pub fn set_shared(
+        &mut self,
+        alloc: Global,
+        at: usize,
+        item: Arc<T, Global>,
+    ) -> Result<(), NoMemory>
+    where
+        T: Drop,
+        requires { at < length self.old }
+        ensures ok { OnOk result (self.new ≡ slice_set self.old at (arc_value item)) }
+        ensures err { OnErr result (self.new ≡ self.old) }
+    {
         let place = at / BLOCK;
         if place < self.blocks.len() {
             let mut block = self.blocks[place].share(alloc)?;
@@ -107,6 +123,35 @@ impl<T> SharedList<T> {
             self.rest.set(at - self.blocks.len() * BLOCK, item);
         }
         Ok(())
+    }
+
+    /// Changes the item at a place, counted from 0, where it stands, by the function, and says what that gives. None where
+    /// another list holds the item too; then the list stays.
+    pub fn change<R, F: FnOnce(&mut T) -> R + Drop>(&mut self, at: usize, change: F) -> Option<R>
+        requires place { at < length self.old }
+        requires callable { F.IsAlwaysCallable change }
+        ensures changed { IfSome result (λ given. IsChangedBy F.FnOnce change at given self.old self.new) }
+        ensures kept { IfNone result (self.new ≡ self.old) }
+    {
+        let place = at / BLOCK;
+        if place < self.blocks.len() {
+            let Some(block) = Arc::get_mut(&mut self.blocks[place]) else {
+                return None;
+            };
+            return block.change(at % BLOCK, change);
+        }
+        self.rest.change(at - self.blocks.len() * BLOCK, change)
+    }
+
+    /// Whether another list holds the item at a place, counted from 0, too.
+    pub fn is_shared(&self, at: usize) -> bool
+        requires { at < length self.now }
+    {
+        let block = match self.blocks.get(at / BLOCK) {
+            Some(block) => Arc::strong_count(block),
+            None => 1,
+        };
+        block > 1 || Arc::strong_count(self.item(at)) > 1
     }
 
     /// The number of items.

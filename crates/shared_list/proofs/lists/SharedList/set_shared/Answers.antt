@@ -4,7 +4,7 @@ use Rattle.std.proofs.lemmas.List.{length-map}
 use Rattle.shared_list.specs.inner.Blocks.{AreBlocks, in_blocks}
 use Rattle.shared_list.proofs.BlockLemmas.{blocks_length, block_long, block_made, held_set, block_set, set_whole}
 use Rattle.shared_list.proofs.BlockLemmas.{rest_set}
-use Rattle.shared_list.proofs.lists.SharedList.set.Goals as goal
+use Rattle.shared_list.proofs.lists.SharedList.set_shared.Goals as goal
 
 pub set-requires : goal.set-requires
 set-requires g c =
@@ -18,14 +18,14 @@ invariant_of-self-then-place-len g c =
     let items = c.self.inside.blocks.items in
     let low : c.args.at / 32 < length items = omega (arith, c.if-place-len.true, c.len.ensures) in
     let made = block_made arc_value items (c.args.at / 32) (c.args.at % 32) c.index.result.now c.set.new.self
-    (arc_value c.in_ok-item.item) low c.index.ensures
-    (c.set.ensures ∙ ap (λ xs. set xs (c.args.at % 32) (arc_value c.in_ok-item.item)) (c.in_ok-block.ensures
+    (arc_value c.args.item) low c.index.ensures
+    (c.set.ensures ∙ ap (λ xs. set xs (c.args.at % 32) (arc_value c.args.item)) (c.in_ok-block.ensures
     ∙ c.deref.ensures)) in
     subst (λ bs. AreBlocks bs c.self.inside.rest)
     (sym (held_set arc_value items c.replace.new.blocks.items (c.args.at / 32) c.in_ok-new.field-0
     c.set.new.self c.replace.ensures c.in_ok-new.ensures.ok))
     (set_whole (map arc_value items) c.self.inside.rest (c.args.at / 32) (c.args.at % 32) c.set.new.self
-    (arc_value c.in_ok-item.item) c.self.invariant
+    (arc_value c.args.item) c.self.invariant
     (omega (arith, low, length-map items arc_value)) made)
 
 pub set-requires-else-place-len : goal.set-requires-else-place-len
@@ -48,23 +48,22 @@ returns-in_ok-new-clause-ok g c =
     let items = c.self.inside.blocks.items in
     let low : c.args.at / 32 < length items = omega (arith, c.if-place-len.true, c.len.ensures) in
     let made = block_made arc_value items (c.args.at / 32) (c.args.at % 32) c.index.result.now c.set.new.self
-    (arc_value c.in_ok-item.item) low c.index.ensures
-    (c.set.ensures ∙ ap (λ xs. set xs (c.args.at % 32) (arc_value c.in_ok-item.item)) (c.in_ok-block.ensures
+    (arc_value c.args.item) low c.index.ensures
+    (c.set.ensures ∙ ap (λ xs. set xs (c.args.at % 32) (arc_value c.args.item)) (c.in_ok-block.ensures
     ∙ c.deref.ensures)) in
     ap (λ bs. in_blocks bs c.self.inside.rest)
     (held_set arc_value items c.replace.new.blocks.items (c.args.at / 32) c.in_ok-new.field-0 c.set.new.self
     c.replace.ensures c.in_ok-new.ensures.ok)
-    ∙ block_set (map arc_value items) c.self.inside.rest c.args.at c.set.new.self (arc_value c.in_ok-item.item)
+    ∙ block_set (map arc_value items) c.self.inside.rest c.args.at c.set.new.self (arc_value c.args.item)
     c.self.invariant
     (omega (arith, low, length-map items arc_value)) made
-    ∙ ap (λ xs. set xs c.args.at (arc_value c.in_ok-item.item)) c.self.view_is
-    ∙ ap (λ a. set c.args.self.now c.args.at a) c.in_ok-item.ensures.ok
+    ∙ ap (λ xs. set xs c.args.at (arc_value c.args.item)) c.self.view_is
 
 pub returns-else-place-len-clause-ok : goal.returns-else-place-len-clause-ok
 returns-else-place-len-clause-ok g c =
     rest_set (map arc_value c.self.inside.blocks.items) c.self.inside.rest c.set-else-place-len.new.self
     c.args.at (c.args.at - c.len-else-place-len.result * 32)
-    (arc_value c.in_ok-item.item) c.self.invariant
+    (arc_value c.args.item) c.self.invariant
     (omega (
       arith,
       c.if-place-len.false,
@@ -73,5 +72,4 @@ returns-else-place-len-clause-ok g c =
       c.len-else-place-len.ensures,
     ))
     c.set-else-place-len.ensures
-    ∙ ap (λ xs. set xs c.args.at (arc_value c.in_ok-item.item)) c.self.view_is
-    ∙ ap (λ a. set c.args.self.now c.args.at a) c.in_ok-item.ensures.ok
+    ∙ ap (λ xs. set xs c.args.at (arc_value c.args.item)) c.self.view_is
