@@ -21,6 +21,7 @@ pub mod Lasting
 pub mod Listing
 pub mod Numbering
 pub mod Paging
+pub mod Picking
 pub mod Queueing
 pub mod Relaxing
 pub mod Starting

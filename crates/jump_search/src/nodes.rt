@@ -1,7 +1,9 @@
-ghost use Rattle.std.specs.Prelude.{◌≡◌, ◌<◌, ◌≤◌, ◌⊎◌, ◌++◌, ◌∷◌, [], length, slice_get, slice_set, Some, IfSome, IfNone, ◌^◌};
+ghost use Rattle.std.specs.Prelude.{◌≡◌, ◌<◌, ◌≤◌, ◌⊎◌, ◌++◌, ◌∷◌, [], length, slice_get, slice_set, Some, ◌^◌};
 ghost use Rattle.std.specs.Prelude.{IsTrue, IfOk, OnOk, OnErr};
+ghost use Rattle.jump_search.specs.declared.nodes.Node.{Node};
 ghost use Rattle.jump_search.specs.inner.Numbered.{arrival_number, key_of, same_key, HasState, LacksState, IsAsCheap};
-ghost use Rattle.jump_search.specs.inner.Numbered.{IsSearchable, AreDown, IsStanding};
+ghost use Rattle.jump_search.specs.inner.Numbered.{IsLastInSlot, IsSearchable, AreDown, IsStanding};
+ghost use Rattle.jump_search.specs.inner.Paged.{slot_of};
 
 use crate::pages::Pages;
 use crate::states::JumpState;
@@ -188,18 +190,6 @@ impl Nodes {
         )
     }
 
-    /// The number of the node of the state. None exactly where no node has it.
-    pub(crate) fn find(&self, state: JumpState) -> Option<u32>
-        ensures some { IfSome result (HasState self.now state) }
-        ensures none { IfNone result (LacksState self.now state) }
-    {
-        match self.standing(state, 0) {
-            Standing::Known(number) => Some(number),
-            Standing::Dearer => None,
-            Standing::New => None,
-        }
-    }
-
     /// The node of a number.
     pub(crate) fn at(&self, number: u32) -> &Node
         requires { number < length self.now }
@@ -210,7 +200,8 @@ impl Nodes {
 
     /// One more than the number of the last node that is found by the cell; 0 where there is none.
     pub(crate) fn last(&self, cell: Cell) -> u32
-        ensures { result ≤ length self.now }
+        ensures inside { result ≤ length self.now }
+        ensures last { IsLastInSlot slot_of self.now (slot_of cell) (length self.now) result }
     {
         self.pages.get(cell)
     }
@@ -226,7 +217,9 @@ impl Nodes {
     /// One more than the number of the node before that of the number to which it is linked; 0 where there is none.
     pub(crate) fn before(&self, number: u32) -> u32
         requires { number < length self.now }
-        ensures { result ≤ number }
+        ensures inside { result ≤ number }
+        ensures last { (node : Node) → slice_get self.now number ≡ Some node
+            → IsLastInSlot slot_of self.now (slot_of node.state.cell) number result }
     {
         self.links[number as usize]
     }

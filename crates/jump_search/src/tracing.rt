@@ -3,95 +3,126 @@
 //! Of the jumps that come to a cell at its distance the chosen walk takes one: that in the direction of the step that
 //! follows, where that is straight, else the first by the preference of directions.
 
-ghost use Rattle.std.specs.Prelude.{ℕ, Bool, [], Option, None, Some, ◌≡◌, ◌+◌, ◌*◌, ◌<◌, ◌≤◌, ◌∷◌, ◌++◌, reverse, IfSome};
-ghost use Rattle.std.specs.Prelude.{IfNone, IfOk, OnOk, option_to_list, if◌then◌else◌};
+ghost use Rattle.std.specs.Prelude.{ℕ, Bool, [], Option, None, Some, ◌≡◌, ◌+◌, ◌*◌, ◌<◌, ◌≤◌, ◌⊎◌, ◌∷◌, ◌++◌, reverse, IfSome};
+ghost use Rattle.std.specs.Prelude.{IfNone, IfOk, OnOk, IsTrue, IsFalse, option_to_list, if◌then◌else◌};
 ghost use Rattle.nav_types.specs.declared.limits.TheConstants.{MAX_SIDE};
 ghost use Rattle.nav_types.specs.declared.cells.Cell.{Cell};
 ghost use Rattle.nav_types.specs.declared.cells.Rect.{Rect};
 ghost use Rattle.nav_types.specs.declared.directions.Dir.{Dir};
 ghost use Rattle.nav_types.specs.Directions.{east, west, north, south};
-ghost use Rattle.walks.specs.Chosen.{preference, IsFirstIn, CanGoStraight, IsPicked};
+ghost use Rattle.walks.specs.Chosen.{IsPicked};
 ghost use Rattle.walks.specs.Waypoints.{IsInGrid, is_corner};
-ghost use Rattle.jump_search.specs.inner.Traced.{HasRun, IsExact, Moves, AreDistinct, IsTraceable, HasWaypoints};
+ghost use Rattle.jump_search.specs.inner.Traced.{HasRun, IsExact, IsLastTo, IsAsEarly, is_straight_on, lateness};
+ghost use Rattle.jump_search.specs.inner.Traced.{Moves, IsTraceable, HasWaypoints};
 
-use crate::nodes::{Nodes, arrival_number};
+use crate::nodes::{Node, Nodes, arrival_number};
 use crate::searching::Best;
-use crate::states::JumpState;
 use nav_types::{Cell, Dir, NoMemory};
 use std::alloc::Global;
 use walks::Waypoints;
 
 /// The last run to a cell: its direction, and how many steps it has.
 #[derive(Clone, Copy)]
-struct LastRun {
-    dir: Dir,
-    run: u16,
+pub struct LastRun {
+    pub dir: Dir,
+    pub run: u16,
 }
 
-/// The last run of the jumps that come to the cell in the direction at this cost. None exactly where none do.
-fn run_along(nodes: &Nodes, cell: Cell, cost: u64, dir: Dir) -> Option<LastRun>
-    requires { AreDistinct nodes.now }
-    ensures dir { IfSome result (λ last. last.dir ≡ dir) }
-    ensures some { IfSome result (λ last. HasRun nodes.now cell cost last.dir last.run) }
-    ensures none { IfNone result (IsExact nodes.now cell cost dir → ⊥) }
+/// Whether the node is of the cell and costs so much.
+fn is_exact(node: &Node, cell: Cell, cost: u64) -> bool
+    ensures is { IsTrue result → (node.now.state.cell ≡ cell) × (node.now.cost ≡ cost) }
+    ensures not { IsFalse result → node.now.state.cell ≡ cell → node.now.cost ≡ cost → ⊥ }
 {
-    let arrived = Some(dir);
-    let Some(number) = nodes.find(JumpState { cell, arrived }) else {
+    node.cost == cost && node.state.cell.j == cell.j && node.state.cell.i == cell.i
+}
+
+/// The last run of the node, where that is of the cell, costs so much and is not the start's.
+#[inline(always)]
+fn exact_run(node: &Node, cell: Cell, cost: u64) -> Option<LastRun>
+    ensures some { IfSome result (λ last. IsLastTo node.now cell cost last.dir last.run) }
+    ensures none { IfNone result ((dir : Dir) → IsLastTo node.now cell cost dir node.now.run → ⊥) }
+{
+    if !is_exact(node, cell, cost) {
+        return None;
+    }
+    let Some(dir) = node.state.arrived else {
         return None;
     };
-    let node = nodes.at(number);
-    if node.cost == cost {
-        let run = node.run;
-        Some(LastRun { dir, run })
-    } else {
-        None
-    }
+    let run = node.run;
+    Some(LastRun { dir, run })
 }
 
-/// The last run in the direction of the straight step that follows. None exactly where that step can't go straight.
-fn straight_on(nodes: &Nodes, cell: Cell, cost: u64, next: Option<Dir>) -> Option<LastRun>
-    requires { AreDistinct nodes.now }
-    ensures dir { IfSome result (λ last. next ≡ Some last.dir) }
-    ensures straight { IfSome result (λ last. CanGoStraight (IsExact nodes.now cell cost) next) }
-    ensures some { IfSome result (λ last. HasRun nodes.now cell cost last.dir last.run) }
-    ensures none { IfNone result (CanGoStraight (IsExact nodes.now cell cost) next → ⊥) }
+/// Whether the step that follows goes straight on in the direction.
+fn is_straight_on(dir: Dir, next: Option<Dir>) -> bool
+    ensures { result ≡ is_straight_on next dir }
 {
-    let Some(dir) = next else {
-        return None;
+    dir.is_straight() && arrival_number(next) == arrival_number(Some(dir))
+}
+
+/// How late the chosen walk picks the direction, by the step that follows: not at all late where it goes straight on, else
+/// by preference.
+#[inline(always)]
+fn lateness(dir: Dir, next: Option<Dir>) -> u8
+    ensures { result ≡ lateness next dir }
+{
+    if is_straight_on(dir, next) {
+        return 0;
+    }
+    arrival_number(Some(dir))
+}
+
+/// The one of two last runs that is picked earlier.
+#[inline(always)]
+fn earlier(one: LastRun, other: LastRun, next: Option<Dir>) -> LastRun
+    ensures one { lateness next result.dir ≤ lateness next one.dir }
+    ensures other { lateness next result.dir ≤ lateness next other.dir }
+    ensures either { (result ≡ one) ⊎ (result ≡ other) }
+{
+    if lateness(other.dir, next) < lateness(one.dir, next) {
+        return other;
+    }
+    one
+}
+
+/// The one that is picked earlier of the best last run so far and that of the node, where it has one to the cell at this
+/// cost.
+#[inline(always)]
+fn earliest_with(
+    best: Option<LastRun>,
+    node: &Node,
+    cell: Cell,
+    cost: u64,
+    next: Option<Dir>,
+) -> Option<LastRun>
+    ensures here { (dir : Dir) → IsLastTo node.now cell cost dir node.now.run → IsAsEarly next result dir }
+    ensures kept { (dir : Dir) → IsAsEarly next best dir → IsAsEarly next result dir }
+    ensures from { (result ≡ best) ⊎ IfSome result (λ last. IsLastTo node.now cell cost last.dir last.run) }
+{
+    let Some(last) = exact_run(node, cell, cost) else {
+        return best;
     };
-    if dir.is_straight() {
-        run_along(nodes, cell, cost, dir)
-    } else {
-        None
+    match best {
+        Some(known) => Some(earlier(known, last, next)),
+        None => Some(last),
     }
 }
 
-/// The last run in the direction that is preferred.
-fn preferred(nodes: &Nodes, cell: Cell, cost: u64) -> LastRun
-    requires distinct { AreDistinct nodes.now }
-    requires some { (dir : Dir) × IsExact nodes.now cell cost dir }
-    ensures first { IsFirstIn (IsExact nodes.now cell cost) preference result.dir }
-    ensures some { HasRun nodes.now cell cost result.dir result.run }
-{
-    for dir in Dir::ALL {
-        if let Some(last) = run_along(nodes, cell, cost, dir) {
-            return last;
-        }
-    }
-    unreachable!()
-}
-
-/// The last run of the chosen walk, by the step that follows: straight on where it can, else as is preferred.
+/// The last run of the chosen walk, by the step that follows: straight on where it can, else as is preferred. The nodes of
+/// the cell are looked through once.
 fn picked(nodes: &Nodes, cell: Cell, cost: u64, next: Option<Dir>) -> LastRun
-    requires distinct { AreDistinct nodes.now }
-    requires some { (dir : Dir) × IsExact nodes.now cell cost dir }
+    requires { (dir : Dir) × IsExact nodes.now cell cost dir }
     ensures picked { IsPicked (IsExact nodes.now cell cost) next result.dir }
     ensures some { HasRun nodes.now cell cost result.dir result.run }
 {
-    match straight_on(nodes, cell, cost, next) {
-        Some(last) => last,
-        None => preferred(nodes, cell, cost),
+    let mut best = None;
+    let mut after = nodes.last(cell);
+    'walk: while after > 0 {
+        let number = after - 1;
+        best = earliest_with(best, nodes.at(number), cell, cost, next);
+        after = nodes.before(number);
     }
+    let Some(last) = best else { unreachable!() };
+    last
 }
 
 /// The place along one side of a map from which so many steps lead to the place.

@@ -14,12 +14,9 @@ picked-last-requires c =
     let all = c.requires.0 in let passes = c.requires.1.0 in let hit = c.requires.1.1.0 in let rect =
     c.requires.1.1.1.0 in let able = c.requires.1.1.1.1 in
     let known = c.runs.invariant all passes hit rect able in
-    record {
-      distinct = able.searched.met.once;
-      some = traced_exact all passes hit c.args.start rect c.args.best.cell c.args.best.cost c.args.nodes.now
-          able.searched c.runs.cell c.runs.cost c.runs.next known.back known.traced
-          (other_tested c.runs.cell c.args.start _ c.ne.ensures c.runs-test.true);
-    }
+    traced_exact all passes hit c.args.start rect c.args.best.cell c.args.best.cost c.args.nodes.now able.searched
+    c.runs.cell c.runs.cost c.runs.next known.back known.traced
+    (other_tested c.runs.cell c.args.start _ c.ne.ensures c.runs-test.true)
 
 pub cell_before-cell-requires : goal.cell_before-cell-requires
 cell_before-cell-requires c =
