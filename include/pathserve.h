@@ -19,7 +19,7 @@
  *   4. Each handle serves one call at a time. It may pass to another thread where a lock, the start or the join of a thread
  *      or a sequentially consistent atomic orders that. Different handles may be used by different threads at once.
  *   5. PATHSERVE_STACK bytes of stack are left. No call comes from a signal handler or from the child of a fork.
- *   6. malloc, realloc and free are of one allocator, or rattle_alloc, rattle_realloc and rattle_dealloc are yours (below).
+ *   6. malloc, realloc and free are of one allocator, or the functions at the end of this file are yours.
  *
  * No function throws, jumps, prints, ends the program, starts a thread, or reads a clock, a file or the environment. There
  * is no global state, and nothing of the library's is yours to free but by closing a handle.
@@ -314,6 +314,12 @@ pathserve_status pathserve_find(pathserve_view *view, const pathserve_post *post
  *     rattle_block rattle_alloc(size_t bytes, size_t align);         align is a power of two up to 16; 0 bytes take `align`
  *     rattle_block rattle_realloc(void *block, size_t kept, size_t bytes, size_t align);   after ok 0 the block is as it was
  *     void rattle_dealloc(void *block);
+ *
+ * Elsewhere than on Linux, where C may return such a struct in another way, it defines these, as C has them without the prefix:
+ *
+ *     void *pathserve_malloc(size_t bytes);
+ *     void *pathserve_realloc(void *block, size_t bytes);
+ *     void pathserve_free(void *block);
  */
 
 #ifdef __cplusplus

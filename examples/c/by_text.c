@@ -1,8 +1,16 @@
 /* Plays a match by the text of its script: by_text < skirmish.script. It writes what `pathserve replay` writes, turn by turn
  * also over a pipe, and ends with its status. */
 #include <stdio.h>
-#include <unistd.h>
 #include <pathserve.h>
+#ifdef _WIN32
+#include <fcntl.h>
+#include <io.h>
+#define read _read
+static void as_bytes(void) { _setmode(0, _O_BINARY), _setmode(1, _O_BINARY); }
+#else
+#include <unistd.h>
+static void as_bytes(void) {}
+#endif
 
 static void write_answers(pathserve_match *match) {
     uint8_t text[4096];
@@ -14,11 +22,12 @@ static void write_answers(pathserve_match *match) {
 int main(void) {
     pathserve_match match = {0};
     uint8_t bytes[4096];
-    ssize_t length;
+    long length;
     size_t taken;
 
+    as_bytes();
     pathserve_status status = pathserve_open(&match, PATHSERVE_REPLAY);
-    while (status == PATHSERVE_DONE && (length = read(STDIN_FILENO, bytes, sizeof bytes)) > 0) {
+    while (status == PATHSERVE_DONE && (length = (long)read(0, bytes, sizeof bytes)) > 0) {
         status = pathserve_feed(&match, bytes, (size_t)length, &taken);
         write_answers(&match);
     }

@@ -6,8 +6,6 @@
 #include <string.h>
 #include <pathserve.h>
 
-typedef struct { uint8_t ok; void *block; } rattle_block;
-
 static size_t calls, first_refused, live;
 static int refuses_on, was_refused;
 
@@ -17,6 +15,23 @@ static int refuses(void) {
     was_refused = 1;
     return 1;
 }
+
+#ifdef _WIN32
+/* There the three functions are those of C (pathserve.h, "memory of your own"). */
+void *pathserve_malloc(size_t bytes) {
+    if (refuses()) return NULL;
+    live++;
+    return malloc(bytes);
+}
+
+void *pathserve_realloc(void *block, size_t bytes) { return refuses() ? NULL : realloc(block, bytes); }
+
+void pathserve_free(void *block) {
+    live--;
+    free(block);
+}
+#else
+typedef struct { uint8_t ok; void *block; } rattle_block;
 
 static rattle_block found(void *block) {
     static char none;
@@ -38,6 +53,7 @@ void rattle_dealloc(void *block) {
     live--;
     free(block);
 }
+#endif
 
 static uint8_t script[1 << 20], whole_text[1 << 20], text[1 << 20];
 static size_t script_length, whole_length, length;

@@ -1,0 +1,121 @@
+/** The side of a navcell: coordinates and lengths are whole numbers. */
+export const NAVCELL: number;
+/** A length in navcells as a whole number, rounded down. */
+export function fixed(navcells: number): number;
+
+export const Status: Readonly<{
+  DONE: 0; BAD_LINE: 3; NO_MEMORY: 6; TOO_LONG: 7; CLOSED: 16; OPEN: 17; OTHER: 18; ENDED: 19; NO_MAP: 20; BAD_VALUE: 21; SMALL: 22;
+}>;
+
+/** A call that ended with another status than DONE. Of a `feed` without memory, `taken` is how many bytes were taken. */
+export class Failed extends Error {
+  readonly status: number;
+  readonly taken: number;
+}
+
+export interface Cell { i: number; j: number }
+
+/** A post, by the fields of the C struct; those that are left out are 0. */
+export interface Post {
+  kind: number; caller?: number; classNumber?: number; goal?: number; mask?: number; id?: number; x?: number; z?: number;
+  goalX?: number; goalZ?: number; ux?: number; uz?: number; hw?: number; hh?: number; radius?: number;
+}
+export type GoalFields = Pick<Post, "goal" | "goalX" | "goalZ" | "ux" | "uz" | "hw" | "hh" | "radius" | "id">;
+
+/** Adds a square along the axes under a number, for the classes of the mask. */
+export function addUnit(caller: number, id: number, mask: number, x: number, z: number, half: number): Post;
+/** Adds a rectangle along the unit vector (ux, uz) under a number, for the classes of the mask. */
+export function addSquare(caller: number, id: number, mask: number, x: number, z: number, ux: number, uz: number, hw: number, hh: number): Post;
+export function remove(caller: number, id: number): Post;
+export function move(caller: number, id: number, x: number, z: number): Post;
+/** Asks for a path of a class from the point (x, z) to a goal. */
+export function path(caller: number, classNumber: number, x: number, z: number, goal: GoalFields): Post;
+/** Asks in which region and area of a class the point (x, z) lies. */
+export function region(caller: number, classNumber: number, x: number, z: number): Post;
+
+/** Where a path shall lead. */
+export const Goal: Readonly<{
+  point(x: number, z: number): GoalFields;
+  circle(x: number, z: number, radius: number, outside?: boolean): GoalFields;
+  square(x: number, z: number, ux: number, uz: number, hw: number, hh: number, outside?: boolean): GoalFields;
+  obstruction(id: number, distance: number): GoalFields;
+}>;
+
+/** The reply to the post of this number among those of its caller. */
+export interface Reply {
+  caller: number;
+  post: number;
+  kind: "added" | "removed" | "moved" | "refused" | "nowhere" | "at-goal" | "near-goal" | "in-region";
+  id?: number;
+  why?: "bad-shape" | "duplicate-id" | "store-full" | "unknown-id" | "unknown-class" | "start-outside" | "goal-outside";
+  path?: { start: Cell; end: Cell; cost: number; waypoints: Cell[] };
+  region?: { chunk: Cell; region: number; area: number };
+}
+
+/** A turn's numbers, and the replies to its posts, caller by caller. */
+export interface Turn { turn: number; regions: number; edges: number; areas: number; relabelled: number; replies: Reply[] }
+
+export interface MapOfMatch {
+  width: number;
+  height: number;
+  callers: number;
+  classes: { name: string; clearance: number }[];
+  base?: { i0: number; j0: number; i1: number; j1: number; mask: number }[];
+}
+
+/** The library of the file `pathserve.wasm` beside this one, or of another place, of bytes, or of a module. */
+export function load(source?: string | URL | ArrayBuffer | ArrayBufferView | WebAssembly.Module): Promise<Library>;
+
+/** An instance of the library, with a memory of its own. */
+export class Library {
+  constructor(instance: WebAssembly.Instance);
+  /** A match by the text of its script, as the program plays it with the word `replay`, `profile`, `flow` or `smooth`. */
+  textMatch(report?: "replay" | "profile" | "flow" | "smooth"): TextMatch;
+  /** A match on a map, whose turns are posts. */
+  postedMatch(map: MapOfMatch): PostedMatch;
+}
+
+declare class Owner {
+  /** Frees what it has. Closing twice is no harm. */
+  close(): void;
+}
+
+declare class Match extends Owner {
+  /** What stands after the turns that have ended. */
+  view(): View;
+}
+
+export class TextMatch extends Match {
+  /** Feeds the next bytes or text, cut anywhere. What is told waits, also where this throws BAD_LINE. */
+  feed(script: string | Uint8Array): void;
+  /** Tells that no more bytes come. */
+  finish(): void;
+  /** The bytes that wait. None waits then. */
+  take(): Uint8Array;
+  /** The text that waits. */
+  takeText(): string;
+}
+
+export class PostedMatch extends Match {
+  /** Posts, behind those that the turn has: all or none. */
+  post(...posts: Post[]): void;
+  /** Makes the edits of the turn, and answers its requests on what they leave. */
+  endTurn(): Turn;
+  /** The turns that have ended as the bytes of a script, which a TextMatch or the program answers alike. */
+  journal(): Uint8Array;
+}
+
+/** What stood when it was made, to be looked at beside its match. */
+export class View extends Owner {
+  /** Another view of the same. */
+  again(): View;
+  passable(classNumber: number, i: number, j: number): boolean;
+  /** The number of the cell's region in its chunk, or 0. */
+  region(classNumber: number, i: number, j: number): number;
+  /** The number of the cell's area, or 0: cells of one area can be reached from one another. */
+  area(classNumber: number, i: number, j: number): number;
+  /** Which cells of a row are passable: 1 or 0 of each. */
+  row(classNumber: number, j: number, width: number): Uint8Array;
+  /** Answers a path or a region at once, as a turn without edits would. The match knows nothing of it. */
+  find(post: Post): Reply;
+}

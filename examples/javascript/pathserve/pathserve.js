@@ -1,0 +1,415 @@
+// The library libpathserve for JavaScript: matches by text and by posts, and views. No browser and no Node needs anything else.
+//
+//     const library = await load();
+//     const match = library.textMatch();
+//     match.feed(script);
+//     console.log(match.takeText());
+//     match.close();
+//
+// `pathserve.wasm` lies beside this file, unless `load` is given another place, its bytes or its module. What each call owes and
+// gives stands in pathserve.h; a status that is not DONE is thrown as a `Failed`. What was opened is closed by `close`: its
+// memory is not collected.
+
+const VERSION = [0, 1], ANSWERS = 1;
+const REPORTS = ["replay", "profile", "flow", "smooth"];
+
+/** The side of a navcell: coordinates and lengths are whole numbers. */
+export const NAVCELL = 65536;
+
+/** A length in navcells as a whole number, rounded down. */
+export const fixed = (navcells) => Math.floor(navcells * NAVCELL);
+
+export const Status = Object.freeze({
+  DONE: 0, BAD_LINE: 3, NO_MEMORY: 6, TOO_LONG: 7, CLOSED: 16, OPEN: 17, OTHER: 18, ENDED: 19, NO_MAP: 20, BAD_VALUE: 21, SMALL: 22,
+});
+
+const nameOf = (status) => Object.keys(Status).find((it) => Status[it] === status) ?? `status ${status}`;
+
+/** A call that ended with another status than DONE. Of a `feed` without memory, `taken` is how many bytes were taken. */
+export class Failed extends Error {
+  constructor(status, taken = 0) {
+    super(nameOf(status));
+    Object.assign(this, { name: "Failed", status, taken });
+  }
+}
+
+function must(status) {
+  if (status !== Status.DONE) throw new Failed(status);
+}
+
+// ---- structs, as pathserve.h declares them
+
+const cell = (name) => [[`${name}.i`, "Uint16"], [`${name}.j`, "Uint16"]];
+const all = (kind, ...names) => names.map((it) => [it, kind]);
+
+/** Where each field of a struct lies, and how large the struct is. */
+function struct(...fields) {
+  let at = 0;
+  const places = new Map();
+  for (const [name, kind] of fields) {
+    const bytes = Number(/\d+/.exec(kind)[0]) / 8;
+    at = Math.ceil(at / bytes) * bytes;
+    places.set(name, [kind, at]);
+    at += bytes;
+  }
+  return { places, size: at };
+}
+
+const MAP = struct(...all("Uint32", "width", "height", "callers"));
+const RECT = struct(...all("Uint16", "i0", "j0", "i1", "j1", "mask", "zero"));
+const POST = struct(
+  ...all("Uint8", "kind", "caller", "classNumber", "goal"), ...all("Uint16", "mask", "zero"), ["id", "Uint32"],
+  ...all("Int32", "x", "z", "goalX", "goalZ", "ux", "uz", "hw", "hh", "radius"),
+);
+const TURN = struct(
+  ...all("BigUint64", "turn", "regions", "edges", "areas", "replies", "waypoints"), ...all("Uint32", "relabelled", "zero"),
+);
+const REPLY = struct(
+  ...all("Uint8", "kind", "caller", "why", "zero"), ...all("Uint32", "post", "id"), ...cell("start"), ...cell("end"), ...cell("chunk"),
+  ...all("Uint16", "region", "zeroToo"), ["area", "Uint32"], ...all("BigUint64", "waypoints", "firstWaypoint", "cost"),
+);
+const HANDLE = 16, CLASS = 72, CELL = 4, NAME = 64;
+// in the order of PATHSERVE_SIZE_..
+const SIZES = [HANDLE, HANDLE, MAP.size, CLASS, RECT.size, POST.size, TURN.size, REPLY.size, CELL];
+const LEAST = { Uint8: 0, Uint16: 0, Uint32: 0, Int32: -0x80000000 };
+const MOST = { Uint8: 255, Uint16: 65535, Uint32: 0xffffffff, Int32: 0x7fffffff };
+
+function fitting(name, kind, value) {
+  if (!Number.isInteger(value) || value < LEAST[kind] || value > MOST[kind]) throw new RangeError(`${name} cannot be ${value}`);
+  return value;
+}
+
+// ---- posts
+
+/** Adds a square along the axes under a number, for the classes of the mask. */
+export const addUnit = (caller, id, mask, x, z, half) => ({ kind: 1, caller, id, mask, x, z, radius: half });
+/** Adds a rectangle along the unit vector (ux, uz) under a number, for the classes of the mask. */
+export const addSquare = (caller, id, mask, x, z, ux, uz, hw, hh) => ({ kind: 2, caller, id, mask, x, z, ux, uz, hw, hh });
+export const remove = (caller, id) => ({ kind: 3, caller, id });
+export const move = (caller, id, x, z) => ({ kind: 4, caller, id, x, z });
+/** Asks for a path of a class from the point (x, z) to a goal. */
+export const path = (caller, classNumber, x, z, goal) => ({ kind: 5, caller, classNumber, x, z, ...goal });
+/** Asks in which region and area of a class the point (x, z) lies. */
+export const region = (caller, classNumber, x, z) => ({ kind: 6, caller, classNumber, x, z });
+
+/** Where a path shall lead. */
+export const Goal = Object.freeze({
+  point: (goalX, goalZ) => ({ goal: 1, goalX, goalZ }),
+  circle: (goalX, goalZ, radius, outside = false) => ({ goal: outside ? 3 : 2, goalX, goalZ, radius }),
+  square: (goalX, goalZ, ux, uz, hw, hh, outside = false) => ({ goal: outside ? 5 : 4, goalX, goalZ, ux, uz, hw, hh }),
+  obstruction: (id, distance) => ({ goal: 6, id, radius: distance }),
+});
+
+const KINDS = ["", "added", "removed", "moved", "refused", "nowhere", "at-goal", "near-goal", "in-region"];
+const WHYS = ["", "bad-shape", "duplicate-id", "store-full", "unknown-id", "unknown-class", "start-outside", "goal-outside"];
+
+function replyOf(it, waypoints) {
+  const kind = KINDS[it.kind], reply = { caller: it.caller, post: it.post, kind };
+  if (it.kind <= 3) reply.id = it.id;
+  else if (kind === "refused") reply.why = WHYS[it.why];
+  else if (kind === "at-goal" || kind === "near-goal") {
+    const its = waypoints.slice(it.firstWaypoint, it.firstWaypoint + it.waypoints);
+    const [start, end] = ["start", "end"].map((of) => ({ i: it[`${of}.i`], j: it[`${of}.j`] }));
+    reply.path = { start, end, cost: it.cost, waypoints: its };
+  } else if (kind === "in-region") {
+    reply.region = { chunk: { i: it["chunk.i"], j: it["chunk.j"] }, region: it.region, area: it.area };
+  }
+  return reply;
+}
+
+// ---- the module
+
+/** The module of a place, of bytes, or as it is. */
+async function moduleOf(source) {
+  if (source instanceof WebAssembly.Module) return source;
+  if (source instanceof ArrayBuffer || ArrayBuffer.isView(source)) return WebAssembly.compile(source);
+  const place = new URL(source, import.meta.url);
+  if (place.protocol === "file:" && typeof process !== "undefined") {
+    const { readFile } = await import("node:fs/promises");
+    return WebAssembly.compile(await readFile(place));
+  }
+  const answer = await fetch(place);
+  if (!answer.ok) throw new Error(`${place} is not there: ${answer.status}`);
+  return WebAssembly.compile(await answer.arrayBuffer());
+}
+
+/** The library of the file `pathserve.wasm` beside this one, or of another place, of bytes, or of a module. */
+export async function load(source = "pathserve.wasm") {
+  return new Library(await WebAssembly.instantiate(await moduleOf(source), {}));
+}
+
+/** An instance of the library, with a memory of its own. */
+export class Library {
+  #calls;
+  #room = 0;
+  #held = 0;
+
+  constructor(instance) {
+    this.#calls = instance.exports;
+    const version = this.call("version"), answers = this.call("answers");
+    if (version >> 16 !== VERSION[0] || (version >> 8 & 255) !== VERSION[1] || answers !== ANSWERS) {
+      throw new Error(`libpathserve has the version ${version >> 16}.${version >> 8 & 255} with answers ${answers}`);
+    }
+    SIZES.forEach((size, n) => {
+      if (Number(this.call("size_of", n + 1)) !== size) throw new Error(`struct ${n + 1} has another size in libpathserve`);
+    });
+  }
+
+  /** Calls a function of pathserve.h. Addresses, lengths and numbers of 64 bits are BigInts, as WebAssembly has them. */
+  call(name, ...words) {
+    const told = this.#calls[`pathserve_${name}`](...words);
+    return typeof told === "number" ? told >>> 0 : told;
+  }
+
+  /** The memory as it is now: it may grow in a call. */
+  get bytes() {
+    return new Uint8Array(this.#calls.memory.buffer);
+  }
+
+  get data() {
+    return new DataView(this.#calls.memory.buffer);
+  }
+
+  /** New memory, all zero. */
+  allocate(size) {
+    const at = Number(this.#calls.malloc(BigInt(size)));
+    if (!at) throw new Failed(Status.NO_MEMORY);
+    this.bytes.fill(0, at, at + size);
+    return at;
+  }
+
+  free(at) {
+    this.#calls.free(BigInt(at));
+  }
+
+  /** Room for one call, of parts of these sizes: their addresses. The next call has the same room. */
+  room(...sizes) {
+    const starts = [];
+    let size = 0;
+    for (const it of sizes) {
+      starts.push(size);
+      size += Math.ceil(it / 8) * 8;
+    }
+    if (size > this.#held) {
+      const at = this.allocate(size);
+      if (this.#held) this.free(this.#room);
+      [this.#room, this.#held] = [at, size];
+    }
+    return starts.map((it) => this.#room + it);
+  }
+
+  /** Writes the fields of a struct; those that are left out are 0. */
+  write(at, { places, size }, fields) {
+    const data = this.data;
+    this.bytes.fill(0, at, at + size);
+    for (const [name, value] of Object.entries(fields)) {
+      const [kind, place] = places.get(name) ?? [];
+      if (!kind) throw new TypeError(`there is no field ${name}`);
+      data[`set${kind}`](at + place, fitting(name, kind, value), true);
+    }
+  }
+
+  read(at, { places }) {
+    const data = this.data, fields = {};
+    for (const [name, [kind, place]] of places) fields[name] = Number(data[`get${kind}`](at + place, true));
+    return fields;
+  }
+
+  cells(at, count) {
+    const data = this.data;
+    return Array.from({ length: count }, (_, n) => ({ i: data.getUint16(at + CELL * n, true), j: data.getUint16(at + CELL * n + 2, true) }));
+  }
+
+  /** A match by the text of its script, as the program plays it with the word `replay`, `profile`, `flow` or `smooth`. */
+  textMatch(report = "replay") {
+    return new TextMatch(this, report);
+  }
+
+  /** A match on a map, whose turns are posts. */
+  postedMatch(map) {
+    return new PostedMatch(this, map);
+  }
+}
+
+// ---- what has a handle
+
+class Owner {
+  #close;
+
+  constructor(library, close) {
+    this.library = library;
+    this.handle = library.allocate(HANDLE);
+    this.#close = close;
+  }
+
+  /** Calls a function with the handle, which is open. */
+  call(name, ...words) {
+    if (!this.handle) throw new Failed(Status.CLOSED);
+    return this.library.call(name, BigInt(this.handle), ...words);
+  }
+
+  /** Frees what it has. Closing twice is no harm. */
+  close() {
+    if (!this.handle) return;
+    this.call(this.#close);
+    this.library.free(this.handle);
+    this.handle = 0;
+  }
+
+  /** Keeps what was opened with DONE, and else frees the handle. */
+  opened(status) {
+    if (status !== Status.DONE) this.close();
+    must(status);
+  }
+}
+
+class Match extends Owner {
+  constructor(library) {
+    super(library, "close");
+  }
+
+  /** What stands after the turns that have ended. */
+  view() {
+    const view = new View(this.library);
+    view.opened(this.call("view_of", BigInt(view.handle)));
+    return view;
+  }
+}
+
+/** A match by text: see `Library.textMatch`. */
+export class TextMatch extends Match {
+  constructor(library, report) {
+    super(library);
+    this.opened(this.call("open", REPORTS.includes(report) ? REPORTS.indexOf(report) : REPORTS.length));
+  }
+
+  /** Feeds the next bytes or text, cut anywhere. What is told waits, also where this throws BAD_LINE. */
+  feed(script) {
+    const bytes = typeof script === "string" ? new TextEncoder().encode(script) : script;
+    const [taken, at] = this.library.room(8, bytes.length);
+    this.library.bytes.set(bytes, at);
+    const status = this.call("feed", BigInt(at), BigInt(bytes.length), BigInt(taken));
+    if (status === Status.NO_MEMORY) throw new Failed(status, Number(this.library.data.getBigUint64(taken, true)));
+    must(status);
+  }
+
+  /** Tells that no more bytes come. */
+  finish() {
+    must(this.call("finish"));
+  }
+
+  /** The bytes that wait. None waits then. */
+  take() {
+    const count = Number(this.call("waiting"));
+    const [at] = this.library.room(count);
+    const taken = Number(this.call("take", BigInt(at), BigInt(count)));
+    return this.library.bytes.slice(at, at + taken);
+  }
+
+  /** The text that waits. */
+  takeText() {
+    return new TextDecoder().decode(this.take());
+  }
+}
+
+/** A match by posts: see `Library.postedMatch`. */
+export class PostedMatch extends Match {
+  constructor(library, { width, height, callers, classes, base = [] }) {
+    super(library);
+    const [map, itsClasses, itsBase] = library.room(MAP.size, CLASS * classes.length, RECT.size * base.length);
+    library.write(map, MAP, { width, height, callers });
+    classes.forEach((it, n) => this.#writeClass(itsClasses + CLASS * n, it));
+    base.forEach((it, n) => library.write(itsBase + RECT.size * n, RECT, it));
+    const words = [map, itsClasses, classes.length, itsBase, base.length];
+    this.opened(this.call("open_map", ...words.map(BigInt)));
+  }
+
+  #writeClass(at, { name, clearance }) {
+    const letters = new TextEncoder().encode(name), { bytes, data } = this.library;
+    bytes.fill(0, at, at + CLASS);
+    bytes.set(letters.slice(0, NAME), at);
+    data.setUint32(at + NAME, letters.length, true);
+    data.setInt32(at + NAME + 4, fitting("clearance", "Int32", clearance), true);
+  }
+
+  /** Posts, behind those that the turn has: all or none. */
+  post(...posts) {
+    const [at] = this.library.room(POST.size * posts.length);
+    posts.forEach((it, n) => this.library.write(at + POST.size * n, POST, it));
+    must(this.call("post_all", BigInt(at), BigInt(posts.length)));
+  }
+
+  /** Makes the edits of the turn, and answers its requests on what they leave. */
+  endTurn() {
+    const [at] = this.library.room(TURN.size);
+    must(this.call("end_turn", BigInt(at)));
+    const turn = this.library.read(at, TURN);
+    const [replies, cells] = this.library.room(REPLY.size * turn.replies, CELL * turn.waypoints);
+    this.call("replies", 0n, BigInt(replies), BigInt(turn.replies));
+    this.call("waypoints", 0n, BigInt(cells), BigInt(turn.waypoints));
+    const waypoints = this.library.cells(cells, turn.waypoints);
+    const told = Array.from({ length: turn.replies }, (_, n) => replyOf(this.library.read(replies + REPLY.size * n, REPLY), waypoints));
+    const { turn: number, regions, edges, areas, relabelled } = turn;
+    return { turn: number, regions, edges, areas, relabelled, replies: told };
+  }
+
+  /** The turns that have ended as the bytes of a script, which a TextMatch or the program answers alike. */
+  journal() {
+    let [whole] = this.library.room(8);
+    const status = this.call("journal", 0n, 0n, BigInt(whole));
+    if (status !== Status.SMALL) must(status);
+    const count = Number(this.library.data.getBigUint64(whole, true));
+    const [again, at] = this.library.room(8, count);
+    must(this.call("journal", BigInt(at), BigInt(count), BigInt(again)));
+    return this.library.bytes.slice(at, at + count);
+  }
+}
+
+/** What stood when it was made, to be looked at beside its match. */
+export class View extends Owner {
+  constructor(library) {
+    super(library, "view_close");
+  }
+
+  /** Another view of the same. */
+  again() {
+    const view = new View(this.library);
+    view.opened(this.call("view_again", BigInt(view.handle)));
+    return view;
+  }
+
+  passable(classNumber, i, j) {
+    return this.call("passable", classNumber, i, j) === 1;
+  }
+
+  /** The number of the cell's region in its chunk, or 0. */
+  region(classNumber, i, j) {
+    return this.call("region", classNumber, i, j);
+  }
+
+  /** The number of the cell's area, or 0: cells of one area can be reached from one another. */
+  area(classNumber, i, j) {
+    return this.call("area", classNumber, i, j);
+  }
+
+  /** Which cells of a row are passable: 1 or 0 of each. */
+  row(classNumber, j, width) {
+    const count = Math.ceil(width / 64), [at] = this.library.room(8 * count);
+    const told = 8 * Number(this.call("row", classNumber, j, BigInt(at), BigInt(count)));
+    const bytes = this.library.bytes.subarray(at, at + told), cells = new Uint8Array(width), end = Math.min(width, 8 * told);
+    for (let i = 0; i < end; i++) cells[i] = bytes[i >> 3] >> (i & 7) & 1;
+    return cells;
+  }
+
+  /** Answers a path or a region at once, as a turn without edits would. The match knows nothing of it. */
+  find(post) {
+    for (let room = 256; ; ) {
+      const [asked, reply, cells] = this.library.room(POST.size, REPLY.size, CELL * room);
+      this.library.write(asked, POST, post);
+      must(this.call("find", ...[asked, reply, cells, room].map(BigInt)));
+      const told = this.library.read(reply, REPLY);
+      if (told.waypoints <= room) return replyOf(told, this.library.cells(cells, told.waypoints));
+      room = told.waypoints;
+    }
+  }
+}

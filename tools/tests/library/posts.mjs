@@ -1,0 +1,83 @@
+// Plays scripts by posts with the package for JavaScript, and writes what the program writes of them: node posts.mjs PACKAGE MODULE
+// < SCRIPTS, before each of which stands its length in a line. Before each text stands 1 and its length. A script of which a
+// post names no class of its map is left out, and 0 0 stands for its text.
+import { readFileSync, writeSync } from "node:fs";
+import { pathToFileURL } from "node:url";
+
+const [place, file] = process.argv.slice(2);
+const its = await import(pathToFileURL(place));
+const library = await its.load(readFileSync(file));
+
+/** A decimal, cut to a whole number of which 65,536 are a navcell's side. */
+function raw(text) {
+  const [, sign, whole, part = ""] = /^(-?)(\d+)(?:\.(\d+))?$/.exec(text);
+  const number = BigInt(whole + part) * 65536n / 10n ** BigInt(part.length);
+  return Number(sign ? -number : number);
+}
+
+function goalOf({ point, circle, square, obstruction, ...outside }) {
+  if (point) return its.Goal.point(...point.map(raw));
+  if (circle) return its.Goal.circle(...circle.map(raw));
+  if (square) return its.Goal.square(...square.map(raw));
+  if (obstruction) return its.Goal.obstruction(obstruction[0], raw(obstruction[1]));
+  const [[kind, numbers]] = Object.entries(outside);
+  return its.Goal[kind.slice(4)](...numbers.map(raw), true);
+}
+
+function postOf(line, version, names) {
+  const { caller } = line, mask = version > 1 ? line.mask : 65535, k = names.indexOf(line.path ?? line.region);
+  if (line.unit) return its.addUnit(caller, line.add, mask, ...line.unit.map(raw));
+  if (line.square) return its.addSquare(caller, line.add, mask, ...line.square.map(raw));
+  if (line.remove !== undefined) return its.remove(caller, line.remove);
+  if (line.move !== undefined) return its.move(caller, line.move, ...line.to.map(raw));
+  if (k < 0) return null;
+  return line.path ? its.path(caller, k, ...line.from.map(raw), goalOf(line.goal)) : its.region(caller, k, ...line.at.map(raw));
+}
+
+function lineOf({ caller, post, kind, id, why, path, region }) {
+  const middle = (it) => `${it.i}.5,${it.j}.5`;
+  let said = kind + (id === undefined ? "" : ` ${id}`);
+  if (why) said = `refused ${why}`;
+  if (region) said = `region ${region.chunk.i} ${region.chunk.j} ${region.region} ${region.area}`;
+  if (path) {
+    const { start, end, cost, waypoints } = path, word = kind === "at-goal" ? "goal" : "near";
+    said = ["path", start.i, start.j, end.i, end.j, word, cost, waypoints.length, ...waypoints.map(middle)].join(" ");
+  }
+  return `${caller} ${post} ${said}\n`;
+}
+
+function played(script) {
+  const lines = script.trimEnd().split("\n").map((it) => JSON.parse(it)), { version, size, callers, classes } = lines[0];
+  const names = classes.map((it) => it.name), posts = lines.slice(1).map((it) => (it.caller === undefined ? it : postOf(it, version, names)));
+  if (posts.includes(null)) return null;
+  const base = posts.flatMap((it) => it.base ?? []).map(([i0, j0, i1, j1, mask]) => ({ i0, j0, i1, j1, mask }));
+  const its = classes.map(({ name, clearance }) => ({ name, clearance: raw(clearance) }));
+  const match = library.postedMatch({ width: size[0], height: size[1], callers, classes: its, base });
+  let text = "", waiting = [];
+  for (const it of posts) {
+    if (it.kind) waiting.push(it);
+    if (it.end === undefined) continue;
+    match.post(...waiting.slice(0, 1));
+    match.post(...waiting.slice(1));
+    waiting = [];
+    const turn = match.endTurn();
+    text += `turn ${turn.turn} regions ${turn.regions} edges ${turn.edges} areas ${turn.areas} relabelled ${turn.relabelled}\n`;
+    text += turn.replies.map(lineOf).join("");
+  }
+  const again = library.textMatch();
+  again.feed(match.journal());
+  if (again.takeText() !== text) throw new Error("the journal is answered otherwise");
+  again.close();
+  match.close();
+  return text;
+}
+
+const given = readFileSync(0), told = [];
+for (let at = 0; at < given.length; ) {
+  const end = given.indexOf(10, at), length = Number(given.toString("latin1", at, end));
+  at = end + 1 + length;
+  const text = played(given.toString("utf8", end + 1, at));
+  told.push(text === null ? "0 0\n" : `1 ${text.length}\n${text}`);
+}
+const whole = Buffer.from(told.join(""));
+for (let at = 0; at < whole.length; ) at += writeSync(1, whole, at);
