@@ -10,6 +10,10 @@ and lines `flow` and `smooth` behind a path. That a path is a cheapest one is no
     view.py --svg 1:infantry,1:siege,2:siege first.script first.answers > three.svg
     view.py --png 1 --scale 4 first.script first.answers > picture.png
     view.py --check first.script first.answers
+    view.py --live first.script > live.html
+
+--live makes a page without answers, in which a path to the pointer is found at once, by the library, and obstructions are drawn
+and taken away; what was drawn is saved as a script.
 
 Contradictions are told on standard error too, and --check writes nothing else: the turn, the line of the script, the post,
 and the cell by its column and row from the south-west. A run that was stopped leaves the answers to its first turns. That
@@ -30,6 +34,7 @@ import zlib
 
 import commands
 import contradictions
+import live_page
 import mapscript
 import pictures
 
@@ -135,16 +140,30 @@ def panels(match, words, caller):
 def words():
     parser = commands.parser_of(__doc__)
     parser.add_argument("script", help="the script, as it was given to the program")
-    parser.add_argument("answers", help="what the program wrote for it")
+    parser.add_argument("answers", nargs="?", help="what the program wrote for it; --live takes none")
     kind = parser.add_mutually_exclusive_group()
     kind.add_argument("--svg", metavar="TURN[:CLASS],..", help="a picture of lines, of one turn or several beside each other; without :CLASS the first class")
     kind.add_argument("--png", metavar="TURN[:CLASS]", help="a picture of points, of one turn, for large maps")
     kind.add_argument("--check", action="store_true", help="only tell contradictions")
+    kind.add_argument("--live", action="store_true", help="a page that finds paths at once")
+    parser.add_argument("--package", help="the folder with pathserve.js and pathserve.wasm for --live (that of a release by itself)")
     parser.add_argument("--scale", type=int, help="points a navcell in a picture (as fits by itself)")
     parser.add_argument("--caller", type=int, help="only this caller's paths in a picture")
     parser.add_argument("--most", type=int, default=20, metavar="N", help="how many contradictions are told (20)")
     parser.add_argument("--title", help="the page's title (the script's name by itself)")
-    return parser.parse_args()
+    said = parser.parse_args()
+    if bool(said.live) == bool(said.answers):
+        parser.error("--live takes no answers" if said.live else "the answers are missing")
+    return said
+
+
+def live(said):
+    """The page without answers."""
+    text = commands.bytes_of(said.script)
+    script = mapscript.Script(text)
+    if script.map is None:
+        raise Unknown(f"{said.script} has no map line")
+    return live_page.live(text, script, said.title or os.path.basename(said.script), said.package).encode()
 
 
 class Progress:
@@ -176,13 +195,16 @@ def made(said, match):
 def main():
     said = words()
     try:
+        if said.live:
+            sys.stdout.buffer.write(live(said))
+            return 0
         script = mapscript.Script(commands.bytes_of(said.script))
         answers = contradictions.Answers(commands.bytes_of(said.answers))
         if script.map is None:
             raise Unknown(f"{said.script} has no map line")
         match = contradictions.Match(script, answers, Progress(len(script.turns)).tell)
         out = made(said, match)
-    except (Unknown, commands.Unreadable) as it:
+    except (Unknown, live_page.Missing, commands.Unreadable) as it:
         commands.say(it)
         return 2
     sys.stdout.buffer.write(out)
