@@ -4,8 +4,8 @@
         match.feed(script)
         print(match.take().decode(), end="")
 
-The shared object is the file that the variable PATHSERVE_LIBRARY names, or else `libpathserve.so.0` where the system's
-loader finds it. What each call owes and gives stands in pathserve.h; a status that is not DONE is raised as an exception.
+The library is the file that the variable PATHSERVE_LIBRARY names, or the one beside this package, as a wheel has it, or else
+`libpathserve.so.0` or `pathserve.dll` where the system's loader finds it. What each call owes and gives stands in pathserve.h; a status that is not DONE is raised as an exception.
 A match or a view is used by one thread at a time. Distinct ones may be used by several threads at once.
 """
 from .matches import PostedMatch, TextMatch, Turn

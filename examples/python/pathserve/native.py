@@ -139,11 +139,20 @@ def must(status: int) -> None:
         raise Failed(status)
 
 
+SHARED = "pathserve.dll" if os.name == "nt" else "libpathserve.so.0"
+
+
+def found() -> str:
+    """The library that PATHSERVE_LIBRARY names, or the one beside this file, or else the one that the loader finds."""
+    beside = os.path.join(os.path.dirname(os.path.abspath(__file__)), SHARED)
+    return os.environ.get("PATHSERVE_LIBRARY") or (beside if os.path.isfile(beside) else SHARED)
+
+
 @functools.lru_cache(maxsize=None)
 def load(file: str | None = None) -> ctypes.CDLL:
-    """The library of this file, or of PATHSERVE_LIBRARY, or the one that the loader finds. It is loaded once, and refused
-    where its version or one of its structs is another one than this package is made for."""
-    library = ctypes.CDLL(file or os.environ.get("PATHSERVE_LIBRARY", "libpathserve.so.0"))
+    """The library of this file, or else the one that is found. It is loaded once, and refused where its version or one of its
+    structs is another one than this package is made for."""
+    library = ctypes.CDLL(file or found())
     for name, (result, arguments) in CALLS.items():
         call = getattr(library, "pathserve_" + name)
         call.restype, call.argtypes = result, arguments
