@@ -13,18 +13,23 @@ use Rattle.turn_core.proofs.Threads.{standing_more}
 
 pub one_more : (m : Map) (s : Standing) (journal : List (List (List Post))) (posts item : List (List Post)) (ready : Ready) (now : Map) (stands : Standing)
     (pushed : List (List (List Post))) → s ≡ standing m bare journal → All (HaveLines m.version) journal → HaveLines m.version posts
+    → All (λ turn. length turn ≡ m.callers) journal → length posts ≡ m.callers
     → ready ≡ record { map = m; before = s; turn = posts } → now ≡ ready.map → stands ≡ after_edits_of ready → item ≡ ready.turn → pushed ≡ journal ++ item ∷ []
-    → (stands ≡ standing now bare pushed) × All (HaveLines now.version) pushed
-one_more m s journal posts item ready now stands pushed before lines line is map after turn push =
+    → (stands ≡ standing now bare pushed) × All (HaveLines now.version) pushed × All (λ turn. length turn ≡ now.callers) pushed
+one_more m s journal posts item ready now stands pushed before lines line lists list is map after turn push =
+    let Lists : Map → List (List Post) → Type 0 = λ x t. length t ≡ x.callers in
     let on : now ≡ m = map ∙ ap (λ (r : Ready). r.map) is in
     let last : item ≡ posts = turn ∙ ap (λ (r : Ready). r.turn) is in
     let all : pushed ≡ journal ++ posts ∷ [] = push ∙ ap (λ (p : List (List Post)). journal ++ p ∷ []) last in
     let here : stands ≡ standing m bare (journal ++ posts ∷ []) =
     after ∙ (ap after_edits_of is ∙ (ap (λ (t : Standing). after_turn m t posts) before ∙ sym (standing_more m bare journal posts))) in
     let more : All (HaveLines m.version) (journal ++ posts ∷ []) =
-    All-append (HaveLines m.version) journal (posts ∷ []) lines (All-cons (HaveLines m.version) posts [] line (All-nil (HaveLines m.version))) in (
+    All-append (HaveLines m.version) journal (posts ∷ []) lines (All-cons (HaveLines m.version) posts [] line (All-nil (HaveLines m.version))) in
+    let counts : All (Lists m) (journal ++ posts ∷ []) =
+    All-append (Lists m) journal (posts ∷ []) lists (All-cons (Lists m) posts [] list (All-nil (Lists m))) in (
       here ∙ (λ i. standing (sym on i) bare (sym all i)),
       subst (λ (x : Map). All (HaveLines x.version) pushed) (sym on) (subst (All (HaveLines m.version)) (sym all) more),
+      subst (λ (x : Map). All (Lists x) pushed) (sym on) (subst (All (Lists m)) (sym all) counts),
     )
 
 -- ---- the turns as text

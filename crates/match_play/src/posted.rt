@@ -1,8 +1,8 @@
 //! Matches whose turns are posts as data.
-ghost use Rattle.std.specs.Prelude.{◌≡◌, ◌++◌, ◌∷◌, [], All, IfErr, IfOk, OnErr, OnOk};
+ghost use Rattle.std.specs.Prelude.{◌≡◌, ◌++◌, ◌∷◌, [], All, IfErr, IfOk, OnErr, OnOk, length};
 ghost use Rattle.posts.specs.Posts.{jobs};
 ghost use Rattle.script_text.specs.Canon.{HaveLines};
-ghost use Rattle.script_text.specs.ReadsBack.{canon_script, canon_turns};
+ghost use Rattle.script_text.specs.ReadsBack.{ArePostValues, IsWithinLimits, ReadsAs, canon_script, canon_turns};
 ghost use Rattle.turn_core.specs.Notes.{AreNotes};
 ghost use Rattle.turn_core.specs.Turns.{IsTurnTold, after_turn, standing};
 ghost use Rattle.turn_core.specs.Words.{bare};
@@ -32,7 +32,8 @@ pub struct PostedMatch {
 }
 
 impl Model for PostedMatch {
-    ghost use Rattle.std.specs.Prelude.{◌≡◌, All};
+    ghost use Rattle.std.specs.Prelude.{◌≡◌, All, List, length};
+    ghost use Rattle.posts.specs.declared.posts.Post.{Post};
     ghost use Rattle.script_text.specs.Canon.{HaveLines};
     ghost use Rattle.turn_core.specs.Turns.{standing};
     ghost use Rattle.turn_core.specs.Words.{bare};
@@ -43,7 +44,8 @@ impl Model for PostedMatch {
     ghost view = { λ m. record { map = m.version.map; journal = m.journal } };
 
     ghost invariant = { λ m. (m.version.standing ≡ standing m.version.map bare m.journal)
-        × All (HaveLines m.version.map.version) m.journal };
+        × All (HaveLines m.version.map.version) m.journal
+        × All (λ (turn : List (List Post)). length turn ≡ m.version.map.callers) m.journal };
 }
 
 impl PostedMatch {
@@ -62,14 +64,15 @@ impl PostedMatch {
     /// answered on what they leave, and the next turn stands on that. What the turn is answered is what one thread answers
     /// (`IsTurnTold`), with what the report tells of each request.
     ///
-    /// The map's version has lines for the posts, which `have_lines` of `script_text` tests. Where there is no memory the
-    /// posts come back, and the match is as it was.
+    /// There is a list for each caller of the map, and the map's version has lines for the posts, which `have_lines` of
+    /// `script_text` tests. Where there is no memory the posts come back, and the match is as it was.
     pub fn end_turn(
         &mut self,
         alloc: Global,
         report: Report,
         posts: TurnPosts,
     ) -> Result<EndedTurn, (NoMemory, TurnPosts)>
+        requires lists { length posts ≡ self.old.map.callers }
         requires lines { HaveLines self.old.map.version posts }
         ensures told { IfOk result (λ ended.
             IsTurnTold self.old.map (standing self.old.map bare self.old.journal) posts ended.replies) }
@@ -108,9 +111,11 @@ impl PostedMatch {
     }
 
     /// The match as a script: the canonical text of its map and its turns (`canon_script`), which gives another match the
-    /// same map and the same turns (`canonical_reads_back` of `script_text`).
+    /// same map and the same turns where the text is within the limits of an input (`ReadsAs`).
     pub fn script(&self, alloc: Global) -> Result<Bytes, NoMemory>
-        ensures { IfOk result (λ text. text ≡ canon_script self.now.map self.now.journal) }
+        ensures text { IfOk result (λ text. text ≡ canon_script self.now.map self.now.journal) }
+        ensures reads_back { OnOk result (IsWithinLimits (canon_script self.now.map self.now.journal)
+            → ReadsAs self.now.map self.now.journal (canon_script self.now.map self.now.journal)) }
     {
         let mut text = write_map(alloc, self.version.map())?;
         push_turns(
@@ -131,7 +136,8 @@ fn push_turns(
     turns: &[TurnPosts],
 ) -> Result<(), NoMemory>
     requires lines { All (HaveLines map.now.version) turns.now }
-    ensures { OnOk result (text.new ≡ text.old ++ canon_turns map.now 1 turns.now) }
+    ensures text { OnOk result (text.new ≡ text.old ++ canon_turns map.now 1 turns.now) }
+    ensures values { OnOk result (All ArePostValues turns.now) }
 {
     for (before, posts) in turns.iter().enumerate() {
         let turn = write_journal(alloc, map, before as u64 + 1, posts)?;
