@@ -18,6 +18,12 @@ The definitions that the contracts of public functions name, crate by crate from
 
 Lengths and coordinates are raw numbers, 65536 to a navcell, unless a definition says otherwise. A straight step costs 65536 and a diagonal one 92682.
 """
+# What no such contract names, but what the definitions that they name are about.
+HEARTS = [
+    ("flow_field.specs.Flows", "IsNearest"),
+    ("flow_field.specs.Flows", "Descends"),
+    ("line_smooth.specs.Smoothed", "IsSmoothed"),
+]
 FUNCTION = re.compile(r'(?ms)^( *)(pub )?(?:const )?(?:unsafe )?(?:extern "C" )?fn \w+(.*?)^\1\{')
 
 
@@ -41,6 +47,7 @@ def cited(modules):
             for _, is_public, contract in FUNCTION.findall(text):
                 if is_public or has_trait:
                     found.update(specs.definition(modules, names, word) for word in specs.words_in(contract))
+    found.update(modules[path].items[name] for path, name in HEARTS)
     return {it for it in found if it and not it.module.is_inner()}
 
 

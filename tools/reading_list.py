@@ -88,8 +88,7 @@ def item(modules, path, name):
 
 
 def counted(found):
-    lines = sum(len(it.lines) for it in found)
-    return f"{len(found)} definitions in {len({it.module.path for it in found})} files, {lines} lines"
+    return f"{len(found)} definitions in {len({it.module.path for it in found})} files, {lines_in(found)} lines"
 
 
 def table(modules, found):
@@ -101,21 +100,61 @@ def table(modules, found):
     return rows
 
 
+def lines_in(found):
+    return sum(len(it.lines) for it in found)
+
+
+def law(modules, whole, begun, row):
+    """What a law lets a reader leave out: its row, the definitions, those in their place, and the lines more than before."""
+    crate, laws, path, names, text = row
+    left_out = {item(modules, path, name) for name in names}
+    contracts = [contract_of(crate, it) for it in laws]
+    named = set().union(*(it.definitions(modules) for it in contracts))
+    if not left_out <= named or not left_out & whole:
+        raise ValueError(f"the laws {laws} do not speak of {names}")
+    more = lines_in(left_with(modules, begun, left_out, named - left_out)) - lines_in(whole)
+    where = ", ".join(link(it) for it in sorted({it.file for it in contracts}))
+    cells = [f"{', '.join(f'`{it}`' for it in laws)} in {where} of `{crate}`", ", ".join(f"`{it}`" for it in names), text, f"{more:+}"]
+    return f"| {' | '.join(cells)} |", left_out, named - left_out, more
+
+
 def skips(modules, whole, begun):
-    """What each law lets a reader leave out, and how much is left with all of them."""
-    rows, cut, added = ["| law | left out | in its place |", "|---|---|---|"], set(), set()
-    for crate, laws, path, names, text in SKIPS:
-        left_out = {item(modules, path, name) for name in names}
-        contracts = [contract_of(crate, law) for law in laws]
-        named = set().union(*(it.definitions(modules) for it in contracts))
-        if not left_out <= named or not left_out & whole:
-            raise ValueError(f"the laws {laws} do not speak of {names}")
-        added |= named - left_out
-        cut |= left_out
-        files = {it.file for it in contracts}
-        where = ", ".join(link(it) for it in sorted(files))
-        rows.append(f"| {', '.join(f'`{it}`' for it in laws)} in {where} of `{crate}` | {', '.join(f'`{it}`' for it in names)} | {text} |")
-    return rows, left_with(modules, begun, cut, added)
+    """Two tables: the laws that make the reading shorter, and those that say it in other words, which are longer."""
+    laws = [law(modules, whole, begun, it) for it in SKIPS]
+    shorter = [it for it in laws if it[3] < 0]
+    cut, added = (set().union(*(it[place] for it in shorter)) for place in (1, 2))
+    left = left_with(modules, begun, cut, added)
+    head = ["| law | left out | in its place | lines |", "|---|---|---|---|"]
+    lines = [f"**What a law lets you skip.** With these {counted(left)} are left.", "", *head, *(it[0] for it in shorter), ""]
+    lines += ["**The same in other words.** These make the reading longer, for whoever would rather read a relation or a grammar than a function that computes.", ""]
+    return [*lines, *head, *(it[0] for it in laws if it[3] >= 0), ""]
+
+
+def types_of(found, read):
+    """The Rust types that these definitions name first, by the files that declare them."""
+    named = {}
+    for it in found:
+        for word in it.words():
+            path, name = it.module.imports.get(word.partition(".")[0], ("", ""))
+            crate, _, rest = path.partition(".specs.declared.")
+            if rest and name[:1].isupper() and not name.isupper() and rest.endswith(f".{name}") and (crate, name) not in read:
+                named[crate, name] = f"crates/{crate}/src/{'/'.join(rest.split('.')[:-1])}.rt"
+    read.update(named)
+    crates = specs.crate_names()
+    ours = sorted((it for it in named if it[0] in crates), key=lambda it: (crates.index(it[0]), it[1]))
+    return [f"Types: {', '.join(f'[{name}](../{named[crate, name]})' for crate, name in ours)}.", ""] if ours else []
+
+
+def words_of_the_kit(found):
+    """The words of the kit's own `specs` that these definitions name, by crate."""
+    ours, named = specs.crate_names(), {}
+    for it in found:
+        for word in it.words():
+            path, name = it.module.imports.get(word.partition(".")[0], ("", ""))
+            crate = path.partition(".")[0]
+            if crate and crate not in ours:
+                named.setdefault(crate, set()).add(name)
+    return ", ".join(f"{len(names)} of `{crate}`" for crate, names in sorted(named.items()))
 
 
 def left_with(modules, begun, cut, added):
@@ -134,19 +173,17 @@ def section():
     modules = specs.all_modules()
     run = contract_of("pathserve", "run")
     core = specs.closure(modules, [item(modules, *CORE)])
-    begun, read = run.definitions(modules), set(core)
+    begun, read, types = run.definitions(modules), set(core), set()
     whole = specs.closure(modules, begun)
     lines = [f"`run` of `pathserve`, in {link(run.file)}, has {len(run.clauses)} clauses:", "", "```", *run.text.splitlines(), "```", ""]
-    lines += [f"They rest on {counted(whole)}. `S.left`, `K.kept` and the counts of faults are members of the traits `Source` and `Sink` in `io_edges`.", ""]
+    lines += [f"They rest on {counted(whole)}. `S.left`, `K.kept` and the counts of faults are members of the traits `Source` and `Sink` in `io_edges`. Below them are words of the kit's own `specs`: {words_of_the_kit(whole)}; lists, numbers and options among those of `std`, and what a JSON text is among those of `serde_json`.", ""]
     lines += ["Read in this order. A file comes after those that it imports, and a definition is listed where it is needed first.", ""]
-    lines += [f"**1. The core: `IsOneThread`,** the replies to a journal, without texts, turns in flight or threads. {counted(core)}.", "", *table(modules, core), ""]
+    lines += [f"**1. The core: `IsOneThread`,** the replies to a journal, without texts, turns in flight or threads. {counted(core)}.", "", *table(modules, core), "", *types_of(core, types)]
     for number, (heading, clauses) in enumerate(PARTS, 2):
         more = specs.closure(modules, run.definitions(modules, clauses)) - read
         read |= more
-        lines += [f"**{number}. {heading}:** {counted(more)} more.", "", *table(modules, more), ""]
-    rows, left = skips(modules, whole, begun)
-    lines += [f"**What a law lets you skip.** With all of these {counted(left)} are left.", "", *rows, ""]
-    return "\n".join(lines)
+        lines += [f"**{number}. {heading}:** {counted(more)} more.", "", *table(modules, more), "", *types_of(more, types)]
+    return "\n".join([*lines, *skips(modules, whole, begun)])
 
 
 def page():
