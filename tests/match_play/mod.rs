@@ -66,6 +66,25 @@ fn a_bad_line_stops_a_match(rt: HostRuntime) {
     }
 }
 
+/// Whether a match that has stopped at a line says so again, takes what is fed, and tells nothing more.
+fn says_so_again(alloc: Global) -> Result<bool, NoMemory> {
+    let script = joined(alloc, &[MAP_LINE, "{\"end\":2}\n"])?;
+    let stop = Err(MatchFault::BadLine(2));
+    let mut game = Match::open(alloc, Report::Answers);
+    let mut bytes = script.as_slice();
+    let met = game.feed(alloc, &mut bytes) == stop;
+    let told = game.take(alloc).as_slice() == b"bad line 2\n".as_slice();
+    let mut more = script.as_slice();
+    let again = game.feed(alloc, &mut more) == stop && more.is_empty();
+    let ended = game.finish(alloc) == stop;
+    Ok(met && told && again && ended && game.waiting().is_empty())
+}
+
+#[test]
+fn a_match_that_has_stopped_says_so_again(rt: HostRuntime) {
+    assert!(rt; says_so_again(rt.alloc()) == Ok(true));
+}
+
 /// Whether a script without its last newline ends so, and is answered so; and whether nothing is taken behind its end.
 fn is_ended(
     alloc: Global,
