@@ -90,11 +90,15 @@ def build(unit, rtlib, stamp, program):
             raise Refused(f"{with_real_paths(said, unit)}the tests of {' '.join(unit.names)} could not be compiled")
         unproved_build.compile_module(unit.kit, options, folder, LEVEL)
         unproved_build.link(unit.kit, folder)
-        os.makedirs(os.path.dirname(program), exist_ok=True)
+        os.makedirs(KEPT, exist_ok=True)
         shutil.copy(f"{folder}/program", f"{program}.new")
+    if os.path.exists(f"{program}.stamp"):
+        os.remove(f"{program}.stamp")
     os.replace(f"{program}.new", program)
-    with open(f"{program}.stamp", "w", encoding="utf-8") as it:
-        it.write(stamp)
+    # where a source has changed meanwhile, nobody knows what was built
+    if stamp_of(unit) == stamp:
+        with open(f"{program}.stamp", "w", encoding="utf-8") as it:
+            it.write(stamp)
 
 
 def is_kept(program, stamp):
@@ -106,9 +110,10 @@ def is_kept(program, stamp):
 
 def built(unit, rtlib):
     """The program of the unit's tests, which is built where it is not kept."""
-    program, stamp = f"{KEPT}/{'-'.join(unit.names) if len(unit.names) < 2 else f'from-{unit.names[0]}'}", stamp_of(unit)
+    first, last = unit.names[0], unit.names[-1]
+    what, program = (first, f"{KEPT}/{first}") if first == last else (f"{first} to {last}", f"{KEPT}/{first}-to-{last}")
+    stamp = stamp_of(unit)
     if not is_kept(program, stamp):
-        what = unit.names[0] if len(unit.names) == 1 else f"{unit.names[0]} to {unit.names[-1]}"
         say(f"building the tests of {what} ..")
         begun = time.monotonic()
         build(unit, rtlib, stamp, program)
