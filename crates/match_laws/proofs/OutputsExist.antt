@@ -1,5 +1,5 @@
 -- Where each request has its note and each turn its numbers there is an output text, and nowhere else.
-use Rattle.std.proofs.Common.{◌≡◌, ℕ, ◌+◌, List, [], ◌∷◌, ◌++◌, length, Bool, true, false, All, Option, Some, None, refl, sym, ap, ◌∙◌, subst}
+use Rattle.std.proofs.Common.{◌≡◌, ℕ, ◌+◌, List, [], ◌∷◌, ◌++◌, length, get_or, Bool, true, false, All, Option, Some, None, refl, sym, ap, ◌∙◌, subst}
 use Rattle.std.specs.Prelude.{⊤, ◌↔◌, if◌then◌else◌, option_and_then}
 use Rattle.std.proofs.lemmas.List.Elements.{All-nil, All-cons, All-head, All-tail}
 use Rattle.serde_json.specs.Data.{Data}
@@ -29,6 +29,8 @@ use Rattle.script_text.proofs.ReadWalk.{chain-assoc}
 use Rattle.match_play.specs.Texts.{unsaid, IsText, ends_text, IsOut}
 use Rattle.pathserve.specs.Output.{AreNotesInTurns, noted_texts}
 use Rattle.pathserve.proofs.OneThread.{notes_told, notes_give}
+use Rattle.answer_laws.proofs.Noting.{note_to}
+use Rattle.answer_laws.proofs.Telling.{numbers_of}
 use Rattle.match_laws.specs.Outputs.{HasNote, CanTellAll, CanTellInput}
 
 -- ---- the items of an input
@@ -190,3 +192,21 @@ noted_answer m standing request =
     first_note found =
         let notes = notes_of_answers m standing (request ∷ []) (found.0 ∷ []) (found.1, tt) in
         first_of notes.0 notes.1
+
+-- ---- each input
+
+-- each turn can be told, whatever stands before it
+told_each : (report : Report) (m : Map) (s : Standing) (journal : List (List (List Post))) → CanTellAll report m s journal
+told_each report m s [] = tt
+told_each report m s (turn ∷ journal) =
+    let final : Standing = after_turn m s turn in (
+      record {
+        notes = λ k request low. note_to m final report (get_or (jobs turn) k request);
+        numbers = numbers_of m s final;
+      },
+      told_each report m final journal,
+    )
+
+pub each_out : (report : Report) (bytes : List ℕ) → (out : List ℕ) × IsOut report bytes out
+each_out report bytes =
+    out_exists report bytes (λ m is. told_each report m bare (turns_of (reading bytes beginning).items))

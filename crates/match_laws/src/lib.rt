@@ -1,4 +1,4 @@
-//! Laws of whole matches: what scripts are in the grammar's words, where there is an output text and what its lines are,
+//! Laws of whole matches: what scripts are in the grammar's words, that there is an output text and what its lines are,
 //! what an output under `serve` tells, how a match goes on from what stands, and what shapes and turns to a side are.
 //!
 //! ```text
@@ -25,7 +25,7 @@ pub use matches::{
     further_turns, saved_matches_go_on, saved_obstructions_are_added, saved_standing,
     saved_turns_can_be_written,
 };
-pub use outputs::has_out;
+pub use outputs::{each_input_has_an_output_text, has_out};
 pub use scripts::{bad_lines, scripts_are_read};
 pub use served::{journal_is_told, one_journal, served_answers_are_replayed, served_values};
 pub use shapes::{blocked_cells, circle_cells, square_remoteness};

@@ -22,3 +22,8 @@ pub fn has_out()
     ensures answers { (m : Map) (standing : Standing) (request : Request)
         → HasNote m standing Answers request ↔ ((answer : Answer) × IsAnswerTo m standing request answer) }
 {}
+
+/// A law: each input has an output text under each report.
+pub fn each_input_has_an_output_text()
+    ensures { (report : Report) (bytes : List ℕ) → (out : List ℕ) × IsOut report bytes out }
+{}
