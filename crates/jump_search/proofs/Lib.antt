@@ -11,6 +11,7 @@ pub mod Opening
 pub mod LastRuns
 pub mod GoingBack
 pub mod Corners
+pub mod Covering
 pub mod Answering
 pub mod OneNumber
 pub mod Framing

@@ -41,21 +41,18 @@ unfolding cell_number
 number_blank table numbers size is cell =
     zero_in numbers size is (get_or table (page_place cell) 0 * 64 + spot_of cell)
 
--- a table that was lent whole and filled with zeros
-pub filled : (table numbers : List ℕ) (size : ℕ) → size ≡ length table → numbers ≡ replicate (length table) 0
-    → take size (numbers ++ drop (length numbers) table) ≡ replicate (length table) 0
-filled table numbers size whole zeros =
-    let long : length numbers ≡ length table = ap length zeros ∙ length-replicate (length table) 0 in
-    let same : size ≡ length numbers = omega (arith, whole, long) in
-    take-append-le size numbers (drop (length numbers) table) (omega (arith, same))
-    ∙ ap (λ (n : ℕ). take n numbers) same ∙ take-length numbers ∙ zeros
+-- a table that was lent whole
+pub lent_whole : (table new : List ℕ) (size : ℕ) → size ≡ length table → length new ≡ length table
+    → take size (new ++ drop (length new) table) ≡ new
+lent_whole table new size whole long =
+    let same : size ≡ length new = omega (arith, whole, long) in
+    take-append-le size new (drop (length new) table) (omega (arith, same)) ∙ ap (λ (n : ℕ). take n new) same
+    ∙ take-length new
 
 -- pages that were set back: the table is of zeros, and the first page is left
-pub pages_cleared : (table numbers cut short : List ℕ) → ArePages table numbers → cut ≡ replicate (length table) 0
-    → short ≡ take 64 numbers → ArePages cut short
-pages_cleared table numbers cut short pages zeros first =
-    let zero : (place : ℕ) → get_or cut place 0 ≡ 0 = zero_in cut (length table) zeros in
-    let long : length cut ≡ length table = ap length zeros ∙ length-replicate (length table) 0 in
+pub pages_cleared : (table numbers cut short : List ℕ) → ArePages table numbers → length cut ≡ length table
+    → ((place : ℕ) → get_or cut place 0 ≡ 0) → short ≡ take 64 numbers → ArePages cut short
+pages_cleared table numbers cut short pages long zero first =
     let some = pages.inside 0 in
     let wide = pages.wide in
     let size : length short ≡ 64 = ap length first ∙ length-take-le 64 numbers (omega (arith, some)) in
@@ -67,13 +64,14 @@ pages_cleared table numbers cut short pages zeros first =
       own = λ a b same more. let page = zero a in absurd (omega (arith, page, more));
     }
 
-pub number_cleared : (table numbers cut short : List ℕ) → ArePages table numbers → cut ≡ replicate (length table) 0
-    → short ≡ take 64 numbers → (cell : Cell) → cell_number cut short cell ≡ 0
+pub number_cleared : (table numbers cut short : List ℕ) → ArePages table numbers → length cut ≡ length table
+    → ((place : ℕ) → get_or cut place 0 ≡ 0) → short ≡ take 64 numbers → (cell : Cell) → cell_number cut short cell ≡ 0
 unfolding cell_number
-number_cleared table numbers cut short pages zeros first cell =
-    let page : get_or cut (page_place cell) 0 ≡ 0 = zero_in cut (length table) zeros (page_place cell) in
+number_cleared table numbers cut short pages long zero first cell =
+    let page : get_or cut (page_place cell) 0 ≡ 0 = zero (page_place cell) in
     let at : get_or cut (page_place cell) 0 * 64 + spot_of cell ≡ spot_of cell = omega (arith, page) in
-    ap (λ (n : ℕ). get_or short n 0) at ∙ (pages_cleared table numbers cut short pages zeros first).blank (spot_of cell) (spot_low cell)
+    ap (λ (n : ℕ). get_or short n 0) at
+    ∙ (pages_cleared table numbers cut short pages long zero first).blank (spot_of cell) (spot_low cell)
 
 set_apart : (table numbers : List ℕ) (place spot value : ℕ) → ArePages table numbers → 0 < get_or table place 0
     → spot < 64 → (p s : ℕ) → s < 64 → p * 64 + s ≢ place * 64 + spot

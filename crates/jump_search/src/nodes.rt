@@ -51,15 +51,13 @@ pub(crate) struct Nodes {
 impl Model for Nodes {
     ghost use Rattle.std.specs.Prelude.{List};
     ghost use Rattle.jump_search.specs.declared.nodes.Node.{Node};
-    ghost use Rattle.jump_search.specs.inner.Numbered.{AreSlotChains};
-    ghost use Rattle.jump_search.specs.inner.Paged.{slot_of, cell_number};
+    ghost use Rattle.jump_search.specs.inner.Numbered.{AreFound};
 
     ghost Value = { List Node };
 
     ghost view = { λ n. n.list.items };
 
-    ghost invariant = { λ n. AreSlotChains slot_of (cell_number n.pages.table.items n.pages.numbers.items) n.list.items
-        n.links.items };
+    ghost invariant = { λ n. AreFound n.pages.table.items n.pages.numbers.items n.list.items n.links.items };
 }
 
 /// The number of an arrival: 0 for none, else that of its direction from 1.
@@ -171,9 +169,9 @@ impl Nodes {
     pub(crate) fn clear(&mut self)
         ensures { self.new ≡ [] }
     {
+        self.pages.clear(&self.list);
         self.list.clear();
         self.links.clear();
-        self.pages.clear();
     }
 
     /// How the state stands to the nodes. A node of its cell that costs less than the bound is told of where it is found

@@ -1,9 +1,11 @@
 //! Numbers for the cells of a map.
-ghost use Rattle.std.specs.Prelude.{◌≡◌, ◌<◌, ℕ, length, replicate, slice_index, IfOk, OnOk};
+ghost use Rattle.std.specs.Prelude.{◌≡◌, ◌≢◌, ◌<◌, ◌≤◌, ℕ, length, slice_index, IfOk, OnOk};
 ghost use Rattle.std.specs.Prelude.{OnErr};
+ghost use Rattle.jump_search.specs.inner.Numbered.{AreCovered};
 ghost use Rattle.jump_search.specs.inner.Paged.{page_place, spot_of, number_on_page, cell_number, ArePages, IsSet};
 ghost use Rattle.nav_types.specs.declared.cells.Cell.{Cell};
 
+use crate::nodes::Node;
 use nav_types::{Cell, NoMemory};
 use std::alloc::Global;
 
@@ -13,6 +15,8 @@ const PAGE: usize = 64;
 const PLACES: usize = 4096;
 /// For how many pages there is room from the start: one at each place, and the page of zeros.
 const ROOM: usize = PLACES + 1;
+/// Below how many nodes the numbers of their places are set back one by one, and not all.
+const FEW: usize = 512;
 
 /// A number for each cell of a map; 0 where none was set. A page has the numbers of 8 by 8 cells, and is made when
 /// the first of them is set.
@@ -43,17 +47,38 @@ fn place(cell: Cell) -> usize
     usize::from(cell.j / 8 % 64) * 64 + usize::from(cell.i / 8 % 64)
 }
 
-/// Sets each number to 0.
-fn blank(numbers: &mut [u16])
-    ensures { numbers.new ≡ replicate (length numbers.old) 0 }
+/// Sets the numbers at the places of the nodes to 0. The others are 0.
+fn blank_at(numbers: &mut [u16], nodes: &[Node])
+    requires wide { 4096 ≤ length numbers.old }
+    requires covered { AreCovered numbers.old nodes.now }
+    ensures long { length numbers.new ≡ length numbers.old }
+    ensures blank { (place : ℕ) → slice_index numbers.new place ≡ 0 }
 {
+    for node in nodes {
+        numbers[place(node.state.cell)] = 0;
+    }
+}
+
+/// Sets each number to 0. Those that are not are at the places of the nodes.
+fn blank(numbers: &mut [u16], nodes: &[Node])
+    requires wide { 4096 ≤ length numbers.old }
+    requires covered { AreCovered numbers.old nodes.now }
+    ensures long { length numbers.new ≡ length numbers.old }
+    ensures blank { (place : ℕ) → slice_index numbers.new place ≡ 0 }
+{
+    if nodes.len() < FEW {
+        blank_at(numbers, nodes);
+        return;
+    }
     numbers.fill(0);
 }
 
 impl Pages {
     /// Pages with 0 for each cell.
     pub(crate) fn new(alloc: Global) -> Result<Pages, NoMemory>
-        ensures { IfOk result (λ pages. (cell : Cell) → cell_number pages.table.items pages.numbers.items cell ≡ 0) }
+        ensures numbers { IfOk result (λ pages. (cell : Cell)
+            → cell_number pages.table.items pages.numbers.items cell ≡ 0) }
+        ensures table { IfOk result (λ pages. (place : ℕ) → slice_index pages.table.items place ≡ 0) }
     {
         let table = vec![in alloc; 0; PLACES]?;
         let mut numbers = Vec::with_capacity(alloc, ROOM * PAGE)?;
@@ -61,11 +86,14 @@ impl Pages {
         Ok(Pages { table, numbers })
     }
 
-    /// Sets the number of each cell to 0. It takes no memory, and keeps the room of the pages that were made.
-    pub(crate) fn clear(&mut self)
-        ensures { (cell : Cell) → cell_number self.new.table.items self.new.numbers.items cell ≡ 0 }
+    /// Sets the number of each cell to 0, where no place has a page but those of the nodes. It takes no memory, and keeps
+    /// the room of the pages that were made.
+    pub(crate) fn clear(&mut self, nodes: &[Node])
+        requires { AreCovered self.old.table.items nodes.now }
+        ensures numbers { (cell : Cell) → cell_number self.new.table.items self.new.numbers.items cell ≡ 0 }
+        ensures table { (place : ℕ) → slice_index self.new.table.items place ≡ 0 }
     {
-        blank(&mut self.table);
+        blank(&mut self.table, nodes);
         self.numbers.truncate(PAGE);
     }
 
@@ -84,6 +112,8 @@ impl Pages {
         ensures page { IfOk result (λ page. page ≡ slice_index self.new.table.items place) }
         ensures some { IfOk result (λ page. 0 < page) }
         ensures places { length self.new.table.items ≡ length self.old.table.items }
+        ensures others { (at : ℕ) → at ≢ place
+            → slice_index self.new.table.items at ≡ slice_index self.old.table.items at }
         ensures same { OnOk result ((at spot : ℕ) → spot < 64
             → number_on_page self.new.table.items self.new.numbers.items at spot
             ≡ number_on_page self.old.table.items self.old.numbers.items at spot) }
@@ -110,6 +140,8 @@ impl Pages {
         ensures set { OnOk result (IsSet cell number
             (cell_number self.old.table.items self.old.numbers.items)
             (cell_number self.new.table.items self.new.numbers.items)) }
+        ensures others { (place : ℕ) → place ≢ page_place cell
+            → slice_index self.new.table.items place ≡ slice_index self.old.table.items place }
         ensures table { OnErr result (self.new.table.items ≡ self.old.table.items) }
         ensures numbers { OnErr result (self.new.numbers.items ≡ self.old.numbers.items) }
     {

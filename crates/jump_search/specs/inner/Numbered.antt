@@ -1,5 +1,6 @@
 -- How the nodes of a search are found by their states.
-use Rattle.std.specs.Prelude.{ℕ, Bool, ◌≡◌, ◌≢◌, ◌+◌, ◌<◌, ◌≤◌, ◌&&◌, List, length, Option, None, Some, nat_eq, slice_get, slice_index}
+use Rattle.std.specs.Prelude.{ℕ, Bool, ◌≡◌, ◌≢◌, ◌+◌, ◌<◌, ◌≤◌, ◌&&◌, List, length, Option, None, Some, nat_eq, slice_get}
+use Rattle.std.specs.Prelude.{slice_index, All}
 use Rattle.nav_types.specs.declared.cells.Cell.{Cell}
 use Rattle.nav_types.specs.declared.directions.Dir.{Dir}
 use Rattle.nav_types.specs.declared.directions.Dir.TheVariants.{N, E, S, W, NE, SE, SW, NW}
@@ -7,6 +8,7 @@ use Rattle.jump_search.specs.declared.nodes.Node.{Node}
 use Rattle.jump_search.specs.declared.nodes.Standing.{Standing}
 use Rattle.jump_search.specs.declared.nodes.Standing.TheVariants.{Dearer, Known, New}
 use Rattle.jump_search.specs.declared.states.JumpState.{JumpState}
+use Rattle.jump_search.specs.inner.Paged.{page_place, slot_of, cell_number}
 
 -- the number of an arrival: 0 for none, else that of its direction from 1
 abbrev pub arrival_number : Option Dir → ℕ
@@ -53,6 +55,16 @@ pub record AreLinked (Slot : Cell → ℕ) (nodes : List Node) (links : List ℕ
 pub record AreSlotChains (Slot Head : Cell → ℕ) (nodes : List Node) (links : List ℕ) : Type 0 where
   pub linked : AreLinked Slot nodes links
   pub heads : (cell : Cell) → IsLastInSlot Slot nodes (Slot cell) (length nodes) (Head cell)
+
+-- no place has a page but those of the nodes
+abbrev pub AreCovered : List ℕ → List Node → Type 0
+AreCovered table nodes = (place : ℕ) → All (λ (node : Node). page_place node.state.cell ≢ place) nodes
+    → slice_index table place ≡ 0
+
+-- each cell leads to its nodes by its number on the pages, and no page is for other cells
+pub record AreFound (table numbers : List ℕ) (nodes : List Node) (links : List ℕ) : Type 0 where
+  pub chained : AreSlotChains slot_of (cell_number table numbers) nodes links
+  pub covered : AreCovered table nodes
 
 -- a node with the state, if there is one, is `after` or linked from there
 pub record IsSought (Slot : Cell → ℕ) (nodes : List Node) (state : JumpState) (after : ℕ) : Type 0 where

@@ -1,8 +1,9 @@
 use Rattle.std.proofs.Common.{rules, ℕ, ◌≡◌, ◌+◌, ◌++◌, ◌∷◌, [], length, ap, sym, subst, ◌∙◌, List, arith}
 use Rattle.nav_types.specs.declared.cells.Cell.{Cell}
 use Rattle.jump_search.specs.declared.nodes.Node.{Node}
-use Rattle.jump_search.specs.inner.Numbered.{AreSlotChains}
+use Rattle.jump_search.specs.inner.Numbered.{AreSlotChains, AreCovered}
 use Rattle.jump_search.specs.inner.Paged.{slot_of, cell_number}
+use Rattle.jump_search.proofs.Covering.{covered_more}
 use Rattle.jump_search.proofs.Numbering.{chained_more}
 use Rattle.jump_search.proofs.nodes.Nodes.add.Goals as goal
 
@@ -27,7 +28,11 @@ invariant_of-self-2 c =
     c.push_reserved.ensures.items ∙ ap (λ (l : List ℕ). l ++ c.in_ok-before.before ∷ []) c.reserve-2.ensures.items
     ∙ ap (λ (n : ℕ). inside.links.items ++ n ∷ []) c.in_ok-before.ensures.before in
     let chained = chained_more slot_of Head New inside.list.items inside.links.items node (length inside.list.items + 1)
-    c.self.invariant (search rules) here set.apart in
+    c.self.invariant.chained (search rules) here set.apart in
     let one = subst (λ (l : List Node). AreSlotChains slot_of New l (inside.links.items ++ Head node.state.cell ∷ []))
     (sym items) chained in
-    subst (λ (l : List ℕ). AreSlotChains slot_of New list l) (sym linked) one
+    record {
+      chained = subst (λ (l : List ℕ). AreSlotChains slot_of New list l) (sym linked) one;
+      covered = subst (λ (l : List Node). AreCovered made l) (sym items)
+          (covered_more table made inside.list.items node c.self.invariant.covered c.replace.ensures.others);
+    }

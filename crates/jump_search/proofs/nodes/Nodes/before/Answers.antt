@@ -13,7 +13,7 @@ returns-clause-inside c =
     let list = inside.list.items in
     let links = inside.links.items in
     let down = chained_down slot_of (cell_number inside.pages.table.items inside.pages.numbers.items) list links
-    c.self.invariant in
+    c.self.invariant.chained in
     let known = c.requires in
     let same = ap (λ (nodes : List Node). length nodes) c.self.view_is in
     let within : c.args.number < length list = omega (arith, known, same) in
@@ -32,7 +32,7 @@ returns-clause-last c = λ node found.
     let number = c.args.number in
     let known = c.requires in
     let same = ap (λ (nodes : List Node). length nodes) c.self.view_is in
-    let long = c.self.invariant.linked.long in
+    let long = c.self.invariant.chained.linked.long in
     let low : number < length links = omega (arith, known, same, long) in
     let link : c.index.result.now ≡ get_or links number 0 =
     get_or_read links number c.index.result.now low c.index.ensures 0 in
@@ -41,4 +41,4 @@ returns-clause-last c = λ node found.
     subst (λ (nodes : List Node). slice_get nodes number ≡ Some node) (sym c.self.view_is) found in
     subst (λ (nodes : List Node). IsLastInSlot slot_of nodes slot number c.index.result.now) c.self.view_is
     (subst (λ (after : ℕ). IsLastInSlot slot_of list slot number after) (sym link)
-    (c.self.invariant.linked.each number node got))
+    (c.self.invariant.chained.linked.each number node got))

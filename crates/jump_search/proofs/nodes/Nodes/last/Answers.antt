@@ -10,4 +10,4 @@ returns-clause-last c =
     let slot = slot_of c.args.cell in
     subst (λ (nodes : List Node). IsLastInSlot slot_of nodes slot (length nodes) c.get.result) c.self.view_is
     (subst (λ (after : ℕ). IsLastInSlot slot_of list slot (length list) after) (sym c.get.ensures)
-    (c.self.invariant.heads c.args.cell))
+    (c.self.invariant.chained.heads c.args.cell))

@@ -6,4 +6,4 @@ pub least_before-requires-clause-down : goal.least_before-requires-clause-down
 least_before-requires-clause-down c =
     let inside = c.self.inside in
     chained_down slot_of (cell_number inside.pages.table.items inside.pages.numbers.items) inside.list.items
-    inside.links.items c.self.invariant
+    inside.links.items c.self.invariant.chained
