@@ -9,8 +9,10 @@
  *     by structs    pathserve_open_map   post_all, end_turn    replies, waypoints, journal
  *     to look       pathserve_view_of    passable, region, area, row, find
  *
- * WHAT YOU PROMISE, for each call. The library's functions are proved to be safe and to do what is said here. That rests on
- * these promises, which nothing checks: a broken one is undefined behaviour.
+ * WHAT YOU PROMISE, for each call. The library's functions are proved to be safe and to give the statuses and the results
+ * that are said here. What is said of memory (that closing frees it, that a view copies little, that memory of text that was
+ * taken is used again) and that a match that has stopped says so again is tested, and not proved. All rests on these
+ * promises, which nothing checks: a broken one is undefined behaviour.
  *   1. A pointer to a struct is not NULL, is aligned, and points to one that may be written, unless it points to `const`.
  *      Nobody else uses it until the call returns, and the pointers of one call point to things apart.
  *   2. A pointer with a length or a count points to so many items. With 0 it may be NULL.
@@ -113,8 +115,8 @@ pathserve_status pathserve_open(pathserve_match *match, uint32_t report);
  * to be taken. `taken` is how many of the bytes were taken.
  *   DONE                  all bytes were taken. What was told since the match was opened is what the program writes for the
  *                         whole lines that were fed.
- *   BAD_LINE, TOO_LONG    the match stops, and each later call answers the same. What was told is what the program writes for
- *                         the script, whatever follows. All bytes were taken.
+ *   BAD_LINE, TOO_LONG    the match stops, and each later call answers the same, until pathserve_finish ends the script. What
+ *                         was told is what the program writes for the script, whatever follows. All bytes were taken.
  *   NO_MEMORY             only the first `taken` bytes were: feed the others again, or none.
  *   ENDED, CLOSED, OTHER  no byte was taken. */
 pathserve_status pathserve_feed(pathserve_match *match, const uint8_t *bytes, size_t length, size_t *taken);
@@ -266,9 +268,10 @@ size_t pathserve_replies(pathserve_match *match, uint64_t first, pathserve_reply
 size_t pathserve_waypoints(pathserve_match *match, uint64_t first, pathserve_cell *waypoints, size_t count);
 
 /* Writes the match so far as a script, from the posts that it keeps: the turns that have ended and no other, in canonical
- * form. A match that is fed with it gets the same map and the same turns. `whole` is how many bytes it has. DONE: it stands at
- * the head of the buffer. SMALL: the buffer holds fewer; nothing was written. So a first call with (NULL, 0) asks for the
- * size, and says SMALL. NO_MEMORY, CLOSED, OTHER: neither was written. */
+ * form. A match that is fed with it gets the same map and the same turns, where it is within the limits of a script (4 GiB in
+ * all: some 40 million posts). `whole` is how many bytes it has. DONE: it stands at the head of the buffer. SMALL: the buffer
+ * holds fewer; nothing was written. So a first call with (NULL, 0) asks for the size, and says SMALL. NO_MEMORY, CLOSED, OTHER:
+ * neither was written. */
 pathserve_status pathserve_journal(pathserve_match *match, uint8_t *buffer, size_t length, size_t *whole);
 
 /* ======== views: questions between turns, by any thread ======== */

@@ -7,8 +7,9 @@ use Rattle.turn_core.specs.declared.reports.TheConstants.{REPORTS}
 use Rattle.match_play.specs.declared.faults.MatchFault.{MatchFault}
 use Rattle.match_play.specs.Playing.{said_of}
 use Rattle.grid_versions.specs.Versions.{MapState, map_state}
+use Rattle.match_play.specs.Posted.{PostedState}
 use Rattle.match_play.specs.Texts.{Said}
-use Rattle.script_text.specs.ReadsBack.{canon_script}
+use Rattle.script_text.specs.ReadsBack.{IsWithinLimits, ReadsAs}
 use Rattle.flat_posts.specs.declared.map_parts.FlatClass.{FlatClass}
 use Rattle.flat_posts.specs.declared.map_parts.FlatRect.{FlatRect}
 use Rattle.flat_posts.specs.declared.maps.FlatMap.{FlatMap}
@@ -20,7 +21,7 @@ use Rattle.pathserve_c.specs.declared.states.State.{State}
 use Rattle.pathserve_c.specs.declared.states.State.TheVariants.{Text, Structs, View}
 use Rattle.pathserve_c.specs.declared.statuses.TheConstants.{DONE, NO_MEMORY, CLOSED, OPEN, NO_MAP, BAD_VALUE, SMALL}
 use Rattle.pathserve_c.specs.Statuses.{refusal, status_of, status_of_posts}
-use Rattle.pathserve_c.specs.Structs.{StructState, Ends, IsNew, PostsAs, standing_in}
+use Rattle.pathserve_c.specs.Structs.{StructState, Ends, IsNew, PostsAs, script_of, standing_in}
 use Rattle.pathserve_c.specs.declared.statuses.PostFault.{PostFault}
 use Rattle.pathserve_c.specs.Texts.{TextState, IsUnread, Feeds, Finishes, Takes}
 
@@ -149,13 +150,15 @@ IsEnded (Some (Structs old)) new before after status = (made : StructState)
     × ((new ≡ Some (Structs made)) × (HasEnded old made after status ⊎ IsUnended old made before after status))
 
 -- Of a match by structs, its script stands at the head of the buffer, or the buffer is too small, or there was no memory.
-pub record IsScript (script before after : List ℕ) (old new status : ℕ) : Type 0 where
+-- Where the script is within the limits of an input, a match that is fed with it gets the same map and the same turns.
+pub record IsScript (game : PostedState) (before after : List ℕ) (old new status : ℕ) : Type 0 where
   pub statuses : Contains (DONE ∷ SMALL ∷ NO_MEMORY ∷ []) status
-  pub done : status ≡ DONE → after ≡ script ++ drop (length script) before
-  pub small : status ≡ SMALL → length before < length script
+  pub done : status ≡ DONE → after ≡ script_of game ++ drop (length (script_of game)) before
+  pub small : status ≡ SMALL → length before < length (script_of game)
   pub kept : status ≢ DONE → after ≡ before
-  pub known : status ≢ NO_MEMORY → new ≡ length script
+  pub known : status ≢ NO_MEMORY → new ≡ length (script_of game)
   pub unknown : status ≡ NO_MEMORY → new ≡ old
+  pub reads_back : status ≡ DONE → IsWithinLimits (script_of game) → ReadsAs game.map game.journal (script_of game)
 
 -- nothing was written
 abbrev pub IsRefusedUnwritten : Option State → (before after : List ℕ) → (old new : ℕ) → ℕ → Type 0
@@ -167,4 +170,4 @@ IsWritten None before after old new status = IsRefusedUnwritten None before afte
 IsWritten (Some (Text text)) before after old new status = IsRefusedUnwritten (Some (Text text)) before after old new status
 IsWritten (Some (View version)) before after old new status = IsRefusedUnwritten (Some (View version)) before after old new status
 IsWritten (Some (Structs structs)) before after old new status =
-    IsScript (canon_script structs.game.map structs.game.journal) before after old new status
+    IsScript structs.game before after old new status

@@ -3,6 +3,7 @@ use Rattle.std.specs.Prelude.{ℕ, ◌≡◌, List, [], ◌∷◌, ◌++◌, Res
 use Rattle.posts.specs.declared.posts.Post.{Post}
 use Rattle.posts.specs.declared.replies.TurnReplies.{TurnReplies}
 use Rattle.posts.specs.Maps.{Map}
+use Rattle.script_text.specs.ReadsBack.{canon_script}
 use Rattle.turn_core.specs.Turns.{IsTurnTold, standing}
 use Rattle.turn_core.specs.Words.{Standing, bare}
 use Rattle.flat_posts.specs.declared.posted.FlatPost.{FlatPost}
@@ -41,6 +42,10 @@ PostsAs old new flats (Err NoMemory) = new ≡ old
 -- what stands after the turns that have ended
 abbrev pub standing_in : PostedState → Standing
 standing_in game = standing game.map bare game.journal
+
+-- the match as a script: the canonical one of its map and its turns
+abbrev pub script_of : PostedState → List ℕ
+script_of game = canon_script game.map game.journal
 
 -- the turn that waits
 abbrev pub turn_in : StructState → List (List Post)

@@ -1,7 +1,7 @@
 //! Matches by structs.
 ghost use Rattle.std.specs.Prelude.{◌≡◌, IfOk, OnErr, OnOk, [], length};
-ghost use Rattle.script_text.specs.ReadsBack.{canon_script};
-ghost use Rattle.pathserve_c.specs.Structs.{Ends, IsNew, PostsAs, standing_in};
+ghost use Rattle.script_text.specs.ReadsBack.{IsWithinLimits, ReadsAs};
+ghost use Rattle.pathserve_c.specs.Structs.{Ends, IsNew, PostsAs, script_of, standing_in};
 
 use crate::statuses::PostFault;
 use flat_posts::{CallerPosts, FlatPost, PostsFault, read_posts, turn_of};
@@ -103,7 +103,9 @@ impl StructMatch {
 
     /// The match as a script: the canonical text of its map and of the turns that have ended.
     pub fn script(&self, alloc: Global) -> Result<Bytes, NoMemory>
-        ensures { IfOk result (λ text. text ≡ canon_script self.now.game.map self.now.game.journal) }
+        ensures text { IfOk result (λ text. text ≡ script_of self.now.game) }
+        ensures reads_back { OnOk result (IsWithinLimits (script_of self.now.game)
+            → ReadsAs self.now.game.map self.now.game.journal (script_of self.now.game)) }
     {
         self.game.script(alloc)
     }

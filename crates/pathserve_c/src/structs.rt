@@ -1,6 +1,5 @@
 //! Calls of matches by structs.
 ghost use Rattle.std.specs.Prelude.{◌≡◌, ◌⊎◌, Some};
-ghost use Rattle.script_text.specs.ReadsBack.{canon_script};
 ghost use Rattle.flat_posts.specs.Pages.{IsPage};
 ghost use Rattle.flat_posts.specs.Replies.{turn_replies, turn_waypoints};
 ghost use Rattle.pathserve_c.specs.Calls.{HasEnded, IsEnded, IsOpenedOn, IsPosted, IsScript, IsUnended, IsWritten};
@@ -191,7 +190,7 @@ fn write_journal_of(alloc: Global, state: &State, buffer: &mut [u8], whole: &mut
 
 /// Writes a match as a script, where the buffer holds it.
 fn write_journal(alloc: Global, structs: &StructMatch, buffer: &mut [u8], whole: &mut usize) -> u32
-    ensures { IsScript (canon_script structs.now.game.map structs.now.game.journal) buffer.old buffer.new whole.old whole.new result }
+    ensures { IsScript structs.now.game buffer.old buffer.new whole.old whole.new result }
 {
     let Ok(text) = structs.script(alloc) else {
         return NO_MEMORY;
