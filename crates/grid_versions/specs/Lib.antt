@@ -3,5 +3,4 @@ pub mod Passing
 pub mod Editing
 pub mod Chunks
 pub mod Versions
-pub mod PassingLaws
 pub mod inner

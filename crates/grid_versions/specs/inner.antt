@@ -11,3 +11,4 @@ pub mod Parts
 pub mod Changing
 pub mod SameNumbers
 pub mod Marks
+pub mod PassingLaws

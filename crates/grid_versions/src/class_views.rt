@@ -47,7 +47,7 @@ impl<'a> ClassView<'a> {
 
 impl<'a> View for ClassView<'a> {
     ghost use Rattle.grid_versions.specs.Versions.{MapState, passes_of};
-    ghost use Rattle.grid_versions.specs.PassingLaws.{passes_within};
+    ghost use Rattle.grid_versions.specs.inner.PassingLaws.{passes_within};
     ghost use Rattle.std.specs.Prelude.{length};
 
     ghost extent = { λ v. v.map.size };
@@ -107,7 +107,7 @@ impl<'a> FreeCells for ClassView<'a> {
 impl<'a> Areas for ClassView<'a> {
     ghost use Rattle.nav_types.specs.Regions.{HasArea};
     ghost use Rattle.grid_versions.specs.Versions.{passes_of};
-    ghost use Rattle.grid_versions.specs.PassingLaws.{area_zero, area_joined};
+    ghost use Rattle.grid_versions.specs.inner.PassingLaws.{area_zero, area_joined};
 
     ghost has_area = { λ v class cell area. HasArea (passes_of v class) cell area };
 

@@ -47,7 +47,7 @@ impl<'a> PaintedMap<'a> {
 
 impl<'a> View for PaintedMap<'a> {
     ghost use Rattle.grid_versions.specs.Versions.{MapState, passes_of};
-    ghost use Rattle.grid_versions.specs.PassingLaws.{passes_within};
+    ghost use Rattle.grid_versions.specs.inner.PassingLaws.{passes_within};
     ghost use Rattle.std.specs.Prelude.{length};
 
     ghost extent = { λ p. p.map.size };

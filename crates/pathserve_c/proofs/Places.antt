@@ -12,7 +12,7 @@ use Rattle.nav_types.specs.Regions.{HasArea, HasRegion}
 use Rattle.nav_types.proofs.Regions.{lies_in}
 use Rattle.class_planes.specs.Planes.{AreFreeBits}
 use Rattle.grid_versions.specs.Passing.{passable_at}
-use Rattle.grid_versions.specs.PassingLaws.{passes_within}
+use Rattle.grid_versions.specs.inner.PassingLaws.{passes_within}
 use Rattle.grid_versions.specs.Versions.{MapState, passes_of}
 use Rattle.pathserve_c.specs.Handles.{words_of}
 

@@ -8,7 +8,7 @@ use Rattle.goal_reach.specs.Targets.{hit_by}
 use Rattle.flow_field.specs.Flows.{IsFieldOf, HasSummary}
 use Rattle.flow_field.proofs.SameFields.{shared_field, shared_summary}
 use Rattle.grid_versions.specs.Versions.{MapState, passes_of}
-use Rattle.grid_versions.specs.PassingLaws.{area_joined}
+use Rattle.grid_versions.specs.inner.PassingLaws.{area_joined}
 use Rattle.turn_core.specs.declared.last_fields.LastField.{LastField}
 use Rattle.turn_core.specs.inner.Searching.{CanFind, IsFieldOn, Serves}
 

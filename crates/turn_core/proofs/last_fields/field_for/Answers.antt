@@ -1,5 +1,5 @@
 use Rattle.std.proofs.Common.{Option, subst}
-use Rattle.grid_versions.specs.PassingLaws.{passes_within}
+use Rattle.grid_versions.specs.inner.PassingLaws.{passes_within}
 use Rattle.turn_core.specs.declared.last_fields.LastField.{LastField}
 use Rattle.turn_core.specs.inner.Searching.{IsKeptOn}
 use Rattle.turn_core.proofs.KeptFields.{kept_serves}
