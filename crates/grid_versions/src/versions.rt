@@ -154,8 +154,7 @@ impl Version {
     /// This version stays as it is. It refuses for want of memory alone.
     ///
     /// `relabelled` is the number of pairs of chunk and class in which some cell is passable in one of the two
-    /// versions and not in the other (`HasRelabelled`). Each of these pairs is labelled once, which is one tick, and no
-    /// other pair is, also where the call refuses. Without edits both versions share all, and nothing is made.
+    /// versions and not in the other (`HasRelabelled`). The call takes at most so many ticks, also where it refuses.
     pub fn next<L: Ledger>(
         &self,
         alloc: Global,
