@@ -59,7 +59,7 @@ chunk_inside size cell inside =
     let column = inside.column in let row = inside.row in
     record { column = omega arith; row = omega arith }
 
-rows_up : (m n k : ℕ) → m ≤ n → m * k ≤ n * k
+pub rows_up : (m n k : ℕ) → m ≤ n → m * k ≤ n * k
 rows_up m n k low = mul-le m k n k low (omega arith)
 
 -- chunks inside are in the order of their places

@@ -20,3 +20,4 @@ pub mod NextLemmas
 pub mod PlanePartLemmas
 pub mod RowLemmas
 pub mod PlaneLines
+pub mod DirtyLemmas

@@ -217,17 +217,6 @@ module _ (map : Map) (earlier now : Standing) (rects : List Rect) (changed : Lis
     (each : (id : ℕ) → (fin_map.get now id ≡ fin_map.get earlier id)
     ⊎ (HoldReached map now changed id × LiesWithin map now id rects)) (rect : Rect) (old : List ℕ)
     (holds : HoldReachers map earlier rect old) (within : IsRectInside map.size rect) where
-  -- a list stays where no changed obstruction reaches
-  pub reachers_stay : ((cell : Cell) → IsInRect rect cell → ¬ IsTrue (is_in_some rects cell))
-      → HoldReachers map now rect old
-  reachers_stay out = record {
-    all = λ id o stands k cell inside blocks. elim (each id) [
-      | inl same ↦ holds.all id o (sym same ∙ stands) k cell inside blocks
-      | inr named ↦
-          absurd (out cell inside (named.1 o stands k cell (inside_map map.size rect cell within inside) blocks))
-    ];
-  }
-
   -- what is made of the old list without the changed numbers, and of the changes, has all
   pub reachers_made : (ids made : List ℕ) → ((id : ℕ) → Contains ids id → HoldReached map now changed id)
       → ((id : ℕ) → Contains old id → Contains ids id ⊎ Contains made id)
@@ -246,3 +235,15 @@ module _ (map : Map) (earlier now : Standing) (rects : List Rect) (changed : Lis
           | inr was ↦ by_change was.0
         ];
   }
+
+-- a list stays where no changed obstruction reaches
+pub reachers_stay : (map : Map) (earlier now : Standing) (rects : List Rect) (ids : List ℕ) → NameChanges map earlier now rects ids
+    → (rect : Rect) (old : List ℕ) → HoldReachers map earlier rect old → IsRectInside map.size rect
+    → ((cell : Cell) → IsInRect rect cell → ¬ IsTrue (is_in_some rects cell)) → HoldReachers map now rect old
+reachers_stay map earlier now rects ids names rect old holds within out = record {
+  all = λ id o stands k cell inside blocks. elim (names.each id) [
+    | inl same ↦ holds.all id o (sym same ∙ stands) k cell inside blocks
+    | inr named ↦
+        absurd (out cell inside (named.1 o stands k cell (inside_map map.size rect cell within inside) blocks))
+  ];
+}

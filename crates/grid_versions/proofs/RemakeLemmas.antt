@@ -16,11 +16,11 @@ pub record AreRemade {A : Type 0} (New Old : ℕ → A → Type 0) (place : ℕ)
   pub left : (k : ℕ) (item : A) → place ≤ k → slice_get items k ≡ Some item → Old k item
 
 -- the item that was put at a place
-set_here : {A : Type 0} (xs : List A) (k : ℕ) (x y : A) → k < length xs → slice_get (set xs k x) k ≡ Some y → x ≡ y
+pub set_here : {A : Type 0} (xs : List A) (k : ℕ) (x y : A) → k < length xs → slice_get (set xs k x) k ≡ Some y → x ≡ y
 set_here xs k x y low at = sym (get_or-set_same xs k x y low) ∙ get_or_from_slice_get (set xs k x) k y y at
 
 -- the item at another place
-set_elsewhere : {A : Type 0} (xs : List A) (i j : ℕ) (x y : A) → j ≢ i → slice_get (set xs i x) j ≡ Some y → slice_get xs j ≡ Some y
+pub set_elsewhere : {A : Type 0} (xs : List A) (i j : ℕ) (x y : A) → j ≢ i → slice_get (set xs i x) j ≡ Some y → slice_get xs j ≡ Some y
 set_elsewhere {A} xs i j x y apart at =
     let low : j < length xs = omega (arith, slice_get_within (set xs i x) j y at, length-set xs i x) in
     slice_get-get_or xs j y low

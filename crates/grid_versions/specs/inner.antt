@@ -11,4 +11,5 @@ pub mod Parts
 pub mod Changing
 pub mod SameNumbers
 pub mod Marks
+pub mod ReachedParts
 pub mod PassingLaws

@@ -38,13 +38,15 @@ pub fn changed_parts(
         → IsFalse (has_class class (slice_index changed.now (chunk_place size (chunk_of cell))))
         ⊎ IsSameAt before.now after.now (chunk_place size (chunk_of cell)) cell) }
 {
-    let mut parts = Vec::new(alloc);
-    for place in 0..changed.len() {
+    let mut found = Vec::new(alloc);
+    let parts = dirty.parts();
+    for part in parts {
+        let place = part.place as usize;
         let old = before.at(place);
         let new = after.at(place);
-        push_part(dirty.part_at(place), old, new, changed[place], &mut parts)?;
+        push_part(Some(part.rect), old, new, changed[place], &mut found)?;
     }
-    Ok(parts)
+    Ok(found)
 }
 
 /// Appends the part of a chunk in which cells of its dirty part have other numbers than before, with these bits.

@@ -14,9 +14,10 @@ ghost use Rattle.grid_versions.specs.inner.ChunkLists.{chunk_numbered};
 ghost use Rattle.grid_versions.specs.Passing.{has_base};
 ghost use Rattle.grid_versions.specs.inner.Painting.{is_covered, AreBaseChunks, ArePaintedChunks, IsPaintedChunk, AreDiffering};
 ghost use Rattle.grid_versions.specs.inner.Reachers.{AreReachers, HoldReachers};
+ghost use Rattle.grid_versions.specs.inner.ReachedParts.{IsReachedPart};
 ghost use Rattle.grid_versions.specs.inner.Reaching.{AreBefore, IsCoveredBefore};
 
-use crate::dirty_parts::DirtyParts;
+use crate::dirty_parts::{DirtyPart, DirtyParts};
 use crate::painting::{Paint, repainted, repainted_below};
 use crate::sites::Site;
 use nav_types::{NoMemory, Rect};
@@ -92,37 +93,35 @@ fn next_numbers(
     repainted_below(alloc, site, whole, &most, part)
 }
 
-/// The numbers of one chunk's cells under the obstructions of now, and the bits that differ from those of before. Only
-/// the cells of the rectangles are painted, and where no bit differs the old numbers are shared.
+/// The numbers of the cells of a part's chunk under the obstructions of now, and the bits that differ from those of
+/// before. Only the part is painted, and where no bit differs the old numbers are shared.
 fn next_patch(
     alloc: Global,
     source: &Source<'_>,
     before: &Before<'_>,
-    place: usize,
+    part: DirtyPart,
 ) -> Result<(Arc<Patch, Global>, u16), NoMemory>
     requires fit { AllFit source.now.site.now.map.now.size source.now.site.now.shapes.now }
     requires base { AreBaseChunks source.now.site.now.map.now source.now.base.now }
     requires reachers { AreReachers source.now.site.now.map.now source.now.site.now.shapes.now source.now.reachers.now }
     requires sized { before.now.dirty.now.size ≡ source.now.site.now.map.now.size }
     requires before { AreBefore source.now.site.now.map.now source.now.site.now.shapes.now before.now.cells.now before.now.dirty.now.rects before.now.ids.now before.now.adds before.now.removes }
-    requires place { place < chunk_count source.now.site.now.map.now.size }
-    ensures painted { IfOk result (λ next. IsPaintedChunk source.now.site.now.map.now source.now.site.now.shapes.now (chunk_numbered source.now.site.now.map.now.size place)
+    requires part { IsReachedPart source.now.site.now.map.now.size before.now.dirty.now.rects part }
+    ensures painted { IfOk result (λ next. IsPaintedChunk source.now.site.now.map.now source.now.site.now.shapes.now (chunk_numbered source.now.site.now.map.now.size part.place)
         (arc_value next.0)) }
-    ensures bits { IfOk result (λ next. (old : Numbering) → slice_get before.now.cells.now place ≡ Some old
+    ensures bits { IfOk result (λ next. (old : Numbering) → slice_get before.now.cells.now part.place ≡ Some old
         → (k : ℕ) → (bit_at next.1 k ≡ 1) ↔ DiffersIn k (arc_value next.0).rect old (arc_value next.0)) }
 {
+    let place = part.place as usize;
     let old = before.cells.at(place);
-    let Some(part) = before.dirty.part_at(place) else {
-        return Ok((before.cells.shared(place)?, 0));
-    };
     let near = source.reachers.at(place);
     let whole = Paint {
         base: source.base.at(place),
         near: near.as_slice(),
     };
     let site = source.site;
-    let patch = next_numbers(alloc, site, &whole, old, before, part)?;
-    let bits = old.differs_in(&patch, part);
+    let patch = next_numbers(alloc, site, &whole, old, before, part.rect)?;
+    let bits = old.differs_in(&patch, part.rect);
     if bits == 0 {
         return Ok((before.cells.shared(place)?, 0));
     }
@@ -130,7 +129,7 @@ fn next_patch(
 }
 
 /// The numbers of all chunks' cells under the obstructions of now, and for each chunk the bits that differ from those
-/// of before.
+/// of before. What no part reaches is shared.
 pub fn next_patches(
     alloc: Global,
     source: &Source<'_>,
@@ -144,13 +143,13 @@ pub fn next_patches(
     ensures painted { IfOk result (λ next. ArePaintedChunks source.now.site.now.map.now source.now.site.now.shapes.now next.0) }
     ensures bits { IfOk result (λ next. AreDiffering before.now.cells.now next.0 next.1.items) }
 {
-    let count = before.cells.len();
-    let mut all = SharedList::with_capacity(alloc, count)?;
-    let mut changed = Vec::with_capacity(alloc, count)?;
-    for place in 0..count {
-        let (patch, bits) = next_patch(alloc, source, before, place)?;
-        all.push_shared(alloc, patch)?;
-        changed.push(bits)?;
+    let mut all = before.cells.share(alloc)?;
+    let mut changed = vec![in alloc; 0; all.len()]?;
+    let parts = before.dirty.parts();
+    for part in parts {
+        let (patch, bits) = next_patch(alloc, source, before, *part)?;
+        all.set_shared(alloc, part.place as usize, patch)?;
+        changed[part.place as usize] = bits;
     }
     Ok((all, changed))
 }

@@ -1,6 +1,5 @@
 //! The numbers of the obstructions that reach into each chunk.
 ghost use Rattle.std.specs.Prelude.{ℕ, ◌≡◌, ◌⊎◌, ◌<◌, Some, Contains, length, IfOk, IsTrue, OnOk};
-ghost use Rattle.std.specs.Arc.{arc_value};
 ghost use Rattle.std.specs.FinMap as fin_map;
 ghost use Rattle.nav_types.specs.declared.cells.Cell.{Cell};
 ghost use Rattle.nav_types.specs.Cells.{IsInRect};
@@ -18,7 +17,6 @@ use nav_types::{NoMemory, Rect, Size};
 use obstruction_store::{Ids, Store};
 use shared_list::SharedList;
 use std::alloc::Global;
-use std::sync::Arc;
 
 /// A rectangle of cells that the obstruction of a number can block.
 #[derive(Clone, Copy)]
@@ -165,8 +163,7 @@ pub fn all_reachers(alloc: Global, site: &Site<'_>) -> Result<SharedList<Ids>, N
     Ok(all)
 }
 
-/// The numbers of the obstructions of now that reach into the chunk at a place. The changes' parts hold what the changed
-/// obstructions can block; the list of a chunk outside them is shared.
+/// The numbers of the obstructions of now that reach into the chunk at a place, which the changes reach.
 fn reachers_at(
     alloc: Global,
     size: Size,
@@ -174,27 +171,22 @@ fn reachers_at(
     changes: &Changes<'_>,
     changed: &[Reacher],
     place: u32,
-) -> Result<Arc<Ids, Global>, NoMemory>
-    requires sized { changes.now.dirty.now.size ≡ size }
+) -> Result<Ids, NoMemory>
     requires place { place < chunk_count size }
     requires each { length before.now ≡ chunk_count size }
     ensures { IfOk result (λ made. (map : Map) (now : Standing) → map.size ≡ size
         → AreReachersSince map now before.now changes.now.dirty.now.rects changes.now.ids.now changed.now
-        → HoldChunkReachers map now (chunk_numbered size place) (arc_value made)) }
+        → HoldChunkReachers map now (chunk_numbered size place) made) }
 {
-    let Some(_) = changes.dirty.part_at(place as usize) else {
-        let shared = before.shared(place as usize)?;
-        return Ok(shared);
-    };
     let rect = Rect::of_chunk(size, chunks::numbered(size, place));
     let old = before.at(place as usize).as_slice();
     let mut made = unchanged_ids(alloc, old, changes.ids)?;
     list_reachers(rect, changed, &mut made)?;
-    Ok(Arc::new(alloc, made)?)
+    Ok(made)
 }
 
 /// For each chunk of the map the numbers of the obstructions of now that reach into it. The changes' parts hold what the
-/// obstructions of the changed numbers can block.
+/// obstructions of the changed numbers can block; the lists of the chunks without a part are shared.
 pub fn next_reachers(
     alloc: Global,
     site: &Site<'_>,
@@ -213,11 +205,11 @@ pub fn next_reachers(
         ids: &rising,
     };
     let changed = reachers_of(alloc, site, named.ids)?;
-    let count = chunks::count(size);
-    let mut all = SharedList::with_capacity(alloc, count as usize)?;
-    for place in 0..count {
-        let made = reachers_at(alloc, size, before, &named, &changed, place)?;
-        all.push_shared(alloc, made)?;
+    let mut all = before.share(alloc)?;
+    let parts = changes.dirty.parts();
+    for part in parts {
+        let made = reachers_at(alloc, size, before, &named, &changed, part.place)?;
+        all.set(alloc, part.place as usize, made)?;
     }
     Ok(all)
 }

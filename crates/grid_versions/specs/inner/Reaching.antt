@@ -7,15 +7,13 @@ use Rattle.nav_types.specs.declared.cells.Rect.{Rect}
 use Rattle.nav_types.specs.declared.cells.Size.{Size}
 use Rattle.nav_types.specs.Cells.{IsInside, IsInRect}
 use Rattle.nav_types.specs.Numbering.{Numbering, number_of}
-use Rattle.nav_types.specs.Rects.{chunk_rect, IsPartOf}
+use Rattle.nav_types.specs.Rects.{IsPartOf}
 use Rattle.lane_rows.specs.Rows.{has_class}
 use Rattle.obstruction_shapes.specs.declared.shapes.Obstruction.{Obstruction}
 use Rattle.clearance_raster.specs.Rasters.{blocks_class}
 use Rattle.obstruction_store.specs.Standing.{Standing}
 use Rattle.posts.specs.Maps.{Map}
-use Rattle.grid_versions.specs.Chunks.{chunk_count}
 use Rattle.grid_versions.specs.Passing.{is_in_rect, is_blocked}
-use Rattle.grid_versions.specs.inner.ChunkLists.{AreOfChunks}
 use Rattle.grid_versions.specs.inner.Painting.{is_covered, ArePaintedChunks}
 
 -- one of the rectangles holds the cell
@@ -87,8 +85,3 @@ pub record HoldsReached (rects : List Rect) (chunk : Rect) (part : Option Rect) 
   pub inside : IfSome part (IsPartOf chunk)
   pub held : (cell : Cell) → IsInRect chunk cell → IsTrue (is_in_some rects cell)
       → IsSomeAnd part (λ (rect : Rect). IsInRect rect cell)
-
--- the parts of all chunks of a map of this size
-abbrev pub AreReachedParts : Size → List Rect → List (Option Rect) → Type 0
-AreReachedParts size rects parts =
-    AreOfChunks size (chunk_count size) (λ chunk part. HoldsReached rects (chunk_rect size chunk) part) parts

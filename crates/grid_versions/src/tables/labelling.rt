@@ -77,12 +77,7 @@ fn rows_labelled<L: Ledger>(
         return labels_at(alloc, plane, place, ticks);
     }
     let chunk = chunks::numbered(plane.size(), place);
-    let rows = changed_rows(
-        changed.before,
-        plane,
-        chunk,
-        changed.dirty.part_at(place as usize),
-    );
+    let rows = changed_rows(changed.before, plane, chunk, changed.dirty.part_at(place));
     let bits = passable_in_rows(plane, chunk, rows);
     chunk_regions::relabel(alloc, labels, rows.from, rows.to, &bits, ticks)
 }

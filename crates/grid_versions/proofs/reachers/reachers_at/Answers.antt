@@ -1,36 +1,14 @@
-use Rattle.std.proofs.Common.{◌≡◌, ◌<◌, ◌∙◌, ℕ, List, None, inl, inr, ap, sym, subst}
-use Rattle.std.specs.Arc.{arc_value}
+use Rattle.std.proofs.Common.{◌≡◌, ◌∙◌, ℕ, List, inl, inr, ap, sym, subst}
 use Rattle.std.specs.List.{Contains}
 use Rattle.nav_types.specs.declared.cells.Chunk.{Chunk}
 use Rattle.nav_types.specs.declared.cells.Rect.{Rect}
 use Rattle.nav_types.specs.declared.cells.Size.{Size}
 use Rattle.nav_types.specs.Cells.{IsRectInside}
 use Rattle.nav_types.specs.Rects.{chunk_rect}
-use Rattle.grid_versions.specs.Chunks.{chunk_count}
 use Rattle.grid_versions.specs.inner.ChunkLists.{chunk_numbered}
 use Rattle.grid_versions.specs.inner.Reachers.{HoldReachers, HoldChunkReachers}
-use Rattle.grid_versions.specs.inner.Reaching.{HoldsReached}
-use Rattle.grid_versions.proofs.ChunkLemmas.{numbered_inside}
-use Rattle.grid_versions.proofs.PlanePartLemmas.{chunk_in_map}
-use Rattle.grid_versions.proofs.ReacherLemmas.{reachers_stay, reachers_made}
+use Rattle.grid_versions.proofs.ReacherLemmas.{reachers_made}
 use Rattle.grid_versions.proofs.reachers.reachers_at.Goals as goal
-
-pub part_at-requires : goal.part_at-requires
-part_at-requires c = subst (λ (s : Size). c.args.place < chunk_count s) (sym c.requires.sized) c.requires.place
-
-pub returns-in_default : goal.returns-in_default
-returns-in_default c = λ map now same before.
-    let place = c.args.place in
-    let rects = c.args.changes.now.dirty.now.rects in
-    let old = arc_value c.in_ok-shared.shared in
-    let chunk = chunk_numbered map.size place in
-    let reached = subst (λ (s : Size). HoldsReached rects (chunk_rect s (chunk_numbered s place)) None) (c.requires.sized ∙ sym same)
-    c.in_default.ensures in
-    let low = subst (λ (s : Size). place < chunk_count s) (sym same) c.requires.place in
-    let inside = chunk_in_map map.size chunk (numbered_inside map.size place low) in
-    subst (λ (s : Size). HoldChunkReachers map now (chunk_numbered s place) old) same
-    (reachers_stay map before.earlier now rects c.args.changed.now before.each (chunk_rect map.size chunk) old
-    (before.lists.are place old c.in_ok-shared.ensures) inside (λ cell here is. reached.held cell here is))
 
 pub returns : goal.returns
 returns c = λ map now same before.
@@ -45,12 +23,11 @@ returns c = λ map now same before.
     (before.lists.are c.args.place old c.at.ensures) in
     let held = subst (λ (r : Rect). HoldReachers map before.earlier r old) (sym rect_is) own in
     let inside = subst (λ (s : Size). IsRectInside s rect) (sym same) c.of_chunk-rect.ensures.inside in
-    subst (λ (all : List ℕ). HoldReachers map now (chunk_rect map.size chunk) all) (sym c.in_ok-new.ensures.ok)
-    (subst (λ (r : Rect). HoldReachers map now r made) rect_is
+    subst (λ (r : Rect). HoldReachers map now r made) rect_is
     (reachers_made map before.earlier now c.args.changes.now.dirty.now.rects c.args.changed.now before.each rect old held inside
     c.args.changes.now.ids.now made before.named
     (λ id has. elim (c.in_ok-made.ensures id (subst (λ (all : List ℕ). Contains all id) (sym c.as_slice-old.ensures) has)) [
       | inl changed ↦ inl changed
       | inr kept ↦ inr (c.in_ok-list_reachers.ensures.kept id kept)
     ])
-    c.in_ok-list_reachers.ensures.listed))
+    c.in_ok-list_reachers.ensures.listed)
