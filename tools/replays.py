@@ -252,6 +252,9 @@ def made(said):
     if not os.access(said.program, os.X_OK) or os.path.isdir(said.program):
         raise commands.Unreadable(f"{said.program} is no program; ./pathserve builds one into out/")
     program = os.path.abspath(said.program)
+    folder = os.path.dirname(os.path.realpath(program))
+    if os.path.isfile(os.path.join(folder, "crates.txt")):
+        raise commands.Unreadable(f"{said.program} looks at all sources for each match: name the file that it built, {folder}/out/pathserve or pathserve-unproved there")
     number = said.answers or number_of_answers(program)
     if said.store and number is None:
         raise commands.Unreadable("the program does not tell the number of its answers: give it by --answers")

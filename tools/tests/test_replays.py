@@ -176,6 +176,8 @@ class Replays(Pretender):
         lines, status, _ = self.run_it("--answers", "1", f"{self.folder}/text", self.kept)
         self.assertEqual((lines[0], status), (f"failed: a.script: {self.folder}/text: Exec format error", 2))
         self.assertEqual(self.run_it(f"{self.folder}/text", self.kept), ([], 2, f"replays.py: {self.folder}/text: Exec format error\n"))
+        told = f"./pathserve looks at all sources for each match: name the file that it built, {TOP}/out/pathserve or pathserve-unproved there"
+        self.assertEqual(tool("tools/replays.py", "./pathserve", self.kept), (b"", 2, f"replays.py: {told}\n"))
         cases = [(["no-program", self.kept], "no-program is no program; ./pathserve builds one into out/"), ([self.program, "--list", "no.list"], "no such file: no.list")]
         for words, told in cases:
             self.assertEqual(tool("tools/replays.py", *words), (b"", 2, f"replays.py: {told}\n"))
