@@ -16,6 +16,7 @@ import subprocess
 import sys
 import threading
 
+import commands
 import test_folders
 from test_folders import TOP
 
@@ -129,14 +130,15 @@ def main(words):
     if words[:1] == ["--run"] and len(words) > 1:
         return run(words[1], words[2:] or ["rt", "ci"])
     if not words or words[0].startswith("-"):
-        print(__doc__.strip(), file=sys.stderr)
+        return commands.usage(__doc__.strip(), words)
+    try:
+        rows = [*table(words)]
+    except ValueError as error:
+        commands.say(error)
         return 2
-    print(*table(words), sep="\n")
+    print(*rows, sep="\n")
     return 0
 
 
 if __name__ == "__main__":
-    try:
-        sys.exit(main(sys.argv[1:]))
-    except (OSError, ValueError) as error:
-        sys.exit(f"gate_minutes.py: {error}")
+    commands.run(lambda: main(sys.argv[1:]))

@@ -17,6 +17,7 @@ import subprocess
 import sys
 import tempfile
 
+import commands
 import unproved_build
 from unproved_build import TOP, stop
 
@@ -173,7 +174,7 @@ def put(maker, out, files):
 def main(words):
     made = {"linux": ("x86_64-unknown-linux-gnu", linux), "windows": (WINDOWS, windows), "web": (WEB, web), "macos": (None, macos)}
     if len(words) != 3 or words[0] not in made:
-        stop(f"usage: library_targets.py {'|'.join(made)} MODULE FOLDER")
+        return commands.usage(__doc__, words)
     kit, _ = unproved_build.kit_at(shutil.which("rt") or stop("the command rt is missing"))
     (triple, make), module, out = made[words[0]], os.path.abspath(words[1]), os.path.abspath(words[2])
     if triple is None:
@@ -183,4 +184,4 @@ def main(words):
 
 
 if __name__ == "__main__":
-    main(sys.argv[1:])
+    commands.run(lambda: main(sys.argv[1:]))
