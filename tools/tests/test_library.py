@@ -1,7 +1,8 @@
 """The C library of a release beside the plain program: by text, by structs, cut, out of memory, by threads, from each language;
 and its folder by itself: what its pages name is there, and what they show runs.
 
-The release is the folder that PATHSERVE_RELEASE names, or out/release, which `./release` makes.
+The release is the folder that PATHSERVE_RELEASE names, or out/release, which `./release` makes, or where there is none
+out/release-unproved, which `./release --unproved` makes in minutes.
 """
 import glob
 import json
@@ -17,13 +18,14 @@ from places import TOP, read
 import links
 import mapscript
 
-RELEASE = os.environ.get("PATHSERVE_RELEASE") or os.path.join(TOP, "out", "release")
+MADE = [os.path.join(TOP, "out", it) for it in ("release", "release-unproved")]
+RELEASE = os.environ.get("PATHSERVE_RELEASE") or next((it for it in MADE if os.path.isfile(f"{it}/PROVENANCE")), MADE[0])
 HEADER = os.path.join(RELEASE, "include", "pathserve.h")
 SHARED = os.path.join(RELEASE, "lib", "libpathserve.so")
 CC = os.environ.get("CC", "cc")
 check = mapscript.check
 
-needs_release = unittest.skipUnless(os.path.isfile(SHARED), "there is no release: ./release makes one")
+needs_release = unittest.skipUnless(os.path.isfile(SHARED), "there is no release: ./release makes one, and ./release --unproved one without proof")
 needs_cc = unittest.skipUnless(shutil.which(CC), "there is no C compiler")
 # what examples/c/views.c sees: the wall of 1 by 4, grown by a clearance of 1.5, and a path round it
 VIEWED = b"""\
