@@ -17,12 +17,15 @@ import unittest
 from places import TOP, read
 import links
 import mapscript
+import platforms
 
 MADE = [os.path.join(TOP, "out", it) for it in ("release", "release-unproved")]
 RELEASE = os.environ.get("PATHSERVE_RELEASE") or next((it for it in MADE if os.path.isfile(f"{it}/PROVENANCE")), MADE[0])
 HEADER = os.path.join(RELEASE, "include", "pathserve.h")
 SHARED = os.path.join(RELEASE, "lib", "libpathserve.so")
 CC = os.environ.get("CC", "cc")
+# a release without proof has the first alone
+ARCHIVES = [it for it in ("libpathserve.a", "rattle/libpathserve.a") if os.path.isfile(os.path.join(RELEASE, "lib", it))]
 check = mapscript.check
 
 needs_release = unittest.skipUnless(os.path.isfile(SHARED), "there is no release: ./release makes one, and ./release --unproved one without proof")
@@ -62,6 +65,20 @@ def scripts(count):
     for _ in range(count):
         script = maker.script()
         yield script, *check.predicted(script)
+
+
+class Sources(unittest.TestCase):
+    def test_the_header_declares_what_the_crate_defines(self):
+        texts = [read(it).decode() for it in glob.glob(f"{TOP}/crates/pathserve_c/src/*.rt")]
+        defined = [name for text in texts for name in re.findall(r'(?m)^pub extern "C" fn (\w+)\(', text)]
+        declared = re.findall(r"(?m)^[a-z].*\b(pathserve_\w+)\(", read("include/pathserve.h").decode())
+        self.assertEqual(sorted(defined), sorted(declared))
+
+    def test_each_file_of_a_platform_is_named_by_what_makes_it(self):
+        made = read("tools/library_targets.py").decode()
+        for name in os.listdir(os.path.join(TOP, "tools", "library")):
+            if not name.endswith((".in", ".md")):
+                self.assertIn(f'"{name}"', made)
 
 
 @needs_release
@@ -125,7 +142,7 @@ class Clients(unittest.TestCase):
         self.folder = self.enterContext(tempfile.TemporaryDirectory())
 
     def test_by_text(self):
-        for archive in ("libpathserve.a", "rattle/libpathserve.a"):
+        for archive in ARCHIVES:
             program = built(self.folder, "examples/c/by_text.c", archive, SANE)
             for name in ("first", "skirmish"):
                 self.assertEqual(answers(program, read(f"examples/{name}.script")), (read(f"examples/{name}.answers"), 0))
@@ -133,12 +150,12 @@ class Clients(unittest.TestCase):
                 self.assertEqual(answers(program, script), (text, status), script)
 
     def test_by_structs(self):
-        for archive in ("libpathserve.a", "rattle/libpathserve.a"):
+        for archive in ARCHIVES:
             program = built(self.folder, "examples/c/by_structs.c", archive, SANE)
             self.assertEqual(answers(program), (read("examples/skirmish.answers"), 0))
 
     def test_views(self):
-        for archive in ("libpathserve.a", "rattle/libpathserve.a"):
+        for archive in ARCHIVES:
             program = built(self.folder, "examples/c/views.c", archive, SANE)
             self.assertEqual(answers(program), (VIEWED, 0))
 
@@ -185,6 +202,45 @@ class Clients(unittest.TestCase):
             self.assertEqual(ran.returncode, 0, ran.stderr.decode())
             if name == "skirmish":
                 self.assertEqual(ran.stdout, read("examples/skirmish.answers"))
+
+
+ARM_CC = "aarch64-linux-gnu-gcc"
+EMULATOR = shutil.which("qemu-aarch64") or shutil.which("qemu-aarch64-static")
+ARM_ARCHIVE = os.path.join("aarch64", "libpathserve_noheap.a")
+
+
+@needs_release
+@needs_cc
+@unittest.skipUnless(os.path.isfile(os.path.join(RELEASE, "lib", ARM_ARCHIVE)), "the release is not for aarch64")
+@unittest.skipUnless(EMULATOR and shutil.which(ARM_CC), "there is no compiler or no emulator for aarch64")
+class Aarch64(unittest.TestCase):
+    def setUp(self):
+        self.folder = self.enterContext(tempfile.TemporaryDirectory())
+
+    def built(self, *sources):
+        """A program for aarch64, with all that it needs in it."""
+        program = os.path.join(self.folder, f"{os.path.basename(sources[0])[:-2]}-aarch64")
+        files = [*(os.path.join(TOP, it) for it in sources), os.path.join(RELEASE, "lib", ARM_ARCHIVE)]
+        subprocess.run([ARM_CC, *STRICT, "-static", "-o", program, *files], check=True)
+        return program
+
+    def told(self, program, words=()):
+        ran = subprocess.run([EMULATOR, program, *words], capture_output=True, timeout=1800)
+        return ran.stdout, ran.returncode
+
+    def test_made_scripts_by_each_report_are_answered_as_here(self):
+        made = platforms.scripts(200)
+        here = platforms.answers([built(self.folder, "tools/tests/library/answers.c")], made)
+        there = platforms.answers([EMULATOR, self.built("tools/tests/library/answers.c", "examples/c/heap.c")], made)
+        self.assertEqual((len(here), platforms.differing(made, here, there)), (800, []))
+
+    def test_the_examples(self):
+        self.assertEqual(self.told(self.built("examples/c/by_structs.c", "examples/c/heap.c")), (read("examples/skirmish.answers"), 0))
+        self.assertEqual(self.told(self.built("examples/c/views.c", "examples/c/heap.c")), (VIEWED, 0))
+
+    def test_each_allocation_is_refused_in_turn(self):
+        told, status = self.told(self.built("tools/tests/library/refused.c"), [os.path.join(TOP, "examples", "skirmish.script")])
+        self.assertEqual(status, 0, told)
 
 
 @needs_release
