@@ -28,7 +28,7 @@ use Rattle.posts.specs.declared.replies.Answer.{Answer}
 use Rattle.posts.specs.declared.replies.Answer.TheVariants.{Refused, Nowhere, Path as IsPath, Region as IsRegion}
 use Rattle.posts.specs.Maps.{Map}
 use Rattle.grid_versions.specs.Passing.{passable_at}
-use Rattle.grid_versions.specs.PassingLaws.{passes_within}
+use Rattle.grid_versions.specs.inner.PassingLaws.{passes_within}
 use Rattle.grid_versions.specs.Versions.{map_state}
 use Rattle.turn_core.specs.Words.{Standing}
 use Rattle.turn_core.specs.NamedGoals.{class_named, is_on_map, goal_found}
