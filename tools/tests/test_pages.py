@@ -38,9 +38,14 @@ class Pages(unittest.TestCase):
             self.assertEqual(missing, [], page)
 
     def test_the_claim_has_the_clauses_of_the_program(self):
-        table = text_of("docs/PROVED.md").partition("| clause | what it says |")[2].partition("\n\n")[0]
+        table = text_of("docs/PROVED.md").partition("| clause or law | what it says |")[2].partition("\n\n")[0]
         told = {it for row in re.findall(r"(?m)^\| (`.*?) \|", table) for it in re.findall(r"`(\w+)`", row)}
         self.assertEqual(told, {name for name, _ in reading_list.contract_of("pathserve", "run").clauses})
+        laws = [it for row in re.findall(r"(?m)^\| laws (.*?) \|", table) for it in re.findall(r"((?:`\w+`,? ?)+)of `(\w+)`", row)]
+        self.assertTrue(laws)
+        for names, crate in laws:
+            for name in re.findall(r"`(\w+)`", names):
+                reading_list.contract_of(crate, name)
 
     def test_the_version_is_one(self):
         version = text_of("VERSION").strip()
