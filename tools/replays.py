@@ -58,9 +58,13 @@ def scripts_of(places, lists):
 
 
 def number_of_answers(program):
-    """The number of a program's answers, where it tells it, or else that of the header beside this tool, or None."""
+    """The number of a program's answers, where it tells it, or else that of the header beside this tool, or None.
+
+    The built file tells it with its usage, on standard error, since `--version` is no word of it.
+    """
+    words = [program, "--version"]
     try:
-        said = subprocess.run([program, "--version"], stdin=subprocess.DEVNULL, capture_output=True, text=True, errors="replace").stdout
+        said = subprocess.run(words, stdin=subprocess.DEVNULL, stdout=subprocess.PIPE, stderr=subprocess.STDOUT, text=True, errors="replace").stdout
     except OSError as it:
         raise commands.Unreadable(f"{program}: {it.strerror}") from None
     found = re.search(r"\banswers (\d+)", said)

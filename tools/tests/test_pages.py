@@ -51,6 +51,10 @@ class Pages(unittest.TestCase):
         version = text_of("VERSION").strip()
         self.assertIn(f"Version {version}.", text_of("README.md"))
         self.assertIn(f"## {version}", text_of("CHANGELOG.md"))
+        answers = re.search(r"#define PATHSERVE_ANSWERS (\d+)u", text_of("include/pathserve.h"))[1]
+        program = text_of("crates/pathserve_bin/src/main.rt")
+        self.assertIn(f'const VERSION: &str = "{version}";', program)
+        self.assertIn(f"const ANSWERS: u32 = {answers};", program)
 
     def test_help_has_the_statuses_of_the_format(self):
         helped = subprocess.run([f"{TOP}/pathserve", "--help"], capture_output=True, text=True).stdout

@@ -9,6 +9,12 @@ use std::fmt::Display;
 use std::io::{self, ErrorKind, Write};
 use std::process::ExitCode;
 
+/// The version of the program, as the file `VERSION` has it.
+const VERSION: &str = "0.1.0";
+
+/// The number of the answers: programs with the same one answer each script alike (`PATHSERVE_ANSWERS` of `pathserve.h`).
+const ANSWERS: u32 = 1;
+
 /// The exit status where the system does not give the words as text.
 const NO_TEXT: u8 = 9;
 
@@ -53,7 +59,7 @@ fn say<T: Display>(rt: &HostRuntime, reason: &T) {
     let _said = writeln!(errors, "pathserve: {reason}");
 }
 
-/// Says which word is wrong, and what the words may be.
+/// Says which word is wrong, what the words may be, and which version of the program this is.
 fn say_usage(rt: &HostRuntime, words: &Words) {
     if let Some(number) = first_wrong(words) {
         match word_at(words, number) {
@@ -62,6 +68,7 @@ fn say_usage(rt: &HostRuntime, words: &Words) {
         }
     }
     say(rt, &Status::Usage);
+    say(rt, &format_args!("version {VERSION}, answers {ANSWERS}"));
 }
 
 /// The word of this number, from 1. None where there are fewer.
