@@ -1,12 +1,11 @@
 //! The jump searches over small maps that are drawn as text, and over a wide open one.
 
 use crate::fixtures::counted::Counted;
-use crate::fixtures::maps::{block, drawn};
+use crate::fixtures::maps::{block, drawn, drawn_for};
+use crate::fixtures::rows::GridRows;
 use crate::fixtures::searches::{Search, is_fit, is_found, search_of};
 use crate::fixtures::texts::fields_of;
-use crate::fixtures::versions::drawn_for;
 use class_planes::{PlaneRuns, Planes};
-use grid_versions::Version;
 use jump_scan::CellRuns;
 use jump_search::{JumpSearch, Pool, Question, jump_search, jump_search_with};
 use nav_types::{Cell, Class, NoMemory, Size, Ticks, View};
@@ -164,13 +163,13 @@ fn answers_as_the_table_says(rt: HostRuntime) -> Result<(), Fail> {
 /// Whether both searches for class 1 answer as they should over planes of some classes.
 fn answers_by_planes(
     alloc: Global,
-    version: &Version,
+    map: &GridRows<'_>,
     planes: &Planes,
     search: &Search<'_>,
 ) -> Result<bool, NoMemory> {
     let class = Class::new(1);
     let (start, aim) = (search.start, &search.targets);
-    let runs = PlaneRuns::new(version, planes, class);
+    let runs = PlaneRuns::new(map, planes, class);
     if runs.classes() < 2 {
         return Ok(false);
     }
@@ -190,16 +189,17 @@ fn answers_by_planes(
 }
 
 /// Whether both searches over planes of the classes of the mask answer as a line of `TABLE` says, whose map is drawn for
-/// class 1 of two, and class 1 has a plane where the mask says so. None where the line is not in the form of the table.
+/// class 1 alone, and class 1 has a plane where the mask says so. None where the line is not in the form of the table.
 fn answers_with_some_planes(alloc: Global, line: &str, mask: u16) -> Option<bool> {
     let [map, start, targets, end, cost, points, _] = fields_of(line);
     let search = search_of(alloc, [start, targets, end, cost, points])?;
-    let version = drawn_for(alloc, map, (2, 2))?;
-    let Ok(planes) = Planes::build(alloc, &version, mask) else {
+    let grid = drawn_for(alloc, map, 2)?;
+    let map = GridRows { grid: &grid };
+    let Ok(planes) = Planes::build(alloc, &map, mask) else {
         return None;
     };
     let is_wanted = planes.plane(Class::new(1)).is_some() == (mask & 2 == 2);
-    let answers = answers_by_planes(alloc, &version, &planes, &search).ok()?;
+    let answers = answers_by_planes(alloc, &map, &planes, &search).ok()?;
     Some(is_wanted && answers)
 }
 
