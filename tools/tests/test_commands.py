@@ -86,12 +86,6 @@ service.play(1, [{"caller": 0, "remove": "one"}, *[{"caller": 0, "remove": 1}] *
             status, said, _ = run("-c", code, PROGRAM, count)
             self.assertEqual((status, said.splitlines()[-1]), (1, "RuntimeError: bad line 2"))
 
-    def test_the_readme_shows_the_client(self):
-        shown = read("README.md").decode().partition("def play(turn, posts):\n")[2].partition("```")[0]
-        for line in ("json.dumps(line)", "except BrokenPipeError:", "readline().rstrip() for _ in range(1 + len(posts))"):
-            self.assertIn(line, shown)
-            self.assertIn(line, read("examples/client.py").decode())
-
 
 if __name__ == "__main__":
     unittest.main()
