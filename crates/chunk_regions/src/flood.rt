@@ -16,7 +16,7 @@ use std::alloc::Global;
 #[derive(Clone, Copy)]
 pub struct Place {
     pub row: u16,
-    pub at: u16,
+    pub at: usize,
 }
 
 /// The regions of the spans, and the first cells of all regions in order.
@@ -56,7 +56,7 @@ fn unite(all: &mut Numbered, a: u16, b: u16)
 
 /// Makes one region of those of two spans that overlap.
 #[inline(always)]
-fn join(all: &mut Numbered, south: u16, north: u16)
+fn join(all: &mut Numbered, south: usize, north: usize)
     requires south { south < length all.old.regions.items }
     requires north { north < length all.old.regions.items }
     requires bounded { AreBounded all.old.regions.items all.old.firsts.items }
@@ -67,8 +67,8 @@ fn join(all: &mut Numbered, south: u16, north: u16)
     ensures groups { (chunk : Chunk) (runs : Runs) (s n : Place) → Overlap runs s n → s.at ≡ south → n.at ≡ north
         → KeepsGroups chunk runs all.old.regions.items all.old.firsts.items all.new.regions.items all.new.firsts.items }
 {
-    let a = all.regions[south as usize];
-    let b = all.regions[north as usize];
+    let a = all.regions[south];
+    let b = all.regions[north];
     if a < b {
         unite(all, a, b);
     } else if b < a {
@@ -78,7 +78,7 @@ fn join(all: &mut Numbered, south: u16, north: u16)
 
 /// Joins the newest span with those from a place on that it overlaps in the row before.
 #[inline(always)]
-fn join_rest(rows: &RowSpans, all: &mut Numbered, place: Place, span: Span, from: u16, end: u16)
+fn join_rest(rows: &RowSpans, all: &mut Numbered, place: Place, span: Span, from: usize, end: usize)
     requires place { IsPlace rows.now place }
     requires span { slice_get rows.now.spans place.at ≡ Some span }
     requires from { slice_index rows.now.starts (place.row - 1) ≤ from }
@@ -130,8 +130,8 @@ fn number_span(
     all: &mut Numbered,
     chunk: Chunk,
     place: Place,
-    south: u16,
-    end: u16,
+    south: usize,
+    end: usize,
 ) -> Result<(), NoMemory>
     requires place { IsPlace rows.now place }
     requires column { chunk.ci < MAX_CHUNKS_ALONG }
@@ -155,7 +155,7 @@ fn number_span(
         begin(all, chunk, place, span)?;
         return Ok(());
     }
-    let region = all.regions[south as usize];
+    let region = all.regions[south];
     all.regions.push(region)?;
     join_rest(rows, all, place, span, south + 1, end);
     Ok(())
@@ -163,7 +163,7 @@ fn number_span(
 
 /// The first of a row's spans from a place on that reaches the column, or the row's end.
 #[inline(always)]
-fn first_reaching(rows: &RowSpans, from: u16, end: u16, column: u8) -> u16
+fn first_reaching(rows: &RowSpans, from: usize, end: usize, column: u8) -> usize
     requires order { from ≤ end }
     requires within { end ≤ length rows.now.spans }
     ensures from { from ≤ result }

@@ -66,7 +66,7 @@ pub struct Stretch {
 
 /// The place of the row's span that holds the column.
 #[inline(always)]
-fn holding(spans: &RowSpans, row: u16, column: u8) -> Option<u16>
+fn holding(spans: &RowSpans, row: u16, column: u8) -> Option<usize>
     requires { row < CHUNK_SIDE }
     ensures are { AreSpans spans.now }
     ensures held { IfSome result (λ at. Holds spans.now row at column) }
@@ -82,7 +82,7 @@ fn holding(spans: &RowSpans, row: u16, column: u8) -> Option<u16>
 
 /// The place of the row's span that holds the column, looked for from the row's first span on.
 #[inline(always)]
-fn holding_from_west(spans: &RowSpans, row: u16, column: u8) -> Option<u16>
+fn holding_from_west(spans: &RowSpans, row: u16, column: u8) -> Option<usize>
     requires { row < CHUNK_SIDE }
     ensures are { AreSpans spans.now }
     ensures held { IfSome result (λ at. Holds spans.now row at column) }
@@ -104,7 +104,7 @@ fn holding_from_west(spans: &RowSpans, row: u16, column: u8) -> Option<u16>
 
 /// The place of the row's span that holds the column, looked for from the row's last span back.
 #[inline(always)]
-fn holding_from_east(spans: &RowSpans, row: u16, column: u8) -> Option<u16>
+fn holding_from_east(spans: &RowSpans, row: u16, column: u8) -> Option<usize>
     requires { row < CHUNK_SIDE }
     ensures are { AreSpans spans.now }
     ensures held { IfSome result (λ at. Holds spans.now row at column) }
@@ -145,7 +145,7 @@ fn stretch_in_row(spans: &RowSpans, regions: &[u16], row: u16, column: u8) -> (u
         let span = spans.span(at);
         if column <= span.last {
             if span.first <= column {
-                return (regions[at as usize], span.last);
+                return (regions[at], span.last);
             }
             return (0, span.first - 1);
         }
@@ -186,7 +186,7 @@ impl Labels {
     {
         let column = (cell.i - self.rect.i0) as u8;
         match holding(&self.spans, cell.j - self.rect.j0, column) {
-            Some(at) => self.regions[at as usize],
+            Some(at) => self.regions[at],
             None => 0,
         }
     }

@@ -68,7 +68,7 @@ impl RowSpans {
     }
 
     /// The places of a row's spans: from the first to before the second.
-    pub fn row(&self, row: u16) -> (u16, u16)
+    pub fn row(&self, row: u16) -> (usize, usize)
         requires { row < CHUNK_SIDE }
         ensures from { result.0 ≡ slice_index self.now.starts row }
         ensures to { result.1 ≡ slice_index self.now.starts (row + 1) }
@@ -77,11 +77,11 @@ impl RowSpans {
         ensures within { result.1 ≤ length self.now.spans }
     {
         let row = row as usize;
-        (self.starts[row], self.starts[row + 1])
+        (self.starts[row] as usize, self.starts[row + 1] as usize)
     }
 
     /// The span at a place.
-    pub fn span(&self, at: u16) -> Span
+    pub fn span(&self, at: usize) -> Span
         requires { at < length self.now.spans }
         ensures value { slice_get self.now.spans at ≡ Some result }
         ensures ordered { result.first ≤ result.last }
@@ -89,7 +89,7 @@ impl RowSpans {
         ensures few { length self.now.spans ≤ CHUNK_CELLS / 2 }
         ensures are { AreSpans self.now }
     {
-        self.spans[at as usize]
+        self.spans[at]
     }
 }
 
