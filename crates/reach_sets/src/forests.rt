@@ -48,7 +48,7 @@ fn apart(alloc: Global, count: u32) -> Result<Vec<u32>, NoMemory>
     ensures { IfOk result (λ parents. (length parents.items ≡ count)
         × ((k : ℕ) → k < count → slice_index parents.items k ≡ k)) }
 {
-    let mut parents = Vec::new(alloc);
+    let mut parents = Vec::with_capacity(alloc, count as usize)?;
     for place in 0..count {
         parents.push(place)?;
     }
@@ -89,7 +89,7 @@ pub fn number_trees(alloc: Global, parents: &[u32]) -> Result<(Vec<u32>, u32), N
     ensures { IfOk result (λ made. AreRootNumbers parents.now made.0.items made.1
         × (length made.0.items ≡ length parents.now)) }
 {
-    let mut numbers = Vec::new(alloc);
+    let mut numbers = Vec::with_capacity(alloc, parents.len())?;
     let mut count = 0;
     for (place, parent) in parents.iter().enumerate() {
         let parent = *parent as usize;

@@ -32,7 +32,7 @@ impl Offsets {
         requires { sum regions.now < 2 ^ 32 }
         ensures { IfOk result (λ offsets. offsets ≡ regions.now) }
     {
-        let mut starts = Vec::new(alloc);
+        let mut starts = Vec::with_capacity(alloc, regions.len().saturating_add(1))?;
         let mut end = 0;
         for count in regions {
             starts.push(end)?;

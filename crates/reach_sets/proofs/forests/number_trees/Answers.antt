@@ -7,7 +7,7 @@ use Rattle.reach_sets.proofs.forests.number_trees.Goals.{then-parent-place+in_ok
 pub loop-place-init : goal.loop-place-init
 loop-place-init c =
     let P : List ℕ → Type 0 = λ numbers. AreRootNumbers c.args.parents.now numbers 0 in
-    let items = c.new-numbers.ensures.items in
+    let items = c.in_ok-numbers.ensures.items in
     record {
       made = omega (arith, ap length items);
       few = omega arith;
