@@ -28,6 +28,42 @@ struct Part {
     end: u16,
 }
 
+/// The region numbers of the two cells that lie side by side at a place along an east border.
+#[inline(always)]
+fn east_pair(here: &Labels, there: &Labels, at: u16) -> (u16, u16)
+    requires neighbours { AreNeighbours Side.East here.now there.now }
+    requires within { at < border_length Side.East here.now.cells.rect }
+    ensures { result ≡ numbers_at Side.East here.now there.now at }
+{
+    let near = here.rect();
+    let far = there.rect();
+    (
+        here.at(Cell::new(near.i1, near.j0 + at)),
+        there.at(Cell::new(far.i0, far.j0 + at)),
+    )
+}
+
+/// The part of an east border from a place on, up to where another pair of numbers begins.
+#[inline(always)]
+fn east_part(here: &Labels, there: &Labels, at: u16) -> Part
+    requires neighbours { AreNeighbours Side.East here.now there.now }
+    requires within { at < border_length Side.East here.now.cells.rect }
+    ensures further { at < result.end }
+    ensures within { result.end ≤ border_length Side.East here.now.cells.rect }
+    ensures same { (place : ℕ) → at ≤ place → place < result.end
+        → numbers_at Side.East here.now there.now place ≡ result.pair }
+{
+    let pair = east_pair(here, there, at);
+    let length = length(here.rect(), Side::East);
+    for place in at + 1..length {
+        let next = east_pair(here, there, place);
+        if next.0 != pair.0 || next.1 != pair.1 {
+            return Part { pair, end: place };
+        }
+    }
+    Part { pair, end: length }
+}
+
 /// The part of the border from a place on, with the region numbers of its cells here and there.
 #[inline(always)]
 fn part_at(here: &Labels, there: &Labels, side: Side, at: u16) -> Part
@@ -38,25 +74,29 @@ fn part_at(here: &Labels, there: &Labels, side: Side, at: u16) -> Part
     ensures same { (place : ℕ) → at ≤ place → place < result.end
         → numbers_at side here.now there.now place ≡ result.pair }
 {
+    match side {
+        Side::East => east_part(here, there, at),
+        Side::North => north_part(here, there, at),
+    }
+}
+
+/// The part of a north border from a place on, up to the end of the shorter of the two stretches that begin there.
+#[inline(always)]
+fn north_part(here: &Labels, there: &Labels, at: u16) -> Part
+    requires neighbours { AreNeighbours Side.North here.now there.now }
+    requires within { at < border_length Side.North here.now.cells.rect }
+    ensures further { at < result.end }
+    ensures within { result.end ≤ border_length Side.North here.now.cells.rect }
+    ensures same { (place : ℕ) → at ≤ place → place < result.end
+        → numbers_at Side.North here.now there.now place ≡ result.pair }
+{
     let near = here.rect();
     let far = there.rect();
-    match side {
-        Side::East => Part {
-            pair: (
-                here.at(Cell::new(near.i1, near.j0 + at)),
-                there.at(Cell::new(far.i0, far.j0 + at)),
-            ),
-            end: at + 1,
-        },
-        Side::North => {
-            let one = here.stretch_at(Cell::new(near.i0 + at, near.j1));
-            let other = there.stretch_at(Cell::new(far.i0 + at, far.j0));
-            // up to the end of the shorter of the two
-            Part {
-                pair: (one.region, other.region),
-                end: one.last.min(other.last) - near.i0 + 1,
-            }
-        }
+    let one = here.stretch_at(Cell::new(near.i0 + at, near.j1));
+    let other = there.stretch_at(Cell::new(far.i0 + at, far.j0));
+    Part {
+        pair: (one.region, other.region),
+        end: one.last.min(other.last) - near.i0 + 1,
     }
 }
 
