@@ -7,8 +7,8 @@ use crate::fixtures::searches::{Search, is_fit, is_found, search_of};
 use crate::fixtures::texts::fields_of;
 use class_planes::{PlaneRuns, Planes};
 use jump_scan::CellRuns;
-use jump_search::{JumpSearch, Pool, Question, jump_search, jump_search_with};
-use nav_types::{Cell, Class, NoMemory, Size, Ticks, View};
+use jump_search::{Estimate, Guided, JumpSearch, Pool, Question, jump_search, jump_search_with};
+use nav_types::{Aim, Cell, Class, Dir, NoMemory, Size, Ticks, View, step};
 use navcell_grid::Grid;
 use std::alloc::Global;
 use std::marker::Brand;
@@ -135,6 +135,109 @@ fn answers_counted<L: Ledger>(
     let mut ticks = Ticks::<L>::new(blank);
     let traced = jump_search(alloc, map, class, start, aim, &mut ticks)?;
     Ok(traced.opened == opened && is_found(search, &traced.found))
+}
+
+/// The exact distances of the cells of a small map to the nearest one that is looked for.
+#[derive(Drop)]
+struct Exact {
+    distances: [[u64; 16]; 16],
+}
+
+impl Exact {
+    /// The distances of a class to the cells that the aim hits: sums of steps, lowered until none can be.
+    fn of<A: Aim>(map: &Grid, class: Class, aim: &A) -> Exact {
+        let mut exact = Exact {
+            distances: [[1_000_000_000; 16]; 16],
+        };
+        'lower: while exact.lower(map, class, aim) {}
+        exact
+    }
+
+    /// Lowers each distance to 0 where the aim hits, and to those beside and a step. Whether any was lowered.
+    fn lower<A: Aim>(&mut self, map: &Grid, class: Class, aim: &A) -> bool {
+        let size = map.size();
+        let mut any = false;
+        for j in 0..size.h {
+            for i in 0..size.w {
+                let cell = Cell::new(i, j);
+                let mut least = self.at_least(cell);
+                if aim.hits(size, cell) {
+                    least = 0;
+                }
+                for dir in Dir::ALL {
+                    if let Some(next) = step(map, class, cell, dir) {
+                        least = least.min(self.at_least(next) + dir.cost());
+                    }
+                }
+                any |= least < self.at_least(cell);
+                self.distances[j as usize][i as usize] = least;
+            }
+        }
+        any
+    }
+}
+
+impl Estimate for Exact {
+    ghost least = { λ exact cell. 0 };
+
+    fn at_least(&self, cell: Cell) -> u64 {
+        self.distances[cell.j as usize][cell.i as usize]
+    }
+}
+
+/// How many runs a find asks for. None where it does not answer as it should.
+fn asked_runs<Q: JumpSearch>(
+    alloc: Global,
+    pool: &mut Pool,
+    runs: &Counted<'_, Grid>,
+    question: &Q,
+    search: &Search<'_>,
+) -> Option<u32> {
+    runs.reset();
+    let found = question.find(pool, alloc).ok()?;
+    is_found(search, &found).then_some(runs.runs())
+}
+
+/// How many runs the search of a line of `TABLE` asks for, by octile and by exact distances. None where one of them does
+/// not answer as the line says, or what the second counts is not what the first does.
+fn asked_by_estimates(alloc: Global, pool: &mut Pool, line: &str) -> Option<[u32; 2]> {
+    let [map, start, targets, end, cost, points, opened] = fields_of(line);
+    let opened: u64 = opened.parse().ok()?;
+    let search = search_of(alloc, [start, targets, end, cost, points])?;
+    let map = drawn(alloc, map)?;
+    let class = Class::new(0);
+    let (start, aim) = (search.start, &search.targets);
+    let runs = Counted::new(&map);
+    if !aim.rect.is_inside(runs.size()) || !is_fit(&runs, class, start, search.points, aim) {
+        return None;
+    }
+    let question = Question {
+        runs: &runs,
+        class,
+        start,
+        aim,
+    };
+    let plain = asked_runs(alloc, pool, &runs, &question, &search)?;
+    let ahead = &Exact::of(&map, class, aim);
+    let guided = Guided { question, ahead };
+    let fewer = asked_runs(alloc, pool, &runs, &guided, &search)?;
+    let traced = guided.trace(pool, alloc).ok()?;
+    (is_found(&search, &traced.found) && traced.opened == opened).then_some([plain, fewer])
+}
+
+#[test]
+fn answers_by_exact_distances_are_the_same_for_fewer_runs(rt: HostRuntime) -> Result<(), Fail> {
+    let mut pool = Pool::new(rt.alloc())?;
+    let mut asked = [0, 0];
+    for line in TABLE.lines() {
+        let runs = asked_by_estimates(rt.alloc(), &mut pool, line);
+        assert!(rt; runs.is_some(), "{line}");
+        if let Some([plain, fewer]) = runs {
+            asked = [asked[0] + plain, asked[1] + fewer];
+        }
+    }
+    assert!(rt; asked[1] < asked[0], "{asked:?}");
+    Ok(())
 }
 
 /// Whether a line of `TABLE` says what the answer is. None where it is not in the form of the table.

@@ -4,33 +4,35 @@ use Rattle.std.proofs.Common.{Some, inl, inr, refl, sym, subst, ap, ◌∙◌, a
 use Rattle.std.specs.Prelude.{slice_get}
 use Rattle.std.proofs.lemmas.Bool.{false≢true, cases_Bool}
 use Rattle.nav_types.specs.declared.cells.Cell.{Cell}
-use Rattle.nav_types.specs.declared.cells.Rect.{Rect}
 use Rattle.nav_types.specs.declared.directions.Dir.{Dir}
 use Rattle.nav_types.specs.Walks.{IsDistance}
 use Rattle.jump_search.specs.declared.nodes.Node.{Node}
 use Rattle.jump_search.specs.declared.states.JumpState.{JumpState}
-use Rattle.jump_search.specs.JumpStates.{IsJump, octile_between, octile_to, start_state, AreJumps, jumps_cost}
+use Rattle.jump_search.specs.Estimates.{IsConsistent}
+use Rattle.jump_search.specs.JumpStates.{IsJump, octile_between, start_state, AreJumps, jumps_cost}
 use Rattle.jump_search.specs.inner.Following.{Follows}
 use Rattle.jump_search.specs.inner.Numbered.{HasCheaper}
 use Rattle.jump_search.specs.inner.Searched.{IsLastRun, IsRelaxed, IsNoted, IsDearer, AreMet, IsFollowedFrom}
 use Rattle.jump_search.specs.inner.Searched.{IsSearched}
-use Rattle.jump_search.proofs.Measuring.{octile_to_through, jumped, Walked, jumps_walk}
+use Rattle.jump_search.proofs.Measuring.{falls_along, jumped, Walked, jumps_walk}
 
--- the jumps of opened nodes have been followed, and nodes that are not opened are beyond the bound, or, where the
--- search is not for all, dearer than another of their cell
-pub record IsClosed (all : Bool) (passes hit : Cell → Bool) (start : Cell) (rect : Rect) (bound : ℕ)
+-- the estimate is consistent, the jumps of opened nodes have been followed, and nodes that are not opened are beyond the
+-- bound, or, where the search is not for all, dearer than another of their cell
+pub record IsClosed (all : Bool) (passes hit : Cell → Bool) (start : Cell) (ahead : Cell → ℕ) (bound : ℕ)
     (nodes : List Node) : Type 0 where
+  pub consistent : IsConsistent passes hit ahead
   pub met : AreMet passes hit start nodes
   pub followed : (place : ℕ) (node : Node) → slice_get nodes place ≡ Some node → IsTrue node.opened
       → IsFollowedFrom all passes hit nodes node
   pub beyond : (place : ℕ) (node : Node) → slice_get nodes place ≡ Some node → IsFalse node.opened
-      → (bound < node.cost + octile_to rect node.state.cell) ⊎ (IsFalse all × IsDearer nodes node)
+      → (bound < node.cost + ahead node.state.cell) ⊎ (IsFalse all × IsDearer nodes node)
 
-pub closed : (all : Bool) (passes hit : Cell → Bool) (start : Cell) (rect : Rect) (end : Cell) (bound : ℕ)
+pub closed : (all : Bool) (passes hit : Cell → Bool) (start : Cell) (ahead : Cell → ℕ) (end : Cell) (bound : ℕ)
     (nodes : List Node)
-    → IsSearched all passes hit start rect end bound nodes → IsClosed all passes hit start rect bound nodes
-closed all passes hit start rect end bound nodes searched =
-    record { met = searched.met; followed = searched.followed; beyond = searched.beyond }
+    → IsConsistent passes hit ahead → IsSearched all passes hit start ahead end bound nodes
+    → IsClosed all passes hit start ahead bound nodes
+closed all passes hit start ahead end bound nodes consistent searched =
+    record { consistent = consistent; met = searched.met; followed = searched.followed; beyond = searched.beyond }
 
 -- an opened node of the state that costs at most so much
 pub record HasOpened (nodes : List Node) (state : JumpState) (cost : ℕ) : Type 0 where
@@ -42,10 +44,10 @@ pub record HasOpened (nodes : List Node) (state : JumpState) (cost : ℕ) : Type
   pub opened : IsTrue node.opened
 
 -- a node within the bound that is not dearer than another of its cell is opened
-pub opened_within : (all : Bool) (passes hit : Cell → Bool) (start : Cell) (rect : Rect) (bound : ℕ) (nodes : List Node)
-    → IsClosed all passes hit start rect bound nodes → (place : ℕ) (node : Node) → slice_get nodes place ≡ Some node
-    → node.cost + octile_to rect node.state.cell ≤ bound → (IsFalse all → IsDearer nodes node → ⊥) → IsTrue node.opened
-opened_within all passes hit start rect bound nodes ended place node known near cheapest =
+pub opened_within : (all : Bool) (passes hit : Cell → Bool) (start : Cell) (ahead : Cell → ℕ) (bound : ℕ) (nodes : List Node)
+    → IsClosed all passes hit start ahead bound nodes → (place : ℕ) (node : Node) → slice_get nodes place ≡ Some node
+    → node.cost + ahead node.state.cell ≤ bound → (IsFalse all → IsDearer nodes node → ⊥) → IsTrue node.opened
+opened_within all passes hit start ahead bound nodes ended place node known near cheapest =
     elim (cases_Bool node.opened) [
       | inl is ↦ is
       | inr not ↦ elim (ended.beyond place node known not) [
@@ -55,46 +57,46 @@ opened_within all passes hit start rect bound nodes ended place node known near 
     ]
 
 -- the same by the state and a cost
-found_opened : (all : Bool) (passes hit : Cell → Bool) (start : Cell) (rect : Rect) (bound : ℕ) (nodes : List Node)
-    → IsClosed all passes hit start rect bound nodes → (state : JumpState) (cost place : ℕ) (node : Node)
+found_opened : (all : Bool) (passes hit : Cell → Bool) (start : Cell) (ahead : Cell → ℕ) (bound : ℕ) (nodes : List Node)
+    → IsClosed all passes hit start ahead bound nodes → (state : JumpState) (cost place : ℕ) (node : Node)
     → slice_get nodes place ≡ Some node
-    → node.state ≡ state → node.cost ≤ cost → cost + octile_to rect state.cell ≤ bound
+    → node.state ≡ state → node.cost ≤ cost → cost + ahead state.cell ≤ bound
     → (IsFalse all → IsDearer nodes node → ⊥)
     → HasOpened nodes state cost
-found_opened all passes hit start rect bound nodes ended state cost place node known same cheap near cheapest =
-    let here : octile_to rect node.state.cell ≡ octile_to rect state.cell =
-    ap (λ (s : JumpState). octile_to rect s.cell) same in
+found_opened all passes hit start ahead bound nodes ended state cost place node known same cheap near cheapest =
+    let here : ahead node.state.cell ≡ ahead state.cell =
+    ap (λ (s : JumpState). ahead s.cell) same in
     record {
       place = place;
       node = node;
       known = known;
       same = same;
       cheap = cheap;
-      opened = opened_within all passes hit start rect bound nodes ended place node known
+      opened = opened_within all passes hit start ahead bound nodes ended place node known
           (omega (arith, here, cheap, near)) cheapest;
     }
 
 -- the start
 
-start_opened : (all : Bool) (passes hit : Cell → Bool) (start : Cell) (rect : Rect) (bound : ℕ) (nodes : List Node)
-    → IsClosed all passes hit start rect bound nodes → (state : JumpState) → state ≡ start_state start
-    → 0 + octile_to rect state.cell ≤ bound → HasOpened nodes state 0
-start_opened all passes hit start rect bound nodes ended state is near =
+start_opened : (all : Bool) (passes hit : Cell → Bool) (start : Cell) (ahead : Cell → ℕ) (bound : ℕ) (nodes : List Node)
+    → IsClosed all passes hit start ahead bound nodes → (state : JumpState) → state ≡ start_state start
+    → 0 + ahead state.cell ≤ bound → HasOpened nodes state 0
+start_opened all passes hit start ahead bound nodes ended state is near =
     let first = ended.met.first in
     let free : first.0.cost ≡ 0 = first.1.1.1 in
-    found_opened all passes hit start rect bound nodes ended state 0 0 first.0 first.1.0 (first.1.1.0 ∙ sym is)
+    found_opened all passes hit start ahead bound nodes ended state 0 0 first.0 first.1.0 (first.1.1.0 ∙ sym is)
     (omega (arith, free)) near
     (λ some dearer. (let less = dearer.1.1.1.1 in omega (arith, less, free)))
 
 -- a jump from an opened node, than which no node of the cell is cheaper
 
-pub jump_relaxed : (all : Bool) (passes hit : Cell → Bool) (start : Cell) (rect : Rect) (bound : ℕ) (nodes : List Node)
-    → IsClosed all passes hit start rect bound nodes
+pub jump_relaxed : (all : Bool) (passes hit : Cell → Bool) (start : Cell) (ahead : Cell → ℕ) (bound : ℕ) (nodes : List Node)
+    → IsClosed all passes hit start ahead bound nodes
     → (before state : JumpState) (cost : ℕ) (from : HasOpened nodes before cost)
     → IsJump passes hit before state → (run : ℕ) → IsLastRun passes before.cell state run
     → (IsFalse all → HasCheaper nodes state.cell (from.node.cost + octile_between before.cell state.cell) → ⊥)
     → IsRelaxed nodes state (from.node.cost + octile_between before.cell state.cell) run
-jump_relaxed all passes hit start rect bound nodes ended before state cost from jump run last cheapest =
+jump_relaxed all passes hit start ahead bound nodes ended before state cost from jump run last cheapest =
     let P = λ (s : JumpState). IsJump passes hit s state → IsLastRun passes s.cell state run
     → IsNoted all nodes state (from.node.cost + octile_between s.cell state.cell) run in
     elim (subst P from.same (ended.followed from.place from.node from.known from.opened state run) jump last) [
@@ -104,22 +106,21 @@ jump_relaxed all passes hit start rect bound nodes ended before state cost from 
 
 -- each state within the bound, where the search is for all
 
-pub bounded : (passes hit : Cell → Bool) (start : Cell) (rect : Rect) (bound : ℕ) (nodes : List Node)
-    → IsClosed true passes hit start rect bound nodes → (before : List JumpState) (state : JumpState)
-    → AreJumps passes hit start before state → jumps_cost before state + octile_to rect state.cell ≤ bound
+pub bounded : (passes hit : Cell → Bool) (start : Cell) (ahead : Cell → ℕ) (bound : ℕ) (nodes : List Node)
+    → IsClosed true passes hit start ahead bound nodes → (before : List JumpState) (state : JumpState)
+    → AreJumps passes hit start before state → jumps_cost before state + ahead state.cell ≤ bound
     → HasOpened nodes state (jumps_cost before state)
-bounded passes hit start rect bound nodes ended [] state jumps near =
-    start_opened true passes hit start rect bound nodes ended state jumps near
-bounded passes hit start rect bound nodes ended (before ∷ rest) state jumps near =
-    let through : octile_to rect before.cell ≤ octile_between before.cell state.cell + octile_to rect state.cell =
-    octile_to_through rect before.cell state.cell in
-    let from = bounded passes hit start rect bound nodes ended rest before jumps.1 (omega (arith, near, through)) in
+bounded passes hit start ahead bound nodes ended [] state jumps near =
+    start_opened true passes hit start ahead bound nodes ended state jumps near
+bounded passes hit start ahead bound nodes ended (before ∷ rest) state jumps near =
     let jump = jumped passes hit before state jumps.0 in
-    let to = jump_relaxed true passes hit start rect bound nodes ended before state (jumps_cost rest before) from
+    let through = falls_along passes hit ahead ended.consistent jump.dir jump.count before.cell state.cell jump.run in
+    let from = bounded passes hit start ahead bound nodes ended rest before jumps.1 (omega (arith, near, through)) in
+    let to = jump_relaxed true passes hit start ahead bound nodes ended before state (jumps_cost rest before) from
     jumps.0 jump.count (jump.dir, (jump.arrived, jump.run)) (λ some. absurd (false≢true (sym some))) in
     let less = to.cheap in
     let cheap = from.cheap in
-    found_opened true passes hit start rect bound nodes ended state
+    found_opened true passes hit start ahead bound nodes ended state
     (jumps_cost rest before + octile_between before.cell state.cell) to.place to.node to.known to.same
     (omega (arith, less, cheap)) near (λ some. absurd (false≢true (sym some)))
 
@@ -153,23 +154,22 @@ none_cheaper passes hit start nodes met at cell here cost distance is cheap chea
     (cheaper.1.1.1.0 ∙ here) distance is in
     omega (arith, less, least, cheap)
 
-pub followed_opened : (all : Bool) (passes hit : Cell → Bool) (start : Cell) (rect : Rect) (bound : ℕ)
+pub followed_opened : (all : Bool) (passes hit : Cell → Bool) (start : Cell) (ahead : Cell → ℕ) (bound : ℕ)
     (nodes : List Node)
-    → IsClosed all passes hit start rect bound nodes → (next : Option Dir) (states : List JumpState) (state : JumpState)
-    → Follows passes hit start next states state → jumps_cost states state + octile_to rect state.cell ≤ bound
+    → IsClosed all passes hit start ahead bound nodes → (next : Option Dir) (states : List JumpState) (state : JumpState)
+    → Follows passes hit start next states state → jumps_cost states state + ahead state.cell ≤ bound
     → HasOpened nodes state (jumps_cost states state)
-followed_opened all passes hit start rect bound nodes ended next [] state follows near =
-    start_opened all passes hit start rect bound nodes ended state follows near
-followed_opened all passes hit start rect bound nodes ended next (before ∷ rest) state follows near =
+followed_opened all passes hit start ahead bound nodes ended next [] state follows near =
+    start_opened all passes hit start ahead bound nodes ended state follows near
+followed_opened all passes hit start ahead bound nodes ended next (before ∷ rest) state follows near =
     let distance = follows.0 in
     let followed = follows.1.0 in
-    let through : octile_to rect before.cell ≤ octile_between before.cell state.cell + octile_to rect state.cell =
-    octile_to_through rect before.cell state.cell in
-    let from = followed_opened all passes hit start rect bound nodes ended state.arrived rest before follows.1.1
-    (omega (arith, near, through)) in
     let jump = jumped passes hit before state followed.jump in
+    let through = falls_along passes hit ahead ended.consistent jump.dir jump.count before.cell state.cell jump.run in
+    let from = followed_opened all passes hit start ahead bound nodes ended state.arrived rest before follows.1.1
+    (omega (arith, near, through)) in
     let cheap = from.cheap in
-    let to = jump_relaxed all passes hit start rect bound nodes ended before state (jumps_cost rest before) from
+    let to = jump_relaxed all passes hit start ahead bound nodes ended before state (jumps_cost rest before) from
     followed.jump jump.count (jump.dir, (jump.arrived, jump.run))
     (λ some cheaper. none_cheaper passes hit start nodes ended.met state.cell state.cell refl
     (from.node.cost + octile_between before.cell state.cell)
@@ -177,7 +177,7 @@ followed_opened all passes hit start rect bound nodes ended next (before ∷ res
     let less = to.cheap in
     let most : to.node.cost ≤ jumps_cost rest before + octile_between before.cell state.cell =
     omega (arith, less, cheap) in
-    found_opened all passes hit start rect bound nodes ended state
+    found_opened all passes hit start ahead bound nodes ended state
     (jumps_cost rest before + octile_between before.cell state.cell) to.place to.node to.known to.same
     most near
     (λ some dearer. none_cheaper passes hit start nodes ended.met to.node.state.cell state.cell

@@ -5,7 +5,6 @@ use Rattle.std.proofs.Common.{replicate, reverse, option_to_list, if◌then◌el
 use Rattle.std.specs.Prelude.{slice_get}
 use Rattle.std.proofs.lemmas.List.{reverse-append, reverse-reverse}
 use Rattle.nav_types.specs.declared.cells.Cell.{Cell}
-use Rattle.nav_types.specs.declared.cells.Rect.{Rect}
 use Rattle.nav_types.specs.declared.directions.Dir.{Dir}
 use Rattle.nav_types.specs.declared.directions.Dir.TheVariants.{N, E, S, W, NE, SE, SW, NW}
 use Rattle.nav_types.specs.Directions.{Leads, step_cost}
@@ -63,13 +62,13 @@ first_of_run dir zero rest some = absurd (omega (arith, some))
 first_of_run dir (suc run) rest some = refl
 
 -- ---- the walk that is traced back
-pub corners_at_end : (all : Bool) (passes hit : Cell → Bool) (start : Cell) (rect : Rect) (end : Cell) (bound : ℕ)
+pub corners_at_end : (all : Bool) (passes hit : Cell → Bool) (start : Cell) (ahead : Cell → ℕ) (end : Cell) (bound : ℕ)
     (nodes : List Node)
-    → IsTraceable all passes hit start rect end bound nodes → (corners : List Cell) → corners ≡ []
+    → IsTraceable all passes hit start ahead end bound nodes → (corners : List Cell) → corners ≡ []
     → HasCorners passes hit start nodes end bound end bound None corners
-corners_at_end all passes hit start rect end bound nodes able corners none = record {
+corners_at_end all passes hit start ahead end bound nodes able corners none = record {
   back = [];
-  traced = traceable_at_end all passes hit start rect end bound nodes able [] refl;
+  traced = traceable_at_end all passes hit start ahead end bound nodes able [] refl;
   first = refl;
   points = ap (λ (cells : List Cell). reverse cells) none;
 }
@@ -90,9 +89,9 @@ points_more passes dir (suc run) from cell rest corners longer next steps some f
     ∙ sym (waypoints_run passes dir run from cell rest steps)
 
 -- one run more
-pub corners_more : (all : Bool) (passes hit : Cell → Bool) (start : Cell) (rect : Rect) (end : Cell) (bound : ℕ)
+pub corners_more : (all : Bool) (passes hit : Cell → Bool) (start : Cell) (ahead : Cell → ℕ) (end : Cell) (bound : ℕ)
     (nodes : List Node)
-    → IsTraceable all passes hit start rect end bound nodes
+    → IsTraceable all passes hit start ahead end bound nodes
     → (cell : Cell) (cost : ℕ) (next : Option Dir) (corners : List Cell)
     → HasCorners passes hit start nodes end bound cell cost next corners → start ≢ cell → (dir : Dir) (run each : ℕ)
     → IsPicked (IsExact nodes cell cost) next dir → HasRun nodes cell cost dir run → (from : Cell)
@@ -100,15 +99,15 @@ pub corners_more : (all : Bool) (passes hit : Cell → Bool) (start : Cell) (rec
     → each ≡ step_cost dir → (longer : List Cell)
     → longer ≡ corners ++ (if is_corner dir (option_to_list next) then cell ∷ [] else [])
     → HasCorners passes hit start nodes end bound from (cost - run * each) (Some dir) longer
-corners_more all passes hit start rect end bound nodes able cell cost next corners has away dir run each picked runs from
+corners_more all passes hit start ahead end bound nodes able cell cost next corners has away dir run each picked runs from
     moves is longer more =
     let back = has.back in
-    let gone = traceable_run all passes hit start rect end bound nodes able cell cost next back has.traced dir run runs
+    let gone = traceable_run all passes hit start ahead end bound nodes able cell cost next back has.traced dir run runs
     from moves in
     let turned = reverse_more back dir run in
     record {
       back = back ++ replicate run dir;
-      traced = traceable_more all passes hit start rect end bound nodes able cell cost next back has.traced away dir run
+      traced = traceable_more all passes hit start ahead end bound nodes able cell cost next back has.traced away dir run
           each picked runs from moves is (back ++ replicate run dir) refl;
       first = ap (λ (dirs : List Dir). slice_get dirs 0) turned ∙ first_of_run dir run (reverse back) gone.1;
       points = points_more passes dir run from cell (reverse back) corners longer next gone.0 gone.1 has.first has.points
@@ -117,15 +116,15 @@ corners_more all passes hit start rect end bound nodes able cell cost next corne
     }
 
 -- at the start the waypoints are those of the chosen walk
-pub corners_whole : (all : Bool) (passes hit : Cell → Bool) (start : Cell) (rect : Rect) (end : Cell) (bound : ℕ)
+pub corners_whole : (all : Bool) (passes hit : Cell → Bool) (start : Cell) (ahead : Cell → ℕ) (end : Cell) (bound : ℕ)
     (nodes : List Node)
-    → IsTraceable all passes hit start rect end bound nodes
+    → IsTraceable all passes hit start ahead end bound nodes
     → (cell : Cell) (cost : ℕ) (next : Option Dir) (corners : List Cell)
     → HasCorners passes hit start nodes end bound cell cost next corners → start ≡ cell
     → HasWaypoints passes start end (reverse corners)
-corners_whole all passes hit start rect end bound nodes able cell cost next corners has at =
+corners_whole all passes hit start ahead end bound nodes able cell cost next corners has at =
     let back = has.back in
-    let chosen = traceable_whole all passes hit start rect end bound nodes able cell cost next back has.traced at in (
+    let chosen = traceable_whole all passes hit start ahead end bound nodes able cell cost next back has.traced at in (
       reverse back,
       (
         subst (λ (dirs : List Dir). IsChosenBack passes start None dirs end) (sym (reverse-reverse back)) chosen,

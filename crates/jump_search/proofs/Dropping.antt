@@ -5,7 +5,6 @@ use Rattle.std.specs.FinMap as map
 use Rattle.std.proofs.lemmas.Bool.{cases_eq}
 use Rattle.std.proofs.lemmas.Option.{none-some}
 use Rattle.nav_types.specs.declared.cells.Cell.{Cell}
-use Rattle.nav_types.specs.declared.cells.Rect.{Rect}
 use Rattle.open_heap.specs.Queue.{Queue}
 use Rattle.jump_search.specs.declared.nodes.Node.{Node}
 use Rattle.jump_search.specs.inner.Numbered.{IsAsCheap}
@@ -46,9 +45,9 @@ dearer_than nodes cell cost node cheap same less =
     (cheap.0, (cheap.1.0, (cheap.1.1.0, (cheap.1.1.1.0 ∙ sym same, omega (arith, cheap.1.1.1.1, less)))))
 
 -- the nodes wait, or not, as they should
-queued_dropped : (all : Bool) (rect : Rect) (floor : ℕ) (nodes : List Node) (before after : Queue)
-    → Drops all nodes before after → IsQueued all rect floor nodes before → IsQueued all rect floor nodes after
-queued_dropped all rect floor nodes before after drops queued = record {
+queued_dropped : (all : Bool) (ahead : Cell → ℕ) (floor : ℕ) (nodes : List Node) (before after : Queue)
+    → Drops all nodes before after → IsQueued all ahead floor nodes before → IsQueued all ahead floor nodes after
+queued_dropped all ahead floor nodes before after drops queued = record {
   waits = λ number estimate found. queued.waits number estimate (drops.kept number estimate found);
   others = λ number node found none. elim (get_cases before number) [
     | inl was ↦ queued.others number node found was
@@ -57,13 +56,13 @@ queued_dropped all rect floor nodes before after drops queued = record {
   within = queued.within;
 }
 
-pub going_dropped : (all : Bool) (passes hit : Cell → Bool) (start : Cell) (rect : Rect) (floor most : ℕ)
+pub going_dropped : (all : Bool) (passes hit : Cell → Bool) (start : Cell) (ahead : Cell → ℕ) (floor most : ℕ)
     (nodes : List Node) (before after : Queue)
-    → Drops all nodes before after → IsGoing all passes hit start rect floor most nodes before
-    → IsGoing all passes hit start rect floor most nodes after
-going_dropped all passes hit start rect floor most nodes before after drops going = record {
+    → Drops all nodes before after → IsGoing all passes hit start ahead floor most nodes before
+    → IsGoing all passes hit start ahead floor most nodes after
+going_dropped all passes hit start ahead floor most nodes before after drops going = record {
   met = going.met;
-  queued = queued_dropped all rect floor nodes before after drops going.queued;
+  queued = queued_dropped all ahead floor nodes before after drops going.queued;
   costs = going.costs;
   few = going.few;
 }

@@ -4,21 +4,17 @@ use Rattle.std.proofs.Common.{Option, Some, None, inl, inr, sym, subst, ap, ◌�
 use Rattle.std.specs.Prelude.{slice_get}
 use Rattle.std.proofs.lemmas.Bool.{cases_lt}
 use Rattle.nav_types.specs.declared.cells.Cell.{Cell}
-use Rattle.nav_types.specs.declared.cells.Rect.{Rect}
-use Rattle.nav_types.specs.declared.cells.Size.{Size}
 use Rattle.nav_types.specs.declared.directions.Dir.{Dir}
-use Rattle.nav_types.specs.Cells.{IsInside, IsBefore, IsNotAfter}
-use Rattle.nav_types.specs.Frames.{IsFrame}
+use Rattle.nav_types.specs.Cells.{IsBefore, IsNotAfter}
 use Rattle.nav_types.specs.Walks.{IsWalk, walk_cost, IsDistance, Joined, CanReach}
 use Rattle.nav_types.proofs.CellOrder.{IsBefore-cases}
 use Rattle.nav_types.proofs.Walking.{IsWalk-passes}
 use Rattle.jump_search.specs.declared.nodes.Node.{Node}
 use Rattle.jump_search.specs.declared.states.JumpState.{JumpState}
-use Rattle.jump_search.specs.JumpStates.{octile_to, jumps_cost}
+use Rattle.jump_search.specs.Estimates.{IsConsistent}
+use Rattle.jump_search.specs.JumpStates.{jumps_cost}
 use Rattle.jump_search.specs.inner.Following.{Follows}
 use Rattle.jump_search.specs.inner.Searched.{IsSearched}
-use Rattle.jump_search.specs.inner.Traced.{HitsLieIn}
-use Rattle.jump_search.proofs.Framing.{framed_none}
 use Rattle.jump_search.proofs.Measuring.{Walked, jumps_walk}
 use Rattle.jump_search.proofs.Stable.{some_chosen}
 use Rattle.jump_search.proofs.Stopping.{stops}
@@ -33,14 +29,6 @@ goes_by_states passes hit start passing cell is_hit joined none =
     some_chosen passes start cell passing joined (λ dirs chosen. stops passes hit start cell dirs passing is_hit chosen
     none)
 
-pub near_frame : (passes hit framed : Cell → Bool) (size : Size) (rect : Rect)
-    → ((cell : Cell) → IsTrue (passes cell) → IsInside size cell)
-    → ((cell : Cell) → IsInside size cell → IsTrue (hit cell) → IsTrue (framed cell)) → IsFrame framed size rect
-    → HitsLieIn passes hit rect
-near_frame passes hit framed size rect within hits_framed frame cell passing is_hit =
-    let inside = within cell passing in
-    framed_none framed size rect cell frame inside (hits_framed cell inside is_hit)
-
 -- the jumps by which a chosen walk goes cost no more than any walk
 follows_least : (passes hit : Cell → Bool) (start : Cell) (next : Option Dir) (states : List JumpState)
     (state : JumpState)
@@ -51,49 +39,49 @@ follows_least passes hit start next (before ∷ rest) state follows dirs walk = 
     distance.least dirs walk
 
 -- a hit cell within the bound has an opened node that costs no more than any walk to it
-pub least_hit : (all : Bool) (passes hit : Cell → Bool) (start : Cell) (rect : Rect) (bound : ℕ) (nodes : List Node)
-    → IsClosed all passes hit start rect bound nodes → IsTrue (passes start) → HitsLieIn passes hit rect
+pub least_hit : (all : Bool) (passes hit : Cell → Bool) (start : Cell) (ahead : Cell → ℕ) (bound : ℕ) (nodes : List Node)
+    → IsClosed all passes hit start ahead bound nodes → IsTrue (passes start) → IsConsistent passes hit ahead
     → (target : Cell) (dirs : List Dir) → IsTrue (hit target) → IsWalk passes start dirs target → walk_cost dirs ≤ bound
     → ((place : ℕ) (node : Node) → slice_get nodes place ≡ Some node → IsTrue node.opened → node.state.cell ≡ target
     → node.cost ≤ walk_cost dirs → ⊥) → ⊥
-least_hit all passes hit start rect bound nodes ended passing near target dirs is_hit walk within none =
+least_hit all passes hit start ahead bound nodes ended passing consistent target dirs is_hit walk within none =
     goes_by_states passes hit start passing target is_hit (dirs, walk)
     (λ states state at follows.
-    (let zero_to : octile_to rect target ≡ 0 =
-    near target (IsWalk-passes passes dirs start target passing walk) is_hit in
+    (let zero_to : ahead target ≡ 0 =
+    consistent.none target (IsWalk-passes passes dirs start target passing walk) is_hit in
     let least = follows_least passes hit start None states state follows dirs
     (subst (λ (c : Cell). IsWalk passes start dirs c) (sym at) walk) in
-    let here : octile_to rect state.cell ≡ octile_to rect target = ap (octile_to rect) at in
-    let found = followed_opened all passes hit start rect bound nodes ended None states state follows
+    let here : ahead state.cell ≡ ahead target = ap ahead at in
+    let found = followed_opened all passes hit start ahead bound nodes ended None states state follows
     (omega (arith, least, within, zero_to, here)) in
     let cheap = found.cheap in
     none found.place found.node found.known found.opened (ap (λ (s : JumpState). s.cell) found.same ∙ at)
     (omega (arith, cheap, least))))
 
 -- where no opened node is hit there is none to reach
-pub some_hit : (all : Bool) (passes hit : Cell → Bool) (start : Cell) (rect : Rect) (nodes : List Node)
-    → ((bound : ℕ) → IsClosed all passes hit start rect bound nodes) → IsTrue (passes start) → HitsLieIn passes hit rect
+pub some_hit : (all : Bool) (passes hit : Cell → Bool) (start : Cell) (ahead : Cell → ℕ) (nodes : List Node)
+    → ((bound : ℕ) → IsClosed all passes hit start ahead bound nodes) → IsTrue (passes start) → IsConsistent passes hit ahead
     → CanReach passes start hit
     → ((place : ℕ) (node : Node) → slice_get nodes place ≡ Some node → IsTrue node.opened → IsTrue (hit node.state.cell)
     → ⊥) → ⊥
-some_hit all passes hit start rect nodes ended passing near reach none =
+some_hit all passes hit start ahead nodes ended passing consistent reach none =
     let target = reach.0 in
     let walk = reach.1.1 in
-    least_hit all passes hit start rect (walk_cost walk.0) nodes (ended (walk_cost walk.0)) passing near target walk.0
+    least_hit all passes hit start ahead (walk_cost walk.0) nodes (ended (walk_cost walk.0)) passing consistent target walk.0
     reach.1.0 walk.1 (omega arith)
     (λ place node known opened at cheap. none place node known opened
     (subst (λ (c : Cell). IsTrue (hit c)) (sym at) reach.1.0))
 
 -- the end and the bound
 
-pub nearest_end : (all : Bool) (passes hit : Cell → Bool) (start : Cell) (rect : Rect) (end : Cell) (bound : ℕ)
+pub nearest_end : (all : Bool) (passes hit : Cell → Bool) (start : Cell) (ahead : Cell → ℕ) (end : Cell) (bound : ℕ)
     (nodes : List Node)
-    → IsSearched all passes hit start rect end bound nodes → IsTrue (passes start) → HitsLieIn passes hit rect
+    → IsSearched all passes hit start ahead end bound nodes → IsTrue (passes start) → IsConsistent passes hit ahead
     → (target : Cell) (dirs : List Dir) → IsTrue (hit target) → IsWalk passes start dirs target → bound ≤ walk_cost dirs
-nearest_end all passes hit start rect end bound nodes searched passing near target dirs is_hit walk =
+nearest_end all passes hit start ahead end bound nodes searched passing consistent target dirs is_hit walk =
     elim (cases_lt (walk_cost dirs) bound) [
-      | inl less ↦ absurd (least_hit all passes hit start rect bound nodes
-          (closed all passes hit start rect end bound nodes searched) passing near
+      | inl less ↦ absurd (least_hit all passes hit start ahead bound nodes
+          (closed all passes hit start ahead end bound nodes consistent searched) passing consistent
           target dirs is_hit walk (omega (arith, less))
           (λ place node known opened at cheap.
           (let no_less = searched.nearest place node known opened
@@ -121,16 +109,16 @@ not_after_cases a b never = elim (IsBefore-cases a b) [
   ]
 ]
 
-pub first_end : (all : Bool) (passes hit : Cell → Bool) (start : Cell) (rect : Rect) (end : Cell) (bound : ℕ)
+pub first_end : (all : Bool) (passes hit : Cell → Bool) (start : Cell) (ahead : Cell → ℕ) (end : Cell) (bound : ℕ)
     (nodes : List Node)
-    → IsSearched all passes hit start rect end bound nodes → IsTrue (passes start) → HitsLieIn passes hit rect
+    → IsSearched all passes hit start ahead end bound nodes → IsTrue (passes start) → IsConsistent passes hit ahead
     → (target : Cell) → IsTrue (hit target) → IsDistance passes start target bound → IsNotAfter end target
-first_end all passes hit start rect end bound nodes searched passing near target is_hit distance =
+first_end all passes hit start ahead end bound nodes searched passing consistent target is_hit distance =
     let dirs = distance.walk.0 in
     let cost = distance.walk.1.1 in
     not_after_cases end target
-    (λ before. least_hit all passes hit start rect bound nodes
-    (closed all passes hit start rect end bound nodes searched) passing near
+    (λ before. least_hit all passes hit start ahead bound nodes
+    (closed all passes hit start ahead end bound nodes consistent searched) passing consistent
     target dirs is_hit distance.walk.1.0 (omega (arith, cost))
     (λ place node known opened at cheap.
     (let here = subst (λ (c : Cell). IsTrue (hit c)) (sym at) is_hit in
@@ -139,11 +127,11 @@ first_end all passes hit start rect end bound nodes searched passing near target
     before_not_after target end before (subst (λ (c : Cell). IsNotAfter end c) at
     (searched.earliest place node known opened here same)))))
 
-pub end_distance : (all : Bool) (passes hit : Cell → Bool) (start : Cell) (rect : Rect) (end : Cell) (bound : ℕ)
+pub end_distance : (all : Bool) (passes hit : Cell → Bool) (start : Cell) (ahead : Cell → ℕ) (end : Cell) (bound : ℕ)
     (nodes : List Node)
-    → IsSearched all passes hit start rect end bound nodes → IsTrue (passes start) → HitsLieIn passes hit rect
+    → IsSearched all passes hit start ahead end bound nodes → IsTrue (passes start) → IsConsistent passes hit ahead
     → IsDistance passes start end bound
-end_distance all passes hit start rect end bound nodes searched passing near =
+end_distance all passes hit start ahead end bound nodes searched passing consistent =
     let ends = searched.ends.1.1 in
     let node = searched.ends.1.0 in
     let reached = searched.met.reached searched.ends.0 node ends.0 in
@@ -152,6 +140,6 @@ end_distance all passes hit start rect end bound nodes searched passing near =
     (jumps_walk passes hit start reached.0 node.state reached.1.0) in
     record {
       walk = (walked.dirs, (walked.walk, walked.costs ∙ (reached.1.1 ∙ ends.1.1.1.0)));
-      least = λ dirs walk. nearest_end all passes hit start rect end bound nodes searched passing near end dirs
+      least = λ dirs walk. nearest_end all passes hit start ahead end bound nodes searched passing consistent end dirs
           ends.1.1.1.1 walk;
     }

@@ -1,11 +1,16 @@
--- The rectangle of an aim: there is one, and an octile distance to it is 0 inside it.
-use Rattle.std.proofs.Common.{ℕ, ◌≡◌, Bool, IsTrue, ap, ◌∙◌, arith}
+-- The rectangle of an aim: there is one, and the octile distance to it is an estimate.
+use Rattle.std.proofs.Common.{ℕ, ◌≡◌, ◌+◌, ◌*◌, ◌≤◌, Bool, IsTrue, refl, ap, ◌∙◌, arith}
 use Rattle.nav_types.specs.declared.cells.Cell.{Cell}
 use Rattle.nav_types.specs.declared.cells.Rect.{Rect}
 use Rattle.nav_types.specs.declared.cells.Size.{Size}
+use Rattle.nav_types.specs.declared.directions.Dir.{Dir}
 use Rattle.nav_types.specs.Cells.{cell_at, IsInside, IsInRect}
+use Rattle.nav_types.specs.Directions.{step_cost}
 use Rattle.nav_types.specs.Frames.{IsFrame}
-use Rattle.jump_search.specs.JumpStates.{octile, octile_to}
+use Rattle.nav_types.specs.Walks.{Step}
+use Rattle.jump_search.specs.Estimates.{IsConsistent, IsEstimate}
+use Rattle.jump_search.specs.JumpStates.{octile, octile_between, octile_to}
+use Rattle.jump_search.proofs.Measuring.{octile_run, octile_to_through}
 
 octile_none : (c r : ℕ) → c ≡ 0 → r ≡ 0 → octile c r ≡ 0
 octile_none c r columns rows = omega (arith, columns, rows)
@@ -54,3 +59,32 @@ one_frame framed size a b one two =
     let r = λ (w x y z : ℕ). let rect : Rect = record { i0 = w; j0 = x; i1 = y; j1 = z } in rect in
     ap (λ (n : ℕ). r n a.j0 a.i1 a.j1) i0 ∙ ap (λ (n : ℕ). r b.i0 n a.i1 a.j1) j0
     ∙ ap (λ (n : ℕ). r b.i0 b.j0 n a.j1) i1 ∙ ap (λ (n : ℕ). r b.i0 b.j0 b.i1 n) j1
+
+octile_falls : (passes : Cell → Bool) (rect : Rect) (dir : Dir) (from to : Cell) → Step passes dir from to
+    → octile_to rect from ≤ step_cost dir + octile_to rect to
+octile_falls passes rect dir from to step =
+    let through = octile_to_through rect from to in
+    let cost : octile_between from to ≡ 1 * step_cost dir = octile_run passes dir 1 from to (to, (step, refl)) in
+    omega (arith, through, cost)
+
+pub octile_consistent : (passes hit framed : Cell → Bool) (size : Size) (rect : Rect)
+    → ((cell : Cell) → IsTrue (passes cell) → IsInside size cell)
+    → ((cell : Cell) → IsInside size cell → IsTrue (hit cell) → IsTrue (framed cell)) → IsFrame framed size rect
+    → IsConsistent passes hit (octile_to rect)
+octile_consistent passes hit framed size rect within hits_framed frame = record {
+  none = λ cell passing is_hit. let inside = within cell passing in
+      framed_none framed size rect cell frame inside (hits_framed cell inside is_hit);
+  falls = octile_falls passes rect;
+}
+
+-- the octile distance to the rectangle of an aim is an estimate
+pub octile_estimate : (passes hit framed : Cell → Bool) (size : Size) (rect : Rect)
+    → ((cell : Cell) → IsTrue (passes cell) → IsInside size cell)
+    → ((cell : Cell) → IsInside size cell → IsTrue (hit cell) → IsTrue (framed cell)) → IsFrame framed size rect
+    → IsEstimate passes hit framed size (octile_to rect)
+octile_estimate passes hit framed size rect within hits_framed frame = record {
+  consistent = octile_consistent passes hit framed size rect within hits_framed frame;
+  octile = λ other frames cell passing.
+      let same = ap (λ (r : Rect). octile_to r cell) (one_frame framed size other rect frames frame) in
+      omega (arith, same);
+}

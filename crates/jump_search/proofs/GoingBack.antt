@@ -9,7 +9,6 @@ use Rattle.std.proofs.lemmas.List.{append-nil, reverse-append, reverse-reverse, 
 use Rattle.std.proofs.lemmas.List.Sums.{sum_by-append}
 use Rattle.std.proofs.lemmas.Option.{same_Some, none-some}
 use Rattle.nav_types.specs.declared.cells.Cell.{Cell}
-use Rattle.nav_types.specs.declared.cells.Rect.{Rect}
 use Rattle.nav_types.specs.declared.directions.Dir.{Dir}
 use Rattle.nav_types.specs.Directions.{step_cost}
 use Rattle.nav_types.specs.Walks.{IsWalk, walk_cost, IsDistance}
@@ -19,12 +18,13 @@ use Rattle.walks.specs.Chosen.{Enters, IsPicked, IsChosenBack}
 use Rattle.jump_scan.specs.Stops.{IsRun}
 use Rattle.jump_search.specs.declared.nodes.Node.{Node}
 use Rattle.jump_search.specs.declared.states.JumpState.{JumpState}
-use Rattle.jump_search.specs.JumpStates.{IsJump, octile_between, octile_to, start_state, AreJumps, jumps_cost}
+use Rattle.jump_search.specs.Estimates.{IsConsistent}
+use Rattle.jump_search.specs.JumpStates.{IsJump, octile_between, start_state, AreJumps, jumps_cost}
 use Rattle.jump_search.specs.inner.Following.{IsFollowed, Follows}
 use Rattle.jump_search.specs.inner.Searched.{IsKeptRun, AreMet, IsSearched}
-use Rattle.jump_search.specs.inner.Traced.{HasRun, IsExact, IsTraced, HitsLieIn, IsTraceable}
+use Rattle.jump_search.specs.inner.Traced.{HasRun, IsExact, IsTraced, IsTraceable}
 use Rattle.jump_search.specs.inner.Traced.{Moves}
-use Rattle.jump_search.proofs.Measuring.{run_moves, octile_to_through, octile_run, run_cost}
+use Rattle.jump_search.proofs.Measuring.{run_moves, falls_along, octile_run, run_cost}
 use Rattle.jump_search.proofs.Measuring.{jumped, Walked, jumps_walk}
 use Rattle.jump_search.proofs.Stable.{chosen_stable}
 use Rattle.jump_search.proofs.Bounding.{IsClosed, closed, jump_relaxed, node_least, none_cheaper, followed_opened}
@@ -285,27 +285,26 @@ came_by passes hit start next before rest state followed distance follows cell i
     }
 
 -- the exact run of the cell in the followed direction is the followed one
-kept_is_followed : (all : Bool) (passes hit : Cell → Bool) (start : Cell) (rect : Rect) (bound : ℕ) (nodes : List Node)
-    → IsClosed all passes hit start rect bound nodes
+kept_is_followed : (all : Bool) (passes hit : Cell → Bool) (start : Cell) (ahead : Cell → ℕ) (bound : ℕ) (nodes : List Node)
+    → IsClosed all passes hit start ahead bound nodes
     → (cell : Cell) (cost : ℕ) (next : Option Dir) (dir : Dir) (run : ℕ)
-    → IsDistance passes start cell cost → cost + octile_to rect cell ≤ bound → (has : HasRun nodes cell cost dir run)
+    → IsDistance passes start cell cost → cost + ahead cell ≤ bound → (has : HasRun nodes cell cost dir run)
     → (rest : List JumpState) (before : JumpState) (came : Came passes hit start rest cell next dir before)
     → run ≡ came.count
-kept_is_followed all passes hit start rect bound nodes ended cell cost next dir run distance near has rest before came =
+kept_is_followed all passes hit start ahead bound nodes ended cell cost next dir run distance near has rest before came =
     let last = came.last in
     let to : JumpState = record { cell = cell; arrived = Some dir } in
     let begin = begin_of passes hit start nodes ended.met cell cost dir run distance has in
     let whole : cost ≡ jumps_cost rest before + came.count * step_cost dir =
     IsDistance-unique passes start cell cost _ distance last.far in
-    let through : octile_to rect before.cell ≤ octile_between before.cell cell + octile_to rect cell =
-    octile_to_through rect before.cell cell in
+    let through = falls_along passes hit ahead ended.consistent dir came.count before.cell cell last.steps in
     let between = octile_run passes dir came.count before.cell cell last.steps in
-    let from = followed_opened all passes hit start rect bound nodes ended (Some dir) rest before came.follows
+    let from = followed_opened all passes hit start ahead bound nodes ended (Some dir) rest before came.follows
     (omega (arith, near, through, between, whole)) in
     let least = node_least passes hit start nodes ended.met from.place from.node from.known before.cell
     (ap (λ (s : JumpState). s.cell) from.same) (jumps_cost rest before) last.near in
     let cheap = from.cheap in
-    let relaxed = jump_relaxed all passes hit start rect bound nodes ended before to (jumps_cost rest before) from
+    let relaxed = jump_relaxed all passes hit start ahead bound nodes ended before to (jumps_cost rest before) from
     last.jump came.count (dir, (refl, last.steps))
     (λ some cheaper. none_cheaper passes hit start nodes ended.met cell cell refl
     (from.node.cost + octile_between before.cell cell) cost distance (omega (arith, cheap, between, whole))
@@ -322,17 +321,17 @@ kept_is_followed all passes hit start rect bound nodes ended cell cost next dir 
     (subst (λ (n : ℕ). IsKeptRun (Some dir) n came.count) runs kept)
 
 -- the followed direction is exact
-followed_exact : (all : Bool) (passes hit : Cell → Bool) (start : Cell) (rect : Rect) (bound : ℕ) (nodes : List Node)
-    → IsClosed all passes hit start rect bound nodes → (next : Option Dir) (states : List JumpState) (state : JumpState)
+followed_exact : (all : Bool) (passes hit : Cell → Bool) (start : Cell) (ahead : Cell → ℕ) (bound : ℕ) (nodes : List Node)
+    → IsClosed all passes hit start ahead bound nodes → (next : Option Dir) (states : List JumpState) (state : JumpState)
     → Follows passes hit start next states state → (cell : Cell) (cost : ℕ) (dir : Dir)
     → state ≡ record { cell = cell; arrived = Some dir }
-    → IsDistance passes start cell cost → cost ≡ jumps_cost states state → cost + octile_to rect cell ≤ bound
+    → IsDistance passes start cell cost → cost ≡ jumps_cost states state → cost + ahead cell ≤ bound
     → IsExact nodes cell cost dir
-followed_exact all passes hit start rect bound nodes ended next states state follows cell cost dir is distance sums near
+followed_exact all passes hit start ahead bound nodes ended next states state follows cell cost dir is distance sums near
     =
     let here : state.cell ≡ cell = ap (λ (s : JumpState). s.cell) is in
-    let there : octile_to rect state.cell ≡ octile_to rect cell = ap (octile_to rect) here in
-    let found = followed_opened all passes hit start rect bound nodes ended next states state follows
+    let there : ahead state.cell ≡ ahead cell = ap ahead here in
+    let found = followed_opened all passes hit start ahead bound nodes ended next states state follows
     (omega (arith, near, sums, there)) in
     let least = node_least passes hit start nodes ended.met found.place found.node found.known cell
     (ap (λ (s : JumpState). s.cell) found.same ∙ here) cost distance in
@@ -357,10 +356,10 @@ same_state state cell arrived here came =
 
 -- one run back
 
-pub step_back : (all : Bool) (passes hit : Cell → Bool) (start : Cell) (rect : Rect) (bound : ℕ) (nodes : List Node)
-    → IsClosed all passes hit start rect bound nodes
+pub step_back : (all : Bool) (passes hit : Cell → Bool) (start : Cell) (ahead : Cell → ℕ) (bound : ℕ) (nodes : List Node)
+    → IsClosed all passes hit start ahead bound nodes
     → (cell : Cell) (cost : ℕ) (next : Option Dir) (dir : Dir) (run : ℕ) → start ≢ cell
-    → IsDistance passes start cell cost → cost + octile_to rect cell ≤ bound
+    → IsDistance passes start cell cost → cost + ahead cell ≤ bound
     → IsPicked (IsExact nodes cell cost) next dir
     → HasRun nodes cell cost dir run → (from : Cell) → IsRun passes dir run from cell
     → (states : List JumpState) (state : JumpState) → state.cell ≡ cell → Follows passes hit start next states state
@@ -368,10 +367,10 @@ pub step_back : (all : Bool) (passes hit : Cell → Bool) (start : Cell) (rect :
     → Follows passes hit start (Some dir) earlier before
     → ((rest : List Dir) → IsChosenBack passes start (Some dir) rest from
     → IsChosenBack passes start next (replicate run dir ++ rest) cell) → ⊥) → ⊥
-step_back all passes hit start rect bound nodes ended cell cost next dir run away distance near picked has from steps []
+step_back all passes hit start ahead bound nodes ended cell cost next dir run away distance near picked has from steps []
     state at follows none =
     away (sym (ap (λ (s : JumpState). s.cell) follows) ∙ at)
-step_back all passes hit start rect bound nodes ended cell cost next dir run away distance near picked has from steps
+step_back all passes hit start ahead bound nodes ended cell cost next dir run away distance near picked has from steps
     (before ∷ rest) state at follows none =
     let followed = follows.1.0 in
     let is : state ≡ record { cell = cell; arrived = Some followed.dir } =
@@ -379,14 +378,14 @@ step_back all passes hit start rect bound nodes ended cell cost next dir run awa
     let there : IsDistance passes start cell (jumps_cost (before ∷ rest) state) =
     subst (λ (c : Cell). IsDistance passes start c (jumps_cost (before ∷ rest) state)) at follows.0 in
     let sums : cost ≡ jumps_cost (before ∷ rest) state = IsDistance-unique passes start cell cost _ distance there in
-    let exact = followed_exact all passes hit start rect bound nodes ended next (before ∷ rest) state follows cell cost
+    let exact = followed_exact all passes hit start ahead bound nodes ended next (before ∷ rest) state follows cell cost
     followed.dir is distance sums near in
     let came = came_by passes hit start next before rest state followed follows.0 follows.1.1 cell is in
     let same : dir ≡ followed.dir = one_pick (IsExact nodes cell cost) (Enters passes start cell) next dir followed.dir
     (exact_enters passes hit start nodes ended.met cell cost distance) exact picked came.picked in
     let mine : Came passes hit start rest cell next dir before =
     subst (λ (d : Dir). Came passes hit start rest cell next d before) (sym same) came in
-    let all_steps = kept_is_followed all passes hit start rect bound nodes ended cell cost next dir run distance near
+    let all_steps = kept_is_followed all passes hit start ahead bound nodes ended cell cost next dir run distance near
     has rest before mine in
     let last = mine.last in
     let run_here : IsRun passes dir run before.cell cell =
@@ -414,13 +413,13 @@ pub reverse_more : (back : List Dir) (dir : Dir) (run : ℕ)
 reverse_more back dir run =
     reverse-append back (replicate run dir) ∙ ap (λ (dirs : List Dir). dirs ++ reverse back) (reverse-run dir run)
 
-pub traced_at_end : (all : Bool) (passes hit : Cell → Bool) (start : Cell) (rect : Rect) (end : Cell) (bound : ℕ)
+pub traced_at_end : (all : Bool) (passes hit : Cell → Bool) (start : Cell) (ahead : Cell → ℕ) (end : Cell) (bound : ℕ)
     (nodes : List Node)
-    → IsSearched all passes hit start rect end bound nodes → IsTrue (passes start) → HitsLieIn passes hit rect
+    → IsSearched all passes hit start ahead end bound nodes → IsTrue (passes start) → IsConsistent passes hit ahead
     → IsTraced passes hit start nodes end bound end bound None []
-traced_at_end all passes hit start rect end bound nodes searched passing near =
+traced_at_end all passes hit start ahead end bound nodes searched passing near =
     let ends = searched.ends.1.1 in
-    let distance = end_distance all passes hit start rect end bound nodes searched passing near in
+    let distance = end_distance all passes hit start ahead end bound nodes searched passing near in
     record {
       place = searched.ends.0;
       node = searched.ends.1.0;
@@ -436,25 +435,25 @@ traced_at_end all passes hit start rect end bound nodes searched passing near =
     }
 
 -- the cell is within the bound
-traced_near : (all : Bool) (passes hit : Cell → Bool) (start : Cell) (rect : Rect) (end : Cell) (bound : ℕ)
+traced_near : (all : Bool) (passes hit : Cell → Bool) (start : Cell) (ahead : Cell → ℕ) (end : Cell) (bound : ℕ)
     (nodes : List Node)
-    → IsSearched all passes hit start rect end bound nodes
+    → IsSearched all passes hit start ahead end bound nodes
     → (cell : Cell) (cost : ℕ) (next : Option Dir) (back : List Dir)
-    → IsTraced passes hit start nodes end bound cell cost next back → cost + octile_to rect cell ≤ bound
-traced_near all passes hit start rect end bound nodes searched cell cost next back traced =
+    → IsTraced passes hit start nodes end bound cell cost next back → cost + ahead cell ≤ bound
+traced_near all passes hit start ahead end bound nodes searched cell cost next back traced =
     let within = searched.within traced.place traced.node traced.known traced.opened in
     let costs = traced.costs in
-    let there : octile_to rect traced.node.state.cell ≡ octile_to rect cell = ap (octile_to rect) traced.here in
+    let there : ahead traced.node.state.cell ≡ ahead cell = ap ahead traced.here in
     omega (arith, within, costs, there)
 
 -- a cell other than the start has an exact run
-pub traced_exact : (all : Bool) (passes hit : Cell → Bool) (start : Cell) (rect : Rect) (end : Cell) (bound : ℕ)
+pub traced_exact : (all : Bool) (passes hit : Cell → Bool) (start : Cell) (ahead : Cell → ℕ) (end : Cell) (bound : ℕ)
     (nodes : List Node)
-    → IsSearched all passes hit start rect end bound nodes
+    → IsSearched all passes hit start ahead end bound nodes
     → (cell : Cell) (cost : ℕ) (next : Option Dir) (back : List Dir)
     → IsTraced passes hit start nodes end bound cell cost next back → start ≢ cell → (dir : Dir)
     × IsExact nodes cell cost dir
-traced_exact all passes hit start rect end bound nodes searched cell cost next back traced away =
+traced_exact all passes hit start ahead end bound nodes searched cell cost next back traced away =
     let node = traced.node in
     let there : IsDistance passes start node.state.cell cost =
     subst (λ (c : Cell). IsDistance passes start c cost) (sym traced.here) traced.distance in
@@ -479,18 +478,18 @@ traced_exact all passes hit start rect end bound nodes searched cell cost next b
     ]
 
 -- one run more
-pub traced_more : (all : Bool) (passes hit : Cell → Bool) (start : Cell) (rect : Rect) (end : Cell) (bound : ℕ)
+pub traced_more : (all : Bool) (passes hit : Cell → Bool) (start : Cell) (ahead : Cell → ℕ) (end : Cell) (bound : ℕ)
     (nodes : List Node)
-    → IsSearched all passes hit start rect end bound nodes
+    → IsConsistent passes hit ahead → IsSearched all passes hit start ahead end bound nodes
     → (cell : Cell) (cost : ℕ) (next : Option Dir) (back : List Dir)
     → IsTraced passes hit start nodes end bound cell cost next back → start ≢ cell → (dir : Dir) (run : ℕ)
     → IsPicked (IsExact nodes cell cost) next dir → HasRun nodes cell cost dir run → (from : Cell)
     → Moves dir run from cell → (less : ℕ)
     → less ≡ cost - run * step_cost dir → IsTraced passes hit start nodes end bound from less (Some dir)
     (back ++ replicate run dir)
-traced_more all passes hit start rect end bound nodes searched cell cost next back traced away dir run picked has from
+traced_more all passes hit start ahead end bound nodes consistent searched cell cost next back traced away dir run picked has from
     moves less is =
-    let near = traced_near all passes hit start rect end bound nodes searched cell cost next back traced in
+    let near = traced_near all passes hit start ahead end bound nodes searched cell cost next back traced in
     let begin = begin_of passes hit start nodes searched.met cell cost dir run traced.distance has in
     let last = begin.last in
     let at : begin.parent.state.cell ≡ from =
@@ -518,7 +517,7 @@ traced_more all passes hit start rect end bound nodes searched cell cost next ba
           (IsWalk-append passes from cell end (replicate run dir) (reverse back) steps traced.walk);
       sums = omega (arith, longer, run_cost dir run, sums, begun, is);
       chosen = λ none. traced.chosen (λ states state here follows so_far.
-          step_back all passes hit start rect bound nodes (closed all passes hit start rect end bound nodes searched)
+          step_back all passes hit start ahead bound nodes (closed all passes hit start ahead end bound nodes consistent searched)
           cell cost next dir run away
           traced.distance near picked has from steps states state here follows
           (λ earlier before begins goes_on taken. none earlier before begins goes_on
@@ -569,44 +568,44 @@ traced_whole passes hit start nodes end bound cell cost next back traced at dist
 
 -- over nodes that can be traced back
 
-pub traceable_at_end : (all : Bool) (passes hit : Cell → Bool) (start : Cell) (rect : Rect) (end : Cell) (bound : ℕ)
+pub traceable_at_end : (all : Bool) (passes hit : Cell → Bool) (start : Cell) (ahead : Cell → ℕ) (end : Cell) (bound : ℕ)
     (nodes : List Node)
-    → IsTraceable all passes hit start rect end bound nodes → (back : List Dir) → back ≡ []
+    → IsTraceable all passes hit start ahead end bound nodes → (back : List Dir) → back ≡ []
     → IsTraced passes hit start nodes end bound end bound None back
-traceable_at_end all passes hit start rect end bound nodes able back none =
+traceable_at_end all passes hit start ahead end bound nodes able back none =
     subst (λ (dirs : List Dir). IsTraced passes hit start nodes end bound end bound None dirs) (sym none)
-    (traced_at_end all passes hit start rect end bound nodes able.searched able.passing able.near)
+    (traced_at_end all passes hit start ahead end bound nodes able.searched able.passing able.consistent)
 
-pub traceable_back : (all : Bool) (passes hit : Cell → Bool) (start : Cell) (rect : Rect) (end : Cell) (bound : ℕ)
+pub traceable_back : (all : Bool) (passes hit : Cell → Bool) (start : Cell) (ahead : Cell → ℕ) (end : Cell) (bound : ℕ)
     (nodes : List Node)
-    → IsTraceable all passes hit start rect end bound nodes
+    → IsTraceable all passes hit start ahead end bound nodes
     → (cell : Cell) (cost : ℕ) (next : Option Dir) (back : List Dir)
     → IsTraced passes hit start nodes end bound cell cost next back → (dir : Dir) (run : ℕ)
     → HasRun nodes cell cost dir run
     → GoesBack passes start cell cost dir run
-traceable_back all passes hit start rect end bound nodes able cell cost next back traced dir run has =
+traceable_back all passes hit start ahead end bound nodes able cell cost next back traced dir run has =
     goes_back passes hit start nodes able.searched.met cell cost dir run traced.distance has
 
-pub traceable_from : (all : Bool) (passes hit : Cell → Bool) (start : Cell) (rect : Rect) (end : Cell) (bound : ℕ)
+pub traceable_from : (all : Bool) (passes hit : Cell → Bool) (start : Cell) (ahead : Cell → ℕ) (end : Cell) (bound : ℕ)
     (nodes : List Node)
-    → IsTraceable all passes hit start rect end bound nodes
+    → IsTraceable all passes hit start ahead end bound nodes
     → (cell : Cell) (cost : ℕ) (next : Option Dir) (back : List Dir)
     → IsTraced passes hit start nodes end bound cell cost next back → (dir : Dir) (run : ℕ)
     → HasRun nodes cell cost dir run
     → (from : Cell) × (Moves dir run from cell × IsInGrid from)
-traceable_from all passes hit start rect end bound nodes able cell cost next back traced dir run has =
-    let goes = traceable_back all passes hit start rect end bound nodes able cell cost next back traced dir run has in
+traceable_from all passes hit start ahead end bound nodes able cell cost next back traced dir run has =
+    let goes = traceable_back all passes hit start ahead end bound nodes able cell cost next back traced dir run has in
     (goes.from, (goes.moves, able.grid goes.from (goes.passing able.passing)))
 
 -- the run that is taken away
-pub traceable_run : (all : Bool) (passes hit : Cell → Bool) (start : Cell) (rect : Rect) (end : Cell) (bound : ℕ)
+pub traceable_run : (all : Bool) (passes hit : Cell → Bool) (start : Cell) (ahead : Cell → ℕ) (end : Cell) (bound : ℕ)
     (nodes : List Node)
-    → IsTraceable all passes hit start rect end bound nodes
+    → IsTraceable all passes hit start ahead end bound nodes
     → (cell : Cell) (cost : ℕ) (next : Option Dir) (back : List Dir)
     → IsTraced passes hit start nodes end bound cell cost next back → (dir : Dir) (run : ℕ)
     → HasRun nodes cell cost dir run → (from : Cell) → Moves dir run from cell
     → IsRun passes dir run from cell × (0 < run)
-traceable_run all passes hit start rect end bound nodes able cell cost next back traced dir run has from moves =
+traceable_run all passes hit start ahead end bound nodes able cell cost next back traced dir run has from moves =
     let begin = begin_of passes hit start nodes able.searched.met cell cost dir run traced.distance has in
     let last = begin.last in
     let at : begin.parent.state.cell ≡ from =
@@ -614,32 +613,32 @@ traceable_run all passes hit start rect end bound nodes able cell cost next back
     (run_moves passes dir run begin.parent.state.cell cell last.steps) moves in
     (subst (λ (c : Cell). IsRun passes dir run c cell) at last.steps, last.some)
 
-pub traceable_more : (all : Bool) (passes hit : Cell → Bool) (start : Cell) (rect : Rect) (end : Cell) (bound : ℕ)
+pub traceable_more : (all : Bool) (passes hit : Cell → Bool) (start : Cell) (ahead : Cell → ℕ) (end : Cell) (bound : ℕ)
     (nodes : List Node)
-    → IsTraceable all passes hit start rect end bound nodes
+    → IsTraceable all passes hit start ahead end bound nodes
     → (cell : Cell) (cost : ℕ) (next : Option Dir) (back : List Dir)
     → IsTraced passes hit start nodes end bound cell cost next back → start ≢ cell → (dir : Dir) (run each : ℕ)
     → IsPicked (IsExact nodes cell cost) next dir → HasRun nodes cell cost dir run → (from : Cell)
     → Moves dir run from cell
     → each ≡ step_cost dir → (longer : List Dir) → longer ≡ back ++ replicate run dir
     → IsTraced passes hit start nodes end bound from (cost - run * each) (Some dir) longer
-traceable_more all passes hit start rect end bound nodes able cell cost next back traced away dir run each picked has
+traceable_more all passes hit start ahead end bound nodes able cell cost next back traced away dir run each picked has
     from moves is longer more =
     subst (λ (dirs : List Dir). IsTraced passes hit start nodes end bound from (cost - run * each) (Some dir) dirs)
     (sym more)
-    (traced_more all passes hit start rect end bound nodes able.searched cell cost next back traced away dir run picked
+    (traced_more all passes hit start ahead end bound nodes able.consistent able.searched cell cost next back traced away dir run picked
     has from moves (cost - run * each)
     (ap (λ (n : ℕ). cost - run * n) is))
 
-pub traceable_whole : (all : Bool) (passes hit : Cell → Bool) (start : Cell) (rect : Rect) (end : Cell) (bound : ℕ)
+pub traceable_whole : (all : Bool) (passes hit : Cell → Bool) (start : Cell) (ahead : Cell → ℕ) (end : Cell) (bound : ℕ)
     (nodes : List Node)
-    → IsTraceable all passes hit start rect end bound nodes
+    → IsTraceable all passes hit start ahead end bound nodes
     → (cell : Cell) (cost : ℕ) (next : Option Dir) (back : List Dir)
     → IsTraced passes hit start nodes end bound cell cost next back → start ≡ cell
     → IsChosenBack passes start None back end
-traceable_whole all passes hit start rect end bound nodes able cell cost next back traced at =
+traceable_whole all passes hit start ahead end bound nodes able cell cost next back traced at =
     traced_whole passes hit start nodes end bound cell cost next back traced at
-    (end_distance all passes hit start rect end bound nodes able.searched able.passing able.near)
+    (end_distance all passes hit start ahead end bound nodes able.searched able.passing able.consistent)
 
 -- a run taken away makes a cost less
 pub less_by : (cost run each step : ℕ) → each ≡ step → 0 < run → run * step ≤ cost → 0 < each → cost - run * each < cost

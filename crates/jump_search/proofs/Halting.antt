@@ -5,7 +5,6 @@ use Rattle.std.specs.List.{slice_get}
 use Rattle.std.specs.FinMap as map
 use Rattle.std.proofs.lemmas.Bool.{both_ways}
 use Rattle.nav_types.specs.declared.cells.Cell.{Cell}
-use Rattle.nav_types.specs.declared.cells.Rect.{Rect}
 use Rattle.open_heap.specs.Queue.{Queue}
 use Rattle.jump_search.specs.declared.nodes.Node.{Node}
 use Rattle.jump_search.specs.declared.searching.Best.{Best}
@@ -15,13 +14,13 @@ use Rattle.jump_search.proofs.Listing.{one_item}
 use Rattle.jump_search.proofs.Queueing.{get_cases}
 
 -- nodes that are not opened wait, or are dearer than another of their cell
-waits_or_dearer : (all : Bool) (rect : Rect) (floor : ℕ) (nodes : List Node) (queue : Queue)
-    → IsQueued all rect floor nodes queue
+waits_or_dearer : (all : Bool) (ahead : Cell → ℕ) (floor : ℕ) (nodes : List Node) (queue : Queue)
+    → IsQueued all ahead floor nodes queue
     → (number : ℕ) (node : Node) → slice_get nodes number ≡ Some node → IsFalse node.opened
     → ((value : ℕ) × ((map.get queue number ≡ Some value)
-    × ((value ≡ estimate_of rect node) × (floor ≤ value))))
+    × ((value ≡ estimate_of ahead node) × (floor ≤ value))))
     ⊎ (IsFalse all × IsDearer nodes node)
-waits_or_dearer all rect floor nodes queue queued number node found not = elim (get_cases queue number) [
+waits_or_dearer all ahead floor nodes queue queued number node found not = elim (get_cases queue number) [
   | inl none ↦ elim (queued.others number node found none) [
     | inl opened ↦ absurd (both_ways node.opened not opened)
     | inr dearer ↦ inr dearer
@@ -29,7 +28,7 @@ waits_or_dearer all rect floor nodes queue queued number node found not = elim (
   | inr some ↦
       let has = queued.waits number some.0 some.1 in
       let is = one_item nodes number has.0 node has.1.0 found in
-      inl (some.0, (some.1, (subst (λ (n : Node). some.0 ≡ estimate_of rect n) is has.1.1.1.0, has.1.1.1.1)))
+      inl (some.0, (some.1, (subst (λ (n : Node). some.0 ≡ estimate_of ahead n) is has.1.1.1.0, has.1.1.1.1)))
 ]
 
 none_passed : (hit : Cell → Bool) (nodes : List Node) (floor : ℕ) (best : Option Best) → IsBestSoFar hit nodes floor best
@@ -41,14 +40,14 @@ none_passed hit nodes floor (Some best) kept number node found opened is =
     let near = kept.1 in
     omega (arith, low, near)
 
-pub halted : (all : Bool) (passes hit : Cell → Bool) (start : Cell) (rect : Rect) (floor : ℕ) (nodes : List Node)
+pub halted : (all : Bool) (passes hit : Cell → Bool) (start : Cell) (ahead : Cell → ℕ) (floor : ℕ) (nodes : List Node)
     (queue : Queue) (best : Option Best)
-    → IsUnderway all passes hit start rect floor nodes queue best → IsHalted all passes hit start rect floor nodes
-halted all passes hit start rect floor nodes queue best underway = record {
+    → IsUnderway all passes hit start ahead floor nodes queue best → IsHalted all passes hit start ahead floor nodes
+halted all passes hit start ahead floor nodes queue best underway = record {
   met = underway.met;
   followed = underway.followed;
   within = underway.queued.within;
-  beyond = λ number node found not. elim (waits_or_dearer all rect floor nodes queue underway.queued number node found
+  beyond = λ number node found not. elim (waits_or_dearer all ahead floor nodes queue underway.queued number node found
       not) [
         | inl waits ↦ let same = waits.1.1.0 in let early = waits.1.1.1 in inl (omega (arith, same, early))
         | inr dearer ↦ inr dearer
@@ -56,22 +55,22 @@ halted all passes hit start rect floor nodes queue best underway = record {
   passed = none_passed hit nodes floor best underway.hits;
 }
 
-pub ended : (all : Bool) (passes hit : Cell → Bool) (start : Cell) (rect : Rect) (floor : ℕ) (nodes : List Node)
+pub ended : (all : Bool) (passes hit : Cell → Bool) (start : Cell) (ahead : Cell → ℕ) (floor : ℕ) (nodes : List Node)
     (queue : Queue) (best : Option Best)
-    → IsUnderway all passes hit start rect floor nodes queue best
+    → IsUnderway all passes hit start ahead floor nodes queue best
     → ((number : ℕ) (value : ℕ) → map.get queue number ≡ Some value → IsPast best value)
-    → HasEnded all passes hit start rect nodes best
-ended all passes hit start rect floor nodes queue None underway past = record {
+    → HasEnded all passes hit start ahead nodes best
+ended all passes hit start ahead floor nodes queue None underway past = record {
   met = underway.met;
   followed = underway.followed;
-  beyond = λ number node found not. elim (waits_or_dearer all rect floor nodes queue underway.queued number node found
+  beyond = λ number node found not. elim (waits_or_dearer all ahead floor nodes queue underway.queued number node found
       not) [
         | inl waits ↦ absurd (past number waits.0 waits.1.0)
         | inr dearer ↦ dearer
       ];
   missed = underway.hits;
 }
-ended all passes hit start rect floor nodes queue (Some best) underway past =
+ended all passes hit start ahead floor nodes queue (Some best) underway past =
     let kept = underway.hits.0 in
     let near = underway.hits.1 in
     record {
@@ -80,7 +79,7 @@ ended all passes hit start rect floor nodes queue (Some best) underway past =
       within = λ number node found opened.
           let low = underway.queued.within number node found opened in
           omega (arith, low, near);
-      beyond = λ number node found not. elim (waits_or_dearer all rect floor nodes queue underway.queued number node
+      beyond = λ number node found not. elim (waits_or_dearer all ahead floor nodes queue underway.queued number node
           found not) [
             | inl waits ↦
                 let same = waits.1.1.0 in

@@ -4,7 +4,6 @@ use Rattle.std.proofs.Common.{inl, inr, ◌⊎◌, refl, ap, sym, subst, ◌∙�
 use Rattle.std.proofs.lemmas.Bool.{both_ways}
 use Rattle.std.proofs.lemmas.Option.{same_Some}
 use Rattle.nav_types.specs.declared.cells.Cell.{Cell}
-use Rattle.nav_types.specs.declared.cells.Rect.{Rect}
 use Rattle.nav_types.specs.declared.cells.Size.{Size}
 use Rattle.nav_types.specs.declared.directions.Dir.{Dir}
 use Rattle.nav_types.specs.declared.directions.Dir.TheVariants.{N, E, S, W, NE, SE, SW, NW}
@@ -16,13 +15,14 @@ use Rattle.jump_scan.specs.Successors.{IsSuccessor}
 use Rattle.jump_scan.proofs.Running.{one_stop_only}
 use Rattle.jump_search.specs.declared.nodes.Node.{Node}
 use Rattle.jump_search.specs.declared.states.JumpState.{JumpState}
-use Rattle.jump_search.specs.JumpStates.{IsStopOf, IsJump, octile_between, octile_to}
+use Rattle.jump_search.specs.Estimates.{IsConsistent}
+use Rattle.jump_search.specs.JumpStates.{IsStopOf, IsJump, octile_between}
 use Rattle.jump_search.specs.inner.Numbered.{HasCheaper}
 use Rattle.jump_search.specs.inner.Searched.{IsLastRun, HasOpenedParent, IsNoted}
 use Rattle.jump_search.specs.inner.Underway.{steps_over, estimate_of, IsOpenNode, IsFollowedAlong}
 use Rattle.jump_search.specs.inner.Underway.{IsFollowable, Settles, Notes, Follows}
 use Rattle.jump_search.specs.inner.Traced.{Moves}
-use Rattle.jump_search.proofs.Measuring.{run_moves, octile_to_through}
+use Rattle.jump_search.proofs.Measuring.{run_moves, falls_along}
 use Rattle.jump_search.proofs.Dropping.{going_dropped}
 use Rattle.jump_search.proofs.Lasting.{all_later_self, all_later_through, along_later, open_later}
 
@@ -155,13 +155,15 @@ along_landed all passes hit nodes from cost dir stop node is landed noted = λ s
     (subst (λ (n : ℕ). IsNoted all nodes node.state node.cost n) (sym steps) noted))
 
 -- an estimate does not fall along a jump
-pub estimate_landed : (rect : Rect) (from : JumpState) (cost floor : ℕ) (dir : Dir) (stop : Cell) (node : Node)
-    → HasLanded from cost dir stop node
-    → floor ≤ cost + octile_to rect from.cell → floor ≤ estimate_of rect node
-estimate_landed rect from cost floor dir stop node landed early =
-    let through = octile_to_through rect from.cell stop in
+pub estimate_landed : (passes hit : Cell → Bool) (ahead : Cell → ℕ) (from : JumpState) (cost floor : ℕ) (dir : Dir)
+    (stop : Cell) (node : Node)
+    → IsConsistent passes hit ahead → IsStopOf passes hit dir from.cell stop → HasLanded from cost dir stop node
+    → floor ≤ cost + ahead from.cell → floor ≤ estimate_of ahead node
+estimate_landed passes hit ahead from cost floor dir stop node consistent is landed early =
+    let through = falls_along passes hit ahead consistent dir (steps_over from.cell stop) from.cell stop
+    (run_to_stop passes hit dir from.cell stop is) in
     let costs = landed.costs in
-    let ends : octile_to rect node.state.cell ≡ octile_to rect stop = ap (λ (c : Cell). octile_to rect c) landed.cell in
+    let ends : ahead node.state.cell ≡ ahead stop = ap ahead landed.cell in
     omega (arith, through, costs, ends, early)
 
 octile_most : (c r : ℕ) → c < 2048 → r < 2048 → 92682 * min c r + 65536 * (max c r - min c r) ≤ 189812736
@@ -181,15 +183,16 @@ low_cell size cell inside =
     (omega (arith, few, column), omega (arith, low, row))
 
 -- following the one jump in a direction
-follows_landed : (all : Bool) (passes hit : Cell → Bool) (rect : Rect) (from : JumpState) (cost : ℕ) (dir : Dir) (stop : Cell)
+follows_landed : (all : Bool) (passes hit : Cell → Bool) (ahead : Cell → ℕ) (from : JumpState) (cost : ℕ) (dir : Dir) (stop : Cell)
     (node : Node)
     (old new : List Node) (before after : Queue)
     → IsSuccessor passes from.cell from.arrived dir → IsStopOf passes hit dir from.cell stop
     → HasLanded from cost dir stop node
-    → octile_between from.cell stop ≤ 189812736
-    → Settles all rect node old new before after
-    → Follows all passes hit rect from cost (λ other. other ≡ dir) old new before after
-follows_landed all passes hit rect from cost dir stop node old new before after successor is landed most noted =
+    → octile_between from.cell stop ≤ 189812736 → IsConsistent passes hit ahead
+    → Settles all ahead node old new before after
+    → Follows all passes hit ahead from cost (λ other. other ≡ dir) old new before after
+follows_landed all passes hit ahead from cost dir stop node old new before after successor is landed most consistent
+    noted =
     let relaxes = noted.1.0 in
     record {
       later = relaxes.later;
@@ -197,19 +200,19 @@ follows_landed all passes hit rect from cost dir stop node old new before after 
           (along_landed all passes hit new from cost dir stop node is landed (inl relaxes.relaxed));
       going = λ start floor top going has early room.
           let costs = landed.costs in
-          going_dropped all passes hit start rect floor top new noted.0 after noted.1.1
+          going_dropped all passes hit start ahead floor top new noted.0 after noted.1.1
           (relaxes.going all passes hit start floor top going
-          (estimate_landed rect from cost floor dir stop node landed early)
+          (estimate_landed passes hit ahead from cost floor dir stop node consistent is landed early)
           (omega (arith, costs, room, most)) (parent_landed passes hit old from cost dir stop node successor is landed has));
     }
 
 -- the one jump in a direction is left
-follows_left : (all : Bool) (passes hit : Cell → Bool) (rect : Rect) (from : JumpState) (cost : ℕ) (dir : Dir)
+follows_left : (all : Bool) (passes hit : Cell → Bool) (ahead : Cell → ℕ) (from : JumpState) (cost : ℕ) (dir : Dir)
     (stop : Cell) (node : Node) (nodes : List Node) (queue : Queue)
     → IsStopOf passes hit dir from.cell stop → HasLanded from cost dir stop node → IsFalse all
     → HasCheaper nodes node.state.cell node.cost
-    → Follows all passes hit rect from cost (λ other. other ≡ dir) nodes nodes queue queue
-follows_left all passes hit rect from cost dir stop node nodes queue is landed some cheaper = record {
+    → Follows all passes hit ahead from cost (λ other. other ≡ dir) nodes nodes queue queue
+follows_left all passes hit ahead from cost dir stop node nodes queue is landed some cheaper = record {
   later = all_later_self nodes;
   along = λ other same. subst (λ (d : Dir). IsFollowedAlong all passes hit nodes from cost d) (sym same)
       (along_landed all passes hit nodes from cost dir stop node is landed (inr (some, cheaper)));
@@ -217,29 +220,29 @@ follows_left all passes hit rect from cost dir stop node nodes queue is landed s
 }
 
 -- the one jump in a direction is noted, or left
-pub follows_noted : (all : Bool) (passes hit : Cell → Bool) (rect : Rect) (from : JumpState) (cost : ℕ) (dir : Dir) (stop : Cell)
+pub follows_noted : (all : Bool) (passes hit : Cell → Bool) (ahead : Cell → ℕ) (from : JumpState) (cost : ℕ) (dir : Dir) (stop : Cell)
     (node : Node)
     (old new : List Node) (before after : Queue)
     → IsSuccessor passes from.cell from.arrived dir → IsStopOf passes hit dir from.cell stop
     → HasLanded from cost dir stop node
-    → octile_between from.cell stop ≤ 189812736 → Notes all rect node old new before after
-    → Follows all passes hit rect from cost (λ other. other ≡ dir) old new before after
-follows_noted all passes hit rect from cost dir stop node old new before after successor is landed most notes = elim notes [
+    → octile_between from.cell stop ≤ 189812736 → IsConsistent passes hit ahead → Notes all ahead node old new before after
+    → Follows all passes hit ahead from cost (λ other. other ≡ dir) old new before after
+follows_noted all passes hit ahead from cost dir stop node old new before after successor is landed most consistent notes = elim notes [
   | inl noted ↦
-      follows_landed all passes hit rect from cost dir stop node old new before after successor is landed most noted
+      follows_landed all passes hit ahead from cost dir stop node old new before after successor is landed most consistent noted
   | inr left ↦
-      subst (λ (ns : List Node). Follows all passes hit rect from cost (λ other. other ≡ dir) old ns before after)
+      subst (λ (ns : List Node). Follows all passes hit ahead from cost (λ other. other ≡ dir) old ns before after)
       (sym left.1.0)
-      (subst (λ (q : Queue). Follows all passes hit rect from cost (λ other. other ≡ dir) old old before q) (sym left.1.1)
-      (follows_left all passes hit rect from cost dir stop node old before is landed left.0.0 left.0.1))
+      (subst (λ (q : Queue). Follows all passes hit ahead from cost (λ other. other ≡ dir) old old before q) (sym left.1.1)
+      (follows_left all passes hit ahead from cost dir stop node old before is landed left.0.0 left.0.1))
 ]
 
 -- there is no jump in the direction
-pub follows_none : (all : Bool) (passes hit : Cell → Bool) (rect : Rect) (from : JumpState) (cost : ℕ) (dir : Dir)
+pub follows_none : (all : Bool) (passes hit : Cell → Bool) (ahead : Cell → ℕ) (from : JumpState) (cost : ℕ) (dir : Dir)
     (nodes : List Node) (queue : Queue)
     → ((stop : Cell) → IsStopOf passes hit dir from.cell stop → ⊥)
-    → Follows all passes hit rect from cost (λ other. other ≡ dir) nodes nodes queue queue
-follows_none all passes hit rect from cost dir nodes queue none = record {
+    → Follows all passes hit ahead from cost (λ other. other ≡ dir) nodes nodes queue queue
+follows_none all passes hit ahead from cost dir nodes queue none = record {
   later = all_later_self nodes;
   along = λ other same state run jump arrived last.
       let dir_jump : jump.dir ≡ dir = same_Some jump.dir dir
@@ -249,11 +252,11 @@ follows_none all passes hit rect from cost dir nodes queue none = record {
 }
 
 -- the direction is no successor
-pub follows_pruned : (all : Bool) (passes hit : Cell → Bool) (rect : Rect) (from : JumpState) (cost : ℕ) (dir : Dir)
+pub follows_pruned : (all : Bool) (passes hit : Cell → Bool) (ahead : Cell → ℕ) (from : JumpState) (cost : ℕ) (dir : Dir)
     (nodes : List Node) (queue : Queue)
     → (IsSuccessor passes from.cell from.arrived dir → ⊥)
-    → Follows all passes hit rect from cost (λ other. other ≡ dir) nodes nodes queue queue
-follows_pruned all passes hit rect from cost dir nodes queue not = record {
+    → Follows all passes hit ahead from cost (λ other. other ≡ dir) nodes nodes queue queue
+follows_pruned all passes hit ahead from cost dir nodes queue not = record {
   later = all_later_self nodes;
   along = λ other same state run jump arrived last.
       let dir_jump : jump.dir ≡ dir = same_Some jump.dir dir
@@ -272,11 +275,11 @@ jump_most passes hit size dir from stop within free is =
     between_most from stop a.0 a.1 b.0 b.1
 
 -- a search that has followed some jumps can follow others
-pub followable_later : {all : Bool} {passes hit : Cell → Bool} {rect : Rect} {from : JumpState} {cost : ℕ}
+pub followable_later : {all : Bool} {passes hit : Cell → Bool} {ahead : Cell → ℕ} {from : JumpState} {cost : ℕ}
     {Within : Dir → Type 0} {old new : List Node} {before after : Queue}
-    → Follows all passes hit rect from cost Within old new before after
-    → IsFollowable all passes hit rect from cost old before
-    → IsFollowable all passes hit rect from cost new after
+    → Follows all passes hit ahead from cost Within old new before after
+    → IsFollowable all passes hit ahead from cost old before
+    → IsFollowable all passes hit ahead from cost new after
 followable_later follows f = record {
   start = f.start;
   floor = f.floor;
@@ -284,15 +287,16 @@ followable_later follows f = record {
   going = follows.going f.start f.floor f.most f.going f.opened f.early f.room;
   opened = open_later _ _ _ _ follows.later f.opened;
   early = f.early;
+  consistent = f.consistent;
   room = f.room;
   low = f.low;
 }
 
 -- following jumps in some directions, and then in others
-pub follows_both : {all : Bool} {passes hit : Cell → Bool} {rect : Rect} {from : JumpState} {cost : ℕ}
+pub follows_both : {all : Bool} {passes hit : Cell → Bool} {ahead : Cell → ℕ} {from : JumpState} {cost : ℕ}
     {One Two : Dir → Type 0} {a b c : List Node} {p q r : Queue}
-    → Follows all passes hit rect from cost One a b p q → Follows all passes hit rect from cost Two b c q r
-    → Follows all passes hit rect from cost (λ dir. One dir ⊎ Two dir) a c p r
+    → Follows all passes hit ahead from cost One a b p q → Follows all passes hit ahead from cost Two b c q r
+    → Follows all passes hit ahead from cost (λ dir. One dir ⊎ Two dir) a c p r
 follows_both one two = record {
   later = all_later_through _ _ _ one.later two.later;
   along = λ dir within. elim within [

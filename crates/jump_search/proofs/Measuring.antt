@@ -12,6 +12,7 @@ use Rattle.nav_types.proofs.Walking.{IsWalk-append}
 use Rattle.jump_scan.specs.Stops.{IsRun}
 use Rattle.jump_search.specs.declared.states.JumpState.{JumpState}
 use Rattle.jump_search.specs.inner.Traced.{Moves}
+use Rattle.jump_search.specs.Estimates.{IsConsistent}
 use Rattle.jump_search.specs.JumpStates.{IsJump, octile, octile_between, octile_to, AreJumps, jumps_cost}
 
 -- how far a place lies outside a span, by that of another place
@@ -54,6 +55,26 @@ octile_moves NW count from to moves = let c = moves.columns in let r = moves.row
 pub octile_run : (passes : Cell → Bool) (dir : Dir) (count : ℕ) (from to : Cell) → IsRun passes dir count from to
     → octile_between from to ≡ count * step_cost dir
 octile_run passes dir count from to run = octile_moves dir count from to (run_moves passes dir count from to run)
+
+falls_steps : (passes hit : Cell → Bool) (ahead : Cell → ℕ) → IsConsistent passes hit ahead
+    → (dir : Dir) (count : ℕ) (from to : Cell) → IsRun passes dir count from to
+    → ahead from ≤ count * step_cost dir + ahead to
+falls_steps passes hit ahead consistent dir zero from to run =
+    let same : ahead from ≡ ahead to = ap ahead run in
+    omega (arith, same)
+falls_steps passes hit ahead consistent dir (suc count) from to run =
+    let first = consistent.falls dir from run.0 run.1.0 in
+    let rest = falls_steps passes hit ahead consistent dir count run.0 to run.1.1 in
+    omega (arith, first, rest)
+
+-- a consistent estimate falls along a run by no more than the run costs
+pub falls_along : (passes hit : Cell → Bool) (ahead : Cell → ℕ) → IsConsistent passes hit ahead
+    → (dir : Dir) (count : ℕ) (from to : Cell) → IsRun passes dir count from to
+    → ahead from ≤ octile_between from to + ahead to
+falls_along passes hit ahead consistent dir count from to run =
+    let steps = falls_steps passes hit ahead consistent dir count from to run in
+    let cost = octile_run passes dir count from to run in
+    omega (arith, steps, cost)
 
 pub run_cost : (dir : Dir) (count : ℕ) → walk_cost (replicate count dir) ≡ count * step_cost dir
 run_cost dir zero = omega arith

@@ -9,11 +9,9 @@ use Rattle.std.proofs.lemmas.List.Sums.{sum_by-append, sum_by-cons, sum_by-set, 
 use Rattle.std.proofs.lemmas.Option.{same_Some, slice_get_within, get_or_from_slice_get, none-some}
 use Rattle.nav_types.proofs.Items.{slice_get-append_left, slice_get-push_last, slice_get-push_cases}
 use Rattle.nav_types.specs.declared.cells.Cell.{Cell}
-use Rattle.nav_types.specs.declared.cells.Rect.{Rect}
 use Rattle.open_heap.specs.Queue.{Queue}
 use Rattle.jump_search.specs.declared.nodes.Node.{Node}
 use Rattle.jump_search.specs.declared.states.JumpState.{JumpState}
-use Rattle.jump_search.specs.JumpStates.{octile_to}
 use Rattle.jump_search.specs.inner.Numbered.{LacksState, HasCheaper}
 use Rattle.jump_search.specs.inner.Searched.{IsKeptRun, HasOpenedParent, IsDearer}
 use Rattle.jump_search.specs.inner.Underway.{estimate_of, opened_count, IsQueued, IsLaterNode, AreLater}
@@ -86,21 +84,21 @@ from_added passes hit nodes node lacks parent number b found = elim (slice_get-p
   | inr end ↦ subst (λ (n : Node). IsFrom passes hit nodes number n) end.1 (inr (parent, inr (end.0, lacks)))
 ]
 
-queued_added : (all : Bool) (rect : Rect) (floor : ℕ) (nodes : List Node) (queue : Queue) (node : Node)
+queued_added : (all : Bool) (ahead : Cell → ℕ) (floor : ℕ) (nodes : List Node) (queue : Queue) (node : Node)
     → IsFalse node.opened
-    → floor ≤ estimate_of rect node → IsQueued all rect floor nodes queue
-    → IsQueued all rect floor (nodes ++ node ∷ []) (map.insert queue (length nodes) (estimate_of rect node))
-queued_added all rect floor nodes queue node not early queued =
+    → floor ≤ estimate_of ahead node → IsQueued all ahead floor nodes queue
+    → IsQueued all ahead floor (nodes ++ node ∷ []) (map.insert queue (length nodes) (estimate_of ahead node))
+queued_added all ahead floor nodes queue node not early queued =
     let more = nodes ++ node ∷ [] in
-    let longer = map.insert queue (length nodes) (estimate_of rect node) in
+    let longer = map.insert queue (length nodes) (estimate_of ahead node) in
     let later = later_added nodes node not in
     record {
       waits = λ number value found. elim (cases_eq number (length nodes)) [
         | inl end ↦
-            let here : map.get longer number ≡ Some (estimate_of rect node) =
-            subst (λ (n : ℕ). map.get longer n ≡ Some (estimate_of rect node)) (sym end)
-            (inserted_here queue (length nodes) (estimate_of rect node)) in
-            let same = same_Some (estimate_of rect node) value (sym here ∙ found) in
+            let here : map.get longer number ≡ Some (estimate_of ahead node) =
+            subst (λ (n : ℕ). map.get longer n ≡ Some (estimate_of ahead node)) (sym end)
+            (inserted_here queue (length nodes) (estimate_of ahead node)) in
+            let same = same_Some (estimate_of ahead node) value (sym here ∙ found) in
             let at : slice_get more number ≡ Some node =
             subst (λ (n : ℕ). slice_get more n ≡ Some node) (sym end) (slice_get-push_last nodes node) in (
               node,
@@ -108,26 +106,26 @@ queued_added all rect floor nodes queue node not early queued =
                 at,
                 (
                   not,
-                  subst (λ (p : ℕ). (p ≡ estimate_of rect node)
+                  subst (λ (p : ℕ). (p ≡ estimate_of ahead node)
                       × (floor ≤ p)) same (refl, early),
                 ),
               ),
             )
         | inr before ↦
             let old = queued.waits number value (sym
-            (inserted_apart queue (length nodes) (estimate_of rect node) number before) ∙ found) in
+            (inserted_apart queue (length nodes) (estimate_of ahead node) number before) ∙ found) in
             (old.0, (slice_get-append_left nodes (node ∷ []) number old.0 old.1.0, old.1.1))
       ];
       others = λ number b found none. elim (cases_eq number (length nodes)) [
         | inl end ↦
-            let here : map.get longer number ≡ Some (estimate_of rect node) =
-            subst (λ (n : ℕ). map.get longer n ≡ Some (estimate_of rect node)) (sym end)
-            (inserted_here queue (length nodes) (estimate_of rect node)) in
-            absurd (none-some (estimate_of rect node) (sym none ∙ here))
+            let here : map.get longer number ≡ Some (estimate_of ahead node) =
+            subst (λ (n : ℕ). map.get longer n ≡ Some (estimate_of ahead node)) (sym end)
+            (inserted_here queue (length nodes) (estimate_of ahead node)) in
+            absurd (none-some (estimate_of ahead node) (sym none ∙ here))
         | inr before ↦ elim (slice_get-push_cases nodes node number b found) [
           | inl old ↦
               let was = queued.others number b old (sym
-              (inserted_apart queue (length nodes) (estimate_of rect node) number before) ∙ none) in
+              (inserted_apart queue (length nodes) (estimate_of ahead node) number before) ∙ none) in
               elim was [
                 | inl opened ↦ inl opened
                 | inr left ↦ inr (left.0, dearer_later nodes more b b later refl (omega arith) left.1)
@@ -141,11 +139,11 @@ queued_added all rect floor nodes queue node not early queued =
       ];
     }
 
-pub relaxes_added : (rect : Rect) (node : Node) (nodes : List Node) (queue : Queue) → IsFalse node.opened
+pub relaxes_added : (ahead : Cell → ℕ) (node : Node) (nodes : List Node) (queue : Queue) → IsFalse node.opened
     → LacksState nodes node.state
     → length (nodes ++ node ∷ []) ≤ 4294967296
-    → Relaxes rect node nodes (nodes ++ node ∷ []) queue (map.insert queue (length nodes) (estimate_of rect node))
-relaxes_added rect node nodes queue not lacks few =
+    → Relaxes ahead node nodes (nodes ++ node ∷ []) queue (map.insert queue (length nodes) (estimate_of ahead node))
+relaxes_added ahead node nodes queue not lacks few =
     let more = nodes ++ node ∷ [] in
     let later = later_added nodes node not in
     record {
@@ -160,7 +158,7 @@ relaxes_added rect node nodes queue not lacks few =
       };
       going = λ all passes hit start floor most going early cheap parent. record {
         met = met_later passes hit start nodes more going.met later (from_added passes hit nodes node lacks parent);
-        queued = queued_added all rect floor nodes queue node not early going.queued;
+        queued = queued_added all ahead floor nodes queue node not early going.queued;
         costs = λ number b found. elim (slice_get-push_cases nodes node number b found) [
           | inl old ↦ going.costs number b old
           | inr end ↦ subst (λ (n : Node). n.cost ≤ most) end.1 cheap
@@ -221,12 +219,12 @@ costs_set nodes number most a b found lower costs place x at = elim (get_set_cas
 ]
 
 -- a node of an estimate that has not passed costs less than another in its place only where that is not opened
-pub lower_unopened : (all : Bool) (rect : Rect) (floor : ℕ) (nodes : List Node) (queue : Queue) (number : ℕ) (a b : Node)
-    → IsQueued all rect floor nodes queue → slice_get nodes number ≡ Some a → b.state ≡ a.state
-    → floor ≤ estimate_of rect b → b.cost < a.cost → IsFalse a.opened
-lower_unopened all rect floor nodes queue number a b queued found same early less =
-    let alike : octile_to rect b.state.cell ≡ octile_to rect a.state.cell =
-    ap (λ (s : JumpState). octile_to rect s.cell) same in
+pub lower_unopened : (all : Bool) (ahead : Cell → ℕ) (floor : ℕ) (nodes : List Node) (queue : Queue) (number : ℕ) (a b : Node)
+    → IsQueued all ahead floor nodes queue → slice_get nodes number ≡ Some a → b.state ≡ a.state
+    → floor ≤ estimate_of ahead b → b.cost < a.cost → IsFalse a.opened
+lower_unopened all ahead floor nodes queue number a b queued found same early less =
+    let alike : ahead b.state.cell ≡ ahead a.state.cell =
+    ap (λ (s : JumpState). ahead s.cell) same in
     elim (cases_Bool a.opened) [
       | inl opened ↦ let was = queued.within number a found opened in absurd (omega (arith, was, early, less, alike))
       | inr not ↦ not
@@ -237,33 +235,33 @@ if_waits None P each = tt
 if_waits (Some value) P each = each value refl
 
 -- where it waits, it has no lesser estimate
-pub lower_waits : (all : Bool) (rect : Rect) (floor : ℕ) (nodes : List Node) (queue : Queue) (number : ℕ) (a b : Node)
-    → IsQueued all rect floor nodes queue → slice_get nodes number ≡ Some a → b.state ≡ a.state → b.cost < a.cost
-    → IfSome (map.get queue number) (λ value. estimate_of rect b ≤ value)
-lower_waits all rect floor nodes queue number a b queued found same less =
-    let alike : octile_to rect b.state.cell ≡ octile_to rect a.state.cell =
-    ap (λ (s : JumpState). octile_to rect s.cell) same in
-    if_waits (map.get queue number) (λ value. estimate_of rect b ≤ value) (λ value some.
+pub lower_waits : (all : Bool) (ahead : Cell → ℕ) (floor : ℕ) (nodes : List Node) (queue : Queue) (number : ℕ) (a b : Node)
+    → IsQueued all ahead floor nodes queue → slice_get nodes number ≡ Some a → b.state ≡ a.state → b.cost < a.cost
+    → IfSome (map.get queue number) (λ value. estimate_of ahead b ≤ value)
+lower_waits all ahead floor nodes queue number a b queued found same less =
+    let alike : ahead b.state.cell ≡ ahead a.state.cell =
+    ap (λ (s : JumpState). ahead s.cell) same in
+    if_waits (map.get queue number) (λ value. estimate_of ahead b ≤ value) (λ value some.
     let has = queued.waits number value some in
     let is : has.0 ≡ a = one_item nodes number has.0 a has.1.0 found in
-    let waits = subst (λ (n : Node). value ≡ estimate_of rect n) is has.1.1.1.0 in
+    let waits = subst (λ (n : Node). value ≡ estimate_of ahead n) is has.1.1.1.0 in
     omega (arith, waits, less, alike))
 
-queued_lowered : (all : Bool) (rect : Rect) (floor : ℕ) (nodes : List Node) (queue : Queue) (number : ℕ) (a b : Node)
+queued_lowered : (all : Bool) (ahead : Cell → ℕ) (floor : ℕ) (nodes : List Node) (queue : Queue) (number : ℕ) (a b : Node)
     → IsFalse b.opened
-    → AreLater nodes (set nodes number b) → slice_get nodes number ≡ Some a → floor ≤ estimate_of rect b
-    → IsQueued all rect floor nodes queue
-    → IsQueued all rect floor (set nodes number b) (map.insert queue number (estimate_of rect b))
-queued_lowered all rect floor nodes queue number a b not later found early queued =
+    → AreLater nodes (set nodes number b) → slice_get nodes number ≡ Some a → floor ≤ estimate_of ahead b
+    → IsQueued all ahead floor nodes queue
+    → IsQueued all ahead floor (set nodes number b) (map.insert queue number (estimate_of ahead b))
+queued_lowered all ahead floor nodes queue number a b not later found early queued =
     let low = slice_get_within nodes number a found in
-    let new = map.insert queue number (estimate_of rect b) in
+    let new = map.insert queue number (estimate_of ahead b) in
     record {
       waits = λ place value has. elim (cases_eq place number) [
         | inl here ↦
-            let is : map.get new place ≡ Some (estimate_of rect b) =
-            subst (λ (n : ℕ). map.get new n ≡ Some (estimate_of rect b)) (sym here)
-            (inserted_here queue number (estimate_of rect b)) in
-            let same = same_Some (estimate_of rect b) value (sym is ∙ has) in
+            let is : map.get new place ≡ Some (estimate_of ahead b) =
+            subst (λ (n : ℕ). map.get new n ≡ Some (estimate_of ahead b)) (sym here)
+            (inserted_here queue number (estimate_of ahead b)) in
+            let same = same_Some (estimate_of ahead b) value (sym is ∙ has) in
             let at : slice_get (set nodes number b) place ≡ Some b =
             subst (λ (n : ℕ). slice_get (set nodes number b) n ≡ Some b) (sym here)
             (get_set_same nodes number b low) in (
@@ -272,24 +270,24 @@ queued_lowered all rect floor nodes queue number a b not later found early queue
                 at,
                 (
                   not,
-                  subst (λ (p : ℕ). (p ≡ estimate_of rect b)
+                  subst (λ (p : ℕ). (p ≡ estimate_of ahead b)
                       × (floor ≤ p)) same (refl, early),
                 ),
               ),
             )
         | inr apart ↦
-            let old = queued.waits place value (sym (inserted_apart queue number (estimate_of rect b) place apart) ∙
+            let old = queued.waits place value (sym (inserted_apart queue number (estimate_of ahead b) place apart) ∙
             has) in
             (old.0, (get_set_other nodes number place b old.0 apart old.1.0, old.1.1))
       ];
       others = λ place x at none. elim (get_set_cases nodes number place b x at) [
         | inl here ↦
-            let is : map.get new place ≡ Some (estimate_of rect b) =
-            subst (λ (n : ℕ). map.get new n ≡ Some (estimate_of rect b)) (sym here.0)
-            (inserted_here queue number (estimate_of rect b)) in
-            absurd (none-some (estimate_of rect b) (sym none ∙ is))
+            let is : map.get new place ≡ Some (estimate_of ahead b) =
+            subst (λ (n : ℕ). map.get new n ≡ Some (estimate_of ahead b)) (sym here.0)
+            (inserted_here queue number (estimate_of ahead b)) in
+            absurd (none-some (estimate_of ahead b) (sym none ∙ is))
         | inr apart ↦
-            let was = queued.others place x apart.1 (sym (inserted_apart queue number (estimate_of rect b) place apart.0)
+            let was = queued.others place x apart.1 (sym (inserted_apart queue number (estimate_of ahead b) place apart.0)
             ∙ none) in
             elim was [
               | inl opened ↦ inl opened
@@ -302,11 +300,11 @@ queued_lowered all rect floor nodes queue number a b not later found early queue
       ];
     }
 
-pub relaxes_lowered : (rect : Rect) (node : Node) (nodes : List Node) (queue : Queue) (number : ℕ) (a : Node)
+pub relaxes_lowered : (ahead : Cell → ℕ) (node : Node) (nodes : List Node) (queue : Queue) (number : ℕ) (a : Node)
     → IsFalse node.opened
     → IsFalse a.opened → slice_get nodes number ≡ Some a → a.state ≡ node.state → node.cost < a.cost
-    → Relaxes rect node nodes (set nodes number node) queue (map.insert queue number (estimate_of rect node))
-relaxes_lowered rect node nodes queue number a not was found same less =
+    → Relaxes ahead node nodes (set nodes number node) queue (map.insert queue number (estimate_of ahead node))
+relaxes_lowered ahead node nodes queue number a not was found same less =
     let low = slice_get_within nodes number a found in
     let next : IsLaterNode a node = record {
       same = sym same;
@@ -331,7 +329,7 @@ relaxes_lowered rect node nodes queue number a not was found same less =
           record {
             met = met_later passes hit start nodes (set nodes number node) going.met later
                 (from_set passes hit nodes number node from);
-            queued = queued_lowered all rect floor nodes queue number a node not later found early going.queued;
+            queued = queued_lowered all ahead floor nodes queue number a node not later found early going.queued;
             costs = costs_set nodes number most a node found (omega arith) going.costs;
             few = omega (arith, length-set nodes number node, few);
           };
@@ -339,15 +337,15 @@ relaxes_lowered rect node nodes queue number a not was found same less =
 
 -- only the last run of a node changes
 
-queued_tied : (all : Bool) (rect : Rect) (floor : ℕ) (nodes : List Node) (queue : Queue) (number : ℕ) (a b : Node)
+queued_tied : (all : Bool) (ahead : Cell → ℕ) (floor : ℕ) (nodes : List Node) (queue : Queue) (number : ℕ) (a b : Node)
     → b.state ≡ a.state
     → b.cost ≡ a.cost → b.opened ≡ a.opened → AreLater nodes (set nodes number b) → slice_get nodes number ≡ Some a
-    → IsQueued all rect floor nodes queue → IsQueued all rect floor (set nodes number b) queue
-queued_tied all rect floor nodes queue number a b same cost opened later found queued =
+    → IsQueued all ahead floor nodes queue → IsQueued all ahead floor (set nodes number b) queue
+queued_tied all ahead floor nodes queue number a b same cost opened later found queued =
     let low = slice_get_within nodes number a found in
-    let estimates : estimate_of rect a ≡ estimate_of rect b =
-    ap (λ (n : ℕ). n + octile_to rect a.state.cell) (sym cost)
-    ∙ ap (λ (s : JumpState). b.cost + octile_to rect s.cell) (sym same) in
+    let estimates : estimate_of ahead a ≡ estimate_of ahead b =
+    ap (λ (n : ℕ). n + ahead a.state.cell) (sym cost)
+    ∙ ap (λ (s : JumpState). b.cost + ahead s.cell) (sym same) in
     record {
       waits = λ place value has.
           let old = queued.waits place value has in
@@ -359,7 +357,7 @@ queued_tied all rect floor nodes queue number a b same cost opened later found q
                 subst (λ (n : ℕ). slice_get (set nodes number b) n ≡ Some b) (sym here)
                 (get_set_same nodes number b low) in
                 let facts = subst (λ (n : Node). IsFalse n.opened
-                × ((value ≡ estimate_of rect n) × (floor ≤ value)))
+                × ((value ≡ estimate_of ahead n) × (floor ≤ value)))
                 is old.1.1 in
                 (b, (at, (opened ∙ facts.0, (facts.1.0 ∙ estimates, facts.1.1))))
             | inr apart ↦ (old.0, (get_set_other nodes number place b old.0 apart old.1.0, old.1.1))
@@ -388,19 +386,19 @@ queued_tied all rect floor nodes queue number a b same cost opened later found q
         | inl here ↦
             let was = sym opened ∙ subst (λ (n : Node). IsTrue n.opened) (sym here.1) is in
             let low = queued.within number a found was in
-            subst (λ (n : Node). estimate_of rect n ≤ floor) here.1 (subst (λ (n : ℕ). n ≤ floor) estimates low)
+            subst (λ (n : Node). estimate_of ahead n ≤ floor) here.1 (subst (λ (n : ℕ). n ≤ floor) estimates low)
         | inr apart ↦ queued.within place x apart.1 is
       ];
     }
 
-pub relaxes_tied : (rect : Rect) (node : Node) (nodes : List Node) (queue : Queue) (number run : ℕ) (a : Node)
+pub relaxes_tied : (ahead : Cell → ℕ) (node : Node) (nodes : List Node) (queue : Queue) (number run : ℕ) (a : Node)
     → slice_get nodes number ≡ Some a
     → a.state ≡ node.state → node.cost ≡ a.cost → IsKeptRun node.state.arrived run a.run
     → IsKeptRun node.state.arrived run node.run
     → (run ≡ a.run) ⊎ (run ≡ node.run)
-    → Relaxes rect node nodes (set nodes number (record
+    → Relaxes ahead node nodes (set nodes number (record
     { state = a.state; cost = a.cost; run = run; opened = a.opened })) queue queue
-relaxes_tied rect node nodes queue number run a found same cost kept_a kept_node either =
+relaxes_tied ahead node nodes queue number run a found same cost kept_a kept_node either =
     let b : Node = record { state = a.state; cost = a.cost; run = run; opened = a.opened } in
     let low = slice_get_within nodes number a found in
     let next : IsLaterNode a b = record {
@@ -429,7 +427,7 @@ relaxes_tied rect node nodes queue number run a found same cost kept_a kept_node
           record {
             met = met_later passes hit start nodes (set nodes number b) going.met later
                 (from_set passes hit nodes number b from);
-            queued = queued_tied all rect floor nodes queue number a b refl refl refl later found going.queued;
+            queued = queued_tied all ahead floor nodes queue number a b refl refl refl later found going.queued;
             costs = costs_set nodes number most a b found (omega arith) going.costs;
             few = omega (arith, length-set nodes number b, few);
           };
@@ -437,10 +435,10 @@ relaxes_tied rect node nodes queue number run a found same cost kept_a kept_node
 
 -- the state's node is cheaper
 
-pub relaxes_none : (rect : Rect) (node : Node) (nodes : List Node) (queue : Queue) (number : ℕ) (a : Node)
+pub relaxes_none : (ahead : Cell → ℕ) (node : Node) (nodes : List Node) (queue : Queue) (number : ℕ) (a : Node)
     → slice_get nodes number ≡ Some a
-    → a.state ≡ node.state → a.cost < node.cost → Relaxes rect node nodes nodes queue queue
-relaxes_none rect node nodes queue number a found same less = record {
+    → a.state ≡ node.state → a.cost < node.cost → Relaxes ahead node nodes nodes queue queue
+relaxes_none ahead node nodes queue number a found same less = record {
   later = all_later_self nodes;
   relaxed = record {
     place = number;

@@ -7,7 +7,6 @@ use Rattle.std.specs.Ordering.{nat_cmp}
 use Rattle.std.proofs.lemmas.Bool.{cases_eq, both_ways}
 use Rattle.std.proofs.lemmas.Option.{same_Some, slice_get_within, none-some}
 use Rattle.nav_types.specs.declared.cells.Cell.{Cell}
-use Rattle.nav_types.specs.declared.cells.Rect.{Rect}
 use Rattle.open_heap.specs.Queue.{Queue}
 use Rattle.jump_search.specs.declared.nodes.Node.{Node}
 use Rattle.jump_search.specs.JumpStates.{start_state}
@@ -41,23 +40,23 @@ met_start passes hit start = record {
       absurd (omega (arith, some, zero_is));
 }
 
-pub underway_start : (all : Bool) (passes hit : Cell → Bool) (start : Cell) (rect : Rect)
-    → IsUnderway all passes hit start rect 0 (start_node start ∷ [])
-    (map.insert map.empty 0 (estimate_of rect (start_node start))) None
-underway_start all passes hit start rect =
+pub underway_start : (all : Bool) (passes hit : Cell → Bool) (start : Cell) (ahead : Cell → ℕ)
+    → IsUnderway all passes hit start ahead 0 (start_node start ∷ [])
+    (map.insert map.empty 0 (estimate_of ahead (start_node start))) None
+underway_start all passes hit start ahead =
     let node = start_node start in
     let empty : Queue = map.empty in
-    let queue = map.insert empty 0 (estimate_of rect node) in
+    let queue = map.insert empty 0 (estimate_of ahead node) in
     let none : (number : ℕ) → map.get empty number ≡ None = λ number. map.get-empty nat_cmp number in
     record {
       met = met_start passes hit start;
       queued = record {
         waits = λ number value found. elim (cases_eq number 0) [
           | inl here ↦
-              let is : map.get queue number ≡ Some (estimate_of rect node) =
-              subst (λ (n : ℕ). map.get queue n ≡ Some (estimate_of rect node)) (sym here)
-              (inserted_here empty 0 (estimate_of rect node)) in
-              let same = same_Some (estimate_of rect node) value (sym is ∙ found) in
+              let is : map.get queue number ≡ Some (estimate_of ahead node) =
+              subst (λ (n : ℕ). map.get queue n ≡ Some (estimate_of ahead node)) (sym here)
+              (inserted_here empty 0 (estimate_of ahead node)) in
+              let same = same_Some (estimate_of ahead node) value (sym is ∙ found) in
               let at : slice_get (node ∷ []) number ≡ Some node =
               subst (λ (n : ℕ). slice_get (node ∷ []) n ≡ Some node) (sym here) refl in (
                 node,
@@ -65,20 +64,20 @@ underway_start all passes hit start rect =
                   at,
                   (
                     refl,
-                    subst (λ (p : ℕ). (p ≡ estimate_of rect node)
+                    subst (λ (p : ℕ). (p ≡ estimate_of ahead node)
                         × (0 ≤ p)) same (refl, omega arith),
                   ),
                 ),
               )
           | inr apart ↦ absurd (none-some value
-              (sym (inserted_apart empty 0 (estimate_of rect node) number apart ∙ none number) ∙ found))
+              (sym (inserted_apart empty 0 (estimate_of ahead node) number apart ∙ none number) ∙ found))
         ];
         others = λ number x found lacks.
             let zero_is = (only start number x found).0 in
-            let is : map.get queue number ≡ Some (estimate_of rect node) =
-            subst (λ (n : ℕ). map.get queue n ≡ Some (estimate_of rect node)) (sym zero_is)
-            (inserted_here empty 0 (estimate_of rect node)) in
-            absurd (none-some (estimate_of rect node) (sym lacks ∙ is));
+            let is : map.get queue number ≡ Some (estimate_of ahead node) =
+            subst (λ (n : ℕ). map.get queue n ≡ Some (estimate_of ahead node)) (sym zero_is)
+            (inserted_here empty 0 (estimate_of ahead node)) in
+            absurd (none-some (estimate_of ahead node) (sym lacks ∙ is));
         within = λ number x found opened.
             let is = (only start number x found).1 in
             absurd (both_ways x.opened (subst (λ (n : Node). IsFalse n.opened) is refl) opened);

@@ -8,7 +8,6 @@ use Rattle.std.proofs.lemmas.Bool.{cases_Bool, cases_eq, both_ways}
 use Rattle.std.proofs.lemmas.List.{length-set}
 use Rattle.std.proofs.lemmas.Option.{slice_get_within}
 use Rattle.nav_types.specs.declared.cells.Cell.{Cell}
-use Rattle.nav_types.specs.declared.cells.Rect.{Rect}
 use Rattle.nav_types.specs.Cells.{IsNotAfter}
 use Rattle.nav_types.proofs.CellOrder.{IsNotAfter-trans}
 use Rattle.open_heap.specs.declared.entries.Entry.{Entry}
@@ -16,7 +15,8 @@ use Rattle.open_heap.specs.Queue.{Queue, IsLeast}
 use Rattle.jump_search.specs.declared.nodes.Node.{Node}
 use Rattle.jump_search.specs.declared.searching.Best.{Best}
 use Rattle.jump_search.specs.declared.states.JumpState.{JumpState}
-use Rattle.jump_search.specs.JumpStates.{octile_to, octile_between, IsJump, AreJumps}
+use Rattle.jump_search.specs.Estimates.{IsConsistent}
+use Rattle.jump_search.specs.JumpStates.{octile_between, IsJump, AreJumps}
 use Rattle.jump_search.specs.inner.Numbered.{HasCheaper}
 use Rattle.jump_search.specs.inner.Searched.{IsLastRun, HasOpenedParent, IsDearer, AreMet, IsFollowedFrom, IsRelaxed, IsNoted}
 use Rattle.jump_search.specs.inner.Searched.{IsKeptRun}
@@ -30,17 +30,17 @@ use Rattle.jump_search.proofs.Landing.{stop_free}
 use Rattle.jump_search.proofs.Relaxing.{unopened_none, opened_one, count_set, count_most}
 
 -- the node of the entry, which waited
-pub record IsNext (rect : Rect) (floor : ℕ) (nodes : List Node) (entry : Entry) (node : Node) : Type 0 where
+pub record IsNext (ahead : Cell → ℕ) (floor : ℕ) (nodes : List Node) (entry : Entry) (node : Node) : Type 0 where
   pub known : slice_get nodes entry.key ≡ Some node
   pub unopened : IsFalse node.opened
-  pub estimate : entry.estimate ≡ estimate_of rect node
+  pub estimate : entry.estimate ≡ estimate_of ahead node
   pub early : floor ≤ entry.estimate
 
-pub next_node : (all : Bool) (passes hit : Cell → Bool) (start : Cell) (rect : Rect) (floor : ℕ) (nodes : List Node)
+pub next_node : (all : Bool) (passes hit : Cell → Bool) (start : Cell) (ahead : Cell → ℕ) (floor : ℕ) (nodes : List Node)
     (queue : Queue)
-    (best : Option Best) (entry : Entry) → IsTaken all passes hit start rect floor nodes queue best entry
-    → (node : Node) × IsNext rect floor nodes entry node
-next_node all passes hit start rect floor nodes queue best entry taken =
+    (best : Option Best) (entry : Entry) → IsTaken all passes hit start ahead floor nodes queue best entry
+    → (node : Node) × IsNext ahead floor nodes entry node
+next_node all passes hit start ahead floor nodes queue best entry taken =
     let has = taken.underway.queued.waits entry.key entry.estimate taken.least.present in
     (has.0, record { known = has.1.0; unopened = has.1.1.0; estimate = has.1.1.1.0; early = has.1.1.1.1 })
 
@@ -184,10 +184,10 @@ noted_opened all nodes number a state cost run found noted = elim noted [
   | inr left ↦ inr (left.0, cheaper_opened nodes number a state.cell cost found left.1)
 ]
 
-queued_opened : (all : Bool) (rect : Rect) (floor : ℕ) (nodes : List Node) (before : Queue) (entry : Entry) (a : Node)
-    → IsQueued all rect floor nodes before → IsLeast before entry → IsNext rect floor nodes entry a
-    → IsQueued all rect entry.estimate (set nodes entry.key (opened_node a)) (map.remove before entry.key)
-queued_opened all rect floor nodes before entry a queued least next =
+queued_opened : (all : Bool) (ahead : Cell → ℕ) (floor : ℕ) (nodes : List Node) (before : Queue) (entry : Entry) (a : Node)
+    → IsQueued all ahead floor nodes before → IsLeast before entry → IsNext ahead floor nodes entry a
+    → IsQueued all ahead entry.estimate (set nodes entry.key (opened_node a)) (map.remove before entry.key)
+queued_opened all ahead floor nodes before entry a queued least next =
     let rest = map.remove before entry.key in
     let found = next.known in let estimate = next.estimate in let early = next.early in
     let new = set nodes entry.key (opened_node a) in
@@ -219,32 +219,32 @@ queued_opened all rect floor nodes before entry a queued least next =
       ];
       within = λ number x at opened. elim (get_set_cases nodes entry.key number (opened_node a) x at) [
         | inl here ↦
-            let low : estimate_of rect (opened_node a) ≤ entry.estimate = omega (arith, estimate) in
-            subst (λ (n : Node). estimate_of rect n ≤ entry.estimate) here.1 low
+            let low : estimate_of ahead (opened_node a) ≤ entry.estimate = omega (arith, estimate) in
+            subst (λ (n : Node). estimate_of ahead n ≤ entry.estimate) here.1 low
         | inr apart ↦ let low = queued.within number x apart.1 opened in omega (arith, low, early)
       ];
     }
 
 -- a search whose node was opened, ready to follow its jumps
-pub record IsReady (all : Bool) (passes hit : Cell → Bool) (start : Cell) (rect : Rect) (floor most : ℕ)
+pub record IsReady (all : Bool) (passes hit : Cell → Bool) (start : Cell) (ahead : Cell → ℕ) (floor most : ℕ)
     (state : JumpState) (cost : ℕ)
     (nodes : List Node) (queue : Queue) : Type 0 where
-  pub going : IsGoing all passes hit start rect floor most nodes queue
+  pub going : IsGoing all passes hit start ahead floor most nodes queue
   pub opened : IsOpenNode nodes state cost
-  pub estimate : floor ≡ cost + octile_to rect state.cell
+  pub estimate : floor ≡ cost + ahead state.cell
   pub room : cost + 189812736 ≤ most
   pub low : most < 4611686018427387904
 
-pub ready_opened : (all : Bool) (passes hit : Cell → Bool) (start : Cell) (rect : Rect) (floor : ℕ) (nodes : List Node)
+pub ready_opened : (all : Bool) (passes hit : Cell → Bool) (start : Cell) (ahead : Cell → ℕ) (floor : ℕ) (nodes : List Node)
     (queue : Queue)
-    (best : Option Best) (entry : Entry) (a : Node) → IsTaken all passes hit start rect floor nodes queue best entry
+    (best : Option Best) (entry : Entry) (a : Node) → IsTaken all passes hit start ahead floor nodes queue best entry
     → slice_get nodes entry.key ≡ Some a
-    → IsReady all passes hit start rect entry.estimate (189812736 * (opened_count nodes + 1)) a.state
+    → IsReady all passes hit start ahead entry.estimate (189812736 * (opened_count nodes + 1)) a.state
     a.cost (set nodes entry.key (opened_node a)) queue
-ready_opened all passes hit start rect floor nodes queue best entry a taken found =
-    let has = next_node all passes hit start rect floor nodes queue best entry taken in
+ready_opened all passes hit start ahead floor nodes queue best entry a taken found =
+    let has = next_node all passes hit start ahead floor nodes queue best entry taken in
     let is = one_item nodes entry.key has.0 a has.1.known found in
-    let next = subst (λ (n : Node). IsNext rect floor nodes entry n) is has.1 in
+    let next = subst (λ (n : Node). IsNext ahead floor nodes entry n) is has.1 in
     let before = taken.before in
     let low = slice_get_within nodes entry.key a found in
     let new = set nodes entry.key (opened_node a) in
@@ -254,8 +254,8 @@ ready_opened all passes hit start rect floor nodes queue best entry a taken foun
     record {
       going = record {
         met = met_opened passes hit start nodes entry.key a found next.unopened taken.underway.met;
-        queued = subst (λ (m : Queue). IsQueued all rect entry.estimate new m) (sym taken.rest)
-            (queued_opened all rect floor nodes before entry a taken.underway.queued taken.least next);
+        queued = subst (λ (m : Queue). IsQueued all ahead entry.estimate new m) (sym taken.rest)
+            (queued_opened all ahead floor nodes before entry a taken.underway.queued taken.least next);
         costs = λ number x at.
             let was = was_before nodes entry.key number a x found at in
             let most = taken.underway.costs number was.0 was.1.0 in
@@ -278,13 +278,13 @@ ready_opened all passes hit start rect floor nodes queue best entry a taken foun
     }
 
 -- the search can follow the jumps of the node that was opened
-pub followable_opened : (all : Bool) (passes hit : Cell → Bool) (start : Cell) (rect : Rect) (floor : ℕ)
+pub followable_opened : (all : Bool) (passes hit : Cell → Bool) (start : Cell) (ahead : Cell → ℕ) (floor : ℕ)
     (nodes : List Node) (queue : Queue)
-    (best : Option Best) (entry : Entry) (a : Node) → IsTaken all passes hit start rect floor nodes queue best entry
-    → slice_get nodes entry.key ≡ Some a → IsFollowable all passes hit rect a.state a.cost
+    (best : Option Best) (entry : Entry) (a : Node) → IsTaken all passes hit start ahead floor nodes queue best entry
+    → IsConsistent passes hit ahead → slice_get nodes entry.key ≡ Some a → IsFollowable all passes hit ahead a.state a.cost
     (set nodes entry.key (opened_node a)) queue
-followable_opened all passes hit start rect floor nodes queue best entry a taken found =
-    let ready = ready_opened all passes hit start rect floor nodes queue best entry a taken found in
+followable_opened all passes hit start ahead floor nodes queue best entry a taken consistent found =
+    let ready = ready_opened all passes hit start ahead floor nodes queue best entry a taken found in
     let estimate = ready.estimate in
     record {
       start = start;
@@ -293,6 +293,7 @@ followable_opened all passes hit start rect floor nodes queue best entry a taken
       going = ready.going;
       opened = ready.opened;
       early = omega (arith, estimate);
+      consistent = consistent;
       room = ready.room;
       low = ready.low;
     }
@@ -362,16 +363,16 @@ regards nodes new key a found not later =
           (next.0, (next.1.0, (still.0, (next.1.1.same, still.1))));
     }
 
-followed_opened : (all : Bool) (passes hit : Cell → Bool) (rect : Rect) (nodes new : List Node) (key : ℕ) (a : Node)
+followed_opened : (all : Bool) (passes hit : Cell → Bool) (ahead : Cell → ℕ) (nodes new : List Node) (key : ℕ) (a : Node)
     (before after : Queue)
-    → slice_get nodes key ≡ Some a → Follows all passes hit rect a.state a.cost (λ other. Unit {0})
+    → slice_get nodes key ≡ Some a → Follows all passes hit ahead a.state a.cost (λ other. Unit {0})
     (set nodes key (opened_node a)) new before after
     → ((number : ℕ) (y : Node) → slice_get nodes number ≡ Some y → IsTrue y.opened → IsFollowedFrom all passes hit nodes y)
     → (number : ℕ) (x : Node)
     → ((x.state ≡ a.state) × (x.cost ≡ a.cost))
     ⊎ ((y : Node) × ((slice_get nodes number ≡ Some y) × (IsTrue y.opened × ((x.state ≡ y.state) × (x.cost ≡ y.cost)))))
     → IsFollowedFrom all passes hit new x
-followed_opened all passes hit rect nodes new key a before after found follows followed number x regard =
+followed_opened all passes hit ahead nodes new key a before after found follows followed number x regard =
     λ state run jump last.
     elim regard [
       | inl is ↦
@@ -572,22 +573,22 @@ best_hit hit nodes new key a floor higher (Some b) (Some r) regard is_hit level 
     best_better hit nodes new key a floor higher b r regard is_hit level near better kept
 
 -- the node was opened and its jumps were followed
-pub opened_underway : (all : Bool) (passes hit : Cell → Bool) (start : Cell) (rect : Rect) (floor : ℕ)
+pub opened_underway : (all : Bool) (passes hit : Cell → Bool) (start : Cell) (ahead : Cell → ℕ) (floor : ℕ)
     (nodes new : List Node) (queue after : Queue)
     (best result : Option Best) (entry : Entry) (a : Node)
-    → IsTaken all passes hit start rect floor nodes queue best entry
-    → slice_get nodes entry.key ≡ Some a → (IsTrue (hit a.state.cell) → octile_to rect a.state.cell ≡ 0)
-    → Follows all passes hit rect a.state a.cost (λ other. Unit {0}) (set nodes entry.key (opened_node a)) new queue after
+    → IsTaken all passes hit start ahead floor nodes queue best entry
+    → slice_get nodes entry.key ≡ Some a → (IsTrue (hit a.state.cell) → ahead a.state.cell ≡ 0)
+    → Follows all passes hit ahead a.state a.cost (λ other. Unit {0}) (set nodes entry.key (opened_node a)) new queue after
     → (IsTrue (hit a.state.cell) → IfSome result (λ r. IsBetter best (record { cell = a.state.cell; cost = a.cost }) r)
     × IsSome result)
     → (IsFalse (hit a.state.cell) → result ≡ best)
-    → IsUnderway all passes hit start rect entry.estimate new after result
-opened_underway all passes hit start rect floor nodes new queue after best result entry a taken found framed follows
+    → IsUnderway all passes hit start ahead entry.estimate new after result
+opened_underway all passes hit start ahead floor nodes new queue after best result entry a taken found framed follows
     better missed =
-    let has = next_node all passes hit start rect floor nodes queue best entry taken in
+    let has = next_node all passes hit start ahead floor nodes queue best entry taken in
     let is = one_item nodes entry.key has.0 a has.1.known found in
-    let next = subst (λ (n : Node). IsNext rect floor nodes entry n) is has.1 in
-    let ready = ready_opened all passes hit start rect floor nodes queue best entry a taken found in
+    let next = subst (λ (n : Node). IsNext ahead floor nodes entry n) is has.1 in
+    let ready = ready_opened all passes hit start ahead floor nodes queue best entry a taken found in
     let higher = entry.estimate in
     let most = 189812736 * (opened_count nodes + 1) in
     let estimate = ready.estimate in
@@ -597,7 +598,7 @@ opened_underway all passes hit start rect floor nodes new queue after best resul
     record {
       met = going.met;
       queued = going.queued;
-      followed = λ number x at opened. followed_opened all passes hit rect nodes new entry.key a queue after found follows
+      followed = λ number x at opened. followed_opened all passes hit ahead nodes new entry.key a queue after found follows
           taken.underway.followed number x
           (regard.back number x at opened);
       hits = elim (cases_Bool (hit a.state.cell)) [

@@ -1,3 +1,4 @@
+pub mod Estimates
 pub mod JumpStates
 pub mod Questions
 pub mod inner

@@ -14,13 +14,13 @@ ghost use Rattle.jump_search.specs.inner.Searched.{IsKeptRun};
 ghost use Rattle.jump_search.specs.inner.Underway.{steps_over, estimate_of, IsQueued, Settles, Notes};
 ghost use Rattle.jump_search.specs.inner.Underway.{IsFollowable, Follows, Drops};
 
+use crate::estimates::Estimate;
 use crate::known_successors::KnownSuccessors;
 use crate::nodes::{Node, Nodes, Standing};
-use crate::octile::octile_to;
 use crate::problems::Problem;
 use crate::states::JumpState;
 use jump_scan::{Runs, successors};
-use nav_types::{Aim, Cell, Class, Dir, DirSet, NoMemory, Rect};
+use nav_types::{Aim, Cell, Class, Dir, DirSet, NoMemory};
 use open_heap::OpenHeap;
 use std::alloc::Global;
 
@@ -134,12 +134,12 @@ fn is_dearer(node: &Node, cell: Cell, cost: u64) -> bool
     cost < node.cost && node.state.cell.j == cell.j && node.state.cell.i == cell.i
 }
 
-/// What jumps by the node to the rectangle cost at least: nodes of a lesser estimate are opened first.
-fn estimate_of(rect: &Rect, node: &Node) -> u64
+/// What jumps by the node to a hit cell cost at least: nodes of a lesser estimate are opened first.
+fn estimate_of<E: Estimate>(ahead: &E, node: &Node) -> u64
     requires { node.now.cost < 2 ^ 63 }
-    ensures { result ≡ estimate_of rect.now node.now }
+    ensures { result ≡ estimate_of (E.least ahead.now) node.now }
 {
-    node.cost + octile_to(rect, node.state.cell)
+    node.cost + ahead.at_least(node.state.cell)
 }
 
 impl Front {
@@ -166,18 +166,18 @@ impl Front {
 
     /// Adds a node whose state has none, and lets it wait. Gives its number.
     #[inline(always)]
-    pub(crate) fn meet(&mut self, rect: &Rect, node: Node) -> Result<u32, NoMemory>
+    pub(crate) fn meet<E: Estimate>(&mut self, ahead: &E, node: Node) -> Result<u32, NoMemory>
         requires lacks { LacksState self.old.nodes node.state }
         requires waits { map.get self.old.waiting (length self.old.nodes) ≡ None }
         requires low { node.cost < 2 ^ 63 }
         ensures nodes { OnOk result (self.new.nodes ≡ self.old.nodes ++ node ∷ []) }
         ensures waiting { OnOk result (self.new.waiting ≡ map.insert self.old.waiting (length self.old.nodes)
-            (estimate_of rect.now node)) }
+            (estimate_of (E.least ahead.now) node)) }
         ensures number { IfOk result (λ number. number ≡ length self.old.nodes) }
         ensures few { OnOk result (length self.new.nodes ≤ 2 ^ 32) }
     {
         let number = self.nodes.add(node)?;
-        self.waiting.push(number, estimate_of(rect, &node))?;
+        self.waiting.push(number, estimate_of(ahead, &node))?;
         Ok(number)
     }
 
@@ -214,16 +214,21 @@ impl Front {
     /// Adds a node whose state has none, and lets it wait. Where the search is not for all, nodes of its cell that cost more
     /// no longer do.
     #[inline(never)]
-    fn meet_and_drop(&mut self, rect: &Rect, all: bool, node: Node) -> Result<(), NoMemory>
+    fn meet_and_drop<E: Estimate>(
+        &mut self,
+        ahead: &E,
+        all: bool,
+        node: Node,
+    ) -> Result<(), NoMemory>
         requires lacks { LacksState self.old.nodes node.state }
         requires waits { map.get self.old.waiting (length self.old.nodes) ≡ None }
         requires low { node.cost < 2 ^ 63 }
         ensures nodes { OnOk result (self.new.nodes ≡ self.old.nodes ++ node ∷ []) }
         ensures waiting { OnOk result (Drops all self.new.nodes
-            (map.insert self.old.waiting (length self.old.nodes) (estimate_of rect.now node)) self.new.waiting) }
+            (map.insert self.old.waiting (length self.old.nodes) (estimate_of (E.least ahead.now) node)) self.new.waiting) }
         ensures few { OnOk result (length self.new.nodes ≤ 2 ^ 32) }
     {
-        let number = self.meet(rect, node)?;
+        let number = self.meet(ahead, node)?;
         if !all {
             let end = self.nodes.before(number);
             self.drop_dearer(end, node.state.cell, node.cost);
@@ -243,16 +248,16 @@ impl Front {
     }
 
     /// Gives a node a cost that is less, and lets it wait.
-    fn lower(&mut self, rect: &Rect, number: u32, node: Node) -> Result<(), NoMemory>
+    fn lower<E: Estimate>(&mut self, ahead: &E, number: u32, node: Node) -> Result<(), NoMemory>
         requires same { HasState self.old.nodes node.state number }
-        requires waits { IfSome (map.get self.old.waiting number) (λ known. estimate_of rect.now node ≤ known) }
+        requires waits { IfSome (map.get self.old.waiting number) (λ known. estimate_of (E.least ahead.now) node ≤ known) }
         requires low { node.cost < 2 ^ 63 }
         ensures nodes { OnOk result (self.new.nodes ≡ slice_set self.old.nodes number node) }
         ensures waiting { OnOk result (self.new.waiting ≡ map.insert self.old.waiting number
-            (estimate_of rect.now node)) }
+            (estimate_of (E.least ahead.now) node)) }
     {
         self.nodes.put(number, node);
-        let estimate = estimate_of(rect, &node);
+        let estimate = estimate_of(ahead, &node);
         match self.waiting.get(number) {
             Some(_) => {
                 self.waiting.lower(number, estimate)?;
@@ -267,21 +272,21 @@ impl Front {
 
     /// Gives a node a cost that is less, and lets it wait. Where the search is not for all, nodes of its cell that cost more
     /// than another no longer do.
-    fn lower_and_drop(
+    fn lower_and_drop<E: Estimate>(
         &mut self,
-        rect: &Rect,
+        ahead: &E,
         all: bool,
         number: u32,
         node: Node,
     ) -> Result<(), NoMemory>
         requires same { HasState self.old.nodes node.state number }
-        requires waits { IfSome (map.get self.old.waiting number) (λ known. estimate_of rect.now node ≤ known) }
+        requires waits { IfSome (map.get self.old.waiting number) (λ known. estimate_of (E.least ahead.now) node ≤ known) }
         requires low { node.cost < 2 ^ 63 }
         ensures nodes { OnOk result (self.new.nodes ≡ slice_set self.old.nodes number node) }
         ensures waiting { OnOk result (Drops all self.new.nodes
-            (map.insert self.old.waiting number (estimate_of rect.now node)) self.new.waiting) }
+            (map.insert self.old.waiting number (estimate_of (E.least ahead.now) node)) self.new.waiting) }
     {
-        self.lower(rect, number, node)?;
+        self.lower(ahead, number, node)?;
         if !all {
             self.keep_cheapest(node.state.cell, node.cost);
         }
@@ -289,9 +294,9 @@ impl Front {
     }
 
     /// Notes that a jump leads to the node's state, which the node of the number has, at its cost and with its last run.
-    fn relax(
+    fn relax<E: Estimate>(
         &mut self,
-        rect: &Rect,
+        ahead: &E,
         dir: Dir,
         all: bool,
         number: u32,
@@ -302,8 +307,8 @@ impl Front {
         requires waiting { IsFalse node.opened }
         requires low { node.cost < 2 ^ 63 }
         requires queued { (all : Bool) × ((floor : ℕ)
-            × (IsQueued all rect.now floor self.old.nodes self.old.waiting × (floor ≤ estimate_of rect.now node))) }
-        ensures { OnOk result (Settles all rect.now node self.old.nodes self.new.nodes self.old.waiting
+            × (IsQueued all (E.least ahead.now) floor self.old.nodes self.old.waiting × (floor ≤ estimate_of (E.least ahead.now) node))) }
+        ensures { OnOk result (Settles all (E.least ahead.now) node self.old.nodes self.new.nodes self.old.waiting
             self.new.waiting) }
     {
         let known = *self.nodes.at(number);
@@ -315,30 +320,36 @@ impl Front {
             self.nodes.put(number, Node { run, ..known });
             return Ok(());
         }
-        self.lower_and_drop(rect, all, number, node)?;
+        self.lower_and_drop(ahead, all, number, node)?;
         Ok(())
     }
 
     /// Notes that a jump leads to the node's state at its cost and with its last run. Where the search is not for all,
     /// the jump is left if a node of its cell that costs less is found before that of the state.
     #[inline(always)]
-    fn note(&mut self, rect: &Rect, dir: Dir, all: bool, node: Node) -> Result<(), NoMemory>
+    fn note<E: Estimate>(
+        &mut self,
+        ahead: &E,
+        dir: Dir,
+        all: bool,
+        node: Node,
+    ) -> Result<(), NoMemory>
         requires arrived { node.state.arrived ≡ Some dir }
         requires waiting { IsFalse node.opened }
         requires low { node.cost < 2 ^ 63 }
         requires queued { (all : Bool) × ((floor : ℕ)
-            × (IsQueued all rect.now floor self.old.nodes self.old.waiting × (floor ≤ estimate_of rect.now node))) }
-        ensures { OnOk result (Notes all rect.now node self.old.nodes self.new.nodes self.old.waiting
+            × (IsQueued all (E.least ahead.now) floor self.old.nodes self.old.waiting × (floor ≤ estimate_of (E.least ahead.now) node))) }
+        ensures { OnOk result (Notes all (E.least ahead.now) node self.old.nodes self.new.nodes self.old.waiting
             self.new.waiting) }
     {
         match self.nodes.standing(node.state, bound_of(all, node.cost)) {
             Standing::Dearer => Ok(()),
             Standing::Known(number) => {
-                self.relax(rect, dir, all, number, node)?;
+                self.relax(ahead, dir, all, number, node)?;
                 Ok(())
             }
             Standing::New => {
-                self.meet_and_drop(rect, all, node)?;
+                self.meet_and_drop(ahead, all, node)?;
                 Ok(())
             }
         }
@@ -347,10 +358,10 @@ impl Front {
     /// Follows the jump from the node in the direction, where that is one of the set and its run stops. Where the search
     /// is not for all, a jump to a state that is dearer than a node of its cell may be left.
     #[inline(always)]
-    fn follow_along<R: Runs, A: Aim>(
+    fn follow_along<R: Runs, A: Aim, E: Estimate>(
         &mut self,
         problem: &Problem<'_, R, A>,
-        rect: &Rect,
+        ahead: &E,
         node: &Node,
         dirs: DirSet,
         dir: Dir,
@@ -362,15 +373,15 @@ impl Front {
             node.now.state.arrived dir }
         requires aim { A.sound problem.now.aim.now (R.extent problem.now.runs.now) }
         requires followable { IsFollowable problem.now.all (R.passes problem.now.runs.now problem.now.class)
-            (A.hit problem.now.aim.now (R.extent problem.now.runs.now)) rect.now
+            (A.hit problem.now.aim.now (R.extent problem.now.runs.now)) (E.least ahead.now)
             node.now.state node.now.cost self.old.nodes self.old.waiting }
         ensures follows { OnOk result (Follows problem.now.all (R.passes problem.now.runs.now problem.now.class)
-            (A.hit problem.now.aim.now (R.extent problem.now.runs.now)) rect.now
+            (A.hit problem.now.aim.now (R.extent problem.now.runs.now)) (E.least ahead.now)
             node.now.state node.now.cost
             (λ other. other ≡ dir) self.old.nodes self.new.nodes self.old.waiting self.new.waiting) }
         ensures followable { OnOk result (IsFollowable problem.now.all (R.passes problem.now.runs.now problem.now.class)
             (A.hit problem.now.aim.now (R.extent problem.now.runs.now))
-            rect.now node.now.state node.now.cost self.new.nodes self.new.waiting) }
+            (E.least ahead.now) node.now.state node.now.cost self.new.nodes self.new.waiting) }
     {
         if !dirs.has(dir) {
             return Ok(());
@@ -385,26 +396,26 @@ impl Front {
             return Ok(());
         };
         let next = landed(node, dir, stop);
-        self.note(rect, dir, problem.all, next)?;
+        self.note(ahead, dir, problem.all, next)?;
         Ok(())
     }
 
     /// Follows each jump from the node, or leaves it, where the search is not for all and the jump leads to a state that
     /// is dearer than a node of its cell.
-    pub(crate) fn follow<R: Runs, A: Aim>(
+    pub(crate) fn follow<R: Runs, A: Aim, E: Estimate>(
         &mut self,
         problem: &Problem<'_, R, A>,
-        rect: &Rect,
+        ahead: &E,
         node: &Node,
     ) -> Result<(), NoMemory>
         requires class { problem.now.class < R.class_count problem.now.runs.now }
         requires cell { IsTrue (R.passes problem.now.runs.now problem.now.class node.now.state.cell) }
         requires aim { A.sound problem.now.aim.now (R.extent problem.now.runs.now) }
         requires followable { IsFollowable problem.now.all (R.passes problem.now.runs.now problem.now.class)
-            (A.hit problem.now.aim.now (R.extent problem.now.runs.now)) rect.now
+            (A.hit problem.now.aim.now (R.extent problem.now.runs.now)) (E.least ahead.now)
             node.now.state node.now.cost self.old.nodes self.old.waiting }
         ensures { OnOk result (Follows problem.now.all (R.passes problem.now.runs.now problem.now.class)
-            (A.hit problem.now.aim.now (R.extent problem.now.runs.now)) rect.now
+            (A.hit problem.now.aim.now (R.extent problem.now.runs.now)) (E.least ahead.now)
             node.now.state node.now.cost
             (λ other. Unit {0}) self.old.nodes self.new.nodes self.old.waiting self.new.waiting) }
     {
@@ -414,14 +425,14 @@ impl Front {
             problem.class,
             node.state,
         );
-        self.follow_along(problem, rect, node, dirs, Dir::N)?;
-        self.follow_along(problem, rect, node, dirs, Dir::E)?;
-        self.follow_along(problem, rect, node, dirs, Dir::S)?;
-        self.follow_along(problem, rect, node, dirs, Dir::W)?;
-        self.follow_along(problem, rect, node, dirs, Dir::NE)?;
-        self.follow_along(problem, rect, node, dirs, Dir::SE)?;
-        self.follow_along(problem, rect, node, dirs, Dir::SW)?;
-        self.follow_along(problem, rect, node, dirs, Dir::NW)?;
+        self.follow_along(problem, ahead, node, dirs, Dir::N)?;
+        self.follow_along(problem, ahead, node, dirs, Dir::E)?;
+        self.follow_along(problem, ahead, node, dirs, Dir::S)?;
+        self.follow_along(problem, ahead, node, dirs, Dir::W)?;
+        self.follow_along(problem, ahead, node, dirs, Dir::NE)?;
+        self.follow_along(problem, ahead, node, dirs, Dir::SE)?;
+        self.follow_along(problem, ahead, node, dirs, Dir::SW)?;
+        self.follow_along(problem, ahead, node, dirs, Dir::NW)?;
         Ok(())
     }
 }

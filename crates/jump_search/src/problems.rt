@@ -1,4 +1,5 @@
 //! What a search is asked.
+use crate::estimates::Estimate;
 use jump_scan::Runs;
 use nav_types::{Aim, Cell, Class};
 
@@ -9,6 +10,14 @@ pub struct Question<'q, R: Runs, A: Aim> {
     pub class: Class,
     pub start: Cell,
     pub aim: &'q A,
+}
+
+/// A question with an estimate by which its answer is found. The answer is the same by each, and the number of opened jump
+/// states is told by octile distances.
+#[derive(Drop)]
+pub struct Guided<'q, R: Runs, A: Aim, E: Estimate> {
+    pub question: Question<'q, R, A>,
+    pub ahead: &'q E,
 }
 
 /// What is searched: a map that answers runs, a class of it, the cell from which the search goes, the cells that it looks

@@ -1,16 +1,19 @@
 //! The jump search, over a map that answers runs or over any view.
-ghost use Rattle.std.specs.Prelude.{◌≡◌, ◌<◌, ◌+◌, Bool, IsTrue, IfOk};
+ghost use Rattle.std.specs.Prelude.{◌≡◌, ◌<◌, ◌+◌, ℕ, Bool, IsTrue, IfOk};
 ghost use Rattle.nav_types.specs.declared.cells.Cell.{Cell};
 ghost use Rattle.nav_types.specs.declared.cells.Rect.{Rect};
 ghost use Rattle.walks.specs.Chosen.{IsAnswer};
-ghost use Rattle.jump_search.specs.JumpStates.{CanSearch, CountsOpened, IsWithinOpened};
+ghost use Rattle.nav_types.specs.Counting.{Counts};
+ghost use Rattle.jump_search.specs.Estimates.{IsEstimate};
+ghost use Rattle.jump_search.specs.JumpStates.{octile_to, CanSearch, IsOpened, CountsOpened, IsWithinOpened};
 ghost use Rattle.jump_search.specs.Questions.{Asked, CountsFor, IsAnswerTo, Traces};
 ghost use Rattle.jump_search.specs.inner.Traced.{IsTraceable};
 
+use crate::estimates::{Estimate, Octile};
 use crate::framed::Framed;
 use crate::front::Front;
 use crate::nodes::Nodes;
-use crate::problems::{Problem, Question};
+use crate::problems::{Guided, Problem, Question};
 use crate::searching::{Best, searched};
 use crate::tracing::traced;
 use jump_scan::{CellRuns, Runs};
@@ -54,10 +57,10 @@ pub struct Traced {
 
 /// What a search that has ended with a best hit has found, traced back over its nodes.
 fn found(alloc: Global, nodes: &Nodes, start: Cell, best: Best) -> Result<Found, NoMemory>
-    requires { (all : Bool) × ((passes : Cell → Bool) × ((hit : Cell → Bool) × ((rect : Rect)
-        × IsTraceable all passes hit start rect best.cell best.cost nodes.now))) }
-    ensures answer { IfOk result (λ found. (all : Bool) (passes hit : Cell → Bool) (rect : Rect)
-        → IsTraceable all passes hit start rect best.cell best.cost nodes.now
+    requires { (all : Bool) × ((passes : Cell → Bool) × ((hit : Cell → Bool) × ((ahead : Cell → ℕ)
+        × IsTraceable all passes hit start ahead best.cell best.cost nodes.now))) }
+    ensures answer { IfOk result (λ found. (all : Bool) (passes hit : Cell → Bool) (ahead : Cell → ℕ)
+        → IsTraceable all passes hit start ahead best.cell best.cost nodes.now
         → IsAnswer passes start hit found.end found.cost.0 found.waypoints) }
     ensures cost { IfOk result (λ found. found.cost.0 ≡ best.cost) }
 {
@@ -69,8 +72,61 @@ fn found(alloc: Global, nodes: &Nodes, start: Cell, best: Best) -> Result<Found,
     })
 }
 
-/// The answer of a search, which is for all jump states within the cost or not.
-fn answered<R: Runs, A: Aim, L: Ledger>(
+/// The answer of a search by an estimate, which is for all jump states within the cost or not.
+fn answered<R: Runs, A: Aim, E: Estimate, L: Ledger>(
+    front: &mut Front,
+    alloc: Global,
+    question: &Question<'_, R, A>,
+    ahead: &E,
+    all: bool,
+    ticks: &mut Ticks<L>,
+) -> Result<Traced, NoMemory>
+    requires class { question.now.class < R.class_count question.now.runs.now }
+    requires search { CanSearch (R.passes question.now.runs.now question.now.class)
+        (A.hit question.now.aim.now (R.extent question.now.runs.now))
+        (A.sound question.now.aim.now (R.extent question.now.runs.now)) question.now.start }
+    requires ahead { IsEstimate (R.passes question.now.runs.now question.now.class)
+        (A.hit question.now.aim.now (R.extent question.now.runs.now))
+        (A.framed question.now.aim.now (R.extent question.now.runs.now)) (R.extent question.now.runs.now)
+        (E.least ahead.now) }
+    ensures answer { IfOk result (λ traced. IsAnswer (R.passes question.now.runs.now question.now.class)
+        question.now.start (A.hit question.now.aim.now (R.extent question.now.runs.now))
+        traced.found.end traced.found.cost.0 traced.found.waypoints) }
+    ensures opened { IfOk result (λ traced. IsTrue all → (rect : Rect) → E.least ahead.now ≡ octile_to rect
+        → Counts (IsOpened (R.passes question.now.runs.now question.now.class)
+        (A.hit question.now.aim.now (R.extent question.now.runs.now)) question.now.start rect traced.found.cost.0)
+        traced.opened) }
+    ensures ticks { IfOk result (λ traced. ticks.new ≡ ticks.old + traced.opened) }
+    ensures most { IsWithinOpened (R.passes question.now.runs.now question.now.class) (A.hit question.now.aim.now
+        (R.extent question.now.runs.now))
+        (A.framed question.now.aim.now (R.extent question.now.runs.now)) (R.extent question.now.runs.now)
+        question.now.start ticks.old ticks.new }
+{
+    let framed = Framed {
+        aim: question.aim,
+        rect: question.aim.bounds(question.runs.size()),
+    };
+    let start = question.start;
+    let within = Problem {
+        runs: question.runs,
+        class: question.class,
+        start,
+        aim: &framed,
+        all,
+    };
+    let search = searched(front, &within, ahead, ticks)?;
+    let Some(best) = search.best else {
+        unreachable!()
+    };
+    let found = found(alloc, &front.nodes, start, best)?;
+    Ok(Traced {
+        found,
+        opened: search.opened,
+    })
+}
+
+/// The answer of a search by octile distances, which is for all jump states within the cost or not.
+fn by_octile<R: Runs, A: Aim, L: Ledger>(
     front: &mut Front,
     alloc: Global,
     question: &Question<'_, R, A>,
@@ -95,27 +151,8 @@ fn answered<R: Runs, A: Aim, L: Ledger>(
         (A.framed question.now.aim.now (R.extent question.now.runs.now)) (R.extent question.now.runs.now)
         question.now.start ticks.old ticks.new }
 {
-    let framed = Framed {
-        aim: question.aim,
-        rect: question.aim.bounds(question.runs.size()),
-    };
-    let start = question.start;
-    let within = Problem {
-        runs: question.runs,
-        class: question.class,
-        start,
-        aim: &framed,
-        all,
-    };
-    let search = searched(front, &within, ticks)?;
-    let Some(best) = search.best else {
-        unreachable!()
-    };
-    let found = found(alloc, &front.nodes, start, best)?;
-    Ok(Traced {
-        found,
-        opened: search.opened,
-    })
+    let rect = question.aim.bounds(question.runs.size());
+    answered(front, alloc, question, &Octile { rect }, all, ticks)
 }
 
 /// The same answer for a caller who counts no ticks, which are those of a ledger of its own.
@@ -141,7 +178,33 @@ fn uncounted<R: Runs, A: Aim, L: Ledger>(
       size = R.extent question.now.runs.now;
     } in IfOk result (λ traced. IsAnswerTo asked traced.found × (IsTrue all → CountsFor asked traced)) }
 {
-    answered(front, alloc, question, all, &mut Ticks::<L>::new(blank))
+    by_octile(front, alloc, question, all, &mut Ticks::<L>::new(blank))
+}
+
+/// The same answer to a guided question for a caller who counts no ticks, which are those of a ledger of its own.
+fn uncounted_by<R: Runs, A: Aim, E: Estimate, L: Ledger>(
+    front: &mut Front,
+    alloc: Global,
+    guided: &Guided<'_, R, A, E>,
+    blank: Blank,
+) -> Result<Traced, NoMemory>
+    requires name { blank.name ≡ L.name }
+    requires parts { blank.parts ≡ L.parts }
+    requires some { 0 < L.parts }
+    requires class { guided.now.question.class < R.class_count guided.now.question.runs.now }
+    requires search { CanSearch (R.passes guided.now.question.runs.now guided.now.question.class)
+        (A.hit guided.now.question.aim.now (R.extent guided.now.question.runs.now))
+        (A.sound guided.now.question.aim.now (R.extent guided.now.question.runs.now)) guided.now.question.start }
+    requires ahead { IsEstimate (R.passes guided.now.question.runs.now guided.now.question.class)
+        (A.hit guided.now.question.aim.now (R.extent guided.now.question.runs.now))
+        (A.framed guided.now.question.aim.now (R.extent guided.now.question.runs.now))
+        (R.extent guided.now.question.runs.now) (E.least guided.now.ahead.now) }
+    ensures { IfOk result (λ traced. IsAnswer (R.passes guided.now.question.runs.now guided.now.question.class)
+        guided.now.question.start (A.hit guided.now.question.aim.now (R.extent guided.now.question.runs.now))
+        traced.found.end traced.found.cost.0 traced.found.waypoints) }
+{
+    let ticks = &mut Ticks::<L>::new(blank);
+    answered(front, alloc, &guided.question, guided.ahead, false, ticks)
 }
 
 /// Jump searches for the answer to a question, which is the chosen walk from its start to the first in cell order of the
@@ -217,7 +280,7 @@ impl<'q, R: Runs, A: Aim> JumpSearch for Question<'q, R, A> {
         alloc: Global,
         ticks: &mut Ticks<L>,
     ) -> Result<Traced, NoMemory> {
-        answered(&mut pool.front, alloc, self, true, ticks)
+        by_octile(&mut pool.front, alloc, self, true, ticks)
     }
 
     fn jump_find_in<L: Ledger>(
@@ -226,7 +289,7 @@ impl<'q, R: Runs, A: Aim> JumpSearch for Question<'q, R, A> {
         alloc: Global,
         ticks: &mut Ticks<L>,
     ) -> Result<Found, NoMemory> {
-        let traced = answered(&mut pool.front, alloc, self, false, ticks)?;
+        let traced = by_octile(&mut pool.front, alloc, self, false, ticks)?;
         Ok(traced.found)
     }
 
@@ -236,6 +299,58 @@ impl<'q, R: Runs, A: Aim> JumpSearch for Question<'q, R, A> {
 
     fn find(&self, pool: &mut Pool, alloc: Global) -> Result<Found, NoMemory> {
         let traced = uncounted::<R, A, Brand>(&mut pool.front, alloc, self, false, Blank::new(1))?;
+        Ok(traced.found)
+    }
+}
+
+impl<'q, R: Runs, A: Aim, E: Estimate> JumpSearch for Guided<'q, R, A, E> {
+    ghost use Rattle.std.specs.Prelude.{◌<◌};
+    ghost use Rattle.jump_search.specs.Estimates.{IsEstimate};
+    ghost use Rattle.jump_search.specs.JumpStates.{CanSearch};
+
+    ghost can_search = { λ g. ((g.question.class < R.class_count g.question.runs.now)
+        × CanSearch (R.passes g.question.runs.now g.question.class)
+        (A.hit g.question.aim.now (R.extent g.question.runs.now))
+        (A.sound g.question.aim.now (R.extent g.question.runs.now)) g.question.start)
+        × IsEstimate (R.passes g.question.runs.now g.question.class)
+        (A.hit g.question.aim.now (R.extent g.question.runs.now))
+        (A.framed g.question.aim.now (R.extent g.question.runs.now)) (R.extent g.question.runs.now)
+        (E.least g.ahead.now) };
+
+    ghost asked = { λ g. record {
+      passes = R.passes g.question.runs.now g.question.class;
+      start = g.question.start;
+      hit = A.hit g.question.aim.now (R.extent g.question.runs.now);
+      framed = A.framed g.question.aim.now (R.extent g.question.runs.now);
+      size = R.extent g.question.runs.now;
+    } };
+
+    fn jump_search_in<L: Ledger>(
+        &self,
+        pool: &mut Pool,
+        alloc: Global,
+        ticks: &mut Ticks<L>,
+    ) -> Result<Traced, NoMemory> {
+        self.question.jump_search_in(pool, alloc, ticks)
+    }
+
+    fn jump_find_in<L: Ledger>(
+        &self,
+        pool: &mut Pool,
+        alloc: Global,
+        ticks: &mut Ticks<L>,
+    ) -> Result<Found, NoMemory> {
+        let Guided { question, ahead } = self;
+        let traced = answered(&mut pool.front, alloc, question, *ahead, false, ticks)?;
+        Ok(traced.found)
+    }
+
+    fn trace(&self, pool: &mut Pool, alloc: Global) -> Result<Traced, NoMemory> {
+        self.question.trace(pool, alloc)
+    }
+
+    fn find(&self, pool: &mut Pool, alloc: Global) -> Result<Found, NoMemory> {
+        let traced = uncounted_by::<R, A, E, Brand>(&mut pool.front, alloc, self, Blank::new(1))?;
         Ok(traced.found)
     }
 }

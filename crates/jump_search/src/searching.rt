@@ -3,20 +3,20 @@ ghost use Rattle.std.specs.Prelude.{◌≡◌, ◌<◌, ◌+◌, ◌⊎◌, ℕ,
 ghost use Rattle.std.specs.Prelude.{IsTrue, IsFalse, IfSome, IfNone, IfOk, OnOk, OnErr};
 ghost use Rattle.std.specs.FinMap as map;
 ghost use Rattle.nav_types.specs.declared.cells.Cell.{Cell};
-ghost use Rattle.nav_types.specs.declared.cells.Rect.{Rect};
 ghost use Rattle.nav_types.specs.Cells.{IsInside};
-ghost use Rattle.nav_types.specs.Frames.{IsFrame};
 ghost use Rattle.open_heap.specs.Queue.{IsLeast};
 ghost use Rattle.jump_search.specs.declared.nodes.Node.{Node};
+ghost use Rattle.jump_search.specs.Estimates.{IsConsistent};
 ghost use Rattle.jump_search.specs.inner.Underway.{opened_count, IsBetter, IsNotPast, IsPast, IsTaken, IsUnderway};
 ghost use Rattle.jump_search.specs.inner.Underway.{IsHalted, HasEnded};
 
+use crate::estimates::Estimate;
 use crate::front::Front;
 use crate::nodes::Node;
 use crate::problems::Problem;
 use crate::states::JumpState;
 use jump_scan::Runs;
-use nav_types::{Aim, Cell, NoMemory, Rect, Ticks};
+use nav_types::{Aim, Cell, NoMemory, Ticks};
 use open_heap::Entry;
 use std::sync::ledger::Ledger;
 
@@ -80,9 +80,9 @@ fn best_with<R: Runs, A: Aim>(runs: &R, aim: &A, best: Option<Best>, node: &Node
 
 impl Search {
     /// A search over no node but that of the start, which waits.
-    fn new(front: &mut Front, rect: &Rect, start: Cell) -> Result<Search, NoMemory>
+    fn new<E: Estimate>(front: &mut Front, ahead: &E, start: Cell) -> Result<Search, NoMemory>
         ensures underway { IfOk result (λ search. (all : Bool) (passes hit : Cell → Bool)
-            → IsUnderway all passes hit start rect.now 0 front.new.nodes front.new.waiting search.best) }
+            → IsUnderway all passes hit start (E.least ahead.now) 0 front.new.nodes front.new.waiting search.best) }
         ensures opened { IfOk result (λ search. search.opened ≡ opened_count front.new.nodes) }
         ensures none { IfOk result (λ search. search.opened ≡ 0) }
     {
@@ -97,7 +97,7 @@ impl Search {
             opened: false,
         };
         front.clear();
-        front.meet(rect, node)?;
+        front.meet(ahead, node)?;
         Ok(Search {
             best: None,
             opened: 0,
@@ -124,31 +124,31 @@ impl Search {
     }
 
     /// Opens the node of an entry that was taken from the open list, with one tick.
-    fn take<R: Runs, A: Aim, L: Ledger>(
+    fn take<R: Runs, A: Aim, E: Estimate, L: Ledger>(
         &mut self,
         front: &mut Front,
         problem: &Problem<'_, R, A>,
-        rect: &Rect,
+        ahead: &E,
         entry: Entry,
         ticks: &mut Ticks<L>,
     ) -> Result<(), NoMemory>
         requires class { problem.now.class < R.class_count problem.now.runs.now }
         requires aim { A.sound problem.now.aim.now (R.extent problem.now.runs.now) }
-        requires frame { IsFrame (A.framed problem.now.aim.now (R.extent problem.now.runs.now))
-            (R.extent problem.now.runs.now) rect.now }
+        requires ahead { IsConsistent (R.passes problem.now.runs.now problem.now.class) (A.hit problem.now.aim.now
+            (R.extent problem.now.runs.now)) (E.least ahead.now) }
         requires taken { (start : Cell) × ((floor : ℕ)
             × (IsTrue (R.passes problem.now.runs.now problem.now.class start)
             × IsTaken problem.now.all (R.passes problem.now.runs.now problem.now.class) (A.hit problem.now.aim.now
-            (R.extent problem.now.runs.now)) start rect.now floor
+            (R.extent problem.now.runs.now)) start (E.least ahead.now) floor
             front.old.nodes front.old.waiting self.old.best entry)) }
         requires opened { self.old.opened ≡ opened_count front.old.nodes }
         ensures underway { OnOk result ((start : Cell) (floor : ℕ) → IsTrue
             (R.passes problem.now.runs.now problem.now.class start)
             → IsTaken problem.now.all (R.passes problem.now.runs.now problem.now.class) (A.hit problem.now.aim.now
-            (R.extent problem.now.runs.now)) start rect.now floor
+            (R.extent problem.now.runs.now)) start (E.least ahead.now) floor
             front.old.nodes front.old.waiting self.old.best entry
             → IsUnderway problem.now.all (R.passes problem.now.runs.now problem.now.class)
-            (A.hit problem.now.aim.now (R.extent problem.now.runs.now)) start rect.now
+            (A.hit problem.now.aim.now (R.extent problem.now.runs.now)) start (E.least ahead.now)
             entry.estimate
             front.new.nodes front.new.waiting self.new.best) }
         ensures opened { OnOk result (self.new.opened ≡ opened_count front.new.nodes) }
@@ -161,7 +161,7 @@ impl Search {
             ..*front.nodes.at(entry.key)
         };
         front.nodes.put(entry.key, node);
-        front.follow(problem, rect, &node)?;
+        front.follow(problem, ahead, &node)?;
         self.best = best_with(problem.runs, problem.aim, self.best, &node);
         self.opened += 1;
         ticks.tick();
@@ -174,35 +174,30 @@ impl Search {
 /// nodes then, whatever it had before.
 ///
 /// Each node that is opened is one tick.
-pub(crate) fn searched<R: Runs, A: Aim, L: Ledger>(
+pub(crate) fn searched<R: Runs, A: Aim, E: Estimate, L: Ledger>(
     front: &mut Front,
     problem: &Problem<'_, R, A>,
+    ahead: &E,
     ticks: &mut Ticks<L>,
 ) -> Result<Search, NoMemory>
     requires class { problem.now.class < R.class_count problem.now.runs.now }
     requires start { IsTrue (R.passes problem.now.runs.now problem.now.class problem.now.start) }
     requires aim { A.sound problem.now.aim.now (R.extent problem.now.runs.now) }
-    ensures frame { (rect : Rect) × IsFrame (A.framed problem.now.aim.now (R.extent problem.now.runs.now))
-        (R.extent problem.now.runs.now) rect }
-    ensures ended { IfOk result (λ search. (rect : Rect)
-        → IsFrame (A.framed problem.now.aim.now (R.extent problem.now.runs.now)) (R.extent problem.now.runs.now) rect
-        → HasEnded problem.now.all (R.passes problem.now.runs.now problem.now.class) (A.hit problem.now.aim.now
-        (R.extent problem.now.runs.now)) problem.now.start rect front.new.nodes
-        search.best) }
+    requires ahead { IsConsistent (R.passes problem.now.runs.now problem.now.class) (A.hit problem.now.aim.now
+        (R.extent problem.now.runs.now)) (E.least ahead.now) }
+    ensures ended { IfOk result (λ search. HasEnded problem.now.all
+        (R.passes problem.now.runs.now problem.now.class) (A.hit problem.now.aim.now
+        (R.extent problem.now.runs.now)) problem.now.start (E.least ahead.now) front.new.nodes search.best) }
     ensures opened { IfOk result (λ search. search.opened ≡ opened_count front.new.nodes) }
     ensures ticks { IfOk result (λ search. ticks.new ≡ ticks.old + search.opened) }
-    ensures halted { OnErr result ((rect : Rect)
-        → IsFrame (A.framed problem.now.aim.now (R.extent problem.now.runs.now)) (R.extent problem.now.runs.now) rect
-        → (ticks.new ≡ ticks.old) ⊎ ((nodes : List Node)
+    ensures halted { OnErr result ((ticks.new ≡ ticks.old) ⊎ ((nodes : List Node)
         × ((floor : ℕ) × (IsHalted problem.now.all (R.passes problem.now.runs.now problem.now.class)
-        (A.hit problem.now.aim.now (R.extent problem.now.runs.now)) problem.now.start rect floor
-        nodes
+        (A.hit problem.now.aim.now (R.extent problem.now.runs.now)) problem.now.start (E.least ahead.now) floor nodes
         × (ticks.new ≡ ticks.old + opened_count nodes))))) }
 {
-    let rect = problem.aim.bounds(problem.runs.size());
-    let mut search = Search::new(front, &rect, problem.start)?;
+    let mut search = Search::new(front, ahead, problem.start)?;
     'search: while let Some(entry) = search.next(front) {
-        search.take(front, problem, &rect, entry, ticks)?;
+        search.take(front, problem, ahead, entry, ticks)?;
     }
     Ok(search)
 }

@@ -7,7 +7,6 @@ ghost use Rattle.std.specs.Prelude.{ℕ, Bool, [], Option, None, Some, ◌≡◌
 ghost use Rattle.std.specs.Prelude.{IfNone, IfOk, OnOk, IsTrue, IsFalse, option_to_list, if◌then◌else◌};
 ghost use Rattle.nav_types.specs.declared.limits.TheConstants.{MAX_SIDE};
 ghost use Rattle.nav_types.specs.declared.cells.Cell.{Cell};
-ghost use Rattle.nav_types.specs.declared.cells.Rect.{Rect};
 ghost use Rattle.nav_types.specs.declared.directions.Dir.{Dir};
 ghost use Rattle.nav_types.specs.Directions.{east, west, north, south};
 ghost use Rattle.walks.specs.Chosen.{IsPicked};
@@ -178,10 +177,10 @@ fn corners_back(
     start: Cell,
     best: Best,
 ) -> Result<Vec<Cell>, NoMemory>
-    requires { (all : Bool) × ((passes : Cell → Bool) × ((hit : Cell → Bool) × ((rect : Rect)
-        × IsTraceable all passes hit start rect best.cell best.cost nodes.now))) }
-    ensures { IfOk result (λ corners. (all : Bool) (passes hit : Cell → Bool) (rect : Rect)
-        → IsTraceable all passes hit start rect best.cell best.cost nodes.now
+    requires { (all : Bool) × ((passes : Cell → Bool) × ((hit : Cell → Bool) × ((ahead : Cell → ℕ)
+        × IsTraceable all passes hit start ahead best.cell best.cost nodes.now))) }
+    ensures { IfOk result (λ corners. (all : Bool) (passes hit : Cell → Bool) (ahead : Cell → ℕ)
+        → IsTraceable all passes hit start ahead best.cell best.cost nodes.now
         → HasWaypoints passes start best.cell (reverse corners.items)) }
 {
     let mut corners = Vec::new(alloc);
@@ -205,10 +204,10 @@ pub(crate) fn traced(
     start: Cell,
     best: Best,
 ) -> Result<Waypoints, NoMemory>
-    requires { (all : Bool) × ((passes : Cell → Bool) × ((hit : Cell → Bool) × ((rect : Rect)
-        × IsTraceable all passes hit start rect best.cell best.cost nodes.now))) }
-    ensures { IfOk result (λ points. (all : Bool) (passes hit : Cell → Bool) (rect : Rect)
-        → IsTraceable all passes hit start rect best.cell best.cost nodes.now
+    requires { (all : Bool) × ((passes : Cell → Bool) × ((hit : Cell → Bool) × ((ahead : Cell → ℕ)
+        × IsTraceable all passes hit start ahead best.cell best.cost nodes.now))) }
+    ensures { IfOk result (λ points. (all : Bool) (passes hit : Cell → Bool) (ahead : Cell → ℕ)
+        → IsTraceable all passes hit start ahead best.cell best.cost nodes.now
         → HasWaypoints passes start best.cell points) }
 {
     let mut corners = corners_back(alloc, nodes, start, best)?;

@@ -1,14 +1,13 @@
 -- What a jump search knows when it ends.
 use Rattle.std.specs.Prelude.{ℕ, Bool, ◌≡◌, ◌+◌, ◌<◌, ◌≤◌, ◌⊎◌, List, Option, None, Some, slice_get, IsTrue, IsFalse}
 use Rattle.nav_types.specs.declared.cells.Cell.{Cell}
-use Rattle.nav_types.specs.declared.cells.Rect.{Rect}
 use Rattle.nav_types.specs.declared.directions.Dir.{Dir}
 use Rattle.nav_types.specs.Cells.{IsNotAfter}
 use Rattle.nav_types.specs.Directions.{is_straight}
 use Rattle.jump_scan.specs.Stops.{IsRun}
 use Rattle.jump_search.specs.declared.nodes.Node.{Node}
 use Rattle.jump_search.specs.declared.states.JumpState.{JumpState}
-use Rattle.jump_search.specs.JumpStates.{IsJump, AreJumps, jumps_cost, start_state, octile_between, octile_to}
+use Rattle.jump_search.specs.JumpStates.{IsJump, AreJumps, jumps_cost, start_state, octile_between}
 use Rattle.jump_search.specs.inner.Numbered.{HasCheaper}
 
 -- the last run to the state has so many steps
@@ -72,15 +71,15 @@ IsFollowedFrom all passes hit nodes node = (state : JumpState) (run : ℕ) → I
 -- A search that has ended. Its bound is the cost of the answer: all nodes within it are opened, but for those that are
 -- dearer than another of their cell, where the search is not for all. The end is the first in cell order of the cells
 -- that are hit at this cost, and none is hit at less.
-pub record IsSearched (all : Bool) (passes hit : Cell → Bool) (start : Cell) (rect : Rect) (end : Cell) (bound : ℕ)
+pub record IsSearched (all : Bool) (passes hit : Cell → Bool) (start : Cell) (ahead : Cell → ℕ) (end : Cell) (bound : ℕ)
     (nodes : List Node) : Type 0 where
   pub met : AreMet passes hit start nodes
   pub followed : (place : ℕ) (node : Node) → slice_get nodes place ≡ Some node → IsTrue node.opened
       → IsFollowedFrom all passes hit nodes node
   pub within : (place : ℕ) (node : Node) → slice_get nodes place ≡ Some node → IsTrue node.opened
-      → node.cost + octile_to rect node.state.cell ≤ bound
+      → node.cost + ahead node.state.cell ≤ bound
   pub beyond : (place : ℕ) (node : Node) → slice_get nodes place ≡ Some node → IsFalse node.opened
-      → (bound < node.cost + octile_to rect node.state.cell) ⊎ (IsFalse all × IsDearer nodes node)
+      → (bound < node.cost + ahead node.state.cell) ⊎ (IsFalse all × IsDearer nodes node)
   pub ends : (place : ℕ) × ((node : Node) × ((slice_get nodes place ≡ Some node) × (IsTrue node.opened
       × ((node.state.cell ≡ end) × ((node.cost ≡ bound) × IsTrue (hit end))))))
   pub nearest : (place : ℕ) (node : Node) → slice_get nodes place ≡ Some node → IsTrue node.opened

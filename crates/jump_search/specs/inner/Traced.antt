@@ -2,7 +2,6 @@
 use Rattle.std.specs.Prelude.{ℕ, Bool, ◌≡◌, ◌+◌, ◌*◌, ◌++◌, ◌≤◌, ◌&&◌, List, length, Option, None, Some, slice_get, reverse}
 use Rattle.std.specs.Prelude.{IsTrue, IfSome, nat_eq, if◌then◌else◌}
 use Rattle.nav_types.specs.declared.cells.Cell.{Cell}
-use Rattle.nav_types.specs.declared.cells.Rect.{Rect}
 use Rattle.nav_types.specs.declared.directions.Dir.{Dir}
 use Rattle.nav_types.specs.Directions.{east, west, north, south, is_straight}
 use Rattle.nav_types.specs.Walks.{IsWalk, walk_cost, IsDistance}
@@ -11,7 +10,7 @@ use Rattle.walks.specs.Waypoints.{IsInGrid, waypoints}
 use Rattle.jump_search.specs.declared.nodes.Node.{Node}
 use Rattle.jump_search.specs.declared.states.JumpState.{JumpState}
 use Rattle.jump_search.specs.declared.tracing.LastRun.{LastRun}
-use Rattle.jump_search.specs.JumpStates.{octile_to}
+use Rattle.jump_search.specs.Estimates.{IsConsistent}
 use Rattle.jump_search.specs.inner.Following.{Follows}
 use Rattle.jump_search.specs.inner.Numbered.{arrival_number, IsLastInSlot}
 use Rattle.jump_search.specs.inner.Paged.{slot_of}
@@ -98,14 +97,10 @@ pub record HasCorners (passes hit : Cell → Bool) (start : Cell) (nodes : List 
 abbrev pub HasWaypoints : (Cell → Bool) → Cell → Cell → List Cell → Type 0
 HasWaypoints passes start end points = (dirs : List Dir) × (IsChosen passes start dirs end × (points ≡ waypoints start dirs))
 
--- a hit cell that passes lies in the rectangle
-abbrev pub HitsLieIn : (Cell → Bool) → (Cell → Bool) → Rect → Type 0
-HitsLieIn passes hit rect = (cell : Cell) → IsTrue (passes cell) → IsTrue (hit cell) → octile_to rect cell ≡ 0
-
 -- Nodes over which the chosen walk to the end can be traced back: those of a search that has ended there.
-pub record IsTraceable (all : Bool) (passes hit : Cell → Bool) (start : Cell) (rect : Rect) (end : Cell) (bound : ℕ)
+pub record IsTraceable (all : Bool) (passes hit : Cell → Bool) (start : Cell) (ahead : Cell → ℕ) (end : Cell) (bound : ℕ)
     (nodes : List Node) : Type 0 where
-  pub searched : IsSearched all passes hit start rect end bound nodes
+  pub searched : IsSearched all passes hit start ahead end bound nodes
   pub passing : IsTrue (passes start)
-  pub near : HitsLieIn passes hit rect
+  pub consistent : IsConsistent passes hit ahead
   pub grid : (cell : Cell) → IsTrue (passes cell) → IsInGrid cell

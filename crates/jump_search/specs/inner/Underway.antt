@@ -3,7 +3,6 @@ use Rattle.std.specs.Prelude.{ℕ, Bool, ◌≡◌, ◌+◌, ◌-◌, ◌*◌, �
 use Rattle.std.specs.Prelude.{slice_get, max, IsTrue, IsFalse}
 use Rattle.std.specs.FinMap as map
 use Rattle.nav_types.specs.declared.cells.Cell.{Cell}
-use Rattle.nav_types.specs.declared.cells.Rect.{Rect}
 use Rattle.nav_types.specs.declared.directions.Dir.{Dir}
 use Rattle.nav_types.specs.Cells.{IsNotAfter}
 use Rattle.open_heap.specs.declared.entries.Entry.{Entry}
@@ -11,14 +10,15 @@ use Rattle.open_heap.specs.Queue.{Queue, IsLeast}
 use Rattle.jump_search.specs.declared.nodes.Node.{Node}
 use Rattle.jump_search.specs.declared.searching.Best.{Best}
 use Rattle.jump_search.specs.declared.states.JumpState.{JumpState}
-use Rattle.jump_search.specs.JumpStates.{IsJump, octile_between, octile_to}
+use Rattle.jump_search.specs.Estimates.{IsConsistent}
+use Rattle.jump_search.specs.JumpStates.{IsJump, octile_between}
 use Rattle.jump_search.specs.inner.Numbered.{HasCheaper}
 use Rattle.jump_search.specs.inner.Searched.{IsLastRun, IsKeptRun, HasOpenedParent, IsRelaxed, IsNoted, IsDearer, AreMet}
 use Rattle.jump_search.specs.inner.Searched.{IsFollowedFrom, IsSearched}
 
--- what jumps by the node to the rectangle cost at least
-abbrev pub estimate_of : Rect → Node → ℕ
-estimate_of rect node = node.cost + octile_to rect node.state.cell
+-- what jumps by the node to a hit cell cost at least, where so much is ahead of a cell
+abbrev pub estimate_of : (Cell → ℕ) → Node → ℕ
+estimate_of ahead node = node.cost + ahead node.state.cell
 
 -- how many steps a run from one cell to the other has
 abbrev pub steps_over : Cell → Cell → ℕ
@@ -30,21 +30,21 @@ opened_count nodes = count_by (λ (node : Node). node.opened) nodes
 
 -- The nodes that wait stand in the open list by their estimates, which have come up to `floor`. Each of the others is
 -- opened, at an estimate within that, or is dearer than another of its cell where the search is not for all.
-pub record IsQueued (all : Bool) (rect : Rect) (floor : ℕ) (nodes : List Node) (queue : Queue) : Type 0 where
+pub record IsQueued (all : Bool) (ahead : Cell → ℕ) (floor : ℕ) (nodes : List Node) (queue : Queue) : Type 0 where
   pub waits : (number estimate : ℕ) → map.get queue number ≡ Some estimate
       → (node : Node) × ((slice_get nodes number ≡ Some node) × (IsFalse node.opened
-      × ((estimate ≡ estimate_of rect node) × (floor ≤ estimate))))
+      × ((estimate ≡ estimate_of ahead node) × (floor ≤ estimate))))
   pub others : (number : ℕ) (node : Node) → slice_get nodes number ≡ Some node → map.get queue number ≡ None
       → IsTrue node.opened ⊎ (IsFalse all × IsDearer nodes node)
   pub within : (number : ℕ) (node : Node) → slice_get nodes number ≡ Some node → IsTrue node.opened
-      → estimate_of rect node ≤ floor
+      → estimate_of ahead node ≤ floor
 
 -- the nodes, of which each costs at most so much, and the open list
-pub record IsGoing (all : Bool) (passes hit : Cell → Bool) (start : Cell) (rect : Rect) (floor most : ℕ)
+pub record IsGoing (all : Bool) (passes hit : Cell → Bool) (start : Cell) (ahead : Cell → ℕ) (floor most : ℕ)
     (nodes : List Node)
     (queue : Queue) : Type 0 where
   pub met : AreMet passes hit start nodes
-  pub queued : IsQueued all rect floor nodes queue
+  pub queued : IsQueued all ahead floor nodes queue
   pub costs : (number : ℕ) (node : Node) → slice_get nodes number ≡ Some node → node.cost ≤ most
   pub few : length nodes ≤ 2 ^ 32
 
@@ -79,13 +79,13 @@ IsFollowedAlong all passes hit nodes from cost dir = (state : JumpState) (run : 
     → IsLastRun passes from.cell state run → IsNoted all nodes state (cost + octile_between from.cell state.cell) run
 
 -- Noting a jump that leads to a node: its state has a node that is as cheap and whose last run is kept beside this one.
-pub record Relaxes (rect : Rect) (node : Node) (old new : List Node) (before after : Queue) : Type 0 where
+pub record Relaxes (ahead : Cell → ℕ) (node : Node) (old new : List Node) (before after : Queue) : Type 0 where
   pub later : AreLater old new
   pub relaxed : IsRelaxed new node.state node.cost node.run
   pub going : (all : Bool) (passes hit : Cell → Bool) (start : Cell) (floor most : ℕ)
-      → IsGoing all passes hit start rect floor most old before
-      → floor ≤ estimate_of rect node → node.cost ≤ most → HasOpenedParent passes hit old node
-      → IsGoing all passes hit start rect floor most new after
+      → IsGoing all passes hit start ahead floor most old before
+      → floor ≤ estimate_of ahead node → node.cost ≤ most → HasOpenedParent passes hit old node
+      → IsGoing all passes hit start ahead floor most new after
 
 -- No entry leaves the open list but those of nodes that are dearer than another of their cell, where the search is not
 -- for all.
@@ -96,41 +96,42 @@ pub record Drops (all : Bool) (nodes : List Node) (before after : Queue) : Type 
 
 -- Noting a jump that leads to a node, after which nodes that are dearer than another of their cell may leave the open
 -- list, where the search is not for all.
-abbrev pub Settles : Bool → Rect → Node → List Node → List Node → Queue → Queue → Type 0
-Settles all rect node old new before after =
-    (queue : Queue) × (Relaxes rect node old new before queue × Drops all new queue after)
+abbrev pub Settles : Bool → (Cell → ℕ) → Node → List Node → List Node → Queue → Queue → Type 0
+Settles all ahead node old new before after =
+    (queue : Queue) × (Relaxes ahead node old new before queue × Drops all new queue after)
 
 -- Noting a jump that leads to a node, or leaving it, where a node of its cell costs less and the search is not for all.
-abbrev pub Notes : Bool → Rect → Node → List Node → List Node → Queue → Queue → Type 0
-Notes all rect node old new before after = Settles all rect node old new before after
+abbrev pub Notes : Bool → (Cell → ℕ) → Node → List Node → List Node → Queue → Queue → Type 0
+Notes all ahead node old new before after = Settles all ahead node old new before after
     ⊎ ((IsFalse all × HasCheaper old node.state.cell node.cost) × ((new ≡ old) × (after ≡ before)))
 
 -- a search can follow jumps from the state, which costs so much
-pub record IsFollowable (all : Bool) (passes hit : Cell → Bool) (rect : Rect) (state : JumpState) (cost : ℕ)
+pub record IsFollowable (all : Bool) (passes hit : Cell → Bool) (ahead : Cell → ℕ) (state : JumpState) (cost : ℕ)
     (nodes : List Node) (queue : Queue) : Type 0 where
   pub start : Cell
   pub floor : ℕ
   pub most : ℕ
-  pub going : IsGoing all passes hit start rect floor most nodes queue
+  pub going : IsGoing all passes hit start ahead floor most nodes queue
   pub opened : IsOpenNode nodes state cost
-  pub early : floor ≤ cost + octile_to rect state.cell
+  pub early : floor ≤ cost + ahead state.cell
+  pub consistent : IsConsistent passes hit ahead
   pub room : cost + 189812736 ≤ most
   pub low : most < 2 ^ 62
 
 -- a search that could follow jumps from the state goes on as before
-abbrev pub KeepsGoing : Bool → (Cell → Bool) → (Cell → Bool) → Rect → JumpState → ℕ → List Node → List Node → Queue
+abbrev pub KeepsGoing : Bool → (Cell → Bool) → (Cell → Bool) → (Cell → ℕ) → JumpState → ℕ → List Node → List Node → Queue
     → Queue → Type 0
-KeepsGoing all passes hit rect state cost old new before after = (start : Cell) (floor most : ℕ)
-    → IsGoing all passes hit start rect floor most old before → IsOpenNode old state cost
-    → floor ≤ cost + octile_to rect state.cell → cost + 189812736 ≤ most
-    → IsGoing all passes hit start rect floor most new after
+KeepsGoing all passes hit ahead state cost old new before after = (start : Cell) (floor most : ℕ)
+    → IsGoing all passes hit start ahead floor most old before → IsOpenNode old state cost
+    → floor ≤ cost + ahead state.cell → cost + 189812736 ≤ most
+    → IsGoing all passes hit start ahead floor most new after
 
 -- Following the jumps from a state in the directions that are within the set.
-pub record Follows (all : Bool) (passes hit : Cell → Bool) (rect : Rect) (state : JumpState) (cost : ℕ)
+pub record Follows (all : Bool) (passes hit : Cell → Bool) (ahead : Cell → ℕ) (state : JumpState) (cost : ℕ)
     (Within : Dir → Type 0) (old new : List Node) (before after : Queue) : Type 0 where
   pub later : AreLater old new
   pub along : (dir : Dir) → Within dir → IsFollowedAlong all passes hit new state cost dir
-  pub going : KeepsGoing all passes hit rect state cost old new before after
+  pub going : KeepsGoing all passes hit ahead state cost old new before after
 
 -- the best hit among the opened nodes: nearest, and of equal ones first in cell order
 pub record IsBestHit (hit : Cell → Bool) (nodes : List Node) (best : Best) : Type 0 where
@@ -152,11 +153,11 @@ IsBestSoFar hit nodes floor None = NoneHit hit nodes
 IsBestSoFar hit nodes floor (Some best) = IsBestHit hit nodes best × (floor ≤ best.cost)
 
 -- A search that goes on.
-pub record IsUnderway (all : Bool) (passes hit : Cell → Bool) (start : Cell) (rect : Rect) (floor : ℕ)
+pub record IsUnderway (all : Bool) (passes hit : Cell → Bool) (start : Cell) (ahead : Cell → ℕ) (floor : ℕ)
     (nodes : List Node)
     (queue : Queue) (best : Option Best) : Type 0 where
   pub met : AreMet passes hit start nodes
-  pub queued : IsQueued all rect floor nodes queue
+  pub queued : IsQueued all ahead floor nodes queue
   pub followed : (number : ℕ) (node : Node) → slice_get nodes number ≡ Some node → IsTrue node.opened
       → IsFollowedFrom all passes hit nodes node
   pub hits : IsBestSoFar hit nodes floor best
@@ -184,25 +185,25 @@ IsBetter None hit result = result ≡ hit
 IsBetter (Some best) hit result = IsAsGood result best × (IsAsGood result hit × ((result ≡ best) ⊎ (result ≡ hit)))
 
 -- A search that goes on by the entry that it has taken from the open list.
-pub record IsTaken (all : Bool) (passes hit : Cell → Bool) (start : Cell) (rect : Rect) (floor : ℕ) (nodes : List Node)
+pub record IsTaken (all : Bool) (passes hit : Cell → Bool) (start : Cell) (ahead : Cell → ℕ) (floor : ℕ) (nodes : List Node)
     (queue : Queue) (best : Option Best) (entry : Entry) : Type 0 where
   pub before : Queue
-  pub underway : IsUnderway all passes hit start rect floor nodes before best
+  pub underway : IsUnderway all passes hit start ahead floor nodes before best
   pub least : IsLeast before entry
   pub rest : queue ≡ map.remove before entry.key
   pub near : IsNotPast best entry.estimate
 
 -- Nodes of a search that has not ended: nodes are opened up to the estimate `floor`, and all that are opened have been
 -- followed. No hit of less cost has been passed by.
-pub record IsHalted (all : Bool) (passes hit : Cell → Bool) (start : Cell) (rect : Rect) (floor : ℕ)
+pub record IsHalted (all : Bool) (passes hit : Cell → Bool) (start : Cell) (ahead : Cell → ℕ) (floor : ℕ)
     (nodes : List Node) : Type 0 where
   pub met : AreMet passes hit start nodes
   pub followed : (number : ℕ) (node : Node) → slice_get nodes number ≡ Some node → IsTrue node.opened
       → IsFollowedFrom all passes hit nodes node
   pub within : (number : ℕ) (node : Node) → slice_get nodes number ≡ Some node → IsTrue node.opened
-      → estimate_of rect node ≤ floor
+      → estimate_of ahead node ≤ floor
   pub beyond : (number : ℕ) (node : Node) → slice_get nodes number ≡ Some node → IsFalse node.opened
-      → (floor ≤ estimate_of rect node) ⊎ (IsFalse all × IsDearer nodes node)
+      → (floor ≤ estimate_of ahead node) ⊎ (IsFalse all × IsDearer nodes node)
   pub passed : (number : ℕ) (node : Node) → slice_get nodes number ≡ Some node → IsTrue node.opened
       → IsTrue (hit node.state.cell) → floor ≤ node.cost
 
@@ -217,6 +218,6 @@ pub record IsExhausted (all : Bool) (passes hit : Cell → Bool) (start : Cell) 
   pub missed : NoneHit hit nodes
 
 -- how a search has ended: with a best hit, or with none
-abbrev pub HasEnded : Bool → (Cell → Bool) → (Cell → Bool) → Cell → Rect → List Node → Option Best → Type 0
-HasEnded all passes hit start rect nodes None = IsExhausted all passes hit start nodes
-HasEnded all passes hit start rect nodes (Some best) = IsSearched all passes hit start rect best.cell best.cost nodes
+abbrev pub HasEnded : Bool → (Cell → Bool) → (Cell → Bool) → Cell → (Cell → ℕ) → List Node → Option Best → Type 0
+HasEnded all passes hit start ahead nodes None = IsExhausted all passes hit start nodes
+HasEnded all passes hit start ahead nodes (Some best) = IsSearched all passes hit start ahead best.cell best.cost nodes

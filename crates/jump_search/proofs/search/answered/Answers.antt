@@ -1,52 +1,59 @@
-use Rattle.jump_search.proofs.Answering.{begins, counts_of, ended_over, ended_some, ended_ticks, halted_ticks}
+use Rattle.jump_search.proofs.Answering.{counts_of, ended_able, ended_some, ended_ticks, halted_ticks}
 use Rattle.jump_search.proofs.search.answered.Goals as goal
 
 pub returns-in_err-search-clause-most : goal.returns-in_err-search-clause-most
 returns-in_err-search-clause-most g c =
     let q = c.args.question.now in
-    let known = begins g.R.View.extent g.R.View.passes g.A.Aim.sound g.A.Aim.hit g.A.Aim.framed g.met.R.View.within g.met.A.Aim.hits_framed q.runs.now q.class q.aim.now q.start c.requires.search in
-    λ end cost points rect n answer frame counts.
-    halted_ticks c.args.all _ _ _ q.start _ rect c.args.ticks.now c.searched.new.ticks known.within known.hits_framed known.free frame
-    (c.in_err-search.ensures.halted rect frame) end cost points answer n counts
+    halted_ticks c.args.all _ _ _ q.start _ (g.E.Estimate.least c.args.ahead.now) c.args.ticks.now
+    c.searched.new.ticks c.requires.search.free c.requires.ahead c.in_err-search.ensures.halted
 
 pub unreachable-requires : goal.unreachable-requires
 unreachable-requires g c =
     let q = c.args.question.now in
-    let known = begins g.R.View.extent g.R.View.passes g.A.Aim.sound g.A.Aim.hit g.A.Aim.framed g.met.R.View.within g.met.A.Aim.hits_framed q.runs.now q.class q.aim.now q.start c.requires.search in
-    let frame = c.in_ok-search.ensures.frame in
-    ended_some c.args.all _ _ _ q.start _ frame.0 c.searched.new.front.nodes c.in_ok-search.search.best known.within known.hits_framed known.free
-    frame.1 known.reach (c.in_ok-search.ensures.ended frame.0 frame.1) c.in_default.is
+    let can = c.requires.search in
+    ended_some c.args.all _ _ q.start (g.E.Estimate.least c.args.ahead.now) c.searched.new.front.nodes
+    c.in_ok-search.search.best can.free c.requires.ahead.consistent can.reach c.in_ok-search.ensures.ended
+    c.in_default.is
 
 pub found-requires : goal.found-requires
 found-requires g c =
     let q = c.args.question.now in
-    let known = begins g.R.View.extent g.R.View.passes g.A.Aim.sound g.A.Aim.hit g.A.Aim.framed g.met.R.View.within g.met.A.Aim.hits_framed q.runs.now q.class q.aim.now q.start c.requires.search in
-    let able = ended_over c.args.all _ _ _ q.start _ c.searched.new.front.nodes c.in_ok-search.search.best c.in-Some.best known c.in_ok-search.ensures.ended c.in-Some.is in
-    let frame = c.in_ok-search.ensures.frame in
+    let ahead = g.E.Estimate.least c.args.ahead.now in
+    let able = ended_able c.args.all _ _ q.start _ ahead c.searched.new.front.nodes c.in_ok-search.search.best
+    c.in-Some.best (g.met.R.View.within q.runs.now q.class) c.requires.search.free c.requires.ahead.consistent
+    c.in_ok-search.ensures.ended c.in-Some.is in
     let hit = g.A.Aim.hit q.aim.now (g.R.View.extent q.runs.now) in
-    (c.args.all, (g.R.View.passes q.runs.now q.class, (hit, (frame.0, able frame.0 frame.1))))
+    (c.args.all, (g.R.View.passes q.runs.now q.class, (hit, (ahead, able))))
 
 pub returns-in_err-found-clause-most : goal.returns-in_err-found-clause-most
 returns-in_err-found-clause-most g c =
     let q = c.args.question.now in
-    let known = begins g.R.View.extent g.R.View.passes g.A.Aim.sound g.A.Aim.hit g.A.Aim.framed g.met.R.View.within g.met.A.Aim.hits_framed q.runs.now q.class q.aim.now q.start c.requires.search in
-    let able = ended_over c.args.all _ _ _ q.start _ c.searched.new.front.nodes c.in_ok-search.search.best c.in-Some.best known c.in_ok-search.ensures.ended c.in-Some.is in
-    λ end cost points rect n answer frame counts.
-    ended_ticks c.args.all _ _ q.start rect c.in-Some.best.cell c.in-Some.best.cost c.searched.new.front.nodes c.args.ticks.now c.searched.new.ticks
-    c.in_ok-search.search.opened (able rect frame) c.in_ok-search.ensures.opened c.in_ok-search.ensures.ticks end cost points answer n counts
+    let ahead = g.E.Estimate.least c.args.ahead.now in
+    let best = c.in-Some.best in
+    let able = ended_able c.args.all _ _ q.start _ ahead c.searched.new.front.nodes c.in_ok-search.search.best best
+    (g.met.R.View.within q.runs.now q.class) c.requires.search.free c.requires.ahead.consistent
+    c.in_ok-search.ensures.ended c.in-Some.is in
+    ended_ticks c.args.all _ _ _ q.start _ ahead best.cell best.cost c.searched.new.front.nodes c.args.ticks.now
+    c.searched.new.ticks c.in_ok-search.search.opened c.requires.ahead able c.in_ok-search.ensures.opened
+    c.in_ok-search.ensures.ticks
 
 pub returns : goal.returns
 returns g c =
     let q = c.args.question.now in
-    let known = begins g.R.View.extent g.R.View.passes g.A.Aim.sound g.A.Aim.hit g.A.Aim.framed g.met.R.View.within g.met.A.Aim.hits_framed q.runs.now q.class q.aim.now q.start c.requires.search in
-    let able = ended_over c.args.all _ _ _ q.start _ c.searched.new.front.nodes c.in_ok-search.search.best c.in-Some.best known c.in_ok-search.ensures.ended c.in-Some.is in
-    let frame = c.in_ok-search.ensures.frame in
+    let ahead = g.E.Estimate.least c.args.ahead.now in
+    let best = c.in-Some.best in
+    let passes = g.R.View.passes q.runs.now q.class in
+    let hit = g.A.Aim.hit q.aim.now (g.R.View.extent q.runs.now) in
+    let search = c.in_ok-search.search in
+    let ended = c.in_ok-search.ensures in
+    let able = ended_able c.args.all passes hit q.start _ ahead c.searched.new.front.nodes search.best best
+    (g.met.R.View.within q.runs.now q.class) c.requires.search.free c.requires.ahead.consistent
+    ended.ended c.in-Some.is in
     record {
-      answer = c.in_ok-found.ensures.answer c.args.all (g.R.View.passes q.runs.now q.class) (g.A.Aim.hit q.aim.now (g.R.View.extent q.runs.now)) frame.0 (able frame.0 frame.1);
-      opened =
-          λ is rect frame. rw c.in_ok-found.ensures.cost (counts_of c.args.all _ _ q.start rect c.in-Some.best.cell c.in-Some.best.cost
-          c.searched.new.front.nodes (able rect frame).searched is c.in_ok-search.search.opened c.in_ok-search.ensures.opened);
-      ticks = c.in_ok-search.ensures.ticks;
-      most = λ end cost points rect n answer frame counts. ended_ticks c.args.all _ _ q.start rect c.in-Some.best.cell c.in-Some.best.cost c.searched.new.front.nodes c.args.ticks.now c.searched.new.ticks
-          c.in_ok-search.search.opened (able rect frame) c.in_ok-search.ensures.opened c.in_ok-search.ensures.ticks end cost points answer n counts;
+      answer = c.in_ok-found.ensures.answer c.args.all passes hit ahead able;
+      opened = λ is rect same. rw c.in_ok-found.ensures.cost (counts_of c.args.all passes hit q.start ahead rect
+          best.cell best.cost c.searched.new.front.nodes able is same search.opened ended.opened);
+      ticks = ended.ticks;
+      most = ended_ticks c.args.all passes hit _ q.start _ ahead best.cell best.cost c.searched.new.front.nodes
+          c.args.ticks.now c.searched.new.ticks search.opened c.requires.ahead able ended.opened ended.ticks;
     }

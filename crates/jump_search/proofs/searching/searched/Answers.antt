@@ -1,9 +1,6 @@
 use Rattle.std.proofs.Common.{ℕ, ◌≡◌, ◌+◌, ◌⊎◌, List, inr, sym, ap, subst, ◌∙◌, arith}
-use Rattle.nav_types.specs.declared.cells.Rect.{Rect}
-use Rattle.nav_types.specs.Frames.{IsFrame}
 use Rattle.jump_search.specs.declared.nodes.Node.{Node}
 use Rattle.jump_search.specs.inner.Underway.{opened_count, IsTaken, IsHalted, HasEnded}
-use Rattle.jump_search.proofs.Framing.{one_frame}
 use Rattle.jump_search.proofs.Relaxing.{count_most}
 use Rattle.jump_search.proofs.Halting.{halted, ended, on_err_from}
 use Rattle.jump_search.proofs.searching.searched.Goals as goal
@@ -26,9 +23,9 @@ take-requires-clause-taken g c =
     let known = c.search.invariant.underway in
     let step = c.next.ensures in
     let some = c.in-Some.ensures in
-    let rect = c.bounds-rect.result in
+    let ahead = g.E.Estimate.least c.args.ahead.now in
     let entry = c.in-Some.entry in
-    let taken : IsTaken c.args.problem.now.all passes hit c.args.problem.now.start rect known.0 front.nodes next.waiting
+    let taken : IsTaken c.args.problem.now.all passes hit c.args.problem.now.start ahead known.0 front.nodes next.waiting
     search.best entry =
     record {
       before = front.waiting;
@@ -43,7 +40,7 @@ take-requires-clause-taken g c =
         known.0,
         (
           c.requires.start,
-          subst (λ (ns : List Node). IsTaken c.args.problem.now.all passes hit c.args.problem.now.start rect known.0 ns next.waiting
+          subst (λ (ns : List Node). IsTaken c.args.problem.now.all passes hit c.args.problem.now.start ahead known.0 ns next.waiting
               search.best entry) (sym step.nodes) taken,
         ),
       ),
@@ -69,9 +66,9 @@ search-preserved g c =
     let known = c.search.invariant.underway in
     let step = c.next.ensures in
     let some = c.in-Some.ensures in
-    let rect = c.bounds-rect.result in
+    let ahead = g.E.Estimate.least c.args.ahead.now in
     let entry = c.in-Some.entry in
-    let taken : IsTaken c.args.problem.now.all passes hit c.args.problem.now.start rect known.0 front.nodes next.waiting
+    let taken : IsTaken c.args.problem.now.all passes hit c.args.problem.now.start ahead known.0 front.nodes next.waiting
     search.best entry =
     record {
       before = front.waiting;
@@ -81,7 +78,7 @@ search-preserved g c =
       near =
           some.near;
     } in
-    let taken_next = subst (λ (ns : List Node). IsTaken c.args.problem.now.all passes hit c.args.problem.now.start rect known.0 ns
+    let taken_next = subst (λ (ns : List Node). IsTaken c.args.problem.now.all passes hit c.args.problem.now.start ahead known.0 ns
     next.waiting search.best entry) (sym step.nodes) taken in
     let went = c.in_ok-take.ensures in
     let before = c.search.invariant.ticks in let ticked = went.ticks in
@@ -94,48 +91,27 @@ search-preserved g c =
 pub returns-in_err-take-clause-halted : goal.returns-in_err-take-clause-halted
 returns-in_err-take-clause-halted g c =
     let passes = g.R.View.passes c.args.problem.now.runs.now c.args.problem.now.class in
-    let size = g.R.View.extent c.args.problem.now.runs.now in
-    let hit = g.A.Aim.hit c.args.problem.now.aim.now size in
-    let framed = g.A.Aim.framed c.args.problem.now.aim.now size in
-    let search = c.search.search in
+    let hit = g.A.Aim.hit c.args.problem.now.aim.now (g.R.View.extent c.args.problem.now.runs.now) in
+    let ahead = g.E.Estimate.least c.args.ahead.now in
     let known = c.search.invariant in
     let ticks : c.take.new.ticks ≡ c.args.ticks.now + opened_count c.search.front.nodes =
     c.in_err-take.ensures.none ∙ known.ticks ∙ ap (λ (n : ℕ). c.args.ticks.now + n) known.opened in
-    let base = c.bounds-rect.result in
-    let frame : IsFrame framed size base = subst (λ s. IsFrame (g.A.Aim.framed c.args.problem.now.aim.now s) s base) c.size.ensures
-    c.bounds-rect.ensures in
-    let told : (rect : Rect) → IsFrame framed size rect → (c.take.new.ticks ≡ c.args.ticks.now)
-    ⊎ ((nodes : List Node) × ((floor : ℕ) × (IsHalted c.args.problem.now.all passes hit c.args.problem.now.start rect floor nodes
-    × (c.take.new.ticks ≡ c.args.ticks.now + opened_count nodes)))) = λ rect other.
-    let same : base ≡ rect = one_frame framed size base rect frame other in
-    let is = halted c.args.problem.now.all passes hit c.args.problem.now.start base known.underway.0 c.search.front.nodes c.search.front.waiting
-    search.best known.underway.1 in
-    inr (
-      c.search.front.nodes,
-      (
-        known.underway.0,
-        (
-          subst
-              (λ (r : Rect). IsHalted c.args.problem.now.all passes hit c.args.problem.now.start r known.underway.0 c.search.front.nodes) same is,
-          ticks,
-        ),
-      ),
-    ) in
+    let is = halted c.args.problem.now.all passes hit c.args.problem.now.start ahead known.underway.0
+    c.search.front.nodes c.search.front.waiting c.search.search.best known.underway.1 in
+    let told : (c.take.new.ticks ≡ c.args.ticks.now) ⊎ ((nodes : List Node)
+    × ((floor : ℕ) × (IsHalted c.args.problem.now.all passes hit c.args.problem.now.start ahead floor nodes
+    × (c.take.new.ticks ≡ c.args.ticks.now + opened_count nodes)))) =
+    inr (c.search.front.nodes, (known.underway.0, (is, ticks))) in
     on_err_from c.from_residual-in_err-take.result _ told
 
 pub returns-clause-ended : goal.returns-clause-ended
-returns-clause-ended g c = λ rect other.
+returns-clause-ended g c =
     let passes = g.R.View.passes c.args.problem.now.runs.now c.args.problem.now.class in
-    let size = g.R.View.extent c.args.problem.now.runs.now in
-    let hit = g.A.Aim.hit c.args.problem.now.aim.now size in
-    let framed = g.A.Aim.framed c.args.problem.now.aim.now size in
+    let hit = g.A.Aim.hit c.args.problem.now.aim.now (g.R.View.extent c.args.problem.now.runs.now) in
+    let ahead = g.E.Estimate.least c.args.ahead.now in
     let search = c.search.search in
     let known = c.search.invariant.underway in
-    let base = c.bounds-rect.result in
-    let frame : IsFrame framed size base = subst (λ s. IsFrame (g.A.Aim.framed c.args.problem.now.aim.now s) s base) c.size.ensures
-    c.bounds-rect.ensures in
-    let same : base ≡ rect = one_frame framed size base rect frame other in
-    let is = ended c.args.problem.now.all passes hit c.args.problem.now.start base known.0 c.search.front.nodes c.search.front.waiting search.best
-    known.1 c.in_default.ensures.past in
-    subst (λ (r : Rect). HasEnded c.args.problem.now.all passes hit c.args.problem.now.start r c.next.new.front.nodes search.best) same
-    (subst (λ (ns : List Node). HasEnded c.args.problem.now.all passes hit c.args.problem.now.start base ns search.best) (sym c.next.ensures.nodes) is)
+    let is = ended c.args.problem.now.all passes hit c.args.problem.now.start ahead known.0 c.search.front.nodes
+    c.search.front.waiting search.best known.1 c.in_default.ensures.past in
+    subst (λ (ns : List Node). HasEnded c.args.problem.now.all passes hit c.args.problem.now.start ahead ns search.best)
+    (sym c.next.ensures.nodes) is

@@ -6,7 +6,7 @@ use Rattle.jump_search.proofs.Listing.{get_set_same}
 use Rattle.jump_search.proofs.front.Front.lower_and_drop.Goals as goal
 
 pub keep_cheapest-requires : goal.keep_cheapest-requires
-keep_cheapest-requires c =
+keep_cheapest-requires g c =
     let nodes = c.args.self.now.nodes in
     let node = c.args.node in
     let has = c.requires.same in

@@ -6,7 +6,7 @@ use Rattle.jump_search.proofs.Relaxing.{relaxes_added, left_below}
 use Rattle.jump_search.proofs.front.Front.note.Goals as goal
 
 pub returns-in-Dearer : goal.returns-in-Dearer
-returns-in-Dearer c =
+returns-in-Dearer g c =
     let node = c.args.node in
     inr (
       left_below c.args.all c.args.self.now.nodes node.state.cell node.cost c.bound_of.result c.bound_of.ensures.all
@@ -15,21 +15,21 @@ returns-in-Dearer c =
     )
 
 pub returns-in_ok-relax-in-Known : goal.returns-in_ok-relax-in-Known
-returns-in_ok-relax-in-Known c =
+returns-in_ok-relax-in-Known g c =
     inl c.in_ok-relax-in-Known.ensures
 
 pub returns-in_ok-meet_and_drop-in-New : goal.returns-in_ok-meet_and_drop-in-New
-returns-in_ok-meet_and_drop-in-New c =
-    let rect = c.args.rect.now in let node = c.args.node in
+returns-in_ok-meet_and_drop-in-New g c =
+    let ahead = g.E.Estimate.least c.args.ahead.now in let node = c.args.node in
     let nodes = c.args.self.now.nodes in let queue = c.args.self.now.waiting in
     let met = c.in_ok-meet_and_drop-in-New.ensures in
     let few = subst (λ (ns : List Node). length ns ≤ 4294967296) met.nodes met.few in
-    let longer = map.insert queue (length nodes) (estimate_of rect node) in
+    let longer = map.insert queue (length nodes) (estimate_of ahead node) in
     inl (
       longer,
       (
-        subst (λ (ns : List Node). Relaxes rect node nodes ns queue longer) (sym met.nodes)
-            (relaxes_added rect node nodes queue c.requires.waiting c.in-New.ensures few),
+        subst (λ (ns : List Node). Relaxes ahead node nodes ns queue longer) (sym met.nodes)
+            (relaxes_added ahead node nodes queue c.requires.waiting c.in-New.ensures few),
         met.waiting,
       ),
     )

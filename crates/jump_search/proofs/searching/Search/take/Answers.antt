@@ -3,7 +3,6 @@ use Rattle.std.proofs.lemmas.Option.{slice_get_within}
 use Rattle.jump_search.specs.declared.nodes.Node.{Node}
 use Rattle.jump_search.specs.inner.Underway.{opened_count, IsFollowable, Follows}
 use Rattle.jump_search.proofs.Listing.{one_item}
-use Rattle.jump_search.proofs.Framing.{framed_none}
 use Rattle.jump_search.proofs.Taking.{next_node, followable_opened, count_opened, node_free, opened_underway}
 use Rattle.jump_search.proofs.searching.Search.take.Goals as goal
 
@@ -13,7 +12,7 @@ at-requires g c =
     let hit = g.A.Aim.hit c.args.problem.now.aim.now (g.R.View.extent c.args.problem.now.runs.now) in
     let front = c.args.front.now in
     let t = c.requires.taken in
-    let has = next_node c.args.problem.now.all passes hit t.0 c.args.rect.now t.1.0 front.nodes front.waiting c.args.self.now.best
+    let has = next_node c.args.problem.now.all passes hit t.0 (g.E.Estimate.least c.args.ahead.now) t.1.0 front.nodes front.waiting c.args.self.now.best
     c.args.entry t.1.1.1 in
     slice_get_within front.nodes c.args.entry.key has.0 has.1.known
 
@@ -32,10 +31,10 @@ follow-requires-clause-followable g c =
     let front = c.args.front.now in
     let a = c.at.result.now in
     let t = c.requires.taken in
-    subst (λ (ns : List Node). IsFollowable c.args.problem.now.all passes hit c.args.rect.now a.state a.cost ns front.waiting)
+    subst (λ (ns : List Node). IsFollowable c.args.problem.now.all passes hit (g.E.Estimate.least c.args.ahead.now) a.state a.cost ns front.waiting)
     (sym c.put.ensures)
-    (followable_opened c.args.problem.now.all passes hit t.0 c.args.rect.now t.1.0 front.nodes front.waiting c.args.self.now.best
-    c.args.entry a t.1.1.1 c.at.ensures)
+    (followable_opened c.args.problem.now.all passes hit t.0 (g.E.Estimate.least c.args.ahead.now) t.1.0 front.nodes front.waiting c.args.self.now.best
+    c.args.entry a t.1.1.1 c.requires.ahead c.at.ensures)
 
 pub best_with-self-requires-clause-inside : goal.best_with-self-requires-clause-inside
 best_with-self-requires-clause-inside g c =
@@ -51,18 +50,16 @@ returns-clause-underway g c = λ start floor free taken.
     let passes = g.R.View.passes c.args.problem.now.runs.now c.args.problem.now.class in
     let size = g.R.View.extent c.args.problem.now.runs.now in
     let hit = g.A.Aim.hit c.args.problem.now.aim.now size in
-    let rect = c.args.rect.now in
+    let ahead = g.E.Estimate.least c.args.ahead.now in
     let front = c.args.front.now in
     let a = c.at.result.now in
     let new = c.follow.new.self in
     let met_free = node_free passes hit start front.nodes c.args.entry.key a free taken.underway.met c.at.ensures in
-    let inside = g.met.R.View.within c.args.problem.now.runs.now c.args.problem.now.class a.state.cell met_free in
-    let follows = subst (λ (ns : List Node). Follows c.args.problem.now.all passes hit rect a.state a.cost (λ other. Unit {0}) ns new.nodes
+    let follows = subst (λ (ns : List Node). Follows c.args.problem.now.all passes hit ahead a.state a.cost (λ other. Unit {0}) ns new.nodes
     front.waiting new.waiting) c.put.ensures c.in_ok-follow.ensures in
-    opened_underway c.args.problem.now.all passes hit start rect floor front.nodes new.nodes front.waiting new.waiting
+    opened_underway c.args.problem.now.all passes hit start ahead floor front.nodes new.nodes front.waiting new.waiting
     c.args.self.now.best c.best_with-self.result c.args.entry a taken c.at.ensures
-    (λ is_hit. framed_none (g.A.Aim.framed c.args.problem.now.aim.now size) size rect a.state.cell c.requires.frame inside
-    (g.met.A.Aim.hits_framed c.args.problem.now.aim.now size a.state.cell c.requires.aim inside is_hit))
+    (c.requires.ahead.none a.state.cell met_free)
     follows c.best_with-self.ensures.hit c.best_with-self.ensures.missed
 
 pub returns-clause-opened : goal.returns-clause-opened
@@ -72,7 +69,7 @@ returns-clause-opened g c =
     let front = c.args.front.now in
     let a = c.at.result.now in
     let t = c.requires.taken in
-    let has = next_node c.args.problem.now.all passes hit t.0 c.args.rect.now t.1.0 front.nodes front.waiting c.args.self.now.best
+    let has = next_node c.args.problem.now.all passes hit t.0 (g.E.Estimate.least c.args.ahead.now) t.1.0 front.nodes front.waiting c.args.self.now.best
     c.args.entry t.1.1.1 in
     let is = one_item front.nodes c.args.entry.key has.0 a has.1.known c.at.ensures in
     let not = subst (λ (n : Node). IsFalse n.opened) is has.1.unopened in
