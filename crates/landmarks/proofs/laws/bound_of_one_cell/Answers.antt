@@ -1,0 +1,5 @@
+use Rattle.landmarks.proofs.Bounds as law
+use Rattle.landmarks.proofs.laws.bound_of_one_cell.Goals as goal
+
+pub returns : goal.returns
+returns c = law.bound_of_one_cell

@@ -1,0 +1,5 @@
+use Rattle.landmarks.specs.inner.Fields.{AreGentleBefore}
+use Rattle.landmarks.proofs.marks.is_gentle.Given as goal
+
+abbrev pub invariant-loop-at : goal.invariant-loop-at
+invariant-loop-at l = AreGentleBefore l.width l.at l.marks

@@ -1,0 +1,33 @@
+//! Laws of the bound that tables of landmarks give.
+ghost use Rattle.std.specs.Prelude.{ℕ, Bool, List, ◌≡◌, ◌+◌, ◌≤◌, ◌<◌, ◌^◌, IsTrue};
+ghost use Rattle.nav_types.specs.declared.cells.Cell.{Cell};
+ghost use Rattle.nav_types.specs.declared.directions.Dir.{Dir};
+ghost use Rattle.nav_types.specs.Directions.{step_cost};
+ghost use Rattle.nav_types.specs.Walks.{Step, IsWalk, walk_cost};
+ghost use Rattle.landmarks.specs.Landmarks.{Tables, AreGentle, landmark_bound};
+
+/// A law: the bound from a cell to itself is 0.
+pub fn bound_of_one_cell()
+    ensures { (tables : Tables) (cell : Cell) → landmark_bound tables cell cell ≡ 0 }
+{}
+
+/// A law: along a legal step the bound to any cell falls by at most what the step costs, on the map for which the tables are
+/// gentle and on each in which no more cells are passable.
+pub fn bound_falls()
+    ensures { (tables : Tables) (passes later : Cell → Bool) (dir : Dir) (from next to : Cell) → AreGentle passes tables
+        → ((cell : Cell) → IsTrue (later cell) → IsTrue (passes cell)) → Step later dir from next
+        → landmark_bound tables from to ≤ step_cost dir + landmark_bound tables next to }
+{}
+
+/// A law: no legal walk between two cells costs less than the bound, on any such map.
+pub fn bound_of_walk()
+    ensures { (tables : Tables) (passes later : Cell → Bool) (dirs : List Dir) (from to : Cell) → AreGentle passes tables
+        → ((cell : Cell) → IsTrue (later cell) → IsTrue (passes cell)) → IsWalk later from dirs to
+        → landmark_bound tables from to ≤ walk_cost dirs }
+{}
+
+/// A law: the bound of gentle tables is below 2^40.
+pub fn bound_is_small()
+    ensures { (tables : Tables) (passes : Cell → Bool) (from to : Cell) → AreGentle passes tables
+        → landmark_bound tables from to < 2 ^ 40 }
+{}

@@ -1,0 +1,194 @@
+//! The tables of landmarks of one class.
+ghost use Rattle.std.specs.Prelude.{ℕ, Bool, ◌≡◌, ◌+◌, ◌*◌, ◌<◌, ◌≤◌, ◌^◌, ◌↔◌, length, slice_index, IfOk, OnOk, OnErr};
+ghost use Rattle.nav_types.specs.declared.cells.Cell.{Cell};
+ghost use Rattle.nav_types.specs.Cells.{IsInside};
+ghost use Rattle.landmarks.specs.Landmarks.{Tables, AreGentle, landmark_bound, number_of};
+ghost use Rattle.landmarks.specs.inner.Fields.{spots, IsWritten, IsTaken, AreWhole, HasRoom, Spreads};
+
+use crate::fields::Spread;
+use crate::marks::{blank_marks, is_gentle, spot};
+use crate::units::{FARTHEST, MAX_TABLES, UNIT_COST};
+use nav_types::{Cell, Class, NoMemory, Size, View};
+use std::alloc::Global;
+use std::marker::Model;
+
+/// The numbers of a cell that a map does not have.
+const NO_NUMBERS: &[u16] = &[0; MAX_TABLES];
+
+/// Up to [`MAX_TABLES`] tables of landmarks of a class, 16 bytes a cell. Contracts see the size of the map, how many tables
+/// are made, and the numbers.
+#[derive(Drop)]
+pub struct Landmarks {
+    numbers: Vec<u16>,
+    made: usize,
+    size: Size,
+}
+
+impl Model for Landmarks {
+    ghost use Rattle.landmarks.specs.Landmarks.{Tables};
+    ghost use Rattle.landmarks.specs.inner.Fields.{AreWhole};
+
+    ghost Value = { Tables };
+
+    ghost view = { λ l. record { size = l.size; made = l.made; numbers = l.numbers.items } };
+
+    ghost invariant = { λ l. AreWhole (record { size = l.size; made = l.made; numbers = l.numbers.items }) };
+}
+
+/// Writes the numbers of the marks into a table.
+fn write_table(numbers: &mut Vec<u16>, table: usize, marks: &[u32])
+    requires table { table < MAX_TABLES }
+    requires room { HasRoom marks.now }
+    requires long { length numbers.old.items ≡ MAX_TABLES * length marks.now }
+    ensures { IsWritten table (length marks.now) marks.now numbers.old.items numbers.new.items }
+{
+    for at in 0..marks.len() {
+        numbers[MAX_TABLES * at + table] = marks[at].saturating_sub(1) as u16;
+    }
+}
+
+/// Writes the numbers of the marks into a table where each square of them is gentle.
+fn take_table(numbers: &mut Vec<u16>, table: usize, marks: &[u32], width: usize)
+    requires table { table < MAX_TABLES }
+    requires room { HasRoom marks.now }
+    requires long { length numbers.old.items ≡ MAX_TABLES * length marks.now }
+    requires wide { width + 1 ≤ length marks.now }
+    ensures { IsTaken width table marks.now numbers.old.items numbers.new.items }
+{
+    if !is_gentle(marks, width) {
+        return;
+    }
+    write_table(numbers, table, marks);
+}
+
+impl Landmarks {
+    /// No table yet for a map of this size: all numbers are 0.
+    pub fn none(alloc: Global, size: Size) -> Result<Landmarks, NoMemory>
+        ensures size { IfOk result (λ tables. tables.size ≡ size) }
+        ensures made { IfOk result (λ tables. tables.made ≡ 0) }
+        ensures gentle { IfOk result (λ tables. (passes : Cell → Bool) → AreGentle passes tables) }
+    {
+        let count = (size.w as usize + 2) * (size.h as usize + 2);
+        Ok(Landmarks {
+            numbers: vec![in alloc; 0; MAX_TABLES * count]?,
+            made: 0,
+            size,
+        })
+    }
+
+    /// How many tables are made, at most [`MAX_TABLES`].
+    pub fn made(&self) -> usize
+        ensures value { result ≡ self.now.made }
+        ensures most { result ≤ MAX_TABLES }
+    {
+        self.made
+    }
+
+    /// The numbers of a cell in all tables; 0 where the list has no such cell.
+    #[inline(always)]
+    fn numbers_of(&self, cell: Cell) -> &[u16]
+        ensures long { length result.now ≡ MAX_TABLES }
+        ensures each { (table : ℕ) → table < MAX_TABLES → slice_index result.now table ≡ number_of self.now cell table }
+    {
+        let from = MAX_TABLES * spot(self.size, cell);
+        if from >= self.numbers.len() {
+            return NO_NUMBERS;
+        }
+        &self.numbers[from..from + MAX_TABLES]
+    }
+
+    /// What a walk between the two cells costs at least, where the tables are gentle. It is 0 from a cell to itself.
+    #[inline(always)]
+    pub fn at_least(&self, from: Cell, to: Cell) -> u64
+        ensures value { result ≡ landmark_bound self.now from to }
+        ensures few { result < 2 ^ 40 }
+    {
+        let here = self.numbers_of(from);
+        let there = self.numbers_of(to);
+        let mut most: u16 = 0;
+        for table in 0..MAX_TABLES {
+            most = most.max(here[table].abs_diff(there[table]));
+        }
+        UNIT_COST * most as u64
+    }
+
+    /// Makes one more table, by a landmark that lies far from those there are, and far from `near` where none of them is in
+    /// its area. Tables that are gentle stay so, on the map that the view shows and on each that lacks some of its steps.
+    ///
+    /// The work grows with the map's cells. Where there is no memory the tables stay as they are.
+    pub fn add<V: View>(
+        &mut self,
+        alloc: Global,
+        view: &V,
+        class: Class,
+        near: Cell,
+    ) -> Result<(), NoMemory>
+        requires class { class < V.class_count view.now }
+        requires near { IsInside (V.extent view.now) near }
+        requires size { self.old.size ≡ V.extent view.now }
+        requires room { self.old.made < MAX_TABLES }
+        ensures size { self.new.size ≡ self.old.size }
+        ensures made { OnOk result (self.new.made ≡ self.old.made + 1) }
+        ensures gentle { AreGentle (V.passes view.now class) self.old → AreGentle (V.passes view.now class) self.new }
+        ensures kept { (cell : Cell) (table : ℕ) → IsInside self.old.size cell → table < self.old.made
+            → number_of self.new cell table ≡ number_of self.old cell table }
+        ensures err { OnErr result (self.new ≡ self.old) }
+    {
+        let width = self.size.w as usize + 2;
+        let mut spread = Spread::over(alloc, blank_marks(alloc, view, class)?);
+        let landmark = self.next_landmark(&mut spread, width, spot(self.size, near))?;
+        spread.run(width, landmark)?;
+        take_table(&mut self.numbers, self.made, &spread.marks, width);
+        self.made += 1;
+        Ok(())
+    }
+
+    /// The place of the next landmark. Its field may be spread afterwards.
+    fn next_landmark(
+        &self,
+        spread: &mut Spread,
+        width: usize,
+        near: usize,
+    ) -> Result<usize, NoMemory>
+        requires near { near < length spread.old.marks.items }
+        requires wide { width + 1 < length spread.old.marks.items }
+        requires long { length spread.old.marks.items ≡ spots self.now.size }
+        requires room { HasRoom spread.old.marks.items }
+        ensures spreads { OnOk result (Spreads spread.old.marks.items spread.new.marks.items) }
+        ensures within { IfOk result (λ at. at < length spread.old.marks.items) }
+    {
+        if self.nearest(near) < FARTHEST as u16 {
+            return Ok(self.farthest());
+        }
+        let last = spread.run(width, near)?;
+        spread.clear();
+        Ok(last)
+    }
+
+    /// The least of the numbers of a place in the tables that are made, which is that of the nearest landmark.
+    fn nearest(&self, at: usize) -> u16
+        requires { at < spots self.now.size }
+    {
+        let mut least = FARTHEST as u16;
+        for table in 0..self.made {
+            least = least.min(self.numbers[MAX_TABLES * at + table]);
+        }
+        least
+    }
+
+    /// The place whose nearest landmark is farthest, of those that a landmark reaches.
+    fn farthest(&self) -> usize
+        ensures { result < spots self.now.size }
+    {
+        let mut best = 0;
+        let mut most = 0;
+        for at in 0..self.numbers.len() / MAX_TABLES {
+            let least = self.nearest(at);
+            if least > most && least < FARTHEST as u16 {
+                best = at;
+                most = least;
+            }
+        }
+        best
+    }
+}

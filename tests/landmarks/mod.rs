@@ -1,0 +1,159 @@
+//! Tables of landmarks over small maps that are drawn as text, against the plain search.
+
+use crate::fixtures::aims::Targets;
+use crate::fixtures::maps::drawn;
+use landmarks::{Landmarks, MAX_TABLES};
+use nav_types::{Cell, Class, Rect, Size, View};
+use navcell_grid::Grid;
+use std::alloc::Global;
+use walks::plain_search;
+
+/// Maps whose passable cells are all joined, and with each the same map with more walls, of which that holds too.
+const MAPS: &str = "\
+....#.../.##.#.#./.#....#./.####.#./......#.;....#.../###.#.#./##....#./#####.#./......#.
+......./.#####./...#...;......./.#####./..##...
+......./######./......./.######/.......;#....../######./......./.######/......#
+.........../..##..#..../.....#...../.#.......#./....#.....#;.........../..##..#..../...#.#...../.#.......#./....#.#...#
+";
+
+/// The snake of a corridor three rows high.
+const SNAKE: &str = "......../#######./......../.#######/........";
+
+/// The tables of class 0 of a map, so many of them, begun near a cell.
+fn tables_of(alloc: Global, map: &Grid, near: Cell, count: usize) -> Option<Landmarks> {
+    let mut tables = Landmarks::none(alloc, map.size()).ok()?;
+    for _ in 0..count {
+        tables.add(alloc, map, Class::new(0), near).ok()?;
+    }
+    Some(tables)
+}
+
+/// The cost of a cheapest walk between two cells that are joined.
+fn distance(alloc: Global, map: &Grid, from: Cell, to: Cell) -> Option<u64> {
+    let mut cells = Vec::new(alloc);
+    cells.push(to).ok()?;
+    let aim = Targets {
+        cells,
+        rect: Rect::of_cell(to),
+    };
+    let found = plain_search(alloc, map, Class::new(0), from, &aim).ok()?;
+    Some(found.cost.0)
+}
+
+/// The passable cells of a map.
+fn free_cells(alloc: Global, map: &Grid) -> Option<Vec<Cell>> {
+    let size = map.size();
+    let mut cells = Vec::new(alloc);
+    for j in 0..size.h {
+        for i in 0..size.w {
+            let cell = Cell::new(i, j);
+            if map.passable(Class::new(0), cell) {
+                cells.push(cell).ok()?;
+            }
+        }
+    }
+    Some(cells)
+}
+
+/// How many pairs of cells of a map lie nearer than the tables say.
+fn wrong_bounds(alloc: Global, map: &Grid, tables: &Landmarks) -> Option<u32> {
+    let cells = free_cells(alloc, map)?;
+    let mut wrong = 0;
+    for from in cells.as_slice() {
+        for to in cells.as_slice() {
+            if tables.at_least(*from, *to) > distance(alloc, map, *from, *to)? {
+                wrong += 1;
+            }
+        }
+    }
+    Some(wrong)
+}
+
+/// How many bounds are wrong on the map of a line, and on the one with more walls.
+fn wrong_in_line(alloc: Global, line: &str, count: usize) -> Option<(u32, u32)> {
+    let (base, later) = line.split_once(';')?;
+    let map = drawn(alloc, base)?;
+    let tables = tables_of(alloc, &map, Cell::new(3, 0), count)?;
+    let wrong = wrong_bounds(alloc, &map, &tables)?;
+    let wrong_later = wrong_bounds(alloc, &drawn(alloc, later)?, &tables)?;
+    Some((wrong, wrong_later))
+}
+
+#[test]
+fn no_walk_costs_less_than_the_bound(rt: HostRuntime) {
+    for line in MAPS.lines() {
+        for count in 0..MAX_TABLES + 1 {
+            let wrong = wrong_in_line(rt.alloc(), line, count);
+            assert!(rt; wrong == Some((0, 0)), "{line} {count}");
+        }
+    }
+}
+
+#[test]
+fn one_table_knows_a_corridor(rt: HostRuntime) {
+    let bound = drawn(rt.alloc(), ".......").and_then(|map| {
+        let tables = tables_of(rt.alloc(), &map, Cell::new(3, 0), 1)?;
+        Some(tables.at_least(Cell::new(1, 0), Cell::new(5, 0)))
+    });
+    assert!(rt; bound == Some(4 * 12 * 5_451), "bound");
+}
+
+/// The bound between the ends of the snake, and the cost of the walk.
+fn snake(alloc: Global) -> Option<(u64, u64)> {
+    let map = drawn(alloc, SNAKE)?;
+    let tables = tables_of(alloc, &map, Cell::new(3, 2), 2)?;
+    let (from, to) = (Cell::new(0, 0), Cell::new(7, 4));
+    Some((tables.at_least(from, to), distance(alloc, &map, from, to)?))
+}
+
+#[test]
+fn the_bound_knows_walls(rt: HostRuntime) {
+    let ends = snake(rt.alloc());
+    assert!(rt; ends.is_some(), "no answer");
+    if let Some((bound, cost)) = ends {
+        assert!(rt; bound <= cost && cost - bound < cost / 100, "{bound} of {cost}");
+    }
+}
+
+/// The bounds from a cell to one in the same row on both sides of a wall without a door, with a table for each side.
+fn two_sides(alloc: Global) -> Option<(u64, u64, usize)> {
+    let map = drawn(alloc, "....#....")?;
+    let mut tables = Landmarks::none(alloc, map.size()).ok()?;
+    for near in [Cell::new(1, 0), Cell::new(7, 0)] {
+        tables.add(alloc, &map, Class::new(0), near).ok()?;
+    }
+    let west = tables.at_least(Cell::new(0, 0), Cell::new(3, 0));
+    let east = tables.at_least(Cell::new(8, 0), Cell::new(5, 0));
+    Some((west, east, tables.made()))
+}
+
+#[test]
+fn each_area_gets_a_landmark_of_its_own(rt: HostRuntime) {
+    let both = two_sides(rt.alloc());
+    assert!(rt; both == Some((3 * 12 * 5_451, 3 * 12 * 5_451, 2)), "{both:?}");
+}
+
+#[test]
+fn measure_large(rt: HostRuntime) {
+    let Some(size) = Size::new(512, 512) else { return };
+    let Ok(mut map) = Grid::new(rt.alloc(), size) else { return };
+    let mut seed: u64 = 12345;
+    for j in 0..size.h {
+        for i in 0..size.w {
+            seed = (seed * 1103515245 + 12345) % 2147483648;
+            if (seed >> 16) % 5 == 0 {
+                map.or_span(j, i, i, 1);
+            }
+        }
+    }
+    let tables = tables_of(rt.alloc(), &map, Cell::new(256, 256), 8);
+    let mut sum = 0;
+    if let Some(tables) = tables {
+        for j in 0..size.h {
+            for i in 0..size.w {
+                sum += tables.at_least(Cell::new(i, j), Cell::new(100, 100));
+            }
+        }
+    }
+    assert!(rt; sum > 0, "{sum}");
+}
