@@ -3,7 +3,7 @@
 use crate::fixtures::aims::Targets;
 use crate::fixtures::maps::drawn;
 use landmarks::{Landmarks, MAX_TABLES};
-use nav_types::{Cell, Class, Rect, Size, View};
+use nav_types::{Cell, Class, Rect, View};
 use navcell_grid::Grid;
 use std::alloc::Global;
 use walks::plain_search;
@@ -111,7 +111,10 @@ fn the_bound_knows_walls(rt: HostRuntime) {
     let ends = snake(rt.alloc());
     assert!(rt; ends.is_some(), "no answer");
     if let Some((bound, cost)) = ends {
-        assert!(rt; bound <= cost && cost - bound < cost / 100, "{bound} of {cost}");
+        assert!(rt;
+            bound <= cost && cost - bound < cost / 100,
+            "{bound} of {cost}"
+        );
     }
 }
 
@@ -130,30 +133,66 @@ fn two_sides(alloc: Global) -> Option<(u64, u64, usize)> {
 #[test]
 fn each_area_gets_a_landmark_of_its_own(rt: HostRuntime) {
     let both = two_sides(rt.alloc());
-    assert!(rt; both == Some((3 * 12 * 5_451, 3 * 12 * 5_451, 2)), "{both:?}");
+    assert!(rt;
+        both == Some((3 * 12 * 5_451, 3 * 12 * 5_451, 2)),
+        "{both:?}"
+    );
+}
+
+/// How often the bound to two cells is more than a walk to one of them costs, or is not 0 at them.
+fn wrong_spans(alloc: Global, map: &Grid, tables: &Landmarks) -> Option<u32> {
+    let cells = free_cells(alloc, map)?;
+    let (first, rest) = cells.as_slice().split_first()?;
+    let mut wrong = 0;
+    for other in rest {
+        let span = tables.widened(&tables.span_of(*first), *other);
+        let at_first = tables.at_least_to(*first, &span);
+        let at_other = tables.at_least_to(*other, &span);
+        if at_first != 0 || at_other != 0 {
+            wrong += 1;
+        }
+        for from in cells.as_slice() {
+            let bound = tables.at_least_to(*from, &span);
+            let to_first = distance(alloc, map, *from, *first)?;
+            let to_other = distance(alloc, map, *from, *other)?;
+            if bound > to_first || bound > to_other {
+                wrong += 1;
+            }
+        }
+    }
+    Some(wrong)
 }
 
 #[test]
-fn measure_large(rt: HostRuntime) {
-    let Some(size) = Size::new(512, 512) else { return };
-    let Ok(mut map) = Grid::new(rt.alloc(), size) else { return };
-    let mut seed: u64 = 12345;
-    for j in 0..size.h {
-        for i in 0..size.w {
-            seed = (seed * 1103515245 + 12345) % 2147483648;
-            if (seed >> 16) % 5 == 0 {
-                map.or_span(j, i, i, 1);
-            }
-        }
+fn no_walk_to_several_cells_costs_less_than_the_bound(rt: HostRuntime) {
+    for line in MAPS.lines() {
+        let wrong = line.split_once(';').and_then(|(base, later)| {
+            let map = drawn(rt.alloc(), base)?;
+            let tables = tables_of(rt.alloc(), &map, Cell::new(3, 0), 3)?;
+            wrong_spans(rt.alloc(), &drawn(rt.alloc(), later)?, &tables)
+        });
+        assert!(rt; wrong == Some(0), "{line}");
     }
-    let tables = tables_of(rt.alloc(), &map, Cell::new(256, 256), 8);
-    let mut sum = 0;
-    if let Some(tables) = tables {
-        for j in 0..size.h {
-            for i in 0..size.w {
-                sum += tables.at_least(Cell::new(i, j), Cell::new(100, 100));
-            }
-        }
+}
+
+/// The bound from one end of the snake to the two cells at the other, and the cost of the walk.
+fn snake_to_two(alloc: Global) -> Option<(u64, u64)> {
+    let map = drawn(alloc, SNAKE)?;
+    let tables = tables_of(alloc, &map, Cell::new(3, 2), 2)?;
+    let (from, near, end) = (Cell::new(0, 0), Cell::new(6, 4), Cell::new(7, 4));
+    let span = tables.widened(&tables.span_of(end), near);
+    let bound = tables.at_least_to(from, &span);
+    Some((bound, distance(alloc, &map, from, near)?))
+}
+
+#[test]
+fn the_bound_to_two_cells_knows_walls(rt: HostRuntime) {
+    let ends = snake_to_two(rt.alloc());
+    assert!(rt; ends.is_some(), "no answer");
+    if let Some((bound, cost)) = ends {
+        assert!(rt;
+            bound <= cost && cost - bound < cost / 100,
+            "{bound} of {cost}"
+        );
     }
-    assert!(rt; sum > 0, "{sum}");
 }

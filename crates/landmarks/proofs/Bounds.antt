@@ -1,16 +1,14 @@
 -- What a search rests on: the bound falls by at most what a step costs.
-use Rattle.std.proofs.Common.{ℕ, zero, suc, ◌≡◌, ◌+◌, ◌*◌, ◌^◌, ◌<◌, ◌≤◌, Bool, List, [], ◌∷◌, IsTrue, length, get_or, max, refl, subst, ap, ◌∙◌, add-one, arith}
+use Rattle.std.proofs.Common.{ℕ, zero, suc, ◌≡◌, ◌+◌, ◌*◌, ◌^◌, ◌<◌, ◌≤◌, Bool, List, [], ◌∷◌, IsTrue, max, refl, subst, ap, add-one, arith}
 use Rattle.std.specs.Int.{abs_diff}
-use Rattle.std.proofs.lemmas.List.{get_or_read}
 use Rattle.std.proofs.lemmas.List.Sums.{sum_by-cons}
 use Rattle.nav_types.specs.declared.cells.Cell.{Cell}
-use Rattle.nav_types.specs.declared.cells.Size.{Size}
 use Rattle.nav_types.specs.declared.directions.Dir.{Dir}
 use Rattle.nav_types.specs.declared.directions.Dir.TheVariants.{N, E, S, W, NE, SE, SW, NW}
 use Rattle.nav_types.specs.Directions.{step_cost}
 use Rattle.nav_types.specs.Walks.{Step, IsWalk, walk_cost}
 use Rattle.landmarks.specs.declared.units.TheConstants.{UNIT_COST}
-use Rattle.landmarks.specs.Landmarks.{Tables, AreGentle, spot_of, number_of, most_apart, greatest_apart, landmark_bound}
+use Rattle.landmarks.specs.Landmarks.{Tables, AreGentle, number_of, most_apart, greatest_apart, landmark_bound}
 
 -- ---- differences of numbers
 
@@ -54,18 +52,10 @@ apart_more tables from to n = ap (λ (k : ℕ). greatest_apart tables from to k)
 small : (g : ℕ) → g < 65536 → UNIT_COST * g < 2 ^ 40
 small g few = omega arith
 
--- the number that is read
-pub number_read : (tables : Tables) (size : Size) (numbers : List ℕ) (cell : Cell) (spot table x : ℕ) → size ≡ tables.size → numbers ≡ tables.numbers
-    → spot ≡ spot_of size cell → x ≡ get_or numbers (8 * spot + table) x → 8 * spot + table < length numbers → x ≡ number_of tables cell table
-number_read tables size numbers cell spot table x sizes lists is read within =
-    let at : 8 * spot + table ≡ 8 * spot_of tables.size cell + table = ap (λ (s : ℕ). 8 * s + table) is ∙ ap (λ (s : Size). 8 * spot_of s cell + table) sizes in
-    let value : x ≡ get_or numbers (8 * spot + table) 0 = get_or_read numbers (8 * spot + table) x within read 0 in
-    value ∙ (ap (λ (list : List ℕ). get_or list (8 * spot + table) 0) lists ∙ ap (λ (k : ℕ). get_or tables.numbers k 0) at)
-
 -- ---- the laws
 
 -- the units of a step cost no more than the step
-units_cost : (dir : Dir) → UNIT_COST * most_apart dir ≤ step_cost dir
+pub units_cost : (dir : Dir) → UNIT_COST * most_apart dir ≤ step_cost dir
 units_cost N = omega arith
 units_cost E = omega arith
 units_cost S = omega arith
@@ -76,7 +66,7 @@ units_cost SW = omega arith
 units_cost NW = omega arith
 
 -- a step that is legal where fewer cells are passable
-legal_before : (passes later : Cell → Bool) (dir : Dir) (a b : Cell) → ((cell : Cell) → IsTrue (later cell) → IsTrue (passes cell))
+pub legal_before : (passes later : Cell → Bool) (dir : Dir) (a b : Cell) → ((cell : Cell) → IsTrue (later cell) → IsTrue (passes cell))
     → Step later dir a b → Step passes dir a b
 legal_before passes later dir a b fewer step = record {
   leads = step.leads;
@@ -86,7 +76,7 @@ legal_before passes later dir a b fewer step = record {
   ahead = fewer _ step.ahead;
 }
 
-costs_falls : (g h m cost : ℕ) → g ≤ h + m → UNIT_COST * m ≤ cost → UNIT_COST * g ≤ cost + UNIT_COST * h
+pub costs_falls : (g h m cost : ℕ) → g ≤ h + m → UNIT_COST * m ≤ cost → UNIT_COST * g ≤ cost + UNIT_COST * h
 costs_falls g h m cost less units = omega arith
 
 pub bound_of_one_cell : (tables : Tables) (cell : Cell) → landmark_bound tables cell cell ≡ 0

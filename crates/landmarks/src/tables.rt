@@ -86,7 +86,7 @@ impl Landmarks {
 
     /// The numbers of a cell in all tables; 0 where the list has no such cell.
     #[inline(always)]
-    fn numbers_of(&self, cell: Cell) -> &[u16]
+    pub(crate) fn numbers_of(&self, cell: Cell) -> &[u16]
         ensures long { length result.now ≡ MAX_TABLES }
         ensures each { (table : ℕ) → table < MAX_TABLES → slice_index result.now table ≡ number_of self.now cell table }
     {
