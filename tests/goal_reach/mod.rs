@@ -7,9 +7,9 @@ use crate::fixtures::texts::{fields_of, parsed_cell};
 use crate::fixtures::versions::{drawn_version, version_of};
 use fixed_point::{Fixed, is_on_axis};
 use goal_reach::{Target, made_reachable, nearest_passable};
-use goal_shapes::check;
+use goal_shapes::{Goal, check, contains, remoteness};
 use grid_versions::Version;
-use nav_types::{Areas, Cell, CellByCell, Class, FreeCells, Rect};
+use nav_types::{Areas, Cell, CellByCell, Class, FreeCells, Rect, View};
 use std::alloc::Global;
 
 /// In each line the rows of a map from the first up, `#` impassable, a point in halves of a navcell, and its start
@@ -207,4 +207,117 @@ fn blocked_cells_are_passed_over_at_once(rt: HostRuntime) {
     let near = Some(Cell::new(601, 300));
     assert!(rt; is_target(&counted, start, "point 19693568 19693568", near) == Some(true));
     assert!(rt; counted.cells() < 5000);
+}
+
+/// The target of a goal by a search over all cells of the map. None where no cell is joined to the start.
+fn plain_target<M: Areas>(map: &M, start: Cell, goal: &Goal) -> Option<Target> {
+    let class = Class::new(0);
+    let area = map.area(class, start);
+    let mut near: Option<(u128, Cell)> = None;
+    for j in 0..map.size().h {
+        for i in 0..map.size().w {
+            let cell = Cell::new(i, j);
+            if map.area(class, cell) == area {
+                if contains(goal, cell) {
+                    return Some(Target::Goal(*goal));
+                }
+                let rank = remoteness(goal, cell);
+                if near.is_none_or(|(least, _)| rank < least) {
+                    near = Some((rank, cell));
+                }
+            }
+        }
+    }
+    Some(Target::Near(near?.1))
+}
+
+/// How many starts of a map have another target of the goal of a text than a search over all cells finds, and how many
+/// have a near cell. None where the text is no sound goal.
+fn other_targets(map: &Version, goal: &str) -> Option<(u32, u32)> {
+    let size = map.size();
+    let Ok(goal) = check(goal_of(goal)?, size) else {
+        return None;
+    };
+    let (mut others, mut near) = (0, 0);
+    for j in 0..size.h {
+        for i in 0..size.w {
+            let (class, start) = (Class::new(0), Cell::new(i, j));
+            if map.passable(class, start) {
+                let target = made_reachable(map, class, start, &goal);
+                if plain_target(map, start, &goal) != Some(target) {
+                    others += 1;
+                }
+                if let Target::Near(_) = target {
+                    near += 1;
+                }
+            }
+        }
+    }
+    Some((others, near))
+}
+
+/// Maps with rooms, gaps and cells that stand alone.
+const OPEN_AND_SHUT: [&str; 4] = [
+    "......../......../......../......../........",
+    "..#...../.##..##./.#..#.../.#.##.#./.#....#.",
+    "#######./#.....#./#.###.#./#.#...#./###.#.##/......#.",
+    "#.#.#.#/.#.#.#./#.#.#.#/.##.##./..#.#..",
+];
+
+/// Goals that are turned inside out: round the whole map, most of it or a part, along its axes and across them, with cells
+/// that are as remote as others, and with sides past which nothing lies.
+const INSIDE_OUT: [&str; 11] = [
+    "not-circle 262144 163840 268435456",
+    "not-circle 229376 163840 327680",
+    "not-circle 262144 163840 131072",
+    "not-circle 0 0 524288",
+    "not-circle 425984 32768 262144",
+    "not-square 262144 163840 65536 0 268435456 268435456",
+    "not-square 262144 163840 65536 0 131072 268435456",
+    "not-square 262144 163840 0 65536 163840 327680",
+    "not-square 229376 131072 52429 39322 268435456 393216",
+    "not-square 98304 229376 46341 46341 262144 229376",
+    "not-square 327680 65536 46341 -46341 65536 131072",
+];
+
+#[test]
+fn goals_inside_out_have_the_targets_of_a_plain_search(rt: HostRuntime) {
+    let mut all_near = 0;
+    for text in OPEN_AND_SHUT {
+        let Some(map) = drawn_version(rt.alloc(), text) else {
+            panic!(rt; "no map: {text}");
+        };
+        for goal in INSIDE_OUT {
+            let Some((others, near)) = other_targets(&map, goal) else {
+                panic!(rt; "no goal: {goal}");
+            };
+            assert!(rt; others == 0, "{goal} on {text}");
+            all_near += near;
+        }
+    }
+    assert!(rt; all_near > 300, "{all_near}");
+}
+
+/// A goal that holds a wide map has no cell there, and its near cell is found with a few questions for each row.
+#[test]
+fn a_goal_round_the_map_looks_at_the_ends_of_rows(rt: HostRuntime) {
+    let wall = [(rect(0, 0, 20, 20), 1)];
+    let Some(map) = version_of(rt.alloc(), [2048, 2048], (1, "0"), &wall) else {
+        panic!(rt; "no map");
+    };
+    for (goal, near) in [
+        ("not-circle 67108864 67076096 268435456", Cell::new(0, 2047)),
+        (
+            "not-square 67108864 67108864 65536 0 268435456 268435456",
+            Cell::new(21, 0),
+        ),
+    ] {
+        let counted = Counted::new(&map);
+        let start = Cell::new(60, 70);
+        assert!(rt;
+            is_target(&counted, start, goal, Some(near)) == Some(true),
+            "{goal}"
+        );
+        assert!(rt; counted.cells() < 20_000, "{goal}");
+    }
 }

@@ -6,7 +6,7 @@ use Rattle.nav_types.specs.Cells.{IsNotAfter}
 use Rattle.nav_types.proofs.CellOrder.{IsNotAfter-antisym, IsNotAfter-trans}
 use Rattle.goal_reach.specs.declared.choices.Ranked.{Ranked}
 use Rattle.goal_reach.specs.Choices.{IsLeastBy}
-use Rattle.goal_reach.specs.inner.Ranking.{IsPreferred, IsNoWorse, IsBest}
+use Rattle.goal_reach.specs.inner.Ranking.{with_rank, IsPreferred, IsNoWorse, IsBest}
 
 -- a set has one cell of least rank
 pub one_least : (rank : Cell → ℕ) (Within : Cell → Type 0) (a b : Cell) → IsLeastBy rank Within a → IsLeastBy rank Within b → a ≡ b
@@ -15,15 +15,11 @@ one_least rank Within a b p q =
     let same : rank a ≡ rank b = omega arith in
     IsNotAfter-antisym a b (p.first b q.within (sym same)) (q.first a p.within same)
 
-preferred_trans : (a b c : Ranked) → IsPreferred a b → IsPreferred b c → IsPreferred a c
+pub preferred_trans : (a b c : Ranked) → IsPreferred a b → IsPreferred b c → IsPreferred a c
 preferred_trans a b c (inl less) (inl more) = inl (omega arith)
 preferred_trans a b c (inl less) (inr (same, order)) = inl (omega arith)
 preferred_trans a b c (inr (same, order)) (inl more) = inl (omega arith)
 preferred_trans a b c (inr (same, order)) (inr (same', order')) = inr (same ∙ same', IsNotAfter-trans a.cell b.cell c.cell order order')
-
--- a cell with its rank
-abbrev with_rank : (Cell → ℕ) → Cell → Ranked
-with_rank rank cell = record { cell = cell; rank = rank cell }
 
 -- the best cell is preferred to each one of the set
 best_preferred : (rank : Cell → ℕ) (Within : Cell → Type 0) (best : Ranked) → best.rank ≡ rank best.cell → IsLeastBy rank Within best.cell
@@ -44,7 +40,7 @@ not_after a b (inl less) same = absurd (omega arith)
 not_after a b (inr (_, order)) same = order
 
 -- a cell of the set that is preferred to each one is the best
-preferred_best : (rank : Cell → ℕ) (Within : Cell → Type 0) (best : Ranked) → best.rank ≡ rank best.cell → Within best.cell
+pub preferred_best : (rank : Cell → ℕ) (Within : Cell → Type 0) (best : Ranked) → best.rank ≡ rank best.cell → Within best.cell
     → ((cell : Cell) → Within cell → IsPreferred best (with_rank rank cell)) → IsLeastBy rank Within best.cell
 preferred_best rank Within best ranked within all = record {
   within = within;

@@ -3,8 +3,10 @@ use Rattle.std.proofs.Common.{ℕ, Bool, ◌≡◌, ◌+◌, ◌<◌, ◌≤◌,
 use Rattle.std.proofs.lemmas.Bool.{both_ways, cases_lt}
 use Rattle.std.proofs.Math.Nat.{le-min, min-le_left, min-le_right}
 use Rattle.nav_types.specs.declared.cells.Cell.{Cell}
+use Rattle.nav_types.specs.declared.straights.Axis.TheVariants.{Row}
 use Rattle.nav_types.specs.Cells.{cell_at}
 use Rattle.nav_types.specs.Lines.{IsFirstFree}
+use Rattle.goal_reach.specs.inner.Rings.{IsInRun}
 
 -- none of the row's cells from one place up to another is hit and reached
 pub record IsEmptyRow (hit : Cell → Bool) (Reached : Cell → Type 0) (j from place : ℕ) : Type 0 where
@@ -37,18 +39,16 @@ empty_to_next passes hit Reached j from end w i next later cell free is less nea
       },
     )
 
--- nor is the cell there
-pub empty_past : (hit : Cell → Bool) (Reached : Cell → Type 0) (j from i : ℕ) (here : Cell) → here ≡ cell_at i j
-    → (IsTrue (hit here) → Reached here → ⊥) → IsEmptyRow hit Reached j from i → IsEmptyRow hit Reached j from (i + 1)
-empty_past hit Reached j from i here is off before =
+-- nor is any of the stretch there
+pub empty_past : (hit : Cell → Bool) (Reached : Cell → Type 0) (j from i past : ℕ) → i ≤ past
+    → ((cell : Cell) → IsInRun Row j i past cell → IsTrue (hit cell) → Reached cell → ⊥) → IsEmptyRow hit Reached j from i
+    → IsEmptyRow hit Reached j from past
+empty_past hit Reached j from i past order off before =
     let first = before.first in
     record {
       first = omega arith;
-      none = λ c row begun past is_hit is_reached. elim (cases_lt c.i i) [
+      none = λ c row begun last is_hit is_reached. elim (cases_lt c.i i) [
         | inl old ↦ before.none c row begun old is_hit is_reached
-        | inr new ↦
-            let at : c.i ≡ i = omega arith in
-            let same : c ≡ here = ap (λ (a : ℕ). cell_at a c.j) at ∙ ap (λ (b : ℕ). cell_at i b) row ∙ sym is in
-            off (subst (λ (d : Cell). IsTrue (hit d)) same is_hit) (subst Reached same is_reached)
+        | inr new ↦ off c (record { on_line = row; first = new; past = last }) is_hit is_reached
       ];
     }

@@ -8,3 +8,6 @@ pub mod Starting
 pub mod Targeting
 pub mod Running
 pub mod GoalRows
+pub mod Ends
+pub mod InsideOut
+pub mod Stretching

@@ -6,14 +6,15 @@ use nav_types::{Axis, Cell, Rect, Size};
 
 /// Cells of a map to choose from, a rank for each of them, and where to look first.
 pub(crate) trait Choice {
-    ghost use Rattle.std.specs.Prelude.{ℕ, ◌≡◌, ◌<◌, ◌≤◌, IfSome, IfNone};
+    ghost use Rattle.std.specs.Prelude.{ℕ, ◌≡◌, ◌<◌, ◌≤◌};
     ghost use Rattle.nav_types.specs.declared.cells.Cell.{Cell};
     ghost use Rattle.nav_types.specs.declared.cells.Rect.{Rect};
     ghost use Rattle.nav_types.specs.declared.cells.Size.{Size};
     ghost use Rattle.nav_types.specs.declared.limits.TheConstants.{MAX_SIDE};
     ghost use Rattle.nav_types.specs.Cells.{IsInside, IsInRect, IsRectInside};
-    ghost use Rattle.nav_types.specs.Lines.{place_on, line_on, cell_on};
-    ghost use Rattle.goal_reach.specs.inner.Rings.{widened};
+    ghost use Rattle.nav_types.specs.Lines.{place_on, line_on, cell_on, side_along};
+    ghost use Rattle.goal_reach.specs.inner.Ranking.{IsBest};
+    ghost use Rattle.goal_reach.specs.inner.Rings.{widened, IsInRun};
 
     ghost extent: { Self → Size };
 
@@ -22,6 +23,9 @@ pub(crate) trait Choice {
 
     // The cells to choose from.
     ghost offered: { Self → Cell → Type 0 };
+
+    // The cells that a line is looked at from, which may be such.
+    ghost free: { Self → Cell → Type 0 };
 
     ghost rank_of: { Self → Cell → ℕ };
 
@@ -38,22 +42,27 @@ pub(crate) trait Choice {
         ensures same { result ≡ core_of self.now }
         ensures inside { IsRectInside (extent self.now) result };
 
-    /// The rank of the cell. None exactly where the cell is not one to choose from.
-    fn rank(&self, cell: Cell) -> Option<u128>
-        requires sound { sound self.now }
-        requires inside { IsInside (extent self.now) cell }
-        ensures offered { IfSome result (λ rank. offered self.now cell) }
-        ensures rank { IfSome result (λ rank. rank ≡ rank_of self.now cell) }
-        ensures none { IfNone result (offered self.now cell → ⊥) };
-
     /// The place on the cell's line from which to look on: from this cell up to it no cell of the line is one to
-    /// choose from.
+    /// choose from. There is a free cell, unless the line has ended.
     fn next_along(&self, axis: Axis, cell: Cell) -> u16
         requires sound { sound self.now }
         requires inside { IsInside (extent self.now) cell }
         ensures reached { place_on axis cell ≤ result }
         ensures none { (k : ℕ) → place_on axis cell ≤ k → k < result
-            → offered self.now (cell_on axis (line_on axis cell) k) → ⊥ };
+            → offered self.now (cell_on axis (line_on axis cell) k) → ⊥ }
+        ensures free { result < side_along axis (extent self.now)
+            → free self.now (cell_on axis (line_on axis cell) result) };
+
+    /// The best cell of a stretch of the line, which begins with the free cell at place `from` and ends before `end`.
+    fn best_from(&self, axis: Axis, line: u16, from: u16, end: u16) -> Stretch
+        requires sound { sound self.now }
+        requires inside { (cell : Cell) → IsInRun axis line from end cell → IsInside (extent self.now) cell }
+        requires places { from < end }
+        requires free { free self.now (cell_on axis line from) }
+        ensures begun { from < result.past }
+        ensures within { result.past ≤ end }
+        ensures best { IsBest (rank_of self.now)
+            (λ cell. offered self.now cell × IsInRun axis line from result.past cell) result.best };
 
     /// A rank that no cell of the map is below which lies beyond so many rings round the core.
     fn least_beyond(&self, rings: u16) -> u128
@@ -70,6 +79,13 @@ pub(crate) struct Ranked {
     pub rank: u128,
 }
 
+/// The best cell of a stretch of a line, and the first place past the stretch.
+#[derive(Clone, Copy)]
+pub(crate) struct Stretch {
+    pub best: Option<Ranked>,
+    pub past: u16,
+}
+
 /// The one of two best cells that is preferred; None where there is neither.
 pub(crate) fn better(first: Option<Ranked>, second: Option<Ranked>) -> Option<Ranked>
     ensures one { (result ≡ first) ⊎ (result ≡ second) }
@@ -84,7 +100,7 @@ pub(crate) fn better(first: Option<Ranked>, second: Option<Ranked>) -> Option<Ra
 }
 
 /// The one of the two cells that is preferred.
-fn preferred(first: Ranked, second: Ranked) -> Ranked
+pub(crate) fn preferred(first: Ranked, second: Ranked) -> Ranked
     ensures one { (result ≡ first) ⊎ (result ≡ second) }
     ensures first { IsPreferred result first }
     ensures second { IsPreferred result second }

@@ -160,8 +160,8 @@ fn best_in_block<C: Choice>(choice: &C, block: &Block) -> Option<Ranked>
     best
 }
 
-/// The best cell of a line from place `from` up to `end`, without that one. It looks only at cells that `next_along`
-/// leads to.
+/// The best cell of a line from place `from` up to `end`, without that one. It looks only at stretches that
+/// `next_along` leads to.
 fn best_in_run<C: Choice>(choice: &C, axis: Axis, line: u16, from: u16, end: u16) -> Option<Ranked>
     requires sound { C.sound choice.now }
     requires places { from ≤ end }
@@ -174,21 +174,10 @@ fn best_in_run<C: Choice>(choice: &C, axis: Axis, line: u16, from: u16, end: u16
     'run: while place < end {
         place = choice.next_along(axis, cell_on(axis, line, place)).min(end);
         if place < end {
-            best = better(best, ranked(choice, cell_on(axis, line, place)));
-            place += 1;
+            let stretch = choice.best_from(axis, line, place, end);
+            best = better(best, stretch.best);
+            place = stretch.past;
         }
     }
     best
-}
-
-/// The cell with its rank, where it is one to choose from.
-fn ranked<C: Choice>(choice: &C, cell: Cell) -> Option<Ranked>
-    requires sound { C.sound choice.now }
-    requires inside { IsInside (C.extent choice.now) cell }
-    ensures { IsBest (C.rank_of choice.now) (λ other. C.offered choice.now other × (other ≡ cell)) result }
-{
-    match choice.rank(cell) {
-        Some(rank) => Some(Ranked { cell, rank }),
-        None => None,
-    }
 }

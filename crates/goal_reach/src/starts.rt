@@ -4,11 +4,11 @@ ghost use Rattle.fixed_point.specs.Plane.{IsOnAxis};
 ghost use Rattle.goal_shapes.specs.Goals.{HoldsPoint, squared_distance};
 ghost use Rattle.goal_reach.specs.Starts.{IsStartCell};
 
-use crate::choices::Choice;
+use crate::choices::{Choice, Ranked, Stretch};
 use crate::rings::least_cell;
 use fixed_point::{Fixed, squared};
 use goal_shapes::{cell_of_point, squared_distance};
-use nav_types::{Axis, Cell, Class, FreeCells, Rect, Size, View};
+use nav_types::{Axis, Cell, Class, FreeCells, Rect, Size, View, cell_on};
 
 /// The start cell of the point (`x`, `z`) for a class (`IsStartCell`): the cell that holds the point, where
 /// that is passable, else the passable cell whose middle is nearest to the point, the first in cell order
@@ -62,6 +62,8 @@ impl<V: FreeCells> Choice for PassableCells<'_, V> {
 
     ghost offered = { λ c cell. IsTrue (V.passes c.view.now c.class cell) };
 
+    ghost free = { λ c cell. IsTrue (V.passes c.view.now c.class cell) };
+
     ghost rank_of = { λ c cell. squared_distance c.x c.z cell };
 
     ghost core_of = { λ c. cell_rect c.holder };
@@ -74,16 +76,18 @@ impl<V: FreeCells> Choice for PassableCells<'_, V> {
         Rect::of_cell(self.holder)
     }
 
-    fn rank(&self, cell: Cell) -> Option<u128> {
-        if self.view.passable(self.class, cell) {
-            Some(squared_distance(self.x, self.z, cell))
-        } else {
-            None
-        }
-    }
-
     fn next_along(&self, axis: Axis, cell: Cell) -> u16 {
         self.view.next_free(self.class, axis, cell)
+    }
+
+    // A free cell is passable.
+    fn best_from(&self, axis: Axis, line: u16, from: u16, _end: u16) -> Stretch {
+        let cell = cell_on(axis, line, from);
+        let rank = squared_distance(self.x, self.z, cell);
+        Stretch {
+            best: Some(Ranked { cell, rank }),
+            past: from + 1,
+        }
     }
 
     // The point is at most half a navcell from the middle of the cell that holds it, so the middle of a cell beyond

@@ -5,6 +5,10 @@ use Rattle.nav_types.specs.Cells.{IsNotAfter}
 use Rattle.goal_reach.specs.declared.choices.Ranked.{Ranked}
 use Rattle.goal_reach.specs.Choices.{IsLeastBy}
 
+-- a cell with its rank
+abbrev pub with_rank : (Cell → ℕ) → Cell → Ranked
+with_rank rank cell = record { cell = cell; rank = rank cell }
+
 -- a is of less rank than b, or of the same rank and not after b in cell order
 abbrev pub IsPreferred : Ranked → Ranked → Type 0
 IsPreferred a b = (a.rank < b.rank) ⊎ ((a.rank ≡ b.rank) × IsNotAfter a.cell b.cell)
