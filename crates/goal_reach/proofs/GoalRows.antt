@@ -1,5 +1,5 @@
 -- The cells of a row that are the goal's and can be walked to.
-use Rattle.std.proofs.Common.{ℕ, Bool, ◌≡◌, ◌+◌, ◌<◌, ◌≤◌, ◌∙◌, min, inl, inr, sym, ap, subst, arith, IsTrue, IsFalse}
+use Rattle.std.proofs.Common.{ℕ, Bool, ◌≡◌, ◌<◌, ◌≤◌, min, inl, inr, sym, subst, arith, IsTrue, IsFalse}
 use Rattle.std.proofs.lemmas.Bool.{both_ways, cases_lt}
 use Rattle.std.proofs.Math.Nat.{le-min, min-le_left, min-le_right}
 use Rattle.nav_types.specs.declared.cells.Cell.{Cell}

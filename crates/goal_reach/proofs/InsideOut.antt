@@ -1,12 +1,11 @@
 -- A goal that is turned inside out, along a row: which cells it has, and how remote they are.
-use Rattle.std.proofs.Common.{ℕ, ◌≡◌, ◌+◌, ◌-◌, ◌*◌, ◌^◌, ◌<◌, ◌≤◌, ◌⊎◌, ◌||◌, inl, inr, refl, sym, ap, subst, suc, arith, Bool, true, false, nat_le, leb-true, le-leb, IsTrue, ℤ, pos, negsuc, ◌+ℤ◌, ◌-ℤ◌, ◌*ℤ◌}
+use Rattle.std.proofs.Common.{ℕ, ◌≡◌, ◌+◌, ◌-◌, ◌*◌, ◌^◌, ◌<◌, ◌≤◌, ◌⊎◌, ◌||◌, inl, inr, ap, subst, suc, arith, Bool, false, nat_le, leb-true, le-leb, IsTrue, ℤ, pos, negsuc, ◌+ℤ◌, ◌-ℤ◌, ◌*ℤ◌}
 use borrow.Author.Differences.{up, down}
 use Rattle.std.specs.Prelude.{unsigned_abs}
 use Rattle.std.specs.List.{list_any}
 use Rattle.std.proofs.lemmas.Int.{ints}
 use Rattle.std.proofs.lemmas.Bool.{cases_lt, or_cases, or_left, or_right, false≢true}
 use Rattle.std.proofs.Math.Nat.{mul-le-mul, le-min, min-le_left, min-le_right}
-use Rattle.nav_types.specs.declared.cells.Cell.{Cell}
 use Rattle.nav_types.specs.Cells.{cell_at}
 use Rattle.fixed_point.specs.declared.plane.Rectangle.{Rectangle}
 use Rattle.fixed_point.specs.Plane.{square, from_centre, along, across, centre_along, centre_across}

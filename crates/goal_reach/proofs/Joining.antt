@@ -43,7 +43,7 @@ same_area passes HasNumber start cell area number blocked joined own numbered = 
 
 -- ---- stretches
 
-barred : (b : Bool) → IsTrue (not b) → IsTrue b → ⊥
+pub barred : (b : Bool) → IsTrue (not b) → IsTrue b → ⊥
 barred true shut passing = false≢true shut
 barred false shut passing = false≢true passing
 

@@ -1,5 +1,5 @@
 -- The best cell of a stretch, which is one of its ends.
-use Rattle.std.proofs.Common.{ℕ, Bool, ◌≡◌, ◌+◌, ◌-◌, ◌<◌, ◌≤◌, ◌⊎◌, inl, inr, Some, None, refl, sym, ap, subst, arith, IsTrue}
+use Rattle.std.proofs.Common.{ℕ, Bool, ◌≡◌, ◌+◌, ◌-◌, ◌<◌, ◌≤◌, ◌⊎◌, inl, inr, Some, None, refl, sym, subst, arith, IsTrue}
 use Rattle.std.proofs.lemmas.Bool.{cases_lt}
 use Rattle.nav_types.specs.declared.cells.Cell.{Cell}
 use Rattle.nav_types.specs.declared.straights.Axis.{Axis}
@@ -99,3 +99,10 @@ pub no_best : (passes : Cell → Bool) (goal : Goal) (start : Cell) (axis : Axis
     → (Joined passes start (cell_on axis line from) → ⊥) → IsBest (remoteness goal) (λ cell. Joined passes start cell × IsInRun axis line from past cell) None
 no_best passes goal start axis line from past stretch off = λ cell within.
     off ((stretch_reached passes goal start axis line from past cell stretch within.1).1 within.0)
+
+-- where neither end of a row's part is the goal's, no cell of it is
+pub row_missed : (goal : Goal) (j first last : ℕ) (cell : Cell) → IsTrue (is_inside_out goal) → (IsTrue (contains goal (cell_at first j)) → ⊥)
+    → (IsTrue (contains goal (cell_at last j)) → ⊥) → cell.j ≡ j → first ≤ cell.i → cell.i ≤ last → IsTrue (contains goal cell) → ⊥
+row_missed goal j first last cell out west east row begun ended hit =
+    let here = subst (λ (b : ℕ). IsTrue (contains goal (cell_at cell.i b))) row hit in
+    elim (ends_decide goal j first cell.i last out begun ended here) [ inl h ↦ west h | inr h ↦ east h ]

@@ -120,6 +120,9 @@ impl<M: Areas + FreeCells> AreaCells<'_, M> {
             → IsTrue (contains self.now.goal.now cell)
             → Joined (M.passes self.now.map.now self.now.class) self.now.start cell → ⊥ }
     {
+        if self.is_row_missed(j) {
+            return false;
+        }
         let end = self.frame.i1 + 1;
         let mut i = self.frame.i0;
         'row: while i < end {
@@ -134,6 +137,25 @@ impl<M: Areas + FreeCells> AreaCells<'_, M> {
             }
         }
         false
+    }
+
+    /// Whether the ends of row `j` of the goal's box say that no cell of the row is the goal's: a goal that is turned
+    /// inside out has none between two cells that it does not have.
+    fn is_row_missed(&self, j: u16) -> bool
+        requires { IsWellFormed self.now.goal.now }
+        ensures { IsTrue result → (cell : Cell) → cell.j ≡ j → self.now.frame.i0 ≤ cell.i
+            → cell.i ≤ self.now.frame.i1
+            → IsTrue (contains self.now.goal.now cell) → ⊥ }
+    {
+        if !is_inside_out(self.goal) {
+            return false;
+        }
+        let first = Cell::new(self.frame.i0, j);
+        if contains(self.goal, first) {
+            return false;
+        }
+        let last = Cell::new(self.frame.i1, j);
+        !contains(self.goal, last)
     }
 
     /// Whether the first or the last cell of the stretch of row `j` from column `from` up to `past`, without that one, is

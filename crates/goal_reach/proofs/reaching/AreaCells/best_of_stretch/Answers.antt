@@ -1,10 +1,7 @@
-use Rattle.std.proofs.Common.{ℕ, ◌≡◌, ◌∙◌, ◌⊎◌, inl, inr, sym, ap, subst, Some, arith}
+use Rattle.std.proofs.Common.{ℕ, ◌∙◌, inl, inr, sym, ap, subst, Some}
 use Rattle.std.proofs.lemmas.Bool.{both_ways}
-use Rattle.nav_types.specs.declared.cells.Cell.{Cell}
-use Rattle.nav_types.specs.Lines.{cell_on}
 use Rattle.nav_types.specs.Walks.{Joined}
 use Rattle.goal_shapes.specs.Goals.{remoteness}
-use Rattle.goal_reach.specs.declared.choices.Ranked.{Ranked}
 use Rattle.goal_reach.specs.inner.Ranking.{with_rank, IsPreferred, IsBest}
 use Rattle.goal_reach.specs.inner.Rings.{IsInRun}
 use Rattle.goal_reach.proofs.Running.{alone_best}

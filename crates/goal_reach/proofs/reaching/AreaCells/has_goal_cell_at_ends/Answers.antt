@@ -1,4 +1,4 @@
-use Rattle.std.proofs.Common.{◌≡◌, ◌-◌, ◌∙◌, sym, subst, arith, IsTrue, refl}
+use Rattle.std.proofs.Common.{◌-◌, ◌∙◌, sym, subst, arith, IsTrue}
 use Rattle.std.proofs.lemmas.Bool.{both_ways}
 use Rattle.nav_types.specs.declared.cells.Cell.{Cell}
 use Rattle.nav_types.specs.declared.straights.Axis.TheVariants.{Row}

@@ -1,5 +1,4 @@
 use Rattle.std.proofs.Common.{ℕ, ◌+◌, ◌<◌, ◌≤◌, IsTrue, arith}
-use Rattle.nav_types.specs.declared.cells.Cell.{Cell}
 use Rattle.nav_types.specs.declared.straights.Axis.TheVariants.{Row}
 use Rattle.nav_types.specs.Cells.{cell_at, IsInside}
 use Rattle.nav_types.specs.Walks.{Joined}
@@ -45,3 +44,7 @@ row-preserved g c =
 pub returns-clause-none : goal.returns-clause-none
 returns-clause-none g c = λ _ cell row begun last is_hit joined.
     c.row.invariant.1.none cell row begun (omega (arith, last, c.row-test.false)) is_hit joined
+
+pub returns-then-is_row_missed-clause-none : goal.returns-then-is_row_missed-clause-none
+returns-then-is_row_missed-clause-none g c = λ _ cell row begun last is_hit joined.
+    c.is_row_missed.ensures c.if-is_row_missed.true cell row begun last is_hit
