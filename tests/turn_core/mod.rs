@@ -6,13 +6,13 @@ use crate::fixtures::turns::{
 use class_config::ClassName;
 use goal_shapes::{Goal, GoalSpec};
 use grid_versions::{EditReply, Refusal, Version};
-use nav_types::{NoMemory, Rect};
+use nav_types::{Cost, NoMemory, Rect};
 use posts::push_some;
 use std::alloc::Global;
 use std::test::*;
 use turn_core::{
-    Answer, Copied, Jobs, Journal, Post, Posts, ReadyTurn, RegionAnswer, Reply, Request, TurnPosts,
-    TurnReplies, one_thread, solve,
+    Answer, Copied, Jobs, Journal, OneThread, Post, Posts, ReadyTurn, RegionAnswer, Reply, Report,
+    Request, TurnPosts, TurnReplies, answer_turn, bare_version, one_thread, solve,
 };
 
 /// The goal that is a circle about a point of the row, in halves.
@@ -117,6 +117,40 @@ fn answers_are_moved_into_the_replies_of_a_ready_turn(rt: HostRuntime) {
     let (posts, answered) = ready.answered(answers);
     assert!(rt; posts.len() == 2);
     assert!(rt; are_replies_to_two(Some(&answered.replies)));
+}
+
+/// The cost of the path along a row of so many cells, by this thread.
+fn cost_along(alloc: Global, thread: &mut OneThread, cells: i16) -> Option<Cost> {
+    let version = row_version(alloc, cells.unsigned_abs(), &[])?;
+    let path = path_asked("default", 1, point(2 * cells - 1))?;
+    let mut jobs = Jobs::new(alloc);
+    push_some(&mut jobs, Some(path)).ok()?;
+    let mut noted = thread
+        .noted_answers(alloc, &version, &jobs, Report::Answers)
+        .ok()?;
+    match noted.answers.take_first()? {
+        Answer::Path(path) => Some(path.cost),
+        _ => None,
+    }
+}
+
+#[test]
+fn a_thread_answers_on_one_map_after_another(rt: HostRuntime) {
+    let alloc = rt.alloc();
+    let mut thread = OneThread::new();
+    for cells in [3, 200, 2, 60] {
+        let cost = cost_along(alloc, &mut thread, cells);
+        let steps = u64::from(cells.unsigned_abs()) - 1;
+        assert!(rt; cost == Some(Cost(65536 * steps)));
+    }
+    // Whole turns too, by a thread that has answered and by a new one.
+    let map = map_of(alloc, 3, 1, 2, &[]).expect(&rt, "the map");
+    let version = bare_version(alloc, &map).expect(&rt, "the version");
+    let turn = turn_of_two(alloc).expect(&rt, "the turn");
+    let after = thread.answer_turn(alloc, &version, &turn);
+    assert!(rt; are_replies_to_two(after.ok().as_ref().map(|told| &told.replies)));
+    let alone = answer_turn(alloc, &version, &turn);
+    assert!(rt; are_replies_to_two(alone.ok().as_ref().map(|told| &told.replies)));
 }
 
 /// Whether a request on a version is refused for this cause.

@@ -15,7 +15,7 @@ use posts::{MapSpec, TurnPosts, empty_lists};
 use std::alloc::Global;
 use std::io::{self, Write};
 use std::process::ExitCode;
-use turn_core::{answer_turn, bare_version};
+use turn_core::{OneThread, bare_version};
 
 /// Why the game ended early.
 #[derive(Drop)]
@@ -64,10 +64,11 @@ fn play(
     classes: &Classes,
     map: &MapSpec,
 ) -> Result<(), Trouble> {
+    let mut thread = OneThread::new();
     let mut version = bare_version(alloc, map)?;
     for number in 1..3 {
         let posts = turn(alloc, classes, number)?;
-        let answered = answer_turn(alloc, &version, &posts)?;
+        let answered = thread.answer_turn(alloc, &version, &posts)?;
         let text = turn_text(alloc, number, &answered.replies)?;
         out.write_all(text.as_slice())?;
         version = answered.after;

@@ -7,6 +7,7 @@ pub mod NotedPaths
 pub mod Searchable
 pub mod KeptFields
 pub mod TurnByTurn
+pub mod TurnNotes
 pub mod Threads
 pub mod ReplyCounts
 pub mod Sweeping

@@ -1,15 +1,13 @@
 //! Journals that one thread answers.
 ghost use Rattle.std.specs.Prelude.{◌≡◌, IfOk};
-ghost use Rattle.turn_core.specs.Solving.{AreAnswersTo};
 ghost use Rattle.turn_core.specs.Turns.{after_turn, IsTurnTold, IsOneThread};
 
-use crate::edited_turns::EditedTurn;
+use crate::one_threads::OneThread;
 use crate::ready_turns::AnsweredTurn;
-use crate::solving::solve;
 use crate::turn_versions::bare_version;
 use grid_versions::{MapSpec, Version};
 use nav_types::{NoMemory, Sequence};
-use posts::{AllReplies, Answers, Jobs, Journal, TurnPosts};
+use posts::{AllReplies, Journal, TurnPosts};
 use std::alloc::Global;
 
 /// The replies of one thread to a journal on a map where nothing stands yet (`IsOneThread`): turn by turn, caller by
@@ -17,10 +15,11 @@ use std::alloc::Global;
 pub fn one_thread(alloc: Global, map: &MapSpec, journal: &Journal) -> Result<AllReplies, NoMemory>
     ensures { IfOk result (IsOneThread map.now journal.now) }
 {
+    let mut thread = OneThread::new();
     let mut version = bare_version(alloc, map)?;
     let mut all = Sequence::new(alloc);
     for turn in journal.as_slice() {
-        let AnsweredTurn { replies, after } = answer_turn(alloc, &version, turn)?;
+        let AnsweredTurn { replies, after } = thread.answer_turn(alloc, &version, turn)?;
         all.push(replies)?;
         version = after;
     }
@@ -30,14 +29,7 @@ pub fn one_thread(alloc: Global, map: &MapSpec, journal: &Journal) -> Result<All
 /// Answers a turn on the version before it (`IsTurnTold`): each edit has its reply, and each request its answer on the
 /// version after all edits of the turn, which comes with the replies. It refuses for want of memory alone.
 ///
-/// ```
-/// let mut version = bare_version(alloc, &map)?;
-/// for posts in journal.as_slice() {
-///     let AnsweredTurn { replies, after } = answer_turn(alloc, &version, posts)?;
-///     all.push(replies)?;
-///     version = after;
-/// }
-/// ```
+/// A [`OneThread`] does the same for turn after turn, and keeps what the next of them can use.
 pub fn answer_turn(
     alloc: Global,
     version: &Version,
@@ -48,18 +40,5 @@ pub fn answer_turn(
         answered.after.standing ≡ after_turn version.now.map version.now.standing turn.now) }
     ensures told { IfOk result (λ answered. IsTurnTold version.now.map version.now.standing turn.now answered.replies) }
 {
-    let edited = EditedTurn::new(alloc, version, turn)?;
-    let answers = answers_to(alloc, edited.version(), edited.jobs())?;
-    Ok(edited.answered(answers))
-}
-
-/// The answer to each job on a version.
-pub(crate) fn answers_to(alloc: Global, version: &Version, jobs: &Jobs) -> Result<Answers, NoMemory>
-    ensures { IfOk result (AreAnswersTo version.now.map version.now.standing jobs.now) }
-{
-    let mut answers = Sequence::new(alloc);
-    for job in jobs.as_slice() {
-        answers.push(solve(alloc, version, job)?)?;
-    }
-    Ok(answers)
+    OneThread::new().answer_turn(alloc, version, turn)
 }

@@ -6,8 +6,8 @@
 //! ```
 //!
 //! A [`Solver`] answers one request after another and keeps its search's memory and its last flow field; what it answers
-//! does not depend on what it answered before. [`answer_turn`] does a whole turn by one thread: the sequential
-//! specification, as a program. `path_service` says how turns are staged, run and delivered beside each other.
+//! does not depend on what it answered before. A [`OneThread`] answers turn after turn: the sequential specification, as a
+//! program. `path_service` says how turns are staged, run and delivered beside each other.
 #![tactic(auto)]
 
 mod edited_turns;
@@ -15,6 +15,7 @@ mod journals;
 mod last_fields;
 pub mod laws;
 mod named_goals;
+mod one_threads;
 mod ready_turns;
 mod reply_lists;
 mod reports;
@@ -28,6 +29,7 @@ mod turn_versions;
 pub use journals::{answer_turn, one_thread};
 pub use jump_search::Pool;
 pub use named_goals::goal_of;
+pub use one_threads::{NotedAnswers, OneThread};
 pub use posts::{
     AllReplies, Answer, Answers, CallerReplies, Copied, FlowLine, FlowSummary, Jobs, Journal, Note,
     Noted, Notes, PathAnswer, Post, Posts, RegionAnswer, Replies, Reply, Report, Request,
