@@ -3,5 +3,4 @@ pub mod Playing
 pub mod Finishing
 pub mod LastItems
 pub mod Fits
-pub mod Notes
 pub mod Posting

@@ -14,9 +14,15 @@ use nav_types::{Bytes, NoMemory};
 use script_text::ScriptFault;
 use std::alloc::Global;
 use std::mem;
+use turn_core::OneThread;
 
 /// Plays the next bytes of the script. At a stop it takes them all.
-pub(crate) fn feed(alloc: Global, course: &mut Course, bytes: &mut &[u8]) -> Result<(), MatchFault>
+pub(crate) fn feed(
+    alloc: Global,
+    thread: &mut OneThread,
+    course: &mut Course,
+    bytes: &mut &[u8],
+) -> Result<(), MatchFault>
     requires fit { IsFit course.old }
     ensures plays { FeedPlays course.old course.new bytes.old.now bytes.new.now result }
     ensures all { TakesAll bytes.new.now result }
@@ -32,11 +38,15 @@ pub(crate) fn feed(alloc: Global, course: &mut Course, bytes: &mut &[u8]) -> Res
         *bytes = &[];
         return tell_stop(alloc, course);
     }
-    read_on(alloc, course, bytes)
+    read_on(alloc, thread, course, bytes)
 }
 
 /// Ends the script, and plays what is left of it.
-pub(crate) fn finish(alloc: Global, course: &mut Course) -> Result<(), MatchFault>
+pub(crate) fn finish(
+    alloc: Global,
+    thread: &mut OneThread,
+    course: &mut Course,
+) -> Result<(), MatchFault>
     requires fit { IsFit course.old }
     ensures plays { FinishPlays course.old course.new result }
     ensures ended { IsTrue course.new.ended }
@@ -52,7 +62,7 @@ pub(crate) fn finish(alloc: Global, course: &mut Course) -> Result<(), MatchFaul
     if is_stopped(&course.ahead) {
         return tell_stop(alloc, course);
     }
-    read_rest(alloc, course)
+    read_rest(alloc, thread, course)
 }
 
 /// Whether a stop was met.
@@ -83,7 +93,12 @@ fn is_told(ahead: &Ahead) -> bool
 }
 
 /// Plays the next bytes of a script that has not stopped.
-fn read_on(alloc: Global, course: &mut Course, bytes: &mut &[u8]) -> Result<(), MatchFault>
+fn read_on(
+    alloc: Global,
+    thread: &mut OneThread,
+    course: &mut Course,
+    bytes: &mut &[u8],
+) -> Result<(), MatchFault>
     requires fit { IsFit course.old }
     requires going { IsGoing course.old.ahead }
     requires unended { IsFalse course.old.ended }
@@ -94,7 +109,7 @@ fn read_on(alloc: Global, course: &mut Course, bytes: &mut &[u8]) -> Result<(), 
     ensures fit { IsFit course.new }
 {
     'items: loop {
-        match tell_item(alloc, course) {
+        match tell_item(alloc, thread, course) {
             Ok(()) => {}
             Err(NoMemory) => return Err(MatchFault::NoMemory),
         }
@@ -114,7 +129,7 @@ fn read_on(alloc: Global, course: &mut Course, bytes: &mut &[u8]) -> Result<(), 
 }
 
 /// Plays what is left of a script that has ended.
-fn read_rest(alloc: Global, course: &mut Course) -> Result<(), MatchFault>
+fn read_rest(alloc: Global, thread: &mut OneThread, course: &mut Course) -> Result<(), MatchFault>
     requires fit { IsFit course.old }
     requires going { IsGoing course.old.ahead }
     requires ended { IsTrue course.old.ended }
@@ -125,7 +140,7 @@ fn read_rest(alloc: Global, course: &mut Course) -> Result<(), MatchFault>
     ensures fit { IsFit course.new }
 {
     'items: loop {
-        match tell_item(alloc, course) {
+        match tell_item(alloc, thread, course) {
             Ok(()) => {}
             Err(NoMemory) => return Err(MatchFault::NoMemory),
         }
@@ -147,7 +162,7 @@ fn read_rest(alloc: Global, course: &mut Course) -> Result<(), MatchFault>
 }
 
 /// Tells the item that waits, if one does.
-fn tell_item(alloc: Global, course: &mut Course) -> Result<(), NoMemory>
+fn tell_item(alloc: Global, thread: &mut OneThread, course: &mut Course) -> Result<(), NoMemory>
     requires fit { IsFit course.old }
     requires going { IsGoing course.old.ahead }
     ensures plays { (left : List ℕ) → Plays course.old course.new left left }
@@ -160,7 +175,14 @@ fn tell_item(alloc: Global, course: &mut Course) -> Result<(), NoMemory>
     match mem::replace(&mut course.ahead, Ahead::Lines) {
         Ahead::Item(item) => {
             let report = course.report;
-            match play_item(alloc, report, &mut course.ground, item, &mut course.waiting) {
+            match play_item(
+                alloc,
+                thread,
+                report,
+                &mut course.ground,
+                item,
+                &mut course.waiting,
+            ) {
                 Ok(()) => Ok(()),
                 Err((NoMemory, item)) => {
                     course.ahead = Ahead::Item(item);

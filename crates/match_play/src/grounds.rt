@@ -1,12 +1,10 @@
 //! What the answers of a match rest on: its map, and what stands on it.
-ghost use Rattle.std.specs.Prelude.{◌≡◌, ◌<◌, ◌^◌, ◌+◌, IfErr, OnErr, OnOk};
+ghost use Rattle.std.specs.Prelude.{◌≡◌, ◌<◌, ◌^◌, ◌+◌, ◌++◌, IfErr, OnErr, OnOk};
 ghost use Rattle.script_text.specs.Pushed.{item_of};
-ghost use Rattle.turn_core.specs.Turns.{after_turn};
-ghost use Rattle.match_play.specs.Texts.{IsTurnText};
 ghost use Rattle.script_text.specs.Script.{ends_turn};
 ghost use Rattle.script_text.specs.declared.items.ScriptItem.TheVariants.{Turn};
 ghost use Rattle.match_play.specs.Playing.{said_of};
-ghost use Rattle.match_play.specs.inner.Fitting.{AddsBase, Begins, FitsBase, FitsItem, FitsTurn, HasTold, StaysFit, Tells, TellsText};
+ghost use Rattle.match_play.specs.inner.Fitting.{AddsBase, Begins, FitsBase, FitsItem, FitsTurn, HasTold, StaysFit, Tells};
 
 use crate::states::Ground;
 use crate::turn_texts::{TurnText, text_of_turn};
@@ -15,12 +13,13 @@ use nav_types::{Bytes, NoMemory};
 use posts::{BaseRects, Report, TurnPosts};
 use script_text::ScriptItem;
 use std::alloc::Global;
-use turn_core::bare_version;
+use turn_core::{OneThread, bare_version};
 
 /// Plays an item: takes what it says of the map, or tells the text of its turn behind what waits. It refuses for want of
 /// memory alone, hands the item back, and what is told and said stays.
 pub(crate) fn play_item(
     alloc: Global,
+    thread: &mut OneThread,
     report: Report,
     ground: &mut Ground,
     item: ScriptItem,
@@ -43,7 +42,7 @@ pub(crate) fn play_item(
             Ok(()) => Ok(()),
             Err(NoMemory) => Err((NoMemory, ScriptItem::Base(rects))),
         },
-        ScriptItem::Turn(posts) => match play_turn(alloc, report, ground, posts, waiting) {
+        ScriptItem::Turn(posts) => match play_turn(alloc, thread, report, ground, posts, waiting) {
             Ok(()) => Ok(()),
             Err((NoMemory, posts)) => Err((NoMemory, ScriptItem::Turn(posts))),
         },
@@ -79,6 +78,7 @@ fn begin_turns(alloc: Global, ground: &mut Ground) -> Result<(), NoMemory>
 /// Tells the text of the next turn behind what waits.
 fn play_turn(
     alloc: Global,
+    thread: &mut OneThread,
     report: Report,
     ground: &mut Ground,
     posts: TurnPosts,
@@ -98,38 +98,36 @@ fn play_turn(
     }
     match ground {
         Ground::Turns(version, turns) => {
-            tell_turn(alloc, report, version, turns, posts, waiting)
+            let turn = *turns + 1;
+            let told = text_of_turn(alloc, thread, report, version, turn, posts)?;
+            step_to(told, version, turns, waiting)
         }
         Ground::Nothing | Ground::Map(_) => unreachable!(),
     }
 }
 
-/// Tells the text of the turn behind so many, and steps to the version after it.
-fn tell_turn(
-    alloc: Global,
-    report: Report,
+/// Tells the text of the next turn behind what waits, and steps to the version after it. Where there is no memory it hands the
+/// posts back.
+fn step_to(
+    told: TurnText,
     version: &mut Version,
     turns: &mut u64,
-    posts: TurnPosts,
     waiting: &mut Bytes,
 ) -> Result<(), (NoMemory, TurnPosts)>
     requires few { turns.old < 2 ^ 32 }
-    ensures told { OnOk result (TellsText (IsTurnText report version.old.map version.old.standing (turns.old + 1) posts)
-        waiting.old waiting.new) }
-    ensures map { OnOk result (version.new.map ≡ version.old.map) }
-    ensures standing { OnOk result (version.new.standing ≡ after_turn version.old.map version.old.standing posts) }
+    ensures text { OnOk result (waiting.new ≡ waiting.old ++ told.text) }
+    ensures after { OnOk result (version.new ≡ told.after) }
     ensures turns { OnOk result (turns.new ≡ turns.old + 1) }
     ensures version { OnErr result (version.new ≡ version.old) }
     ensures same { OnErr result (turns.new ≡ turns.old) }
     ensures waiting { OnErr result (waiting.new ≡ waiting.old) }
-    ensures posts { IfErr result (λ refused. refused.1 ≡ posts) }
+    ensures posts { IfErr result (λ refused. refused.1 ≡ told.posts) }
 {
-    let turn = *turns + 1;
-    let TurnText { text, after, posts } = text_of_turn(alloc, report, version, turn, posts)?;
+    let TurnText { text, after, posts } = told;
     match waiting.extend(text.as_slice()) {
         Ok(()) => {
             *version = after;
-            *turns = turn;
+            *turns += 1;
             Ok(())
         }
         Err(NoMemory) => Err((NoMemory, posts)),

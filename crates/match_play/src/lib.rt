@@ -23,3 +23,4 @@ pub use faults::MatchFault;
 pub use matches::Match;
 pub use posted::{EndedTurn, PostedMatch};
 pub use posts::Report;
+pub use turn_texts::{TurnText, text_of_ready};

@@ -14,6 +14,7 @@ use script_text::PushedScript;
 use std::alloc::Global;
 use std::marker::Model;
 use std::mem;
+use turn_core::OneThread;
 
 /// A match that a game plays by the text of a script.
 ///
@@ -27,6 +28,7 @@ use std::mem;
 #[derive(Drop)]
 pub struct Match {
     course: Course,
+    thread: OneThread,
 }
 
 impl Model for Match {
@@ -60,6 +62,7 @@ impl Match {
                 ground: Ground::Nothing,
                 waiting: Bytes::new(alloc),
             },
+            thread: OneThread::new(),
         }
     }
 
@@ -78,7 +81,7 @@ impl Match {
         ensures kept { result ≡ Err Ended → (self.new ≡ self.old) × (bytes.new.now ≡ bytes.old.now) }
         ensures stays { self.new.ended ≡ self.old.ended }
     {
-        courses::feed(alloc, &mut self.course, bytes)
+        courses::feed(alloc, &mut self.thread, &mut self.course, bytes)
     }
 
     /// Ends the script: it has no more bytes, as the end of its input tells `replay`. What stands behind the last newline
@@ -94,7 +97,7 @@ impl Match {
         ensures again { (result ≡ Err Ended) ↔ IsOver self.old }
         ensures kept { result ≡ Err Ended → self.new ≡ self.old }
     {
-        courses::finish(alloc, &mut self.course)
+        courses::finish(alloc, &mut self.thread, &mut self.course)
     }
 
     /// The text that was told and not taken yet.

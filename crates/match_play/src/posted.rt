@@ -7,14 +7,13 @@ ghost use Rattle.turn_core.specs.Notes.{AreNotes};
 ghost use Rattle.turn_core.specs.Turns.{IsTurnTold, after_turn, standing};
 ghost use Rattle.turn_core.specs.Words.{bare};
 
-use crate::turn_texts::{NotedAnswers, noted_answers};
 use grid_versions::Version;
 use nav_types::{Bytes, NoMemory};
 use posts::{Journal, MapSpec, Notes, Report, TurnPosts, TurnReplies};
 use script_text::{write_journal, write_map};
 use std::alloc::Global;
 use std::marker::Model;
-use turn_core::{AnsweredTurn, ReadyTurn, bare_version};
+use turn_core::{AnsweredTurn, NotedAnswers, OneThread, ReadyTurn, bare_version};
 
 /// What a turn is answered: the replies to its posts with the turn's numbers, and the notes of its requests.
 #[derive(Drop)]
@@ -29,6 +28,7 @@ pub struct EndedTurn {
 pub struct PostedMatch {
     version: Version,
     journal: Journal,
+    thread: OneThread,
 }
 
 impl Model for PostedMatch {
@@ -57,6 +57,7 @@ impl PostedMatch {
         Ok(PostedMatch {
             version,
             journal: Journal::new(alloc),
+            thread: OneThread::new(),
         })
     }
 
@@ -84,7 +85,10 @@ impl PostedMatch {
         ensures posts { IfErr result (λ refused. refused.1 ≡ posts) }
     {
         let ready = ReadyTurn::new(alloc, &self.version, posts)?;
-        match noted_answers(alloc, ready.version(), ready.jobs(), report) {
+        match self
+            .thread
+            .noted_answers(alloc, ready.version(), ready.jobs(), report)
+        {
             Ok(NotedAnswers { answers, notes }) => {
                 let (posts, AnsweredTurn { replies, after }) = ready.answered(answers);
                 self.journal.push(posts)?;

@@ -1,4 +1,4 @@
-//! The text of a turn that one thread answers.
+//! The text of a turn.
 ghost use Rattle.std.specs.Prelude.{◌≡◌, IfErr, IfOk};
 ghost use Rattle.posts.specs.Posts.{jobs};
 ghost use Rattle.turn_core.specs.Notes.{AreNotes};
@@ -10,29 +10,23 @@ ghost use Rattle.match_play.specs.Texts.{IsTurnText};
 use answer_text::noted_text;
 use grid_versions::Version;
 use nav_types::{Bytes, NoMemory};
-use posts::{Answers, Jobs, Noted, Notes, Report, TurnPosts};
+use posts::{Report, TurnPosts};
 use std::alloc::Global;
-use turn_core::{AnsweredTurn, ReadyTurn, Solver};
+use turn_core::{AnsweredTurn, NotedAnswers, OneThread, ReadyTurn};
 
 /// A turn's posts, its text, and the version after it.
 #[derive(Drop)]
-pub(crate) struct TurnText {
+pub struct TurnText {
     pub posts: TurnPosts,
     pub text: Bytes,
     pub after: Version,
 }
 
-/// The answers to the jobs of a turn, and their notes, each in the place of its job.
-#[derive(Drop)]
-pub(crate) struct NotedAnswers {
-    pub answers: Answers,
-    pub notes: Notes,
-}
-
-/// Answers the turn of a number on the version before it, and tells the answers. It refuses for want of memory alone, and
-/// hands the posts back.
+/// Has a thread answer the turn of a number on the version before it, and tells the answers. It refuses for want of memory
+/// alone, and hands the posts back.
 pub(crate) fn text_of_turn(
     alloc: Global,
+    thread: &mut OneThread,
     report: Report,
     version: &Version,
     turn: u64,
@@ -46,14 +40,15 @@ pub(crate) fn text_of_turn(
     ensures back { IfErr result (λ refused. refused.1 ≡ posts) }
 {
     let ready = ReadyTurn::new(alloc, version, posts)?;
-    match noted_answers(alloc, ready.version(), ready.jobs(), report) {
+    match thread.noted_answers(alloc, ready.version(), ready.jobs(), report) {
         Ok(noted) => text_of_ready(alloc, report, ready, noted, turn),
         Err(NoMemory) => Err((NoMemory, ready.into_parts().0)),
     }
 }
 
-/// Tells the answers to a turn whose edits are made.
-fn text_of_ready(
+/// Tells the answers to a turn whose edits are made, with what the report tells beside them, whoever found them. It refuses for
+/// want of memory alone, and hands the posts back.
+pub fn text_of_ready(
     alloc: Global,
     report: Report,
     ready: ReadyTurn,
@@ -74,25 +69,4 @@ fn text_of_ready(
         Ok(text) => Ok(TurnText { posts, text, after }),
         Err(NoMemory) => Err((NoMemory, posts)),
     }
-}
-
-/// The answer to each job on a version, with its note.
-pub(crate) fn noted_answers(
-    alloc: Global,
-    version: &Version,
-    jobs: &Jobs,
-    report: Report,
-) -> Result<NotedAnswers, NoMemory>
-    ensures answers { IfOk result (λ noted. AreAnswersTo version.now.map version.now.standing jobs.now noted.answers) }
-    ensures notes { IfOk result (λ noted. AreNotes version.now.map version.now.standing report jobs.now noted.notes) }
-{
-    let mut solver = Solver::new(alloc, version, report)?;
-    let mut answers = Answers::new(alloc);
-    let mut notes = Notes::new(alloc);
-    for job in jobs.as_slice() {
-        let Noted { answer, note } = solver.solve(alloc, job)?;
-        answers.push(answer)?;
-        notes.push(note)?;
-    }
-    Ok(NotedAnswers { answers, notes })
 }

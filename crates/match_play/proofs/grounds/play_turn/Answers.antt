@@ -1,3 +1,5 @@
+use Rattle.std.proofs.Common.{ap, ◌∙◌}
+use Rattle.turn_core.specs.Words.{MapState}
 use Rattle.match_play.proofs.Fits.{all_ok, stood, turn_told}
 use Rattle.match_play.proofs.grounds.play_turn.Goals as goal
 
@@ -6,7 +8,10 @@ returns-clause-told c =
     let old = c.args.ground.now in
     let v = c.in-Turns.version in
     let n = c.in-Turns.turns in
-    let told = c.tell_turn.ensures in
-    all_ok c.tell_turn.result told.told told.map told.standing told.turns
-    (λ tells map standing turns. turn_told c.args.report old v c.tell_turn.new.version n c.tell_turn.new.turns c.args.posts c.args.waiting.now c.tell_turn.new.waiting
-    (stood old c.begin_turns.new.ground v n c.requires.fits c.in-Ok.ensures.begun c.in-Turns.is) tells map standing turns)
+    let told = c.in_ok-told-in-Turns.told in
+    let is = c.in_ok-told-in-Turns.ensures in
+    let steps = c.step_to.ensures in
+    all_ok c.step_to.result steps.text steps.after steps.turns steps.turns
+    (λ waited after turns again. turn_told c.args.report old v c.step_to.new.version n c.step_to.new.turns c.args.posts c.args.waiting.now c.step_to.new.waiting
+    (stood old c.begin_turns.new.ground v n c.requires.fits c.in-Ok.ensures.begun c.in-Turns.is)
+    (told.text, (is.text, waited)) (ap (λ (w : MapState). w.map) after ∙ is.map) (ap (λ (w : MapState). w.standing) after ∙ is.standing) turns)
