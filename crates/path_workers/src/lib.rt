@@ -17,7 +17,6 @@ mod rooms;
 mod sharing;
 mod turns;
 
-pub use placing::NotedAnswers;
 pub use rooms::Rooms;
 pub use sharing::{LEAST_WORK, WORK_OF_A_WORKER, worth_workers};
 pub use turns::{Workers, run_turn};

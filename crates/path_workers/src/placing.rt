@@ -12,14 +12,7 @@ ghost use Rattle.path_workers.specs.inner.Placing.{IsBelow, answer_of, note_of, 
 
 use nav_types::{NoMemory, Sequence};
 use std::alloc::Global;
-use turn_core::{Answer, Answers, Note, Noted, Notes};
-
-/// The answers to the jobs of a turn, and their notes, each in the place of its job.
-#[derive(Debug, Drop)]
-pub struct NotedAnswers {
-    pub answers: Answers,
-    pub notes: Notes,
-}
+use turn_core::{Answer, Answers, Note, Noted, NotedAnswers, Notes};
 
 /// The answer to a job with its note, and the job's number.
 #[derive(Drop)]

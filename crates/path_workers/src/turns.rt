@@ -5,7 +5,7 @@ ghost use Rattle.turn_core.specs.Notes.{AreNotes};
 ghost use Rattle.path_workers.specs.Sharing.{worth_workers};
 
 use crate::drawing::{Turn, draw_by};
-use crate::placing::{NotedAnswers, blank_places, in_order};
+use crate::placing::{blank_places, in_order};
 use crate::ranking::longest_first;
 use crate::rooms::Rooms;
 use crate::sharing::worth_workers;
@@ -17,7 +17,7 @@ use nav_types::limits::MAX_WORKERS;
 use std::alloc::Global;
 use std::marker::Model;
 use std::thread::Threads;
-use turn_core::{Answers, Jobs, Report};
+use turn_core::{Answers, Jobs, NotedAnswers, Report};
 
 /// The answers to the jobs on a version, each in the place of its job (`AreAnswersTo`), whatever the gate, the number
 /// of workers and the order in which they come to their jobs. There are fewer than 2^32 jobs. It refuses for want of

@@ -10,10 +10,11 @@ ghost use Rattle.pathserve.specs.inner.Writing.{WritesSome};
 use crate::reasons::Reason;
 use crate::scripts::{Opened, open_script, stop_at};
 use crate::status::Status;
-use crate::turn_answers::{Reporter, TurnText, text_of_turn};
+use crate::turn_answers::{Reporter, text_of_turn};
 use crate::writing::{status_of, write_all};
 use grid_versions::Version;
 use io_edges::{Gate, Sink, Source, WriteRefusal};
+use match_play::TurnText;
 use nav_types::NoMemory;
 use std::alloc::Global;
 use std::thread::Threads;
@@ -81,7 +82,7 @@ fn write_turn<R: Threads + Sync, K: Sink, G: Gate + Sync>(
     ensures report { reporter.new.report ≡ reporter.old.report }
 {
     match text_of_turn(alloc, reporter, version, turn, posts) {
-        Ok(TurnText { text, after }) => {
+        Ok(TurnText { text, after, .. }) => {
             write_all(sink, text.as_slice())?;
             *version = after;
             Ok(())

@@ -1,18 +1,20 @@
 //! The answers to a turn by many workers, as replies and as text.
 ghost use Rattle.std.specs.Prelude.{◌≡◌, ◌^◌, ◌<◌, IfOk, length};
 ghost use Rattle.posts.specs.Posts.{jobs};
-ghost use Rattle.turn_core.specs.Turns.{after_turn, IsTurnTold};
+ghost use Rattle.turn_core.specs.Notes.{AreNotes};
 ghost use Rattle.turn_core.specs.ReadyTurns.{after_edits_of};
+ghost use Rattle.turn_core.specs.Solving.{AreAnswersTo};
+ghost use Rattle.turn_core.specs.Turns.{after_turn, IsTurnTold};
 ghost use Rattle.pathserve.specs.Output.{IsTurnText};
 
-use answer_text::noted_text;
 use grid_versions::Version;
 use io_edges::Gate;
-use nav_types::{Bytes, NoMemory};
-use path_workers::{NotedAnswers, Rooms, Workers};
+use match_play::{TurnText, text_of_ready};
+use nav_types::NoMemory;
+use path_workers::{Rooms, Workers};
 use std::alloc::Global;
 use std::thread::Threads;
-use turn_core::{AnsweredTurn, ReadyTurn, Report, TurnPosts};
+use turn_core::{AnsweredTurn, NotedAnswers, ReadyTurn, Report, TurnPosts};
 
 /// Who answers the turns of a script, what is told beside the answers, and the rooms that are kept from turn to turn.
 #[derive(Drop)]
@@ -21,13 +23,6 @@ pub struct Reporter<'a, R, G> {
     pub workers: Workers<'a, G>,
     pub report: Report,
     pub rooms: Rooms,
-}
-
-/// The text of a turn, and the version after the turn.
-#[derive(Drop)]
-pub(crate) struct TurnText {
-    pub text: Bytes,
-    pub after: Version,
 }
 
 /// Answers the turn of a number on the version before it, and tells the answers.
@@ -47,37 +42,37 @@ pub(crate) fn text_of_turn<R: Threads + Sync, G: Gate + Sync>(
     ensures report { reporter.new.report ≡ reporter.old.report }
 {
     let ready = ready_turn(alloc, version, posts)?;
-    text_of_ready(alloc, reporter, ready, turn)
+    let noted = noted_answers(alloc, reporter, &ready)?;
+    match text_of_ready(alloc, reporter.report, ready, noted, turn) {
+        Ok(told) => Ok(told),
+        Err((NoMemory, _posts)) => Err(NoMemory),
+    }
 }
 
-/// Answers a turn whose edits are made, and tells the answers.
-fn text_of_ready<R: Threads + Sync, G: Gate + Sync>(
+/// The answers to the jobs of a turn by as many of the workers as they are worth, with what the report tells of each.
+fn noted_answers<R: Threads + Sync, G: Gate + Sync>(
     alloc: Global,
     reporter: &mut Reporter<'_, R, G>,
-    ready: ReadyTurn,
-    turn: u64,
-) -> Result<TurnText, NoMemory>
-    requires { length (jobs ready.turn) < 2 ^ 32 }
-    ensures text { IfOk result (λ told.
-        IsTurnText reporter.old.report ready.map ready.before turn ready.turn told.text) }
-    ensures map { IfOk result (λ told. told.after.map ≡ ready.map) }
-    ensures standing { IfOk result (λ told. told.after.standing ≡ after_edits_of ready) }
+    ready: &ReadyTurn,
+) -> Result<NotedAnswers, NoMemory>
+    requires { length (jobs ready.now.turn) < 2 ^ 32 }
+    ensures answers { IfOk result (λ noted.
+        AreAnswersTo ready.now.map (after_edits_of ready.now) (jobs ready.now.turn) noted.answers) }
+    ensures notes { IfOk result (λ noted. AreNotes ready.now.map (after_edits_of ready.now) reporter.old.report
+        (jobs ready.now.turn) noted.notes) }
     ensures report { reporter.new.report ≡ reporter.old.report }
 {
     let workers = reporter
         .workers
         .sized_for(ready.version(), ready.jobs(), reporter.report);
-    let NotedAnswers { answers, notes } = workers.run_noted(
+    workers.run_noted(
         reporter.rt,
         alloc,
         ready.version(),
         ready.jobs(),
         reporter.report,
         &mut reporter.rooms,
-    )?;
-    let AnsweredTurn { replies, after } = ready.answered(answers).1;
-    let text = noted_text(alloc, turn, &replies, notes.as_slice())?;
-    Ok(TurnText { text, after })
+    )
 }
 
 /// The replies to a turn on the version before it, and the version after it.
