@@ -82,6 +82,13 @@ def predicted(script, word="replay"):
         return check.predicted(script, word)
 
 
+def is_text(line):
+    try:
+        return bool(line.decode("utf-8"))
+    except UnicodeDecodeError:
+        return False
+
+
 def cause_is_right(script, text, said):
     """Whether this is the one line that is said of a script whose text ends with a bad line."""
     number = int(text.split()[-1])
@@ -93,15 +100,16 @@ def cause_is_right(script, text, said):
         wanted = b"the script must not end inside a turn: its end line is missing"
         return found[1] == (wanted if number > 1 else b"the script must begin with a map line, and has no line")
     line = lines[number - 1]
-    unread = b"the line must be one JSON value"
+    unread, too_deep = b"the line must be one JSON value", b"the line must not have arrays and objects more than 8 deep"
     try:
         check.value_of(line)
     except check.BadLine:
         if not line.strip(b" \t\r"):
             return found[1] == unread + b", and is blank"
-        marked = line.startswith(b"\xef\xbb\xbf")
-        return found[1] == unread + (b", and begins with a byte order mark" if marked else b" in UTF-8")
-    return not found[1].startswith(unread)
+        if line.startswith(b"\xef\xbb\xbf"):
+            return found[1] == unread + b", and begins with a byte order mark"
+        return found[1] == (too_deep if is_text(line) and check.is_deep(line) else unread + b" in UTF-8")
+    return not found[1].startswith((unread, too_deep))
 
 
 def served_wrong(read_script, out):

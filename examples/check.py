@@ -71,13 +71,24 @@ def has_keys(value, *keys):
     return isinstance(value, dict) and set(value) == set(keys)
 
 
-STRING = re.compile(rb'"(?:[^"\\]|\\.)*"')
+DEEPEST = 8  # how deep the arrays and objects of a line may nest
+STRING = re.compile(rb'"(?:[^"\\]|\\.)*(?:"|\\?\Z)')
 LONE_SURROGATE = re.compile(rb"\\u[dD][89abAB]..(?!\\u[dD][c-fC-F])|(?<!\\u[dD][89abAB]..)\\u[dD][c-fC-F]")
 
 
 def in_range(text):
     needs(abs(float(text)) != float("inf"))
     return text
+
+
+def is_deep(line):
+    """Whether more than DEEPEST arrays and objects are open somewhere in the line."""
+    depth = 0
+    for mark in re.findall(rb"[\[\]{}]", STRING.sub(b"", line)):
+        depth = depth + 1 if mark in b"[{" else max(depth - 1, 0)
+        if depth > DEEPEST:
+            return True
+    return False
 
 
 def value_of(line):
@@ -87,9 +98,7 @@ def value_of(line):
     def integer(text):
         return None if text.startswith("-") else int(text)  # one with a sign is no whole number
 
-    if line.count(b"[") + line.count(b"{") > 127:
-        marks = re.findall(rb"[\[\]{}]", STRING.sub(b"", line))
-        needs(max(itertools.accumulate({b"[": 1, b"{": 1}.get(it, -1) for it in marks), default=0) <= 127)
+    needs(not is_deep(line))
     if b"\\u" in line:
         needs(not LONE_SURROGATE.search(line.replace(b"\\\\", b"")))
     try:

@@ -38,7 +38,7 @@ SKIPS = [
      "read the grammar of lines, `Grammar`, in place of the functions that read them"),
     ("script_text", ["canonical_reads_back"], "script_text.specs.ReadsBack", ["canon_script"],
      "the journal of `serve` reads back as the map and the turns that it was written from, where it is within the limits of an input"),
-    ("script_text", ["line_causes", "true_causes", "strange_lines", "blank_lines", "end_causes"], "script_text.specs.Causes", ["cause", "end_cause"],
+    ("script_text", ["line_causes", "true_causes", "strange_lines", "blank_lines", "deep_lines", "end_causes"], "script_text.specs.Causes", ["cause", "end_cause"],
      "a bad line has a cause and no other line has one, and what a cause says of a JSON value is true of it (`IsTrueOf`); of places, versions and bytes these two alone tell"),
     ("answer_text", ["waypoint_is_canonical"], "answer_text.specs.Answers", ["waypoint_text"],
      "a waypoint is the text of its cell's centre along both axes"),

@@ -63,7 +63,7 @@ fn a_script_without_its_map_line_has_a_cause(rt: HostRuntime) {
 }
 
 /// Lines behind a map line of version 3.
-const THIRD_LINES: [Row; 13] = [
+const THIRD_LINES: [Row; 18] = [
     (
         "{\"caller\":0,\n",
         Cause::NotJson,
@@ -86,6 +86,31 @@ const THIRD_LINES: [Row; 13] = [
     ),
     (
         "\u{feff}{\"end\":1}\n",
+        Cause::ByteOrderMark,
+        "the line must be one JSON value, and begins with a byte order mark",
+    ),
+    (
+        "{\"a\":[{\"a\":[{\"a\":[{\"a\":[[]]}]}]}]}\n",
+        Cause::TooDeep,
+        "the line must not have arrays and objects more than 8 deep",
+    ),
+    (
+        "[[[[[[[[[\n",
+        Cause::TooDeep,
+        "the line must not have arrays and objects more than 8 deep",
+    ),
+    (
+        "[[[[[[[[\n",
+        Cause::NotJson,
+        "the line must be one JSON value in UTF-8",
+    ),
+    (
+        "[[[[[[[[]]]]]]],[[[[[[[\"[{\\\"[{\\\\\"]]]]]]]]\n",
+        Cause::NoSuchForm,
+        "the line must be an object with exactly the keys of one form",
+    ),
+    (
+        "\u{feff}[[[[[[[[[\n",
         Cause::ByteOrderMark,
         "the line must be one JSON value, and begins with a byte order mark",
     ),

@@ -142,6 +142,14 @@ fn a_key_that_stands_twice_has_its_last_value(rt: HostRuntime) {
     have_form(&rt, rt.alloc(), MAP_1, NONE, &[last_is_wrong]);
 }
 
+#[test]
+fn a_value_that_does_not_count_may_nest_no_deeper_than_another(rt: HostRuntime) {
+    let shallow = "{\"caller\":[[[[[[[]]]]]]],\"remove\":7,\"caller\":0}";
+    let deep = "{\"caller\":[[[[[[[[]]]]]]]],\"remove\":7,\"caller\":0}";
+    have_form(&rt, rt.alloc(), MAP_1, POST, &[shallow]);
+    have_form(&rt, rt.alloc(), MAP_1, NONE, &[deep]);
+}
+
 /// A script with a post of each form, as it is written.
 const CANONICAL: &str =
     "{\"version\":3,\"size\":[3,2],\"callers\":1,\"classes\":[{\"name\":\"default\",\"clearance\":\"0.5\"}]}\n\

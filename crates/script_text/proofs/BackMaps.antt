@@ -32,7 +32,7 @@ use Rattle.class_config.proofs.ClassLists.{list_of-items_of}
 abbrev IsEntryValue : Size → Rect × ℕ → Type 0
 IsEntryValue size entry = IsRectInside size entry.0 × (entry.1 ≤ 65535)
 
-simple_entry : (size : Size) (entry : Rect × ℕ) → IsEntryValue size entry → IsSimple (entry_json entry) 125
+simple_entry : (size : Size) (entry : Rect × ℕ) → IsEntryValue size entry → IsSimple (entry_json entry) 6
 simple_entry size entry is =
     let rect = entry.0 in let inside = is.0 in let wide = size.wide.few in let high = size.high.few in
     let i0 = rect.i0 in let j0 = rect.j0 in let i1 = rect.i1 in let j1 = rect.j1 in let w = size.w in let h = size.h in (
@@ -71,7 +71,7 @@ base_back size rects inside masks =
     let all : All (IsEntryValue size) rects = λ k d lt. (inside k d lt, masks k d lt) in
     let entries = sorted (list_json (map entry_json rects)) in
     reads_sorted (base_json rects) (λ d. base_of size d ≡ Some rects)
-    ((refl, refl), simple_list entry_json (IsEntryValue size) 125 (simple_entry size) rects all, tt)
+    ((refl, refl), simple_list entry_json (IsEntryValue size) 6 (simple_entry size) rects all, tt)
     (base-from size (sorted (base_json rects)) rects
     (entries, one_key (codes "base") entries, array_list entry_json (IsEntryValue size) (IsEntry size) (says_entry size) rects all))
 
@@ -92,7 +92,7 @@ fits_clearance (negsuc n) h = absurd (cc)
 class_parts : (class : PassabilityClass) → IsClass class → (is_class_name class.name ≡ true) × (is_clearance class.clearance ≡ true)
 class_parts class is = and_parts (is_class_name class.name) (is_clearance class.clearance) is
 
-simple_class : (class : PassabilityClass) → IsClass class → IsSimple (class_json class) 125
+simple_class : (class : PassabilityClass) → IsClass class → IsSimple (class_json class) 6
 simple_class class is =
     let p = class_parts class is in
     ((refl, refl), text-name class.name p.0, ((refl, refl), text-fixed_text class.clearance (fits_clearance class.clearance p.1), tt))
@@ -157,10 +157,10 @@ last_two_first k l m n d e f g = record {
   );
 }
 
-simple_map : (m : Map) → IsMapValue m → IsSimple (map_json m) 127
+simple_map : (m : Map) → IsMapValue m → IsSimple (map_json m) 8
 unfolding map_json
 simple_map m is =
-    let classes = simple_list class_json IsClass 125 simple_class m.classes (all_pass is_class m.classes (each_class m.classes is.classes)) in
+    let classes = simple_list class_json IsClass 6 simple_class m.classes (all_pass is_class m.classes (each_class m.classes is.classes)) in
     let w = limited m.size.w 2048 m.size.wide.few (omega arith) in let h = limited m.size.h 2048 m.size.high.few (omega arith) in (
       (refl, refl),
       limited m.version 3 is.is.newest (omega arith),

@@ -82,15 +82,15 @@ add_json masked caller id mask shape = object_json (
     ∷ cond masked ((codes "mask", whole_json mask) ∷ []) [])
 
 simple_add : (masked : Bool) (caller id mask : ℕ) (shape : Shape) → caller < 2 ^ 64 → id < 2 ^ 64 → mask < 2 ^ 64 → AreFixed (shape_decimals shape)
-    → IsSimple (add_json masked caller id mask shape) 127
+    → IsSimple (add_json masked caller id mask shape) 8
 simple_add true caller id mask (UnitShape x z half) c i m fixed =
-    ((refl, refl), c, ((refl, refl), i, ((refl, refl), simple_decimals (x ∷ z ∷ half ∷ []) 125 fixed, ((refl, refl), m, tt))))
+    ((refl, refl), c, ((refl, refl), i, ((refl, refl), simple_decimals (x ∷ z ∷ half ∷ []) 6 fixed, ((refl, refl), m, tt))))
 simple_add true caller id mask (SquareShape r) c i m fixed =
-    ((refl, refl), c, ((refl, refl), i, ((refl, refl), simple_decimals (rectangle_decimals r) 125 fixed, ((refl, refl), m, tt))))
+    ((refl, refl), c, ((refl, refl), i, ((refl, refl), simple_decimals (rectangle_decimals r) 6 fixed, ((refl, refl), m, tt))))
 simple_add false caller id mask (UnitShape x z half) c i m fixed =
-    ((refl, refl), c, ((refl, refl), i, ((refl, refl), simple_decimals (x ∷ z ∷ half ∷ []) 125 fixed, tt)))
+    ((refl, refl), c, ((refl, refl), i, ((refl, refl), simple_decimals (x ∷ z ∷ half ∷ []) 6 fixed, tt)))
 simple_add false caller id mask (SquareShape r) c i m fixed =
-    ((refl, refl), c, ((refl, refl), i, ((refl, refl), simple_decimals (rectangle_decimals r) 125 fixed, tt)))
+    ((refl, refl), c, ((refl, refl), i, ((refl, refl), simple_decimals (rectangle_decimals r) 6 fixed, tt)))
 
 below_two : (version : ℕ) → nat_le 2 version ≡ false → version < 2
 below_two version e = elim (leb_tells 2 version) [ inl h ↦ (let t = h.0 in absurd (cc)) | inr h ↦ h.1 ]
@@ -147,17 +147,17 @@ says_add false version callers caller id mask (SquareShape r) e has below few bi
 
 -- ---- post lines
 
-simple_post : (version caller : ℕ) (post : Post) → caller < 2 ^ 64 → IsPostValue post → IsSimple (post_json version caller post) 127
+simple_post : (version caller : ℕ) (post : Post) → caller < 2 ^ 64 → IsPostValue post → IsSimple (post_json version caller post) 8
 unfolding post_json
 simple_post version caller (Edits (Add id o)) c is =
     simple_add (nat_le 2 version) caller id o.mask o.shape c (small id 4294967295 (omega arith) is.0) (small o.mask 65535 (omega arith) is.2) is.1
 simple_post version caller (Edits (Remove id)) c is = ((refl, refl), c, ((refl, refl), small id 4294967295 (omega arith) is, tt))
 simple_post version caller (Edits (Move id x z)) c is =
-    ((refl, refl), c, ((refl, refl), small id 4294967295 (omega arith) is.0, ((refl, refl), simple_decimals (x ∷ z ∷ []) 125 is.1, tt)))
+    ((refl, refl), c, ((refl, refl), small id 4294967295 (omega arith) is.0, ((refl, refl), simple_decimals (x ∷ z ∷ []) 6 is.1, tt)))
 simple_post version caller (Asks (Path class x z goal)) c is =
-    ((refl, refl), c, ((refl, refl), text-name class is.0, ((refl, refl), simple_decimals (x ∷ z ∷ []) 125 is.1, ((refl, refl), simple_goal goal is.2, tt))))
+    ((refl, refl), c, ((refl, refl), text-name class is.0, ((refl, refl), simple_decimals (x ∷ z ∷ []) 6 is.1, ((refl, refl), simple_goal goal is.2, tt))))
 simple_post version caller (Asks (Region class x z)) c is =
-    ((refl, refl), c, ((refl, refl), text-name class is.0, ((refl, refl), simple_decimals (x ∷ z ∷ []) 125 is.1, tt)))
+    ((refl, refl), c, ((refl, refl), text-name class is.0, ((refl, refl), simple_decimals (x ∷ z ∷ []) 6 is.1, tt)))
 
 says_post : (version callers caller : ℕ) (post : Post) → caller < callers → IsPostValue post → is_post_of version post ≡ true
     → IsPostLine version callers caller post (sorted (post_json version caller post))

@@ -1,5 +1,5 @@
 -- Values of whole numbers and strings of plain ASCII: their texts, and what is read of these.
-use Rattle.std.proofs.Common.{◌≡◌, ◌≢◌, ℕ, zero, suc, ◌/◌, ◌%◌, ◌^◌, ◌<◌, ◌≤◌, ◌&&◌, ◌||◌, ◌==◌, ◌++◌, List, [], ◌∷◌, length, Bool, true, false, cond, nat_le, nat_lt, Some, None, option_map, option_and_then, ℤ, decimal, refl, ap, sym, ◌∙◌, arith, append-nil, lt-ltb, FitsSigned}
+use Rattle.std.proofs.Common.{◌≡◌, ◌≢◌, ℕ, zero, suc, ◌+◌, ◌-◌, ◌/◌, ◌%◌, ◌^◌, ◌<◌, ◌≤◌, ◌&&◌, ◌||◌, ◌==◌, ◌++◌, List, [], ◌∷◌, length, Bool, true, false, cond, nat_le, nat_lt, Some, None, option_map, option_and_then, ℤ, decimal, refl, ap, sym, ◌∙◌, arith, append_assoc, append-nil, lt-ltb, FitsSigned}
 use Rattle.std.specs.Prelude.{⊤, unsigned_abs}
 use Rattle.std.specs.Char.{is_ascii_digit, is_ascii_alphanumeric}
 use Rattle.std.specs.Int.{w32, is_negative}
@@ -32,6 +32,8 @@ use Rattle.class_config.specs.Forms.{is_class_name}
 use Rattle.script_text.specs.inner.Plain.{is_plain}
 use Rattle.input_lines.specs.Lines.{IsPlain}
 use Rattle.script_text.proofs.BackForms.{ReadsTo}
+use Rattle.script_text.specs.Nesting.{fits, is_shallow}
+use Rattle.script_text.proofs.ShallowTexts.{digits_passed, quoted_passed, comma_passed}
 use Rattle.script_text.proofs.CanonTexts.{plain-decimal, plain-fixed_text, plain-name, quoted-plain}
 
 -- ---- bytes
@@ -274,21 +276,64 @@ all_ascii (c ∷ cs) h =
     let s = and_parts (is_shown c) (list_all is_shown cs) h in
     and_from (nat_lt c 128) (are_ascii cs) (and_parts (nat_le 32 c) (is_ascii c) s.0).1 (all_ascii cs s.1)
 
-read_text : (d : Data) → IsSimple d 127 → read (compact_text d) ≡ Some (sorted d)
+closed : (depth : ℕ) → (depth + 1) - 1 ≡ depth
+closed depth = omega arith
+
+-- what follows a value of so many levels fits where the value and what follows it do
+mutual
+  value_passed : (d : Data) (levels depth : ℕ) (rest : List ℕ) → IsSimple d levels → depth + levels ≤ 8 → fits depth (compact_text d ++ rest) ≡ fits depth rest
+  value_passed null levels depth rest is few = absurd is
+  value_passed (boolean b) levels depth rest is few = absurd is
+  value_passed (number (unsigned n)) levels depth rest is few =
+      digits_passed (decimal n) depth rest (digits_decimal (numerals_by_value _ tells_all_ascii_digits) n is)
+  value_passed (number (negative z)) levels depth rest is few = absurd is
+  value_passed (number (float x)) levels depth rest is few = absurd is
+  value_passed (string s) levels depth rest is few = quoted_passed s depth rest is.0
+  value_passed (array ds) zero depth rest is few = absurd is
+  value_passed (array ds) (suc levels) depth rest is few =
+      ap (λ b. b && fits (depth + 1) (items_text false ds ++ rest)) (lt-ltb depth 8 (omega (arith, few))) ∙ items_passed false ds levels depth rest is (omega (arith, few))
+  value_passed (object ms) zero depth rest is few = absurd is
+  value_passed (object ms) (suc levels) depth rest is few =
+      ap (λ b. b && fits (depth + 1) (members_text false ms ++ rest)) (lt-ltb depth 8 (omega (arith, few))) ∙ members_passed false ms levels depth rest is (omega (arith, few))
+
+  items_passed : (later : Bool) (ds : Items) (levels depth : ℕ) (rest : List ℕ) → AreSimple ds levels → (depth + 1) + levels ≤ 8
+      → fits (depth + 1) (items_text later ds ++ rest) ≡ fits depth rest
+  items_passed later no_items levels depth rest is few = ap (λ n. fits n rest) (closed depth)
+  items_passed later (item d ds) levels depth rest is few =
+      let more = items_text true ds in
+      ap (fits (depth + 1)) (append_assoc (comma_if later) (compact_text d ++ more) rest) ∙ comma_passed later (depth + 1) ((compact_text d ++ more) ++ rest)
+      ∙ ap (fits (depth + 1)) (append_assoc (compact_text d) more rest) ∙ value_passed d levels (depth + 1) (more ++ rest) is.0 few
+      ∙ items_passed true ds levels depth rest is.1 few
+
+  members_passed : (later : Bool) (ms : Members) (levels depth : ℕ) (rest : List ℕ) → HaveSimple ms levels → (depth + 1) + levels ≤ 8
+      → fits (depth + 1) (members_text later ms ++ rest) ≡ fits depth rest
+  members_passed later no_members levels depth rest is few = ap (λ n. fits n rest) (closed depth)
+  members_passed later (member k d ms) levels depth rest is few =
+      let more = members_text true ms in let value = 58 ∷ (compact_text d ++ more) in
+      ap (fits (depth + 1)) (append_assoc (comma_if later) (quoted k ++ value) rest) ∙ comma_passed later (depth + 1) ((quoted k ++ value) ++ rest)
+      ∙ ap (fits (depth + 1)) (append_assoc (quoted k) value rest) ∙ quoted_passed k (depth + 1) (value ++ rest) is.0.0
+      ∙ ap (fits (depth + 1)) (append_assoc (compact_text d) more rest) ∙ value_passed d levels (depth + 1) (more ++ rest) is.1 few
+      ∙ members_passed true ms levels depth rest is.2 few
+
+text_shallow : (d : Data) → IsSimple d 8 → is_shallow (compact_text d) ≡ true
+text_shallow d is = ap (fits 0) (sym (append-nil (compact_text d))) ∙ value_passed d 8 0 [] is (omega arith)
+
+read_text : (d : Data) → IsSimple d 8 → read (compact_text d) ≡ Some (sorted d)
 read_text d is =
     let j = outline d in
     let those : tokens (compact_text d) ≡ json_tokens j ++ [] =
-    ap tokens (sym (print-outline d)) ∙ tokens-print (json_tokens j) (ArePrintable-json_tokens j (numbers d 127 is)) ∙ sym (append-nil (json_tokens j)) in
+    ap tokens (sym (print-outline d)) ∙ tokens-print (json_tokens j) (ArePrintable-json_tokens j (numbers d 8 is)) ∙ sym (append-nil (json_tokens j)) in
     ap (λ o. option_and_then of_json (option_and_then (λ p. json.if_last p.0 p.1) o))
-    (ap (json.value max_depth) those ∙ value-json_tokens j max_depth [] (shallow d 127 is))
-    ∙ of_outline d 127 is
+    (ap (json.value max_depth) those ∙ value-json_tokens j max_depth [] (omega (arith, shallow d 8 is)))
+    ∙ of_outline d 8 is
 
 -- the text of a value has no newline, and reads as the value with its members sorted
-pub reads_sorted : (d : Data) (Says : Data → Type 0) → IsSimple d 127 → Says (sorted d) → ReadsTo d Says
+pub reads_sorted : (d : Data) (Says : Data → Type 0) → IsSimple d 8 → Says (sorted d) → ReadsTo d Says
 reads_sorted d Says is says = record {
-  plain = no_newline (compact_text d) (shown d 127 is);
+  plain = no_newline (compact_text d) (shown d 8 is);
   value = sorted d;
-  reads = ap (λ b. cond b (read (compact_text d)) None) (is_utf8-from_IsUtf8 (compact_text d) (IsUtf8-are_ascii (compact_text d) (all_ascii (compact_text d) (shown d 127 is))))
-      ∙ read_text d is;
+  reads = ap (λ b. cond (b && is_shallow (compact_text d)) (read (compact_text d)) None)
+      (is_utf8-from_IsUtf8 (compact_text d) (IsUtf8-are_ascii (compact_text d) (all_ascii (compact_text d) (shown d 8 is))))
+      ∙ ap (λ b. cond b (read (compact_text d)) None) (text_shallow d is) ∙ read_text d is;
   says = says;
 }

@@ -1,18 +1,22 @@
--- A line of white space is no value.
-use Rattle.std.proofs.Common.{◌≡◌, ◌↔◌, ℕ, ◌||◌, ◌==◌, List, [], ◌∷◌, Bool, true, false, cond, Option, Some, None, option_and_then, refl, ap, ◌∙◌}
-use Rattle.std.specs.Prelude.{IsTrue}
+-- A line of white space is no value, and neither is one that nests too deep.
+use Rattle.std.proofs.Common.{◌≡◌, ◌↔◌, ℕ, ◌&&◌, ◌||◌, ◌==◌, List, [], ◌∷◌, Bool, true, false, not, cond, Option, Some, None, option_and_then, refl, ap, sym, ◌∙◌}
+use Rattle.std.specs.Prelude.{IsTrue, IsFalse}
 use Rattle.std.specs.List.{list_all}
-use Rattle.std.specs.Str.{is_utf8}
-use Rattle.std.proofs.lemmas.Bool.{and_parts}
+use Rattle.std.specs.Str.{IsUtf8, is_utf8}
+use Rattle.std.proofs.lemmas.Bool.{and_parts, false≢true}
 use Rattle.std.proofs.lemmas.Bool.Decides.{Decides-eqb}
+use Rattle.std.proofs.lemmas.Str.{IsUtf8-from_is_utf8, is_utf8-from_IsUtf8}
 use Rattle.json.specs.Lex.{between, lex, punctuate, fresh}
 use Rattle.json.specs.Json as json
 use Rattle.serde_json.specs.Data.{Data}
 use Rattle.serde_json.specs.Read.{read, of_json}
 use Rattle.script_text.specs.declared.parts.Part.{Part}
-use Rattle.script_text.specs.declared.causes.Cause.TheVariants.{BlankLine, ByteOrderMark, NotJson}
+use Rattle.script_text.specs.declared.causes.Cause.TheVariants.{BlankLine, ByteOrderMark, TooDeep, NotJson}
+use Rattle.script_text.specs.Nesting.{is_shallow}
 use Rattle.script_text.specs.Script.{reading_of}
-use Rattle.script_text.specs.Causes.{is_white, is_blank, has_mark, reading_cause, cause}
+use Rattle.script_text.specs.Causes.{is_white, is_blank, has_mark, is_too_deep, reading_cause, cause}
+use Rattle.script_text.proofs.ReadWalk.{reading_of-deep}
+use Rattle.script_text.proofs.ShallowTexts.{blank_shallow}
 use Rattle.script_text.proofs.TrueCauses.{true_causes}
 
 -- white space is passed over
@@ -40,7 +44,7 @@ unfolding json.value punctuate
 read-blank line blank = ap (λ lexemes. option_and_then of_json (option_and_then (λ p. json.if_last p.0 p.1) (json.value 127 (punctuate fresh lexemes)))) (lex-blank line blank)
 
 unread : (line : List ℕ) → is_blank line ≡ true → reading_of line ≡ None
-unread line blank = by_text (is_utf8 line)
+unread line blank = by_text (is_utf8 line && is_shallow line)
   where
     by_text : (b : Bool) → cond b (read line) None ≡ None
     by_text true = read-blank line blank
@@ -49,15 +53,66 @@ unread line blank = by_text (is_utf8 line)
 pub blank_lines : (part : Part) (turn : ℕ) (line : List ℕ) → (cause part turn line ≡ Some BlankLine) ↔ IsTrue (is_blank line)
 blank_lines part turn line = (λ e. told (reading_of line) e, λ blank. ap (reading_cause part turn line) (unread line blank) ∙ first (is_blank line) blank)
   where
-    first : (b : Bool) → b ≡ true → Some (cond b BlankLine (cond (has_mark line) ByteOrderMark NotJson)) ≡ Some BlankLine
+    first : (b : Bool) → b ≡ true → Some (cond b BlankLine (cond (has_mark line) ByteOrderMark (cond (is_too_deep line) TooDeep NotJson))) ≡ Some BlankLine
     first true e = refl
     first false e = absurd (cc)
 
-    by_tests : (blank mark : Bool) → Some (cond blank BlankLine (cond mark ByteOrderMark NotJson)) ≡ Some BlankLine → blank ≡ true
-    by_tests true mark e = refl
-    by_tests false true e = absurd (cc)
-    by_tests false false e = absurd (cc)
+    by_tests : (blank mark deep : Bool) → Some (cond blank BlankLine (cond mark ByteOrderMark (cond deep TooDeep NotJson))) ≡ Some BlankLine → blank ≡ true
+    by_tests true mark deep e = refl
+    by_tests false true deep e = absurd (cc)
+    by_tests false false true e = absurd (cc)
+    by_tests false false false e = absurd (cc)
 
     told : (reading : Option Data) → reading_cause part turn line reading ≡ Some BlankLine → is_blank line ≡ true
-    told None e = by_tests (is_blank line) (has_mark line) e
+    told None e = by_tests (is_blank line) (has_mark line) (is_too_deep line) e
     told (Some d) e = absurd (true_causes part turn d BlankLine e)
+
+-- ---- lines that nest too deep
+
+pub too_deep-text : (line : List ℕ) (shallow : Bool) → IsUtf8 line → shallow ≡ is_shallow line → not shallow ≡ is_too_deep line
+too_deep-text line shallow text e = ap not e ∙ sym (ap (λ b. b && not (is_shallow line)) (is_utf8-from_IsUtf8 line text))
+
+pub too_deep-none : (line : List ℕ) → (IsUtf8 line → ⊥) → false ≡ is_too_deep line
+too_deep-none line no_text = by_text (is_utf8 line) refl
+  where
+    by_text : (b : Bool) → is_utf8 line ≡ b → false ≡ (b && not (is_shallow line))
+    by_text true e = absurd (no_text (IsUtf8-from_is_utf8 line e))
+    by_text false e = refl
+
+pub deep_lines : (part : Part) (turn : ℕ) (line : List ℕ) → (cause part turn line ≡ Some TooDeep) ↔ (IsTrue (is_too_deep line) × IsFalse (has_mark line))
+deep_lines part turn line = (λ e. told (reading_of line) e, λ deep. ap (reading_cause part turn line) (sym (none deep.0)) ∙ third (is_blank line) (has_mark line) (is_too_deep line) (some deep.0) deep.1 deep.0)
+  where
+    shallow : is_too_deep line ≡ true → is_shallow line ≡ false
+    shallow deep = is_false (is_shallow line) (and_parts (is_utf8 line) (not (is_shallow line)) deep).1
+      where
+        is_false : (b : Bool) → not b ≡ true → b ≡ false
+        is_false true h = absurd (cc)
+        is_false false h = refl
+
+    none : is_too_deep line ≡ true → None ≡ reading_of line
+    none deep = reading_of-deep line (shallow deep)
+
+    -- a byte opens an array or an object
+    some : is_too_deep line ≡ true → is_blank line ≡ false
+    some deep = by_blank (is_blank line) refl
+      where
+        by_blank : (b : Bool) → is_blank line ≡ b → b ≡ false
+        by_blank true blank = absurd (false≢true (sym (shallow deep) ∙ blank_shallow line blank))
+        by_blank false blank = refl
+
+    third : (blank mark deep : Bool) → blank ≡ false → mark ≡ false → deep ≡ true
+        → Some (cond blank BlankLine (cond mark ByteOrderMark (cond deep TooDeep NotJson))) ≡ Some TooDeep
+    third true mark deep e f g = absurd (cc)
+    third false true deep e f g = absurd (cc)
+    third false false true e f g = refl
+    third false false false e f g = absurd (cc)
+
+    by_tests : (blank mark deep : Bool) → Some (cond blank BlankLine (cond mark ByteOrderMark (cond deep TooDeep NotJson))) ≡ Some TooDeep → (deep ≡ true) × (mark ≡ false)
+    by_tests true mark deep e = absurd (cc)
+    by_tests false true deep e = absurd (cc)
+    by_tests false false true e = (refl, refl)
+    by_tests false false false e = absurd (cc)
+
+    told : (reading : Option Data) → reading_cause part turn line reading ≡ Some TooDeep → (is_too_deep line ≡ true) × (has_mark line ≡ false)
+    told None e = by_tests (is_blank line) (has_mark line) (is_too_deep line) e
+    told (Some d) e = absurd (true_causes part turn d TooDeep e)

@@ -277,14 +277,14 @@ goal_true version f d g outer at whole none =
 
 -- ---- canonical goals
 
-simple_shape : (goal : Goal) → AreFixed (goal_decimals goal) → IsSimple (shape_json (goal_key_text (key_of goal)) (goal_decimals goal)) 126
-simple_shape (Point x z) is = ((refl, refl), simple_decimals (x ∷ z ∷ []) 124 is, tt)
-simple_shape (Circle x z r) is = ((refl, refl), simple_decimals (x ∷ z ∷ r ∷ []) 124 is, tt)
-simple_shape (NotCircle x z r) is = ((refl, refl), simple_decimals (x ∷ z ∷ r ∷ []) 124 is, tt)
-simple_shape (Square r) is = ((refl, refl), simple_decimals (rectangle_decimals r) 124 is, tt)
-simple_shape (NotSquare r) is = ((refl, refl), simple_decimals (rectangle_decimals r) 124 is, tt)
+simple_shape : (goal : Goal) → AreFixed (goal_decimals goal) → IsSimple (shape_json (goal_key_text (key_of goal)) (goal_decimals goal)) 7
+simple_shape (Point x z) is = ((refl, refl), simple_decimals (x ∷ z ∷ []) 5 is, tt)
+simple_shape (Circle x z r) is = ((refl, refl), simple_decimals (x ∷ z ∷ r ∷ []) 5 is, tt)
+simple_shape (NotCircle x z r) is = ((refl, refl), simple_decimals (x ∷ z ∷ r ∷ []) 5 is, tt)
+simple_shape (Square r) is = ((refl, refl), simple_decimals (rectangle_decimals r) 5 is, tt)
+simple_shape (NotSquare r) is = ((refl, refl), simple_decimals (rectangle_decimals r) 5 is, tt)
 
-pub simple_goal : (goal : GoalSpec) → IsGoalValue goal → IsSimple (goal_json goal) 126
+pub simple_goal : (goal : GoalSpec) → IsGoalValue goal → IsSimple (goal_json goal) 7
 unfolding goal_json
 simple_goal (Plain goal) is = simple_shape goal is
 simple_goal (ByObstruction id grow) is = ((refl, refl), (small id 4294967295 (omega arith) is.0, (text-fixed_text grow is.1, tt)), tt)

@@ -21,6 +21,7 @@ pub mod PostVersions
 mod TurnItems
 pub mod CanonTexts
 pub mod BackForms
+pub mod ShallowTexts
 pub mod BackTexts
 pub mod BackValues
 pub mod BackPosts

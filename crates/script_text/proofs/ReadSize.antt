@@ -1,5 +1,5 @@
 -- An object has at least two bytes.
-use Rattle.std.proofs.Common.{◌≡◌, ◌≢◌, ℕ, zero, suc, ◌<◌, ◌≤◌, ◌==◌, ◌||◌, List, [], ◌∷◌, length, get_or, cond, Bool, true, false, Option, Some, None, IsSome, refl, ap, sym, subst, ◌∙◌, arith}
+use Rattle.std.proofs.Common.{◌≡◌, ◌≢◌, ℕ, zero, suc, ◌<◌, ◌≤◌, ◌==◌, ◌&&◌, ◌||◌, List, [], ◌∷◌, length, get_or, cond, Bool, true, false, Option, Some, None, IsSome, refl, ap, sym, subst, ◌∙◌, arith}
 use Rattle.std.proofs.lemmas.Bool.{eqb-true, eqb-false, false≢true}
 use Rattle.std.specs.Str.{is_utf8}
 use Rattle.serde_json.specs.Data.{Data, Members, null, boolean, number, string, array, object}
@@ -7,6 +7,7 @@ use Rattle.serde_json.specs.Read.{read}
 use Rattle.serde_json.proofs.OnLiterals.{serde_json_on_literals}
 use Rattle.script_text.specs.declared.forms.CallerPost.{CallerPost}
 use Rattle.script_text.specs.Forms.{post_of, end_of}
+use Rattle.script_text.specs.Nesting.{is_shallow}
 use Rattle.script_text.specs.Script.{reading_of}
 use Rattle.script_text.specs.inner.Judging.{IsObject}
 use Rattle.script_text.proofs.FormKinds.{end_of-object, post_of-object}
@@ -77,7 +78,7 @@ two_bytes line (boolean b) low e h = absurd h
 two_bytes line (number n) low e h = absurd h
 two_bytes line (string s) low e h = absurd h
 two_bytes line (array ds) low e h = absurd h
-two_bytes line (object ms) low e h = short_text line ms low (read_by (is_utf8 line) line (object ms) e)
+two_bytes line (object ms) low e h = short_text line ms low (read_by (is_utf8 line && is_shallow line) line (object ms) e)
 
 -- no byte has no reading
 no_text : read [] ≡ None
@@ -89,7 +90,7 @@ none_by true = no_text
 none_by false = refl
 
 pub reading_of-nil : reading_of [] ≡ None
-reading_of-nil = none_by (is_utf8 [])
+reading_of-nil = none_by (is_utf8 [] && is_shallow [])
 
 -- ---- lines of turns
 

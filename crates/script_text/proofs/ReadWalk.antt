@@ -1,13 +1,14 @@
 -- The walk over the lines of an input, and the reading of the whole.
-use Rattle.std.proofs.Common.{◌≡◌, ◌≢◌, ℕ, ◌+◌, ◌<◌, ◌≤◌, ◌⊎◌, List, [], ◌∷◌, ◌++◌, length, Bool, true, false, cond, nat_lt, Some, None, refl, ap, sym, inl, inr, ◌∙◌, arith, append_assoc, length-append}
+use Rattle.std.proofs.Common.{◌≡◌, ◌≢◌, ℕ, ◌+◌, ◌<◌, ◌≤◌, ◌&&◌, ◌⊎◌, List, [], ◌∷◌, ◌++◌, length, Bool, true, false, cond, nat_lt, Some, None, refl, ap, sym, inl, inr, ◌∙◌, arith, append_assoc, length-append}
 use Rattle.std.specs.Str.{IsUtf8, is_utf8}
-use Rattle.std.proofs.lemmas.Bool.{lt-ltb, or_left, or_right}
+use Rattle.std.proofs.lemmas.Bool.{and_from, and_parts, false≢true, lt-ltb, or_left, or_right}
 use Rattle.std.proofs.lemmas.List.{append-nil}
 use Rattle.std.proofs.lemmas.List.Elements.{All-append}
 use Rattle.std.proofs.lemmas.Str.{IsUtf8-from_is_utf8, is_utf8-from_IsUtf8}
 use Rattle.serde_json.specs.Data.{Data}
 use Rattle.serde_json.specs.Read.{read}
 use Rattle.input_lines.specs.Lines.{full_lines, tail_of, IsPlain}
+use Rattle.script_text.specs.Nesting.{is_shallow}
 use Rattle.script_text.specs.Script.{Place, Item, Walk, Ends, at_place, stuck_by, too_long, arrived, stuck, chain, chain_from, reading_of, counted, placed, is_long, accept, walk, finish, last_line, reading}
 use Rattle.input_lines.proofs.Newlines.{cut_at_newline}
 use Rattle.input_lines.proofs.LineLists.{full_lines-plain, tail_of-plain, full_lines-line, tail_of-line}
@@ -17,15 +18,21 @@ use Rattle.input_lines.proofs.LineLists.{full_lines-plain, tail_of-plain, full_l
 reading_by : (b : Bool) (line : List ℕ) → b ≡ true → cond b (read line) None ≡ read line
 reading_by b line e = ap (λ t. cond t (read line) None) e
 
-pub reading_of-text : (line : List ℕ) (d : Data) → IsUtf8 line → read line ≡ Some d → Some d ≡ reading_of line
-reading_of-text line d text e = sym (reading_by (is_utf8 line) line (is_utf8-from_IsUtf8 line text) ∙ e)
+pub reading_of-text : (line : List ℕ) (d : Data) → is_shallow line ≡ true → IsUtf8 line → read line ≡ Some d → Some d ≡ reading_of line
+reading_of-text line d shallow text e =
+    sym (reading_by (is_utf8 line && is_shallow line) line (and_from (is_utf8 line) (is_shallow line) (is_utf8-from_IsUtf8 line text) shallow) ∙ e)
 
 none_by : (b : Bool) (line : List ℕ) → (b ≡ true → read line ≡ None) → None ≡ cond b (read line) None
 none_by true line h = sym (h refl)
 none_by false line h = refl
 
 pub reading_of-none : (line : List ℕ) → (IsUtf8 line → read line ≡ None) → None ≡ reading_of line
-reading_of-none line h = none_by (is_utf8 line) line (λ e. h (IsUtf8-from_is_utf8 line e))
+reading_of-none line h =
+    none_by (is_utf8 line && is_shallow line) line (λ e. h (IsUtf8-from_is_utf8 line (and_parts (is_utf8 line) (is_shallow line) e).0))
+
+pub reading_of-deep : (line : List ℕ) → is_shallow line ≡ false → None ≡ reading_of line
+reading_of-deep line deep =
+    none_by (is_utf8 line && is_shallow line) line (λ e. absurd (false≢true (sym deep ∙ (and_parts (is_utf8 line) (is_shallow line) e).1)))
 
 -- ---- chains
 

@@ -1,7 +1,7 @@
 -- What a cause says.
 use Rattle.std.specs.Prelude.{ℕ, List, ◌++◌, codes, decimal}
 use Rattle.script_text.specs.declared.causes.Cause.{Cause}
-use Rattle.script_text.specs.declared.causes.Cause.TheVariants.{BlankLine, ByteOrderMark, NotJson, UnknownKey, MissingKey, NoSuchForm, WrongValue, WrongRectangle, MissingMask, LaterVersion, NotHere, EndsInsideTurn, NoLine}
+use Rattle.script_text.specs.declared.causes.Cause.TheVariants.{BlankLine, ByteOrderMark, TooDeep, NotJson, UnknownKey, MissingKey, NoSuchForm, WrongValue, WrongRectangle, MissingMask, LaterVersion, NotHere, EndsInsideTurn, NoLine}
 use Rattle.script_text.specs.declared.causes.keys.Wanted.{Wanted}
 use Rattle.script_text.specs.declared.causes.keys.Wanted.TheVariants.{Whole, Caller, Turn, Sides, Classes, Rectangles, ClassName, TwoDecimals, ThreeDecimals, SixDecimals, NumberAndDecimal, Goal}
 use Rattle.script_text.specs.Causes.{key_text}
@@ -27,6 +27,7 @@ wanted_text (Goal version) = codes "an object with exactly one key: " ++ goal_ke
 abbrev pub cause_text : Cause → List ℕ
 cause_text BlankLine = codes "the line must be one JSON value, and is blank"
 cause_text ByteOrderMark = codes "the line must be one JSON value, and begins with a byte order mark"
+cause_text TooDeep = codes "the line must not have arrays and objects more than 8 deep"
 cause_text NotJson = codes "the line must be one JSON value in UTF-8"
 cause_text (UnknownKey name) = codes "the line must have the keys of one form, and no form has the key \"" ++ name ++ codes "\""
 cause_text (MissingKey key) = codes "the line must have the key \"" ++ key_text key ++ codes "\" too"

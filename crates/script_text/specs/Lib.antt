@@ -5,6 +5,7 @@ pub mod Faults
 pub mod Forms
 pub mod Goals
 pub mod Grammar
+pub mod Nesting
 pub mod Reader
 pub mod Pushed
 pub mod ReadsBack

@@ -1,5 +1,5 @@
 -- How an input is read: what its lines give in their places, and where and why it stops.
-use Rattle.std.specs.Prelude.{ℕ, ◌+◌, ◌||◌, ◌==◌, List, [], ◌∷◌, ◌++◌, length, replicate, slice_set, Bool, true, false, nat_lt, if◌then◌else◌, Option, Some, None, option_map, option_and_then}
+use Rattle.std.specs.Prelude.{ℕ, ◌+◌, ◌&&◌, ◌||◌, ◌==◌, List, [], ◌∷◌, ◌++◌, length, replicate, slice_set, Bool, true, false, nat_lt, if◌then◌else◌, Option, Some, None, option_map, option_and_then}
 use Rattle.std.specs.List.{list_all}
 use Rattle.std.specs.Str.{is_utf8}
 use Rattle.serde_json.specs.Data.{Data}
@@ -15,6 +15,7 @@ use Rattle.script_text.specs.declared.parts.Part.{Part}
 use Rattle.script_text.specs.declared.parts.Part.TheVariants.{BeforeMap, InBase, InTurns}
 use Rattle.input_lines.specs.Lines.{full_lines, tail_of}
 use Rattle.script_text.specs.Forms.{map_of, base_of, post_of, end_of}
+use Rattle.script_text.specs.Nesting.{is_shallow}
 
 -- what the lines after the map line keep to: the version of the script, the number of callers and the size of the map
 abbrev pub rules_of : Map → Rules
@@ -91,9 +92,9 @@ turns_of (ends_turn posts ∷ items) = posts ∷ turns_of items
 
 -- ---- one line
 
--- the line's reading: one JSON value in UTF-8
+-- the line's reading: one JSON value in UTF-8, with no more than MAX_NESTING arrays and objects in one another
 abbrev pub reading_of : List ℕ → Option Data
-reading_of line = if is_utf8 line then read line else None
+reading_of line = if is_utf8 line && is_shallow line then read line else None
 
 -- the place after one line more, of so many bytes with its newline
 abbrev pub counted : Place → ℕ → Place

@@ -8,6 +8,7 @@ mod line_forms;
 mod strange_keys;
 pub(crate) mod wrong_values;
 
+use crate::nesting::is_shallow;
 use crate::parts::{Part, Rules};
 use crate::progress::read_line;
 use class_config::ClassName;
@@ -30,6 +31,8 @@ pub enum Cause {
     BlankLine,
     /// The line is no JSON value, and begins with a byte order mark.
     ByteOrderMark,
+    /// The arrays and objects of the line, which is in UTF-8, nest deeper than those of a line may.
+    TooDeep,
     /// The line is no JSON value in UTF-8 for another reason.
     NotJson,
     /// The keys are those of no form, in any version, and no form has this one.
@@ -66,6 +69,9 @@ impl fmt::Display for Cause {
             Cause::BlankLine => f.write_str("the line must be one JSON value, and is blank"),
             Cause::ByteOrderMark => f.write_str(
                 "the line must be one JSON value, and begins with a byte order mark",
+            ),
+            Cause::TooDeep => f.write_str(
+                "the line must not have arrays and objects more than 8 deep",
             ),
             Cause::NotJson => f.write_str("the line must be one JSON value in UTF-8"),
             Cause::UnknownKey { key } => {
@@ -133,7 +139,7 @@ pub(crate) fn cause_of(
     }
 }
 
-/// The cause of a line that is no JSON value.
+/// The cause of a line that has no reading.
 fn unread_cause(line: &[u8]) -> Cause
     ensures { result ≡ why.unread_cause line.now }
 {
@@ -141,8 +147,20 @@ fn unread_cause(line: &[u8]) -> Cause
         Cause::BlankLine
     } else if line.starts_with(&BYTE_ORDER_MARK) {
         Cause::ByteOrderMark
+    } else if is_too_deep(line) {
+        Cause::TooDeep
     } else {
         Cause::NotJson
+    }
+}
+
+/// Whether the line is in UTF-8, and its arrays and objects nest too deep.
+fn is_too_deep(line: &[u8]) -> bool
+    ensures { result ≡ why.is_too_deep line.now }
+{
+    match str::from_utf8(line) {
+        Ok(_) => !is_shallow(line),
+        Err(_) => false,
     }
 }
 

@@ -1,6 +1,6 @@
 //! Laws: the forms of lines are the grammar, no value is a line of two forms, each bad line and no other has a cause,
 //! and canonical scripts read back.
-ghost use Rattle.std.specs.Prelude.{◌≡◌, ◌↔◌, ◌+◌, ℕ, IsSome, IsTrue, List, Some};
+ghost use Rattle.std.specs.Prelude.{◌≡◌, ◌↔◌, ◌+◌, ℕ, IsFalse, IsSome, IsTrue, List, Some};
 ghost use Rattle.nav_types.specs.declared.cells.Rect.{Rect};
 ghost use Rattle.nav_types.specs.declared.cells.Size.{Size};
 ghost use Rattle.serde_json.specs.Data.{Data};
@@ -11,12 +11,12 @@ ghost use Rattle.script_text.specs.Forms as form;
 ghost use Rattle.script_text.specs.Grammar.{Line, IsLine, IsMapLine, IsBaseLine, IsPostLine, IsEndLine};
 ghost use Rattle.script_text.specs.Script.{Place, bad, bad_line, finish, placed, reading_of, stuck};
 ghost use Rattle.script_text.specs.declared.causes.Cause.{Cause};
-ghost use Rattle.script_text.specs.declared.causes.Cause.TheVariants.{BlankLine, WrongValue};
+ghost use Rattle.script_text.specs.declared.causes.Cause.TheVariants.{BlankLine, TooDeep, WrongValue};
 ghost use Rattle.script_text.specs.TrueCauses.{HasNoForm, IsStrange, IsTrueOf};
 ghost use Rattle.script_text.specs.declared.causes.keys.Key.{Key};
 ghost use Rattle.script_text.specs.declared.causes.keys.Wanted.{Wanted};
 ghost use Rattle.script_text.specs.declared.parts.Part.{Part};
-ghost use Rattle.script_text.specs.Causes.{IsWrongIn, cause, end_cause, is_blank, value_cause};
+ghost use Rattle.script_text.specs.Causes.{IsWrongIn, cause, end_cause, has_mark, is_blank, is_too_deep, value_cause};
 ghost use Rattle.script_text.specs.ReadsBack as back;
 
 /// A law: the form of a map line gives a map exactly where the value is a map line of the grammar that says it.
@@ -74,6 +74,12 @@ pub fn strange_lines()
 /// A law: a line is told to be blank exactly where it has no byte but white space.
 pub fn blank_lines()
     ensures { (part : Part) (turn : ℕ) (line : List ℕ) → (cause part turn line ≡ Some BlankLine) ↔ IsTrue (is_blank line) }
+{}
+
+/// A law: a line is told to nest too deep exactly where it does, is in UTF-8 and has no byte order mark.
+pub fn deep_lines()
+    ensures { (part : Part) (turn : ℕ) (line : List ℕ) → (cause part turn line ≡ Some TooDeep)
+        ↔ (IsTrue (is_too_deep line) × IsFalse (has_mark line)) }
 {}
 
 /// A law: the end of an input has a cause exactly where the input may not end there.

@@ -16,6 +16,7 @@ mod forms;
 mod goals;
 mod items;
 mod laws;
+mod nesting;
 mod parts;
 mod progress;
 mod pushed;
@@ -30,8 +31,8 @@ pub use goals::GoalKey;
 pub use input_lines::READ_SIZE;
 pub use items::ScriptItem;
 pub use laws::{
-    base_lines, blank_lines, canonical_reads_back, end_causes, end_lines, line_causes, map_lines,
-    one_line, post_lines, strange_lines, true_causes, wrong_values,
+    base_lines, blank_lines, canonical_reads_back, deep_lines, end_causes, end_lines, line_causes,
+    map_lines, one_line, post_lines, strange_lines, true_causes, wrong_values,
 };
 pub use pushed::PushedScript;
 pub use reader::ScriptReader;

@@ -12,6 +12,7 @@ use crate::causes::{self, Cause};
 use crate::faults::ScriptFault;
 use crate::forms::{self, CallerPost};
 use crate::items::ScriptItem;
+use crate::nesting::is_shallow;
 use crate::parts::{Part, Rules};
 use input_lines::LineFault;
 use nav_types::limits::{MAX_INPUT_BYTES, MAX_LINE_BYTES};
@@ -472,6 +473,9 @@ fn read_base(alloc: Global, size: Size, line: &[u8]) -> Result<Option<BaseRects>
 pub(crate) fn read_line(alloc: Global, line: &[u8]) -> Result<Option<Value>, NoMemory>
     ensures { IfOk result (λ read. option_map view read ≡ reading_of line.now) }
 {
+    if !is_shallow(line) {
+        return Ok(None);
+    }
     match Value::from_slice(alloc, line) {
         Ok(value) => Ok(Some(value)),
         Err(error) => {
