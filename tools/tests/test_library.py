@@ -171,6 +171,13 @@ class Clients(unittest.TestCase):
             watched = subprocess.run(["valgrind", "--tool=helgrind", "--error-exitcode=9", "-q", program], capture_output=True)
             self.assertEqual(watched.returncode, 0, watched.stderr.decode()[-2000:])
 
+    def test_a_thread_with_the_stack_that_the_header_asks_for_answers_the_deepest_lines(self):
+        for archive in ARCHIVES:
+            program = built(self.folder, "tools/tests/library/stack.c", archive, ["-pthread"])
+            told, status = answers(program, read("examples/skirmish.script"))
+            self.assertEqual(status, 0, archive)
+            self.assertRegex(told, rb"^lines \d+, script \d+\n$")
+
     @unittest.skipUnless(shutil.which("pkg-config"), "there is no pkg-config")
     def test_pkg_config(self):
         where = dict(os.environ, PKG_CONFIG_PATH=os.path.join(RELEASE, "lib", "pkgconfig"))
