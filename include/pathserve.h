@@ -45,7 +45,7 @@ extern "C" {
 
 /* The version of the answers. Libraries with the same number answer the same posts alike, so the players of one match need
  * this one to be equal, whatever the version of the interface is. */
-#define PATHSERVE_ANSWERS 1u
+#define PATHSERVE_ANSWERS 2u
 
 #define PATHSERVE_STACK 65536u /* see 5 above */
 

@@ -3,7 +3,7 @@
 Beside NAME.script stand its answers, NAME.answers, or their digests, NAME.digests, or both. The first line of the digests
 tells of the answers, and each other one is a turn's number and digest, or the line of a bad line:
 
-    answers 1 word replay status 0 turns 2
+    answers 2 word replay status 0 turns 2
     turn 1 0b4c4f9a3b7d1c55
     turn 2 5f0e3a2f7d8897a1
 """

@@ -88,7 +88,7 @@ class Pathserve(unittest.TestCase):
             self.assertEqual((status, out.split()[0]), (0, "usage:"))
         status, out, _ = self.run_it("--version")
         version = read("VERSION").decode().strip()
-        self.assertEqual((status, out.splitlines()), (0, [f"pathserve {version}, answers 1, commit unknown", "a-kit", "not proved"]))
+        self.assertEqual((status, out.splitlines()), (0, [f"pathserve {version}, answers 2, commit unknown", "a-kit", "not proved"]))
         self.assertFalse(self.is_built())
 
     def test_right_words_run(self):

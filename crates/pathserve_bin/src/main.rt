@@ -13,7 +13,7 @@ use std::process::ExitCode;
 const VERSION: &str = "0.1.0";
 
 /// The number of the answers: programs with the same one answer each script alike (`PATHSERVE_ANSWERS` of `pathserve.h`).
-const ANSWERS: u32 = 1;
+const ANSWERS: u32 = 2;
 
 /// The exit status where the system does not give the words as text.
 const NO_TEXT: u8 = 9;

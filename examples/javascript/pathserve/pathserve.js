@@ -10,7 +10,7 @@
 // gives stands in pathserve.h; a status that is not DONE is thrown as a `Failed`. What was opened is closed by `close`: its
 // memory is not collected.
 
-const VERSION = [0, 1], ANSWERS = 1;
+const VERSION = [0, 1], ANSWERS = 2;
 const REPORTS = ["replay", "profile", "flow", "smooth"];
 
 /** The side of a navcell: coordinates and lengths are whole numbers. */

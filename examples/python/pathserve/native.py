@@ -7,7 +7,7 @@ import functools
 import os
 from ctypes import POINTER, c_int32, c_size_t, c_uint8, c_uint16, c_uint32, c_uint64, c_void_p
 
-VERSION_MAJOR, VERSION_MINOR, ANSWERS = 0, 1, 1
+VERSION_MAJOR, VERSION_MINOR, ANSWERS = 0, 1, 2
 
 
 class Status(enum.IntEnum):

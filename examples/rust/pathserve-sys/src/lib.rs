@@ -4,7 +4,7 @@
 use core::ffi::c_void;
 
 pub const VERSION: u32 = 1 << 8;
-pub const ANSWERS: u32 = 1;
+pub const ANSWERS: u32 = 2;
 
 pub const DONE: u32 = 0;
 pub const BAD_LINE: u32 = 3;
