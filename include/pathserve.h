@@ -10,14 +10,16 @@
  *     to look       pathserve_view_of    passable, region, area, row, find
  *
  * WHAT YOU PROMISE, for each call. The library's functions are proved to be safe and to give the statuses and the results
- * that are said here. What is said of memory (that closing frees it, that a view copies little, that memory of text that was
- * taken is used again) and that a match that has stopped says so again is tested, and not proved. All rests on these
- * promises, which nothing checks: a broken one is undefined behaviour.
+ * that are said here. Tested, and not proved, is what is said of memory (that NO_MEMORY comes only where there was none, that
+ * closing frees it, that a view copies little, that memory of text that was taken is used again), that the fields of the
+ * structs lie where this file has them, and that a match that has stopped says so again. How much stack a call takes is not
+ * proved. All rests on these promises, which nothing checks: a broken one is undefined behaviour.
  *   1. A pointer to a struct is not NULL, is aligned, and points to one that may be written, unless it points to `const`.
  *      Nobody else uses it until the call returns, and the pointers of one call point to things apart.
  *   2. A pointer with a length or a count points to so many items. With 0 it may be NULL.
  *   3. A handle (pathserve_match, pathserve_view) is all zero before it is first opened. From then on the library alone
- *      writes it. An open handle is not copied: a copy of a handle that was closed dangles.
+ *      writes it. An open handle may be moved between calls: copied, where the old one is not used again, not even to be
+ *      closed. It has no second copy that is used: one of a handle that was closed dangles.
  *   4. Each handle serves one call at a time. It may pass to another thread where a lock, the start or the join of a thread
  *      or a sequentially consistent atomic orders that. Different handles may be used by different threads at once.
  *   5. PATHSERVE_STACK bytes of stack are left. No call comes from a signal handler or from the child of a fork.
@@ -89,7 +91,9 @@ enum {
 /* After every status but those of the script (BAD_LINE, TOO_LONG) a handle is as it was, unless the status is
  * PATHSERVE_DONE or the call says more. */
 
-/* ---- handles: let them be all zero, as in `pathserve_match match = {0};` ---- */
+/* ---- handles: let them be all zero, as in `pathserve_match match = PATHSERVE_CLOSED_HANDLE;` ---- */
+
+#define PATHSERVE_CLOSED_HANDLE {0, NULL} /* a handle that holds nothing, as `{0}` of C and `{}` of C++ */
 
 typedef struct pathserve_match { uint64_t live; void *at; } pathserve_match; /* a match */
 typedef struct pathserve_view { uint64_t live; void *at; } pathserve_view;   /* what stands, to be looked at beside a match */
@@ -103,7 +107,7 @@ void pathserve_close(pathserve_match *match);
 enum {
     PATHSERVE_REPLAY = 0,  /* the answers */
     PATHSERVE_PROFILE = 1, /* and of each path how much of the map a search looks at */
-    PATHSERVE_FLOW = 2,    /* and of each path the flow field that leads to its goal */
+    PATHSERVE_FLOW = 2,    /* and of each path four numbers of the flow field that leads to its goal */
     PATHSERVE_SMOOTH = 3   /* and of each path its smoothed waypoints */
 };
 
@@ -115,8 +119,9 @@ pathserve_status pathserve_open(pathserve_match *match, uint32_t report);
  * to be taken. `taken` is how many of the bytes were taken.
  *   DONE                  all bytes were taken. What was told since the match was opened is what the program writes for the
  *                         whole lines that were fed.
- *   BAD_LINE, TOO_LONG    the match stops, and each later call answers the same, until pathserve_finish ends the script. What
- *                         was told is what the program writes for the script, whatever follows. All bytes were taken.
+ *   BAD_LINE, TOO_LONG    the match stops: each later call answers the same, the first pathserve_finish too, and those after
+ *                         it ENDED. What was told is what the program writes for the script, whatever follows. All bytes
+ *                         were taken.
  *   NO_MEMORY             only the first `taken` bytes were: feed the others again, or none.
  *   ENDED, CLOSED, OTHER  no byte was taken. */
 pathserve_status pathserve_feed(pathserve_match *match, const uint8_t *bytes, size_t length, size_t *taken);
@@ -288,8 +293,9 @@ pathserve_status pathserve_view_again(pathserve_view *from, pathserve_view *view
 void pathserve_view_close(pathserve_view *view);
 
 /* Of a cell (i, j) and a class by its number: whether the cell is passable (1 or 0); the number of its region in its chunk,
- * the one of column i / 96 and row j / 96; the number of its area: cells of one area, which is not 0, can be reached from one
- * another. All give 0 of an impassable cell, a cell off the map, a class that there is not, and a closed view. */
+ * the one of column i / 96 and row j / 96; the number of its area. Two cells can be reached from one another exactly where
+ * their areas have one number that is not 0, so ask for both. All give 0 of an impassable cell, a cell off the map, a class
+ * that there is not, and a closed view. */
 uint32_t pathserve_passable(pathserve_view *view, uint32_t class_number, uint32_t i, uint32_t j);
 uint32_t pathserve_region(pathserve_view *view, uint32_t class_number, uint32_t i, uint32_t j);
 uint32_t pathserve_area(pathserve_view *view, uint32_t class_number, uint32_t i, uint32_t j);
@@ -302,7 +308,8 @@ size_t pathserve_row(pathserve_view *view, uint32_t class_number, uint32_t j, ui
 
 /* Answers a post of the kind PATHSERVE_PATH or PATHSERVE_REGION at once, as a turn without edits would. The match knows
  * nothing of it: ask for what is drawn, and post what is played. Writes the reply, and the first waypoints of a path, as many
- * as the buffer holds; `reply->waypoints` is how many there are, and `first_waypoint` is 0.
+ * as the buffer holds. Of the reply `waypoints` is how many there are, `caller` is the post's, and `post` and `first_waypoint`
+ * are 0.
  * DONE. BAD_VALUE: another kind, or as of pathserve_post_all. Other values that break a limit are refused by the reply.
  * NO_MEMORY, CLOSED, and OTHER of a match. With DONE alone something is written. */
 pathserve_status pathserve_find(pathserve_view *view, const pathserve_post *post, pathserve_reply *reply,

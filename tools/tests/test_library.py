@@ -4,6 +4,7 @@ and its folder by itself: what its pages name is there, and what they show runs.
 The release is the folder that PATHSERVE_RELEASE names, or out/release, which `./release` makes, or where there is none
 out/release-unproved, which `./release --unproved` makes in minutes.
 """
+import concurrent.futures
 import glob
 import json
 import os
@@ -514,6 +515,50 @@ class Python(unittest.TestCase):
             self.assertEqual(library.pathserve_finish(match._handle), api.Status.OTHER)
         with api.TextMatch() as match:
             self.assertEqual(library.pathserve_post_all(match._handle, None, 0), api.Status.OTHER)
+
+    def test_numbers_that_no_field_holds_are_refused(self):
+        api = self.api
+        classes = [api.PassabilityClass("walker", api.fixed(0.5))]
+        no_maps = [
+            ((1 << 32) + 12, 8, 1, classes, []), (12, 8, -1, classes, []),
+            (12, 8, 1, [api.PassabilityClass("walker", 1 << 31)], []), (12, 8, 1, classes, [api.Rect(0, 0, 65536, 0, 1)]),
+        ]
+        for parts in no_maps:
+            with self.assertRaises(ValueError):
+                api.PostedMatch(*parts)
+        with api.PostedMatch(12, 8, 1, classes) as match:
+            good = api.region(0, 0, 0, 0)
+            for name, number in (("caller", 256), ("class_number", 256), ("mask", 65536), ("id", -1), ("x", api.fixed(65541.5))):
+                with self.assertRaises(ValueError):
+                    match.post([good, good._replace(**{name: number})])
+            self.assertEqual(match.end_turn().replies, [])
+            with match.view() as view:
+                self.assertTrue(view.passable(0, 0, 0))
+                self.assertFalse(view.passable(0, 1 << 32, 0) or view.passable(1 << 32, 0, 0) or view.passable(0, -1, 0))
+                self.assertEqual((view.area(0, 1 << 32, 0), view.region(0, 0, 1 << 32)), (0, 0))
+
+    def test_a_script_is_bytes(self):
+        script = read("examples/skirmish.script")
+        for its in (bytearray(script), memoryview(script)):
+            self.assertEqual(self.by_text(its), (read("examples/skirmish.answers"), 0))
+        with self.api.TextMatch() as match:
+            for no_bytes in (script.decode(), 5, None):
+                with self.assertRaises(TypeError):
+                    match.feed(no_bytes)
+
+    def test_eight_threads_ask_one_view(self):
+        classes = [self.api.PassabilityClass("walker", 0)]
+        with self.api.PostedMatch(64, 64, 1, classes, [self.api.Rect(0, 32, 31, 32, 1)]) as match, match.view() as view:
+            asked = [(i, j) for i in range(64) for j in range(31, 34)]
+
+            def told(_):
+                return [(view.passable(0, i, j), view.area(0, i, j)) for i, j in asked]
+
+            with concurrent.futures.ThreadPoolExecutor(8) as threads:
+                seen = list(threads.map(told, range(32)))
+        free = [(i, j) for (i, j), (is_free, _) in zip(asked, seen[0]) if is_free]
+        self.assertEqual(len(asked) - len(free), 32)
+        self.assertEqual(seen, [seen[0]] * 32)
 
     def test_in_pieces_of_any_length(self):
         script = read("examples/skirmish.script")

@@ -6,7 +6,8 @@
 
 The library is the file that the variable PATHSERVE_LIBRARY names, or the one beside this package, as a wheel has it, or else
 `libpathserve.so.0` or `pathserve.dll` where the system's loader finds it. What each call owes and gives stands in pathserve.h; a status that is not DONE is raised as an exception.
-A match or a view is used by one thread at a time. Distinct ones may be used by several threads at once.
+A number that a field of the library does not hold is refused by ValueError. Any thread may use a match or a view: the calls of
+one wait for one another, and those of distinct ones do not.
 """
 from .matches import PostedMatch, TextMatch, Turn
 from .native import BadLine, Failed, OutOfMemory, Status, load

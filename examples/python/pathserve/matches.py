@@ -5,7 +5,7 @@ import ctypes
 from typing import Iterable, NamedTuple, Sequence
 
 from . import native
-from .native import OutOfMemory, Status, must
+from .native import OutOfMemory, Status, filled, must
 from .owners import Owner
 from .posts import PassabilityClass, Post, Rect, Reply, cell_of, reply_of
 from .views import View
@@ -16,12 +16,12 @@ REPORTS = {"replay": 0, "profile": 1, "flow": 2, "smooth": 3}
 class _Match(Owner):
     def __init__(self) -> None:
         library = native.load()
-        super().__init__(library, native.MatchHandle(), library.pathserve_close)
+        super().__init__(library, native.MatchHandle(), "close")
 
     def view(self) -> View:
         """What stands after the turns that have ended."""
         view = View(self._library)
-        must(self._library.pathserve_view_of(self._handle, view._handle))
+        must(self._call("view_of", view._handle))
         return view
 
 
@@ -30,27 +30,29 @@ class TextMatch(_Match):
 
     def __init__(self, report: str = "replay") -> None:
         super().__init__()
-        must(self._library.pathserve_open(self._handle, REPORTS[report]))
+        must(self._call("open", REPORTS[report]))
 
     def feed(self, script: bytes) -> None:
-        """Feeds the next bytes, cut anywhere. What is told waits, also where this raises BadLine.
+        """Feeds the next bytes, cut anywhere. What is told waits, also where this raises BadLine. Text is refused by TypeError.
 
         Where it raises OutOfMemory, only the first `taken` bytes were taken: feed the others again.
         """
         taken = ctypes.c_size_t()
-        status = self._library.pathserve_feed(self._handle, script, len(script), taken)
+        its = script if isinstance(script, bytes) else bytes(memoryview(script))
+        status = self._call("feed", its, len(its), taken)
         if status == Status.NO_MEMORY:
             raise OutOfMemory(taken.value)
         must(status)
 
     def finish(self) -> None:
         """Tells that no more bytes come."""
-        must(self._library.pathserve_finish(self._handle))
+        must(self._call("finish"))
 
     def take(self) -> bytes:
         """The text that waits. None waits then."""
-        buffer = ctypes.create_string_buffer(self._library.pathserve_waiting(self._handle))
-        count = self._library.pathserve_take(self._handle, buffer, len(buffer))
+        with self._lock:
+            buffer = ctypes.create_string_buffer(self._call("waiting"))
+            count = self._call("take", buffer, len(buffer))
         return buffer.raw[:count]
 
 
@@ -74,22 +76,23 @@ class PostedMatch(_Match):
         super().__init__()
         its_classes = (native.ClassStruct * len(classes))(*[it.struct() for it in classes])
         its_base = (native.RectStruct * len(base))(*[it.struct() for it in base])
-        its_map = native.MapStruct(width, height, callers)
-        must(self._library.pathserve_open_map(self._handle, its_map, its_classes, len(classes), its_base, len(base)))
+        its_map = filled(native.MapStruct, width=width, height=height, callers=callers)
+        must(self._call("open_map", its_map, its_classes, len(classes), its_base, len(base)))
 
     def post(self, posts: Iterable[Post]) -> None:
         """Posts, behind those that the turn has: all or none."""
         structs = [it.struct() for it in posts]
-        must(self._library.pathserve_post_all(self._handle, (native.PostStruct * len(structs))(*structs), len(structs)))
+        must(self._call("post_all", (native.PostStruct * len(structs))(*structs), len(structs)))
 
     def end_turn(self) -> Turn:
         """Makes the edits of the turn, and answers its requests on what they leave."""
         turn = native.TurnStruct()
-        must(self._library.pathserve_end_turn(self._handle, turn))
-        replies = (native.ReplyStruct * turn.replies)()
-        self._library.pathserve_replies(self._handle, 0, replies, len(replies))
-        cells = (native.CellStruct * turn.waypoints)()
-        self._library.pathserve_waypoints(self._handle, 0, cells, len(cells))
+        with self._lock:
+            must(self._call("end_turn", turn))
+            replies = (native.ReplyStruct * turn.replies)()
+            self._call("replies", 0, replies, len(replies))
+            cells = (native.CellStruct * turn.waypoints)()
+            self._call("waypoints", 0, cells, len(cells))
         waypoints = [cell_of(it) for it in cells]
         told = [reply_of(it, waypoints) for it in replies]
         return Turn(turn.turn, turn.regions, turn.edges, turn.areas, turn.relabelled, told)
@@ -97,9 +100,10 @@ class PostedMatch(_Match):
     def journal(self) -> bytes:
         """The turns that have ended as a script, which a TextMatch or the program answers alike."""
         whole = ctypes.c_size_t()
-        status = self._library.pathserve_journal(self._handle, None, 0, whole)
-        if status != Status.SMALL:
-            must(status)
-        buffer = ctypes.create_string_buffer(whole.value)
-        must(self._library.pathserve_journal(self._handle, buffer, len(buffer), whole))
+        with self._lock:
+            status = self._call("journal", None, 0, whole)
+            if status != Status.SMALL:
+                must(status)
+            buffer = ctypes.create_string_buffer(whole.value)
+            must(self._call("journal", buffer, len(buffer), whole))
         return buffer.raw

@@ -129,6 +129,15 @@ CALLS = {
 }
 
 
+def filled(struct: type[ctypes.Structure], **values: int) -> ctypes.Structure:
+    """A struct with these values. ValueError where a field does not hold its value, of which ctypes would keep the low bits."""
+    made = struct(**values)
+    for name, value in values.items():
+        if getattr(made, name) != value:
+            raise ValueError(f"{name} has no room for {value}")
+    return made
+
+
 def must(status: int) -> None:
     """Raises a status that is not DONE."""
     if status == Status.NO_MEMORY:

@@ -6,7 +6,7 @@ import math
 from dataclasses import dataclass
 from typing import NamedTuple, Sequence
 
-from .native import CellStruct, ClassStruct, NameBytes, PostStruct, RectStruct, ReplyStruct
+from .native import CellStruct, ClassStruct, NameBytes, PostStruct, RectStruct, ReplyStruct, filled
 
 NAVCELL = 65536
 
@@ -36,7 +36,7 @@ class Post(NamedTuple):
     radius: int = 0
 
     def struct(self) -> PostStruct:
-        return PostStruct(**self._asdict())
+        return filled(PostStruct, **self._asdict())
 
 
 def add_unit(caller: int, number: int, mask: int, x: int, z: int, half: int) -> Post:
@@ -179,7 +179,9 @@ class PassabilityClass(NamedTuple):
 
     def struct(self) -> ClassStruct:
         name = self.name.encode("ascii")
-        return ClassStruct(NameBytes(*name[:64]), len(name), self.clearance)
+        made = filled(ClassStruct, name_length=len(name), clearance=self.clearance)
+        made.name = NameBytes(*name[:64])
+        return made
 
 
 class Rect(NamedTuple):
@@ -192,4 +194,4 @@ class Rect(NamedTuple):
     mask: int
 
     def struct(self) -> RectStruct:
-        return RectStruct(*self)
+        return filled(RectStruct, **self._asdict())
