@@ -240,6 +240,27 @@ fn answers_by_exact_distances_are_the_same_for_fewer_runs(rt: HostRuntime) -> Re
     Ok(())
 }
 
+/// How many runs a find asks for on an open map of 1024 by 1024 where its start is looked for. None where it does not
+/// answer as it should.
+fn asked_at_target(alloc: Global) -> Option<u32> {
+    let search = search_of(alloc, ["5,7", "5,7 9,9", "5,7", "0", ""])?;
+    let map = Grid::new(alloc, Size::new(1024, 1024)?).ok()?;
+    let runs = Counted::new(&map);
+    let question = Question {
+        runs: &runs,
+        class: Class::new(0),
+        start: search.start,
+        aim: &search.targets,
+    };
+    let mut pool = Pool::new(alloc).ok()?;
+    asked_runs(alloc, &mut pool, &runs, &question, &search)
+}
+
+#[test]
+fn a_start_that_is_looked_for_is_found_without_a_run(rt: HostRuntime) {
+    assert!(rt; asked_at_target(rt.alloc()) == Some(0));
+}
+
 /// Whether a line of `TABLE` says what the answer is. None where it is not in the form of the table.
 fn answers_as_the_line_says(alloc: Global, pool: &mut Pool, line: &str) -> Option<bool> {
     let [map, start, targets, end, cost, points, opened] = fields_of(line);

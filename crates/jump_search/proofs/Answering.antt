@@ -1,15 +1,18 @@
 -- What a search that has ended or was halted says of the answer and of the opened number.
 use Rattle.std.proofs.Common.{ℕ, ◌≡◌, ◌+◌, ◌≤◌, ◌⊎◌, Bool, true, IsTrue, List, Option, Some, None}
-use Rattle.std.proofs.Common.{inl, inr, sym, subst, arith, Result, Ok, Err, IfOk}
+use Rattle.std.proofs.Common.{[], ◌∷◌, inl, inr, refl, sym, subst, arith, Result, Ok, Err, IfOk}
 use Rattle.std.specs.Prelude.{slice_get}
 use Rattle.std.proofs.lemmas.Bool.{cases_lt}
+use Rattle.std.proofs.lemmas.List.Sums.{sum_by-cons}
 use Rattle.nav_types.specs.declared.cells.Cell.{Cell}
 use Rattle.nav_types.specs.declared.cells.Rect.{Rect}
 use Rattle.nav_types.specs.declared.cells.Size.{Size}
 use Rattle.nav_types.specs.declared.directions.Dir.{Dir}
-use Rattle.nav_types.specs.Cells.{IsInside}
+use Rattle.nav_types.specs.Cells.{IsInside, IsNotAfter}
+use Rattle.nav_types.specs.Directions.{step_cost}
 use Rattle.nav_types.specs.Counting.{Counts}
 use Rattle.nav_types.specs.Walks.{IsWalk, walk_cost, CanReach}
+use Rattle.nav_types.proofs.Walking.{step_cost_some}
 use Rattle.walks.specs.Chosen.{IsChosen, IsAnswer}
 use Rattle.walks.specs.Waypoints.{waypoints}
 use Rattle.walks.proofs.Tracing.{chosen_walk, chosen_cost, in_grid}
@@ -52,6 +55,25 @@ not_exhausted all passes hit start ahead nodes passing consistent reach ended =
           λ place node known waits. inr (ended.beyond place node known waits);
     })
     passing consistent reach ended.missed
+
+-- a walk that costs nothing ends where it starts
+ends_at_start : (passes : Cell → Bool) (dirs : List Dir) (from to : Cell) → IsWalk passes from dirs to
+    → walk_cost dirs ≡ 0 → from ≡ to
+ends_at_start passes [] from to walk none = walk
+ends_at_start passes (dir ∷ dirs) from to walk none =
+    absurd (omega (arith, none, sum_by-cons step_cost dir dirs, step_cost_some dir))
+
+-- a start that is hit is the answer, for nothing
+pub answer_at_start : (passes hit : Cell → Bool) (start : Cell) → IsTrue (hit start) → (points : List Cell)
+    → points ≡ [] → IsAnswer passes start hit start 0 points
+answer_at_start passes hit start is_hit points none = record {
+  is_hit = is_hit;
+  walk = ([], (refl, (refl, none)));
+  nearest = λ target dirs hits walk. omega arith;
+  first = λ target hits distance.
+      let same = ends_at_start passes distance.walk.0 start target distance.walk.1.0 distance.walk.1.1 in
+      subst (λ (c : Cell). IsNotAfter start c) same (inr (refl, omega arith));
+}
 
 pub answer_of : (all : Bool) (passes hit : Cell → Bool) (start : Cell) (ahead : Cell → ℕ) (end : Cell) (bound : ℕ)
     (nodes : List Node)

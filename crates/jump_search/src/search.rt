@@ -1,5 +1,5 @@
 //! The jump search, over a map that answers runs or over any view.
-ghost use Rattle.std.specs.Prelude.{◌≡◌, ◌<◌, ◌+◌, ℕ, Bool, IsTrue, IfOk};
+ghost use Rattle.std.specs.Prelude.{◌≡◌, ◌<◌, ◌+◌, ℕ, Bool, IsTrue, IfOk, IfSome};
 ghost use Rattle.nav_types.specs.declared.cells.Cell.{Cell};
 ghost use Rattle.nav_types.specs.declared.cells.Rect.{Rect};
 ghost use Rattle.walks.specs.Chosen.{IsAnswer};
@@ -21,7 +21,7 @@ use nav_types::{Aim, Cell, Class, Cost, NoMemory, Ticks, View};
 use std::alloc::Global;
 use std::marker::Brand;
 use std::sync::ledger::{Blank, Ledger};
-use walks::Found;
+use walks::{Found, Waypoints};
 
 /// For how many nodes a pool has room that is small.
 const SMALL: usize = 262_144;
@@ -69,6 +69,26 @@ fn found(alloc: Global, nodes: &Nodes, start: Cell, best: Best) -> Result<Found,
         end: best.cell,
         cost: Cost(best.cost),
         waypoints,
+    })
+}
+
+/// What a find answers at once: where the start is hit, the start itself, for nothing.
+fn found_at_start<R: Runs, A: Aim>(alloc: Global, question: &Question<'_, R, A>) -> Option<Found>
+    requires { CanSearch (R.passes question.now.runs.now question.now.class)
+        (A.hit question.now.aim.now (R.extent question.now.runs.now))
+        (A.sound question.now.aim.now (R.extent question.now.runs.now)) question.now.start }
+    ensures { IfSome result (λ found. IsAnswer (R.passes question.now.runs.now question.now.class)
+        question.now.start (A.hit question.now.aim.now (R.extent question.now.runs.now))
+        found.end found.cost.0 found.waypoints) }
+{
+    let start = question.start;
+    if !question.aim.hits(question.runs.size(), start) {
+        return None;
+    }
+    Some(Found {
+        end: start,
+        cost: Cost(0),
+        waypoints: Waypoints::new(alloc),
     })
 }
 
@@ -233,7 +253,8 @@ pub trait JumpSearch {
         requires { can_search self.now }
         ensures { Traces (asked self.now) ticks.old ticks.new result };
 
-    /// The answer alone, for less: it opens no jump state that is costlier than another of its cell.
+    /// The answer alone, for less: it opens no jump state that is costlier than another of its cell, and none where the
+    /// start is hit.
     ///
     /// Each that it opens is one tick, so there are no more than the opened number, also where memory runs out. It takes no
     /// memory but that of its answer where an earlier search in the pool has taken as much.
@@ -289,6 +310,9 @@ impl<'q, R: Runs, A: Aim> JumpSearch for Question<'q, R, A> {
         alloc: Global,
         ticks: &mut Ticks<L>,
     ) -> Result<Found, NoMemory> {
+        if let Some(found) = found_at_start(alloc, self) {
+            return Ok(found);
+        }
         let traced = by_octile(&mut pool.front, alloc, self, false, ticks)?;
         Ok(traced.found)
     }
@@ -298,6 +322,9 @@ impl<'q, R: Runs, A: Aim> JumpSearch for Question<'q, R, A> {
     }
 
     fn find(&self, pool: &mut Pool, alloc: Global) -> Result<Found, NoMemory> {
+        if let Some(found) = found_at_start(alloc, self) {
+            return Ok(found);
+        }
         let traced = uncounted::<R, A, Brand>(&mut pool.front, alloc, self, false, Blank::new(1))?;
         Ok(traced.found)
     }
@@ -341,6 +368,9 @@ impl<'q, R: Runs, A: Aim, E: Estimate> JumpSearch for Guided<'q, R, A, E> {
         ticks: &mut Ticks<L>,
     ) -> Result<Found, NoMemory> {
         let Guided { question, ahead } = self;
+        if let Some(found) = found_at_start(alloc, question) {
+            return Ok(found);
+        }
         let traced = answered(&mut pool.front, alloc, question, *ahead, false, ticks)?;
         Ok(traced.found)
     }
@@ -350,6 +380,9 @@ impl<'q, R: Runs, A: Aim, E: Estimate> JumpSearch for Guided<'q, R, A, E> {
     }
 
     fn find(&self, pool: &mut Pool, alloc: Global) -> Result<Found, NoMemory> {
+        if let Some(found) = found_at_start(alloc, &self.question) {
+            return Ok(found);
+        }
         let traced = uncounted_by::<R, A, E, Brand>(&mut pool.front, alloc, self, Blank::new(1))?;
         Ok(traced.found)
     }
