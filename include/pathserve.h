@@ -7,7 +7,7 @@
  *
  *     by text       pathserve_open       feed, finish          waiting, take
  *     by structs    pathserve_open_map   post_all, end_turn    replies, waypoints, journal
- *     to look       pathserve_view_of    passable, region, area, row, find
+ *     to look       pathserve_view_of    passable, region, area, row, nearest, standing_at, find
  *
  * WHAT YOU PROMISE, for each call. The library's functions are proved to be safe and to give the statuses and the results
  * that are said here. Tested, and not proved, is what is said of memory (that NO_MEMORY comes only where there was none, that
@@ -305,6 +305,16 @@ uint32_t pathserve_area(pathserve_view *view, uint32_t class_number, uint32_t i,
  * many it wrote: as many as the row has and as the buffer holds; 0 of a row that the map has not, of a class that there is
  * not, and of a closed view. */
 size_t pathserve_row(pathserve_view *view, uint32_t class_number, uint32_t j, uint64_t *words, size_t count);
+
+/* The cell in which a path of the class from the point (x, z) starts: the one that holds the point, where it is passable, or
+ * else the passable one nearest to it, which may lie across a wall. Gives 1, and the cell; or 0, and writes nothing: where no
+ * cell is passable for the class, of a point off the map, of a class that there is not, and of a closed view. */
+uint32_t pathserve_nearest(pathserve_view *view, uint32_t class_number, pathserve_fixed x, pathserve_fixed z,
+                           pathserve_cell *cell);
+
+/* What stands under a number, as the post by which caller 0 adds it. Gives 1, and the post; or 0, and writes nothing: where
+ * nothing stands under the number, and of a closed view. */
+uint32_t pathserve_standing_at(pathserve_view *view, uint32_t id, pathserve_post *post);
 
 /* Answers a post of the kind PATHSERVE_PATH or PATHSERVE_REGION at once, as a turn without edits would. The match knows
  * nothing of it: ask for what is drawn, and post what is played. Writes the reply, and the first waypoints of a path, as many

@@ -480,6 +480,29 @@ class Python(unittest.TestCase):
                         compared += 1
         self.assertGreater(compared, 100)
 
+    def test_a_view_says_what_stands_and_where_paths_start(self):
+        starts = 0
+        for posted, _ in self.said(100):
+            with posted.open() as match:
+                standing = {}
+                for posts in posted.turns:
+                    match.post(posts)
+                    replies = match.end_turn().replies
+                    standing = stand_after(standing, posts, replies)
+                    asked = [it for it in zip(sorted(posts, key=lambda post: post.caller), replies) if it[0].kind == 5]
+                    with match.view() as view:
+                        for number in {*standing, *(post.id for post in posts)}:
+                            add = standing.get(number)
+                            self.assertEqual(view.standing_at(number), add and add._replace(caller=0))
+                        for post, reply in asked:
+                            start = view.nearest(post.class_number, post.x, post.z)
+                            if reply.path:
+                                self.assertEqual(start, reply.path.start)
+                                starts += 1
+                            elif reply.why in (None, self.api.Refusal.START_OUTSIDE):
+                                self.assertIsNone(start)
+        self.assertGreater(starts, 100)
+
     def further(self, match, turns):
         """What these turns are told, without their numbers."""
         told = []

@@ -2,4 +2,5 @@ mod AsBox
 mod Asking
 mod Feeding
 mod Places
+mod Starts
 mod Turning

@@ -2,6 +2,7 @@ pub mod Calls
 pub mod Finds
 pub mod Handles
 pub mod Owned
+pub mod Questions
 pub mod Sizes
 pub mod Statuses
 pub mod Structs

@@ -11,6 +11,7 @@
 mod finds;
 mod handles;
 mod held;
+mod questions;
 mod raw_box;
 mod states;
 mod statuses;
@@ -24,6 +25,7 @@ mod views;
 pub use finds::pathserve_find;
 pub use handles::{Handle, handles_may_cross};
 pub use held::Held;
+pub use questions::{pathserve_nearest, pathserve_standing_at};
 pub use raw_box::RawBox;
 pub use states::State;
 pub use statuses::{

@@ -155,6 +155,10 @@ def cell_of(struct: CellStruct) -> Cell:
     return Cell(struct.i, struct.j)
 
 
+def post_of(struct: PostStruct) -> Post:
+    return Post(*(getattr(struct, name) for name in Post._fields))
+
+
 def reply_of(struct: ReplyStruct, waypoints: Sequence[Cell]) -> Reply:
     """A reply, with the waypoints of its turn."""
     kind = Kind(struct.kind)

@@ -6,12 +6,17 @@ import ctypes
 from . import native
 from .native import must
 from .owners import Owner
-from .posts import Post, Reply, cell_of, reply_of
+from .posts import Cell, Post, Reply, cell_of, post_of, reply_of
 
 
 def word(number: int) -> int:
     """The number, or where it has not 32 bits the greatest that has: no map has such a class or cell."""
     return number if 0 <= number < 1 << 32 else (1 << 32) - 1
+
+
+def coordinate(raw: int) -> int:
+    """The coordinate, or where it has not 32 bits the least that has: it lies on no map."""
+    return raw if -1 << 31 <= raw < 1 << 31 else -1 << 31
 
 
 class View(Owner):
@@ -42,6 +47,18 @@ class View(Owner):
         words = (ctypes.c_uint64 * ((width + 63) // 64))()
         self._call("row", word(class_number), word(j), words, len(words))
         return [bool(words[i // 64] >> i % 64 & 1) for i in range(width)]
+
+    def nearest(self, class_number: int, x: int, z: int) -> Cell | None:
+        """The cell in which a path from the point (x, z) starts: the one that holds it, or else the passable one nearest to it."""
+        cell = native.CellStruct()
+        is_there = self._call("nearest", word(class_number), coordinate(x), coordinate(z), cell)
+        return cell_of(cell) if is_there else None
+
+    def standing_at(self, number: int) -> Post | None:
+        """The post by which caller 0 adds what stands under a number."""
+        struct = native.PostStruct()
+        is_there = 0 <= number < 1 << 32 and self._call("standing_at", number, struct)
+        return post_of(struct) if is_there else None
 
     def find(self, post: Post) -> Reply:
         """Answers a path or a region at once, as a turn without edits would. The match knows nothing of it."""

@@ -154,6 +154,8 @@ extern "C" {
     pub fn pathserve_region(view: *mut View, class_number: u32, i: u32, j: u32) -> u32;
     pub fn pathserve_area(view: *mut View, class_number: u32, i: u32, j: u32) -> u32;
     pub fn pathserve_row(view: *mut View, class_number: u32, j: u32, words: *mut u64, count: usize) -> usize;
+    pub fn pathserve_nearest(view: *mut View, class_number: u32, x: i32, z: i32, cell: *mut Cell) -> u32;
+    pub fn pathserve_standing_at(view: *mut View, id: u32, post: *mut Post) -> u32;
     pub fn pathserve_find(
         view: *mut View,
         post: *const Post,

@@ -1,5 +1,5 @@
 //! Plays a turn by posts, and looks at what stands from another thread.
-use pathserve::{fixed, Class, Error, Goal, Outcome, Post, PostedMatch};
+use pathserve::{fixed, Cell, Class, Error, Goal, Outcome, Post, PostedMatch};
 use std::thread;
 
 fn main() -> Result<(), Error> {
@@ -7,12 +7,16 @@ fn main() -> Result<(), Error> {
     let mut game = PostedMatch::open(12, 8, 1, &classes, &[])?;
     let goal = Goal::Point { x: fixed(10.5), z: fixed(1.5) };
     let ask = Post::Path { caller: 0, class: 0, x: fixed(1.5), z: fixed(1.5), goal };
-    game.post(&[Post::AddUnit { caller: 0, id: 1, mask: 1, x: fixed(6.0), z: fixed(1.5), half: fixed(1.0) }, ask])?;
+    let add = Post::AddUnit { caller: 0, id: 1, mask: 1, x: fixed(6.0), z: fixed(1.5), half: fixed(1.0) };
+    game.post(&[add, ask])?;
     let turn = game.end_turn()?;
     for reply in &turn.replies {
         println!("{} {} {:?}", reply.caller, reply.post, reply.outcome);
     }
     let mut view = game.view()?;
+    assert_eq!((view.standing_at(1), view.standing_at(2)), (Some(add), None));
+    assert_eq!(view.nearest(0, fixed(1.5), fixed(1.5)), Some(Cell { i: 1, j: 1 }));
+    assert_eq!(view.nearest(1, fixed(1.5), fixed(1.5)), None);
     let found = thread::spawn(move || view.find(&ask)).join().expect("a thread")?;
     assert!(matches!(found.outcome, Outcome::AtGoal(_)) && found.outcome == turn.replies[1].outcome);
     Ok(())

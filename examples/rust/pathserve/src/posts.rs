@@ -70,6 +70,16 @@ impl Post {
     }
 }
 
+/// The post that adds an obstruction.
+pub(crate) fn add_of(post: &sys::Post) -> Post {
+    let sys::Post { caller, id, mask, x, z, ux, uz, hw, hh, radius, .. } = *post;
+    match post.kind {
+        1 => Post::AddUnit { caller, id, mask, x, z, half: radius },
+        2 => Post::AddSquare { caller, id, mask, x, z, ux, uz, hw, hh },
+        other => unreachable!("an obstruction of the kind {other}"),
+    }
+}
+
 impl Goal {
     fn raw(self) -> sys::Post {
         let none = sys::Post::default();

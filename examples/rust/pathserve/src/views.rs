@@ -1,5 +1,5 @@
 //! Views of what stands.
-use crate::posts::{reply_of, Post, Reply};
+use crate::posts::{add_of, reply_of, Post, Reply};
 use crate::{must, Error};
 use pathserve_sys as sys;
 use std::ptr;
@@ -46,6 +46,23 @@ impl View {
     pub fn row(&mut self, class_number: u32, j: u32, words: &mut [u64]) -> usize {
         // SAFETY: the buffer has its length.
         unsafe { sys::pathserve_row(&mut self.0, class_number, j, words.as_mut_ptr(), words.len()) }
+    }
+
+    /// The cell in which a path of a class from the point (x, z) starts: the one that holds it, or else the passable one
+    /// nearest to it. None where there is none, or the point is not on the map.
+    pub fn nearest(&mut self, class_number: u32, x: i32, z: i32) -> Option<sys::Cell> {
+        let mut cell = sys::Cell::default();
+        // SAFETY: an exclusive handle.
+        let is_there = unsafe { sys::pathserve_nearest(&mut self.0, class_number, x, z, &mut cell) };
+        (is_there != 0).then_some(cell)
+    }
+
+    /// The post by which caller 0 adds what stands under a number.
+    pub fn standing_at(&mut self, id: u32) -> Option<Post> {
+        let mut post = sys::Post::default();
+        // SAFETY: an exclusive handle.
+        let is_there = unsafe { sys::pathserve_standing_at(&mut self.0, id, &mut post) };
+        (is_there != 0).then(|| add_of(&post))
     }
 
     /// Answers a path or a region at once, as a turn without edits would. The match knows nothing of it.
