@@ -3,6 +3,7 @@
 
 usage: gate_minutes.py --run FILE [COMMAND ..]   runs a command (`rt ci`), and writes what its processes cost to FILE
        gate_minutes.py FILE ..                   prints a table of what such runs cost, dearest crates first
+       gate_minutes.py --page FILE LOG COMMIT    writes docs/GATE.md: what a run over a commit said, and its table
 
 A run ends with the status of its command, whose output is left as it is. Each second the prover's processes below it are
 looked at; of one that ends in between less than a second is lost, and clang's are not counted. Minutes are those of a
@@ -12,6 +13,7 @@ does not prove again, so measure `rt ci --anew`, with nothing beside it: other p
 """
 import ctypes
 import os
+import re
 import subprocess
 import sys
 import threading
@@ -24,6 +26,10 @@ TICK = os.sysconf("SC_CLK_TCK")
 # prctl's number by which what loses its parent becomes a child of this process, and not of the first one
 SUBREAPER = 36
 KINDS = ("check", "library", "wrong bodies")
+PAGE_HEAD = """# The last gate
+
+What the last whole gate said, from nothing, and what each crate cost it, for an auditor and for whoever wants it cheaper. Minutes are those of a processor; memory is the most that one process held; a library is proved too, for the crates above it. `tools/gate_minutes.py` measures and writes this page.
+"""
 
 
 def text_of(path):
@@ -126,9 +132,27 @@ def table(files):
     yield f"| all | | | | {' | '.join(f'{it:.1f}' for it in [sum(sums), *sums])} | {max(held.values(), default=0) / 1024:.1f} |"
 
 
+def page(file, log, commit):
+    """The page of a run: what it said at its end, what it proved and refused, and its table."""
+    lines = text_of(log).splitlines()
+    counts = [it for it in lines if re.fullmatch(r"\d+ passed, \d+ failed", it)]
+    if not counts:
+        raise ValueError(f"{log} has no last line of a gate")
+    proved = sum(bool(re.fullmatch(r"rt: \w+ proved", it)) for it in lines)
+    refused = sum(": refused, as it must be" in it for it in lines)
+    kit = subprocess.run(["rt", "version"], capture_output=True, text=True).stdout.strip()
+    said = f"`rt ci` over commit {commit} with the kit `{kit}`: **{counts[-1]}** ({proved} crates proved, {refused} wrong bodies refused)."
+    return "\n".join([PAGE_HEAD, said, "", *table([file]), ""])
+
+
 def main(words):
     if words[:1] == ["--run"] and len(words) > 1:
         return run(words[1], words[2:] or ["rt", "ci"])
+    if words[:1] == ["--page"] and len(words) == 4:
+        made = page(*words[1:])
+        with open(os.path.join(TOP, "docs", "GATE.md"), "w", encoding="utf-8") as it:
+            it.write(made)
+        return 0
     if not words or words[0].startswith("-"):
         return commands.usage(__doc__.strip(), words)
     try:
