@@ -67,7 +67,7 @@ EXCHANGE = [
           [((0, 1), (0, 0), OTHER), ((0, 0), (1, 0), OTHER), ((0, 1), (1, 0), WALK, True)]),
     Panel("north, then north-east:\nthe same cost the other way", ["..", "..", ".."],
           [((0, 2), (0, 1), OTHER), ((0, 1), (1, 0), OTHER), ((0, 2), (1, 1), WALK, True), ((1, 1), (1, 0), WALK, True)]),
-    Panel("a wall is in the way of both:\nthe turn is forced", ["..", "..", ".#"],
+    Panel("a wall is in the way of the\ndashed steps: the turn is forced", ["..", "..", ".#"],
           [((0, 2), (0, 1), WALK), ((0, 1), (1, 0), WALK), ((0, 1), (1, 1), WALK)]),
 ]
 JUMPS = [

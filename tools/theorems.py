@@ -33,14 +33,17 @@ PARTS = {
         ("The bitboards of a class are exactly its passable cells, by rows and by columns, also after a change", "class_planes plane_sets:updated", "class_planes: PlaneLemmas ReadLemmas TurnLemmas UpdateLemmas"),
     ],
     "The search": [
-        ("The plain search gives the chosen walk, and there is one", "walks plain_search; walks one_answer", "walks: Sweeping Tracing OneAnswer"),
+        ("The plain search gives the chosen walk, and there is at most one", "walks plain_search; walks one_answer", "walks: Sweeping Tracing OneAnswer"),
         ("Of two steps of the chosen walk the second is a natural or a forced neighbour of the first", "jump_search search:find", "jump_search: Exchange Turns"),
         ("The chosen walk goes by jump points", "jump_search search:find", "jump_search: Stopping RunEnds"),
-        ("A search that has ended has every state that the chosen walk needs, at its least cost", "jump_search search:find", "jump_search: Bounding Relaxing Dropping Taking Halting"),
+        ("A search by a consistent estimate that has ended has every state that the chosen walk needs, at its cost", "jump_search search:find", "jump_search: Measuring Landing Framing Bounding Relaxing Dropping Taking Halting"),
         ("Its end is the first of the nearest targets, and the walk that is traced back by costs is the chosen one", "jump_search search:find", "jump_search: Ending LastRuns Picking GoingBack Answering"),
         ("The opened number is exact", "jump_search search:trace; jump_search one_opened_number", "jump_search: Opening OneNumber"),
         ("Runs over bitboards stop where the definition says", "class_planes plane_scans:straight; class_planes plane_scans:diagonal", "class_planes: FarLemmas OpeningLemmas StepLemmas StopLemmas"),
         ("The precomputed jump flags are right, also after a change", "class_planes plane_sets:updated", "class_planes: StopLineLemmas StopWordLemmas StopChangeLemmas StopBandLemmas"),
+    ],
+    "Landmarks": [
+        ("No walk costs less than its landmark bound, whatever stands on the map; tables that are added keep that", "landmarks bound_of_walk; landmarks tables:add", "landmarks: Bounds Gentle Marking"),
     ],
     "Goals, fields and smoothing": [
         ("The start cell is the nearest passable one; the goal is kept where it can be reached, else the closest reachable cell is the target", "goal_reach nearest_passable; goal_reach made_reachable", "goal_reach: Choosing Ringing Beyond Running Joining"),
