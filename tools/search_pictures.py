@@ -6,8 +6,8 @@ import sys
 
 sys.path.insert(0, os.path.dirname(os.path.abspath(__file__)))
 import commands
+import specs
 
-TOP = os.path.dirname(os.path.dirname(os.path.abspath(__file__)))
 CELL, MARGIN, HEAD = 34, 10, 40
 INK, GRID, FREE, WALL, WALK, OTHER, JUMP = "#1b1f24", "#cfc9bd", "#fbfaf7", "#4b535d", "#0072b2", "#d55e00", "#007a5a"
 
@@ -89,21 +89,10 @@ def picture(panels):
     return f'{head}\n<rect width="{width}" height="{height}" fill="#ffffff"/>\n' + "\n".join(parts) + "\n</svg>\n"
 
 
-def main(words):
-    if words not in ([], ["--check"]):
-        return commands.usage(__doc__, words)
-    stale = []
-    for name, panels in PICTURES.items():
-        path, text = os.path.join(TOP, "docs", "pictures", f"{name}.svg"), picture(panels)
-        if words:
-            stale += [] if os.path.isfile(path) and open(path).read() == text else [path]
-        else:
-            with open(path, "w") as out:
-                out.write(text)
-    for path in stale:
-        print(f"{os.path.relpath(path, TOP)} is not current: tools/search_pictures.py writes it", file=sys.stderr)
-    return 1 if stale else 0
+def made():
+    """The pictures by their names."""
+    return {name: picture(panels) for name, panels in PICTURES.items()}
 
 
 if __name__ == "__main__":
-    commands.run(lambda: main(sys.argv[1:]))
+    commands.run(lambda: specs.put_pictures(made, "search_pictures.py", sys.argv[1:], __doc__))

@@ -91,6 +91,24 @@ def put(file, page, tool, words, text):
     return 0
 
 
+def put_pictures(made, tool, words, text):
+    """Writes the pictures of docs that a script draws, by their names; with `--check` only tells which are not current.
+    Returns the exit status."""
+    if words not in ([], ["--check"]):
+        return commands.usage(text, words)
+    stale = 0
+    for name, drawing in made().items():
+        file = f"docs/pictures/{name}.svg"
+        path = os.path.join(TOP, file)
+        if not words:
+            with open(path, "w", encoding="utf-8") as it:
+                it.write(drawing)
+        elif not os.path.isfile(path) or read(file) != drawing:
+            print(f"{file} is not current: run tools/{tool}")
+            stale += 1
+    return 1 if stale else 0
+
+
 def between(file, first, last, made):
     """The text of a page with what is made between two of its marks."""
     before, found, rest = read(file).partition(first)
