@@ -11,6 +11,8 @@ import commands
 TOP = os.path.dirname(os.path.dirname(os.path.abspath(__file__)))
 MARKS = r"(?:(?:pub|abbrev|unfoldable|record|data|ruleset)\s+)+"
 ITEM = re.compile(rf"{MARKS}(?!use\b|mod\b)(\S+)")
+# one of several definitions that call each other, which stand in a block that begins with `mutual`
+MUTUAL = re.compile(r"\s+pub (\S+) :")
 IMPORT = re.compile(r"(?:(pub|ghost) )?use Rattle\.([\w.]+?)(?:\.\{(.*)\}| as (\w+))?;?$")
 WORD = re.compile(r"(?<![\w.◌])[^\W\d][\w'-]*(?:\.[^\W\d][\w'-]*)*")
 
@@ -55,15 +57,20 @@ class Module(Names):
         super().__init__()
         self.crate, self.name, self.file = crate, name, file
         self.path, self.items = f"{crate}.specs.{name}", {}
-        comment, last = [], None
+        comment, last, in_block = [], None, False
         for line in read(file).splitlines():
             item = ITEM.match(line)
+            one_of_block = in_block and MUTUAL.match(line)
             if self.read(line) or not line.strip():
                 comment, last = [], last if line.startswith(" ") else None
             elif line.startswith("--"):
                 comment = [] if line.startswith("-- ----") else [*comment, line[2:].strip()]
-            elif item:
-                last = self.items[item[1]] = Definition(self, item[1], " ".join(comment), line)
+            elif item and item[1] == "mutual":
+                in_block = True
+            elif item or one_of_block:
+                in_block = in_block and not item
+                name = (item or one_of_block)[1]
+                last = self.items[name] = Definition(self, name, " ".join(comment), line)
                 comment = []
             elif last:
                 last.lines.append(line)
