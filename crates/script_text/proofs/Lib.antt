@@ -22,6 +22,7 @@ mod TurnItems
 pub mod CanonTexts
 pub mod BackForms
 pub mod ShallowTexts
+pub mod BlockLooks
 pub mod BackTexts
 pub mod BackValues
 pub mod BackPosts

@@ -2,7 +2,7 @@
 use Rattle.std.proofs.Common.{◌≡◌, drop}
 use Rattle.script_text.specs.Nesting as nest
 use Rattle.script_text.proofs.ShallowTexts.{fits_at}
-use Rattle.script_text.proofs.nesting.is_shallow.Given as goal
+use Rattle.script_text.proofs.nesting.is_shallow_by_bytes.Given as goal
 
 abbrev pub invariant-loop-byte : goal.invariant-loop-byte
 invariant-loop-byte l = fits_at l.standing l.depth (drop l.byte-index l.line) ≡ nest.is_shallow l.line
