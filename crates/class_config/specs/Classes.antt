@@ -47,10 +47,9 @@ clearance_under d = option_and_then fixed_value (text_under (codes "clearance") 
 
 -- the class of this name and this clearance, where it may be one
 abbrev pub class_with : Option (List ℕ) → Option ℤ → Option PassabilityClass
-class_with None raw = None
-class_with (Some name) None = None
 class_with (Some name) (Some raw) =
     some_if (is_class_name name && is_clearance raw) (record { name = name; clearance = raw })
+class_with _ _ = None
 
 -- the class that an object with exactly the keys `name` and `clearance` describes
 abbrev pub class_of : Data → Option PassabilityClass

@@ -3,7 +3,7 @@
 use Rattle.std.specs.Prelude.{ℕ, ◌-◌, ◌&&◌, ◌||◌, ◌==◌, List, [], ◌∷◌, ◌++◌, length, replicate, count_by, bytes_eq, Bool, false, nat_le, Option, option_and_then}
 use Rattle.std.specs.List.{list_all, list_any}
 use Rattle.std.specs.Char.{is_ascii_alphanumeric}
-use Rattle.serde_json.specs.Data.{Data, object, array, Members, no_members, member, null, boolean, number, string}
+use Rattle.serde_json.specs.Data.{Data, object, Members, no_members, member}
 use Rattle.serde_json.specs.Find.{get, as_str}
 
 -- the keys of an object, in its order
@@ -14,13 +14,9 @@ keys_of (member key d ms) = key ∷ keys_of ms
 -- an object whose keys are exactly these, in any order: each of its keys is one of these, and each of these stands in
 -- it once
 abbrev pub has_keys : List (List ℕ) → Data → Bool
-has_keys keys null = false
-has_keys keys (boolean b) = false
-has_keys keys (number n) = false
-has_keys keys (string s) = false
-has_keys keys (array ds) = false
 has_keys keys (object ms) = list_all (λ key. list_any (bytes_eq key) keys) (keys_of ms)
     && list_all (λ key. count_by (bytes_eq key) (keys_of ms) == 1) keys
+has_keys keys _ = false
 
 -- the string under a key
 abbrev pub text_under : List ℕ → Data → Option (List ℕ)
