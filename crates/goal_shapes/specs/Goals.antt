@@ -73,8 +73,7 @@ meets_axis p main other hw hh = let n = squared_length main other in
 -- along the axis
 abbrev pub meets_side : Rectangle → ℤ → ℤ → Bool
 meets_side rectangle half length =
-    nat_le (unsigned_abs length)
-    (65536 * unsigned_abs half + 32768 * (unsigned_abs rectangle.ux + unsigned_abs rectangle.uz))
+    nat_le (unsigned_abs length) (65536 * unsigned_abs half + 32768 * (unsigned_abs rectangle.ux + unsigned_abs rectangle.uz))
 
 -- no axis of the map separates the square and the cell
 abbrev pub meets_axes : Rectangle → Cell → Bool
@@ -106,8 +105,7 @@ within length half = 65536 * unsigned_abs half - unsigned_abs length
 -- how deep the cell's middle lies within the square's sides: within those that are nearest to it
 abbrev pub depth : Rectangle → Cell → ℕ
 depth rectangle cell =
-    min (within (centre_along rectangle cell.i cell.j) rectangle.hw)
-    (within (centre_across rectangle cell.i cell.j) rectangle.hh)
+    min (within (centre_along rectangle cell.i cell.j) rectangle.hw) (within (centre_across rectangle cell.i cell.j) rectangle.hh)
 
 -- ---- goals
 
@@ -135,6 +133,5 @@ remoteness (NotSquare rectangle) cell = depth rectangle cell
 unfoldable pub framed : Goal → Cell → Bool
 framed (Point x z) cell = holds_point x z cell
 framed (Circle x z r) cell = is_near_circle x z r cell
-framed (NotCircle x z r) cell = true
 framed (Square rectangle) cell = meets_axes rectangle cell
-framed (NotSquare rectangle) cell = true
+framed _ cell = true
