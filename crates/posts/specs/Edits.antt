@@ -3,7 +3,7 @@ use Rattle.std.specs.Prelude.{ℕ, Bool, true, false}
 use Rattle.posts.specs.declared.edits.Edit.{Edit}
 use Rattle.posts.specs.declared.edits.Edit.TheVariants.{Add, Remove, Move}
 use Rattle.posts.specs.declared.edits.EditReply.{EditReply}
-use Rattle.posts.specs.declared.edits.EditReply.TheVariants.{Added, Removed, Moved, Refused}
+use Rattle.posts.specs.declared.edits.EditReply.TheVariants.{Refused}
 
 -- the number of the obstruction that an edit names
 abbrev pub edited_id : Edit → ℕ
@@ -13,7 +13,5 @@ edited_id (Move id x z) = id
 
 -- whether an edit was refused, by its reply
 abbrev pub is_refused : EditReply → Bool
-is_refused (Added id) = false
-is_refused (Removed id) = false
-is_refused (Moved id) = false
 is_refused (Refused refusal) = true
+is_refused _ = false
