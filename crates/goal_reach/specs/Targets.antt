@@ -38,5 +38,4 @@ IsNearCell passes start goal cell = IsLeastBy (remoteness goal) (Joined passes s
 -- cell.
 abbrev pub AreTargets : (Cell → Bool) → Cell → Goal → Target → Type 0
 AreTargets passes start goal (GoalTarget same) = (same ≡ goal) × CanReach passes start (contains goal)
-AreTargets passes start goal (Near cell) = (CanReach passes start (contains goal) → ⊥)
-    × IsNearCell passes start goal cell
+AreTargets passes start goal (Near cell) = (CanReach passes start (contains goal) → ⊥) × IsNearCell passes start goal cell

@@ -50,8 +50,6 @@ IsChosen passes start dirs end = IsChosenBack passes start None (reverse dirs) e
 pub record IsAnswer (passes : Cell → Bool) (start : Cell) (hit : Cell → Bool) (end : Cell) (cost : ℕ)
     (points : List Cell) : Type 0 where
   pub is_hit : IsTrue (hit end)
-  pub walk : (dirs : List Dir)
-      × (IsChosen passes start dirs end × ((walk_cost dirs ≡ cost) × (points ≡ waypoints start dirs)))
-  pub nearest : (target : Cell) (dirs : List Dir) → IsTrue (hit target) → IsWalk passes start dirs target
-      → cost ≤ walk_cost dirs
+  pub walk : (dirs : List Dir) × (IsChosen passes start dirs end × ((walk_cost dirs ≡ cost) × (points ≡ waypoints start dirs)))
+  pub nearest : (target : Cell) (dirs : List Dir) → IsTrue (hit target) → IsWalk passes start dirs target → cost ≤ walk_cost dirs
   pub first : (target : Cell) → IsTrue (hit target) → IsDistance passes start target cost → IsNotAfter end target
