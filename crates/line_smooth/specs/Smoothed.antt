@@ -25,9 +25,8 @@ IsSublist passes places from (next ∷ rest) = IsRise passes places from next ×
 
 -- where two lists first differ, the first one has the greater number
 abbrev pub IsLater : List ℕ → List ℕ → Type 0
-IsLater [] others = Unit {0}
-IsLater (a ∷ rest) [] = Unit {0}
 IsLater (a ∷ rest) (b ∷ others) = (b < a) ⊎ ((a ≡ b) × IsLater rest others)
+IsLater _ _ = Unit {0}
 
 -- Of all lists of places that lead from one place to the last, the one with the fewest; among those the one that has the
 -- later place where two first differ.
