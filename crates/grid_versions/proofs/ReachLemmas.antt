@@ -15,8 +15,9 @@ use Rattle.nav_types.specs.declared.cells.Rect.{Rect}
 use Rattle.nav_types.specs.Cells.{IsInside, IsInRect}
 use Rattle.nav_types.proofs.NumberTies.{apart_at}
 use Rattle.obstruction_shapes.specs.declared.shapes.Obstruction.{Obstruction}
+use Rattle.obstruction_shapes.specs.Shapes.{moved_to}
 use Rattle.clearance_raster.specs.Rasters.{blocks_class}
-use Rattle.obstruction_store.specs.Standing.{Standing, with_placed, placed_at}
+use Rattle.obstruction_store.specs.Standing.{Standing, with_placed}
 use Rattle.obstruction_store.proofs.Listing.{Contains-entries}
 use Rattle.posts.specs.declared.edits.Edit.{Edit}
 use Rattle.posts.specs.declared.edits.Edit.TheVariants.{Add, Remove, Move}
@@ -47,7 +48,7 @@ removed_elsewhere standing id n other =
 placed_elsewhere : (standing : Standing) (id n : ℕ) (x z : ℤ) (found : Option Obstruction) → n ≢ id
     → fin_map.get (with_placed standing id x z found) n ≡ fin_map.get standing n
 placed_elsewhere standing id n x z None other = refl
-placed_elsewhere standing id n x z (Some found) other = inserted_elsewhere standing id n (placed_at found x z) other
+placed_elsewhere standing id n x z (Some found) other = inserted_elsewhere standing id n (record found { shape = moved_to found.shape x z }) other
 
 -- an edit leaves what stands under other numbers
 pub edit_elsewhere : (map : Map) (standing : Standing) (edit : Edit) (n : ℕ) → n ≢ edited_id edit

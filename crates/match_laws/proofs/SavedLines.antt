@@ -13,7 +13,7 @@ use Rattle.obstruction_shapes.specs.declared.shapes.Obstruction.{Obstruction}
 use Rattle.obstruction_shapes.specs.declared.shapes.Shape.{Shape}
 use Rattle.obstruction_shapes.specs.declared.shapes.Shape.TheVariants.{Unit as UnitShape, Square}
 use Rattle.obstruction_shapes.specs.Shapes.{moved_to}
-use Rattle.obstruction_store.specs.Standing.{Standing, placed_at, with_placed}
+use Rattle.obstruction_store.specs.Standing.{Standing, with_placed}
 use Rattle.posts.specs.declared.edits.Edit.{Edit}
 use Rattle.posts.specs.declared.edits.Edit.TheVariants.{Add, Remove, Move}
 use Rattle.posts.specs.declared.posts.Post.{Post}
@@ -90,7 +90,7 @@ writable_placed : (version : ℕ) (s : Standing) (id : ℕ) (x z : ℤ) (found :
 writable_placed version s id x z None e all is = all
 writable_placed version s id x z (Some o) e all is =
     let ((number, raws, mask), line) = all.each id o e in
-    writable_insert version s id (placed_at o x z) all ((number, moved_decimals o.shape x z raws is.0.1, mask), line)
+    writable_insert version s id (record o { shape = moved_to o.shape x z }) all ((number, moved_decimals o.shape x z raws is.0.1, mask), line)
 
 writable_edited : (m : Map) (version : ℕ) (s : Standing) (edit : Edit) → IsWritable version (Edits edit) → AreWritable version s
     → AreWritable version (after_edit m s edit)

@@ -5,7 +5,8 @@ use Rattle.std.specs.Cmp.{nat_cmp_total}
 use Rattle.std.specs.Ordering.{nat_cmp}
 use Rattle.std.specs.FinMap as fin_map
 use Rattle.obstruction_shapes.specs.declared.shapes.Obstruction.{Obstruction}
-use Rattle.obstruction_store.specs.Standing.{Standing, AllFit, placed_at, with_placed}
+use Rattle.obstruction_shapes.specs.Shapes.{moved_to}
+use Rattle.obstruction_store.specs.Standing.{Standing, AllFit, with_placed}
 use Rattle.obstruction_store.proofs.Fitting.{AllFit-empty}
 use Rattle.posts.specs.declared.edits.Edit.{Edit}
 use Rattle.posts.specs.declared.edits.Edit.TheVariants.{Add, Remove, Move}
@@ -43,7 +44,7 @@ few_placed : (s : Standing) (id : ℕ) (x z : ℤ) (found : Option Obstruction) 
     → fin_map.len (with_placed s id x z found) ≤ 65536
 few_placed s id x z None is few = few
 few_placed s id x z (Some found) is few =
-    let size = fin_map.len-insert nat_cmp_total s id (placed_at found x z) ∙ ap (λ o. cond (is_some o) (fin_map.len s) (fin_map.len s + 1)) is in
+    let size = fin_map.len-insert nat_cmp_total s id (record found { shape = moved_to found.shape x z }) ∙ ap (λ o. cond (is_some o) (fin_map.len s) (fin_map.len s + 1)) is in
     omega (arith, size, few)
 
 few_edited : (m : Map) (s : Standing) (edit : Edit) → fin_map.len s ≤ 65536 → fin_map.len (after_edit m s edit) ≤ 65536

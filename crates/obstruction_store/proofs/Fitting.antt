@@ -7,7 +7,7 @@ use Rattle.std.specs.Ordering.{nat_cmp}
 use Rattle.nav_types.specs.declared.cells.Size.{Size}
 use Rattle.obstruction_shapes.specs.declared.shapes.Obstruction.{Obstruction}
 use Rattle.obstruction_shapes.specs.Shapes.{FitsMap, moved_to}
-use Rattle.obstruction_store.specs.Standing.{Standing, AllFit, moved, with_placed, placed_at}
+use Rattle.obstruction_store.specs.Standing.{Standing, AllFit, moved, with_placed}
 
 -- what is found after an insert is the new value or was there before
 found_after_insert : {X : Type 0} (here : Bool) (value found : X) (before : Option X)
@@ -48,7 +48,8 @@ AllFit-with_placed : (size : Size) (standing : Standing) (number : ℕ) (x z : �
     → AllFit size standing → IsSomeAnd old (λ obstruction. FitsMap size (moved_to obstruction.shape x z))
     → AllFit size (with_placed standing number x z old)
 AllFit-with_placed size standing number x z None all fits = absurd fits
-AllFit-with_placed size standing number x z (Some old) all fits = AllFit-insert size standing number (placed_at old x z) all fits
+AllFit-with_placed size standing number x z (Some old) all fits =
+    AllFit-insert size standing number (record old { shape = moved_to old.shape x z }) all fits
 
 pub AllFit-moved : (size : Size) (standing : Standing) (number : ℕ) (x z : ℤ) → AllFit size standing
     → IsSomeAnd (map.get standing number) (λ obstruction. FitsMap size (moved_to obstruction.shape x z))

@@ -19,14 +19,11 @@ Stands standing number = IsSome (map.get standing number)
 abbrev pub IsFull : Standing → Type 0
 IsFull standing = map.len standing ≡ MAX_OBSTRUCTIONS
 
--- the obstruction with the middle of its shape at (x, z), which are raw numbers, and its old mask
-abbrev pub placed_at : Obstruction → ℤ → ℤ → Obstruction
-placed_at obstruction x z = record { shape = moved_to obstruction.shape x z; mask = obstruction.mask }
-
--- what stands once the obstruction that was found under the number, if there was one, is placed at (x, z)
+-- what stands once the obstruction that was found under the number, if there was one, has the middle of its shape at (x, z),
+-- which are raw numbers, and its old mask
 abbrev pub with_placed : Standing → ℕ → ℤ → ℤ → Option Obstruction → Standing
 with_placed standing number x z None = standing
-with_placed standing number x z (Some found) = map.insert standing number (placed_at found x z)
+with_placed standing number x z (Some found) = map.insert standing number (record found { shape = moved_to found.shape x z })
 
 -- what stands after a move of the obstruction of that number to (x, z)
 abbrev pub moved : Standing → ℕ → ℤ → ℤ → Standing
