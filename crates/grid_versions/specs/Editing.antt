@@ -21,20 +21,16 @@ add_reply map standing id obstruction = if not (fits map.size obstruction.shape)
     else (if fin_map.contains_key standing id then Refused DuplicateId
     else (if fin_map.len standing == MAX_OBSTRUCTIONS then Refused StoreFull else Added id))
 
--- a remove is refused where its number does not stand
-abbrev pub remove_reply : Standing → ℕ → EditReply
-remove_reply standing id = if fin_map.contains_key standing id then Removed id else Refused UnknownId
-
 -- a move is refused where its number does not stand, else where the shape does not fit the map with its middle at
 -- (x, z)
 abbrev pub move_reply : Map → Option Obstruction → ℕ → ℤ → ℤ → EditReply
 move_reply map None id x z = Refused UnknownId
 move_reply map (Some found) id x z = if fits map.size (moved_to found.shape x z) then Moved id else Refused BadShape
 
--- the reply to an edit
+-- the reply to an edit; a remove is refused where its number does not stand
 abbrev pub edit_reply : Map → Standing → Edit → EditReply
 edit_reply map standing (Add id obstruction) = add_reply map standing id obstruction
-edit_reply map standing (Remove id) = remove_reply standing id
+edit_reply map standing (Remove id) = if fin_map.contains_key standing id then Removed id else Refused UnknownId
 edit_reply map standing (Move id x z) = move_reply map (fin_map.get standing id) id x z
 
 -- what stands after an edit that is not refused: the added obstruction stands too, the removed one no longer, and the
