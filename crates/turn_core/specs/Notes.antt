@@ -100,10 +100,9 @@ IsNote map standing report request note =
 -- the notes of requests, one each, in their order
 abbrev pub AreNotes : Map → Standing → Report → List Request → List Note → Type 0
 AreNotes map standing report [] [] = Unit {0}
-AreNotes map standing report [] (note ∷ notes) = ⊥
-AreNotes map standing report (request ∷ requests) [] = ⊥
 AreNotes map standing report (request ∷ requests) (note ∷ notes) =
     IsNote map standing report request note × AreNotes map standing report requests notes
+AreNotes map standing report _ _ = ⊥
 
 -- what a note tells of a flow field, if anything
 abbrev pub flow_in : Note → Option FlowLine

@@ -35,34 +35,30 @@ Gets m final s (Asking request) reply = (answer : Answer) × ((reply ≡ Answere
 -- the replies to the posts of one caller
 abbrev pub AreReplies : Map → Standing → Standing → List Post → List Reply → Type 0
 AreReplies m final s [] [] = Unit {0}
-AreReplies m final s [] (reply ∷ replies) = ⊥
-AreReplies m final s (post ∷ posts) [] = ⊥
 AreReplies m final s (post ∷ posts) (reply ∷ replies) =
     Gets m final s post reply × AreReplies m final (edited m s post) posts replies
+AreReplies m final s _ _ = ⊥
 
 -- the replies to the posts of a turn, caller by caller
 abbrev pub AreTurnReplies : Map → Standing → Standing → List (List Post) → List (List Reply) → Type 0
 AreTurnReplies m final s [] [] = Unit {0}
-AreTurnReplies m final s [] (replies ∷ rest) = ⊥
-AreTurnReplies m final s (posts ∷ turn) [] = ⊥
 AreTurnReplies m final s (posts ∷ turn) (replies ∷ rest) =
     AreReplies m final s posts replies × AreTurnReplies m final (after m s posts) turn rest
+AreTurnReplies m final s _ _ = ⊥
 
 -- the replies that one thread gives to a journal, turn by turn and caller by caller, from what stands before it
 abbrev pub OneThread : Map → Standing → List (List (List Post)) → List (List (List Reply)) → Type 0
 OneThread m s [] [] = Unit {0}
-OneThread m s [] (replies ∷ all) = ⊥
-OneThread m s (turn ∷ journal) [] = ⊥
 OneThread m s (turn ∷ journal) (replies ∷ all) =
     AreTurnReplies m (after_turn m s turn) s turn replies × OneThread m (after_turn m s turn) journal all
+OneThread m s _ _ = ⊥
 
 -- the numbers that go with the replies to each turn of a journal
 abbrev pub TellNumbers : Map → Standing → List (List (List Post)) → List TurnReplies → Type 0
 TellNumbers m s [] [] = Unit {0}
-TellNumbers m s [] (told ∷ all) = ⊥
-TellNumbers m s (turn ∷ journal) [] = ⊥
 TellNumbers m s (turn ∷ journal) (told ∷ all) =
     TellsNumbers m s (after_turn m s turn) told × TellNumbers m (after_turn m s turn) journal all
+TellNumbers m s _ _ = ⊥
 
 -- the answer to a turn before which `s` stands: the replies of one thread, with the turn's numbers
 pub record IsTurnTold (m : Map) (s : Standing) (turn : List (List Post)) (told : TurnReplies) : Type 0 where
