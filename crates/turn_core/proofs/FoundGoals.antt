@@ -4,7 +4,7 @@ use Rattle.std.specs.Prelude.{Option, if◌then◌else◌}
 use Rattle.std.specs.FinMap as fin_map
 use Rattle.std.proofs.lemmas.Bool.{false_from_ne_true}
 use Rattle.std.proofs.lemmas.Bool.Decides.{Decides-like, Decides-and}
-use Rattle.nav_types.specs.declared.limits.TheConstants.{MAX_GROWTH}
+use Rattle.nav_types.specs.declared.limits.TheConstants.{MAX_GOAL_EXTENT, MAX_GROWTH}
 use Rattle.nav_types.specs.declared.cells.Size.{Size}
 use Rattle.fixed_point.specs.declared.plane.Rectangle.{Rectangle}
 use Rattle.fixed_point.specs.Plane.{IsOnAxis, is_unit_vector, is_on_axis, is_up_to}
@@ -16,7 +16,7 @@ use Rattle.goal_shapes.specs.Limits.{extent, middle_x, middle_z, IsWellFormedSqu
 use Rattle.posts.specs.declared.edits.Refusal.TheVariants.{BadShape, GoalOutside}
 use Rattle.posts.specs.Maps.{Map}
 use Rattle.turn_core.specs.Words.{Standing}
-use Rattle.turn_core.specs.NamedGoals.{is_on_map, is_well_formed_square, is_well_formed, plain_goal, goal_about, goal_found}
+use Rattle.turn_core.specs.NamedGoals.{is_on_map, is_well_formed, plain_goal, goal_about, goal_found}
 
 -- ---- tests
 
@@ -25,7 +25,8 @@ unfolding is_on_map
 on_map_decides size x z =
     Decides-and (is_on_axis size.w x) (is_on_axis size.h z) (Decides-is_on_axis size.w x) (Decides-is_on_axis size.h z)
 
-well_formed_square_decides : (rectangle : Rectangle) → Decides (is_well_formed_square rectangle) (IsWellFormedSquare rectangle)
+well_formed_square_decides : (s : Rectangle)
+    → Decides (is_unit_vector s.ux s.uz && is_up_to MAX_GOAL_EXTENT s.hw && is_up_to MAX_GOAL_EXTENT s.hh) (IsWellFormedSquare s)
 well_formed_square_decides s =
     Decides-like _ (λ all. record { unit_vector = all.0.0; width = all.0.1; height = all.1 })
     (λ are. ((are.unit_vector, are.width), are.height))

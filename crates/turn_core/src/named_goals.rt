@@ -3,8 +3,9 @@ ghost use Rattle.std.specs.Prelude.{◌≡◌, IfOk};
 ghost use Rattle.nav_types.specs.declared.limits.TheConstants.{MAX_GROWTH, MAX_HALF_SIDE};
 ghost use Rattle.obstruction_shapes.specs.Shapes.{turned_of};
 ghost use Rattle.fixed_point.specs.Plane.{IsUpTo, is_up_to};
-ghost use Rattle.goal_shapes.specs.Limits.{IsSoundGoal};
-ghost use Rattle.turn_core.specs.NamedGoals.{plain_goal, square_about, goal_found};
+ghost use Rattle.goal_shapes.specs.declared.goals.Goal.TheVariants.{Square};
+ghost use Rattle.goal_shapes.specs.Limits.{IsSoundGoal, grown};
+ghost use Rattle.turn_core.specs.NamedGoals.{plain_goal, goal_found};
 
 use fixed_point::Fixed;
 use goal_shapes::{BadShape, Goal, GoalRefusal, GoalSpec, check, grown, grown_goals_are_sound};
@@ -69,7 +70,7 @@ fn square_about(shape: Shape, grow: Fixed) -> Goal
     requires width { IsUpTo MAX_HALF_SIDE (turned_of shape).hw }
     requires height { IsUpTo MAX_HALF_SIDE (turned_of shape).hh }
     requires grow { IsUpTo MAX_GROWTH grow }
-    ensures { result ≡ square_about shape grow }
+    ensures { result ≡ Square (grown (turned_of shape) grow) }
 {
     match grown(shape.turned(), grow) {
         Ok(goal) => goal,
