@@ -188,6 +188,12 @@ abbrev pub first_missing : List Key → Data → Option Key
 first_missing [] d = None
 first_missing (k ∷ ks) d = if is_some (get (key_text k) d) then first_missing ks d else Some k
 
+-- the version of the script; before the map line, the newest
+abbrev pub version_of : Part → ℕ
+version_of BeforeMap = 3
+version_of (InBase rules) = rules.version
+version_of (InTurns rules) = rules.version
+
 -- the keys of the add line that has this one: from version 2 on the mask, and one of the shapes
 abbrev pub add_keys_beside : ℕ → Bool → List Key
 add_keys_beside version square = key.Caller ∷ (if square then key.Square else key.Unit) ∷ (if nat_le 2 version then key.Mask ∷ [] else [])
@@ -204,17 +210,13 @@ post_keys_beside version d = if is_some (get (codes "add") d) then add_keys_besi
 -- the same of any line: before the map line, the version names its form
 abbrev pub keys_beside : Part → Data → List Key
 keys_beside BeforeMap d = if is_some (get (codes "version") d) then key.Size ∷ key.Callers ∷ key.Classes ∷ [] else []
-keys_beside (InBase rules) d = post_keys_beside rules.version d
-keys_beside (InTurns rules) d = post_keys_beside rules.version d
-
-abbrev pub missing_cause : Option Key → Cause
-missing_cause None = NoSuchForm
-missing_cause (Some k) = MissingKey k
+keys_beside part d = post_keys_beside (version_of part) d
 
 -- a line with the keys of no form in any version: it has a key that no form has, or it lacks one
 abbrev pub strange_cause : Option (List ℕ) → Option Key → Cause
 strange_cause (Some name) missing = UnknownKey name
-strange_cause None missing = missing_cause missing
+strange_cause None (Some k) = MissingKey k
+strange_cause None None = NoSuchForm
 
 -- ---- lines in their places
 
@@ -240,14 +242,7 @@ other_version version first = if nat_lt version first then LaterVersion first el
 abbrev pub no_form_cause : Part → Option ℕ → Data → Cause
 no_form_cause part None d = strange_cause (unknown_key d) (first_missing (keys_beside part d) d)
 no_form_cause BeforeMap (Some first) d = NotHere
-no_form_cause (InBase rules) (Some first) d = other_version rules.version first
-no_form_cause (InTurns rules) (Some first) d = other_version rules.version first
-
--- the version of the script; before the map line, the newest
-abbrev pub version_of : Part → ℕ
-version_of BeforeMap = 3
-version_of (InBase rules) = rules.version
-version_of (InTurns rules) = rules.version
+no_form_cause part (Some first) d = other_version (version_of part) first
 
 abbrev pub cause_by : Part → ℕ → Data → Option Form → Option Cause
 cause_by part turn d (Some f) = form_cause part turn d f

@@ -16,7 +16,7 @@ use Rattle.posts.specs.declared.edits.Edit.TheVariants.{Add, Remove, Move}
 use Rattle.posts.specs.declared.posts.Post.TheVariants.{Edit as Edits, Ask as Asks}
 use Rattle.posts.specs.declared.posts.Request.{Request}
 use Rattle.posts.specs.declared.posts.Request.TheVariants.{Path, Region}
-use Rattle.posts.specs.Maps.{Map, map_of as map_with}
+use Rattle.posts.specs.Maps.{Map}
 use Rattle.script_text.specs.declared.forms.CallerPost.{CallerPost}
 use Rattle.script_text.specs.Goals.{goal_of}
 use Rattle.script_text.specs.Values.{whole, whole_in, whole_below, obstruction_number, class_name, under, array_items, has_items, whole_at, both, all_three, point_of, round_of, rectangle_of, size_of}
@@ -24,7 +24,8 @@ use Rattle.script_text.specs.Values.{whole, whole_in, whole_below, obstruction_n
 -- ---- the map line
 
 abbrev pub map_by : Option ℕ → Option Size → Option ℕ → Option (List PassabilityClass) → Option Map
-map_by (Some version) (Some size) (Some callers) (Some classes) = Some (map_with version size callers classes [])
+map_by (Some version) (Some size) (Some callers) (Some classes) =
+    Some (record { version = version; size = size; callers = callers; classes = classes; base = [] })
 map_by _ _ _ _ = None
 
 -- the map of a map line; it has no base rectangle yet

@@ -86,9 +86,8 @@ map_after found (item ∷ items) = map_after (map_after_item found item) items
 
 abbrev pub turns_of : List Item → List (List (List Post))
 turns_of [] = []
-turns_of (begins m ∷ items) = turns_of items
-turns_of (adds_base rects ∷ items) = turns_of items
 turns_of (ends_turn posts ∷ items) = posts ∷ turns_of items
+turns_of (_ ∷ items) = turns_of items
 
 -- ---- one line
 

@@ -101,8 +101,7 @@ is_side side = side_by side (dec_le 1 side) (dec_le side MAX_SIDE)
 -- the size of two numbers, where each is a side
 abbrev pub size_by : (w h : ℕ) → Dec (IsSide w) → Dec (IsSide h) → Option Size
 size_by w h (yes wide) (yes high) = Some (record { w = w; h = h; wide = wide; high = high })
-size_by w h (yes wide) (no high) = None
-size_by w h (no wide) high = None
+size_by w h _ _ = None
 
 unfoldable pub size_with : ℕ → ℕ → Option Size
 size_with w h = size_by w h (is_side w) (is_side h)
