@@ -48,9 +48,7 @@ note_line caller post note = line_of (decimal caller ∷ decimal post ∷ note_w
 -- what is written of a note: nothing where it tells nothing, else its line
 abbrev pub note_text : ℕ → ℕ → Note → List ℕ
 note_text caller post Nothing = []
-note_text caller post (Opened opened) = note_line caller post (Opened opened)
-note_text caller post (Flow line) = note_line caller post (Flow line)
-note_text caller post (Smoothed points) = note_line caller post (Smoothed points)
+note_text caller post note = note_line caller post note
 
 -- what is written of the next of the notes that are left; where none is left nothing is told
 abbrev pub next_text : ℕ → ℕ → List Note → List ℕ
@@ -59,9 +57,8 @@ next_text caller post (note ∷ notes) = note_text caller post note
 
 -- the notes that are left after a reply: an answer to a request takes the next one, and the reply to an edit none
 abbrev pub notes_after : Reply → List Note → List Note
-notes_after (Edited reply) notes = notes
-notes_after (Answered answer) [] = []
 notes_after (Answered answer) (note ∷ notes) = notes
+notes_after reply notes = notes
 
 -- the notes that are left after replies
 abbrev pub notes_left : List Reply → List Note → List Note
