@@ -9,7 +9,7 @@ use Rattle.posts.specs.Posts.{jobs}
 use Rattle.turn_core.specs.Words.{Standing, bare}
 use Rattle.turn_core.specs.Turns.{after_turn, IsTurnTold}
 use Rattle.turn_core.specs.Notes.{AreNotes}
-use Rattle.script_text.specs.Script.{Item, begins, adds_base, ends_turn, map_after_item, beginning, Stop, whole_input, too_long, bad_line, Ends, at_place, stuck_by, reading}
+use Rattle.script_text.specs.Script.{Item, ends_turn, map_after_item, beginning, Stop, bad_line, Ends, at_place, stuck_by, reading}
 use Rattle.answer_text.specs.Answers.{bad_line_text}
 use Rattle.answer_text.specs.Noted.{noted_text}
 
@@ -36,12 +36,11 @@ abbrev pub IsTurnText : Report → Map → Standing → ℕ → List (List Post)
 IsTurnText report m standing turn posts text = (told : TurnReplies) × ((notes : List Note) × (IsTurnTold m standing posts told
     × (AreNotes m (after_turn m standing posts) report (jobs posts) notes × (text ≡ noted_text turn told notes))))
 
--- what is written for one item: nothing for a part of the map, and for a turn the text of its answers
+-- what is written for one item: for a turn the text of its answers, and nothing for a part of the map
 abbrev pub Says : Report → Said → Item → List ℕ → Said → Type 0
-Says report s (begins m) text t = (text ≡ []) × (t ≡ with_map s (begins m))
-Says report s (adds_base rects) text t = (text ≡ []) × (t ≡ with_map s (adds_base rects))
 Says report s (ends_turn posts) text t =
     (m : Map) × ((s.map ≡ Some m) × (IsTurnText report m s.standing (s.turns + 1) posts text × (t ≡ with_turn s m posts)))
+Says report s item text t = (text ≡ []) × (t ≡ with_map s item)
 
 -- what is written for items, one after another
 abbrev pub Gives : Report → Said → List Item → List ℕ → Said → Type 0
@@ -54,9 +53,8 @@ IsText report items text = (t : Said) × Gives report unsaid items text t
 
 -- what is written for a stop: a bad line is named
 abbrev pub stop_text : Stop → List ℕ
-stop_text whole_input = []
-stop_text (too_long n) = []
 stop_text (bad_line n) = bad_line_text n
+stop_text stop = []
 
 abbrev pub ends_text : Ends → List ℕ
 ends_text (at_place p) = []
