@@ -14,10 +14,9 @@ up_to_64 tens units = let n = (tens - 48) * 10 + (units - 48) in if nat_le n 64 
 
 -- the number from 1 to 64 that a word is in decimal, without a sign or a leading zero
 abbrev pub workers_of : List ℕ → Option ℕ
-workers_of [] = None
 workers_of (units ∷ []) = if is_in_range 49 57 units then Some (units - 48) else None
 workers_of (tens ∷ (units ∷ [])) = if is_in_range 49 57 tens && is_in_range 48 57 units then up_to_64 tens units else None
-workers_of (first ∷ (second ∷ (third ∷ rest))) = None
+workers_of word = None
 
 -- one to twenty digits without a leading zero (48), or the single digit 0
 abbrev pub is_whole_number : List ℕ → Bool
@@ -54,14 +53,13 @@ make_by word number workers =
 -- The command of the words, where they are in the grammar: `replay`, `profile`, `flow`, `smooth`, `serve`, or `make` with a
 -- number, by 4 workers, or by the number behind `--workers`.
 abbrev pub command_of : List (List ℕ) → Option Command
-command_of [] = None
 command_of (word ∷ []) = command_by word 4
 command_of (word ∷ (number ∷ [])) = make_by word number 4
 command_of (word ∷ (option ∷ (count ∷ []))) =
     if bytes_eq option (codes "--workers") then option_and_then (command_by word) (workers_of count) else None
 command_of (word ∷ (number ∷ (option ∷ (count ∷ [])))) =
     if bytes_eq option (codes "--workers") then option_and_then (make_by word number) (workers_of count) else None
-command_of (word ∷ (number ∷ (option ∷ (count ∷ (next ∷ words))))) = None
+command_of words = None
 
 -- the number of workers in a command
 abbrev pub workers_in : Command → ℕ

@@ -11,7 +11,7 @@ use Rattle.posts.specs.declared.notes.Note.{Note}
 use Rattle.posts.specs.declared.notes.Report.{Report}
 use Rattle.turn_core.specs.Notes.{AreNotes}
 use Rattle.input_lines.specs.Lines.{full_lines}
-use Rattle.script_text.specs.Script.{Item, begins, adds_base, ends_turn, map_after_item, Place, beginning, Stop, whole_input, too_long, bad_line, Ends, at_place, stuck_by, arrived, walk, reading}
+use Rattle.script_text.specs.Script.{Item, begins, adds_base, ends_turn, map_after_item, Place, beginning, Stop, whole_input, too_long, bad_line, Ends, stuck_by, arrived, walk, reading}
 use Rattle.answer_text.specs.Answers.{turn_text}
 pub use Rattle.match_play.specs.Texts.{Said, unsaid, with_map, with_turn, IsTurnText, Says, Gives, IsText, stop_text, ends_text, IsOut}
 use Rattle.answer_text.specs.Noted.{noted_text}
@@ -84,10 +84,9 @@ ReplaysTold report (Some bytes) (Some rest) (Some kept) (Some now) status = (out
 
 -- the status that a stop has where no fault and no want of memory comes before it
 abbrev pub stop_status : Ends → Status
-stop_status (at_place p) = Done
-stop_status (stuck_by whole_input) = Done
 stop_status (stuck_by (too_long n)) = TooLong
 stop_status (stuck_by (bad_line n)) = BadLine
+stop_status ends = Done
 
 -- Where neither count rose, the status is that of the stop, or there was no memory.
 -- Where one rose, a fault of the source or the sink may come before.
@@ -109,12 +108,9 @@ IsSummaryBeginning seed out = (out ≡ []) ⊎ ((text : List ℕ) × (IsSummary 
 -- what a status says of a run that makes a match, where these bytes were written
 abbrev pub Makes : ℕ → List ℕ → Status → Type 0
 Makes seed out Done = IsSummary seed out
-Makes seed out Usage = ⊥
-Makes seed out BadLine = ⊥
-Makes seed out ReadFault = ⊥
 Makes seed out WriteFault = IsSummaryBeginning seed out
 Makes seed out NoMemory = IsSummaryBeginning seed out
-Makes seed out TooLong = ⊥
+Makes seed out other = ⊥
 
 -- the same, where the sink keeps its bytes
 abbrev pub MakesTold : ℕ → Option (List ℕ) → Option (List ℕ) → Status → Type 0

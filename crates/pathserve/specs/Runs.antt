@@ -5,7 +5,7 @@ use Rattle.io_edges.specs.Passing.{HasGiven, HasTaken}
 use Rattle.pathserve.specs.declared.reasons.Reason.{Reason}
 use Rattle.pathserve.specs.declared.reasons.Reason.TheVariants as reason
 use Rattle.pathserve.specs.declared.status.Status.{Status}
-use Rattle.pathserve.specs.declared.status.Status.TheVariants.{Done, Usage, BadLine, ReadFault, WriteFault, NoMemory, TooLong}
+use Rattle.pathserve.specs.declared.status.Status.TheVariants.{Usage, BadLine, ReadFault, WriteFault, TooLong}
 use Rattle.script_text.specs.Script.{reading, beginning}
 use Rattle.pathserve.specs.Output.{ComesByStop}
 use Rattle.pathserve.specs.Reasons.{IsReason}
@@ -31,13 +31,9 @@ reason_status (reason.TooLong n) = TooLong
 
 -- the statuses at which a run names a line
 abbrev pub names_line : Status → Bool
-names_line Done = false
-names_line Usage = false
 names_line BadLine = true
-names_line ReadFault = false
-names_line WriteFault = false
-names_line NoMemory = false
 names_line TooLong = true
+names_line other = false
 
 -- A run names the line at which its input stops where its status is BadLine or TooLong, and there alone: for a reason of that
 -- status, which is the one for which its input stops.

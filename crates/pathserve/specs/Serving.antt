@@ -11,7 +11,7 @@ use Rattle.path_service.specs.machine.Facts.{HaveLists}
 use Rattle.request_lanes.specs.Ends.{Closing}
 use Rattle.path_service.specs.declared.closing.ClosedCaller.{ClosedCaller}
 use Rattle.input_lines.specs.Lines.{full_lines}
-use Rattle.script_text.specs.Script.{Item, Place, beginning, Ends, at_place, stuck_by, whole_input, too_long, bad_line, arrived, map_after, turns_of, walk, reading}
+use Rattle.script_text.specs.Script.{Item, Place, beginning, Ends, stuck_by, whole_input, too_long, bad_line, arrived, map_after, turns_of, walk, reading}
 use Rattle.script_text.specs.ReadsBack.{canon_script}
 use Rattle.answer_text.specs.Answers.{bad_line_text}
 use Rattle.pathserve.specs.Output.{turn_texts}
@@ -61,12 +61,11 @@ pub record IsServed (bytes out : List ℕ) : Type 0 where
   pub one_thread : IsOneThread map journal told
   pub text : out ≡ journal_text map journal told
 
--- A text for an input that stops so. Of a bad line the number is all that is written.
+-- A text for an input that stops so. Of a bad line the number is all that is written, and of a line that is too long nothing.
 abbrev pub IsServedTo : List ℕ → Ends → List ℕ → Type 0
-IsServedTo bytes (at_place place) text = text ≡ []
 IsServedTo bytes (stuck_by whole_input) text = IsServed bytes text
-IsServedTo bytes (stuck_by (too_long n)) text = text ≡ []
 IsServedTo bytes (stuck_by (bad_line n)) text = text ≡ bad_line_text n
+IsServedTo bytes ends text = text ≡ []
 
 -- nothing, or the first bytes of such a text
 abbrev pub IsServedBeginning : List ℕ → List ℕ → Type 0
