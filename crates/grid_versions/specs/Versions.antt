@@ -1,6 +1,5 @@
 -- A version of a map.
-use Rattle.std.specs.Prelude.{ℕ, Bool, IsTrue, refl}
-use Rattle.std.specs.Coded.{Coded, code_by, coded×}
+use Rattle.std.specs.Prelude.{ℕ, Bool, IsTrue}
 use Rattle.nav_types.specs.declared.cells.Cell.{Cell}
 use Rattle.obstruction_store.specs.Standing.{Standing}
 use Rattle.posts.specs.Maps.{Map}
@@ -14,12 +13,6 @@ pub record MapState : Type 0 where
 -- the state of this map under these standing obstructions
 abbrev pub map_state : Map → Standing → MapState
 map_state map standing = record { map = map; standing = standing }
-
--- a state is stored as the pair of its parts
-abbrev pub state_code : Coded Map → Coded Standing → Coded MapState
-state_code map_code standing_code =
-    code_by (Map × Standing) (coded× map_code standing_code) (λ s. (s.map, s.standing)) (λ p. map_state p.0 p.1)
-    (λ _. refl)
 
 -- whether the cell is passable for class k
 abbrev pub passes_of : MapState → ℕ → Cell → Bool

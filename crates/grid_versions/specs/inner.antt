@@ -1,4 +1,5 @@
 -- Definitions that only private contracts cite.
+pub mod Codes
 pub mod ChunkLists
 pub mod Tables
 pub mod Building

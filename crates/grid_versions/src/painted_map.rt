@@ -23,7 +23,8 @@ impl<'a> Model for PaintedMap<'a> {
     ghost use Rattle.std.specs.Coded.{coded_ℕ};
     ghost use Rattle.obstruction_shapes.specs.contracts.shapes.Obstruction.{the_row as obstruction_row};
     ghost use Rattle.posts.specs.contracts.maps.MapSpec.{the_row as map_row};
-    ghost use Rattle.grid_versions.specs.Versions.{MapState, map_state, state_code};
+    ghost use Rattle.grid_versions.specs.Versions.{MapState, map_state};
+    ghost use Rattle.grid_versions.specs.inner.Codes.{state_code};
     ghost use Rattle.grid_versions.specs.inner.Painting.{ArePaintedChunks};
 
     ghost Value = { MapState };

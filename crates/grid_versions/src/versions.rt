@@ -61,7 +61,8 @@ impl Model for VersionParts {
     ghost use Rattle.std.specs.Coded.{coded_ℕ};
     ghost use Rattle.obstruction_shapes.specs.contracts.shapes.Obstruction.{the_row as obstruction_row};
     ghost use Rattle.posts.specs.contracts.maps.MapSpec.{the_row as map_row};
-    ghost use Rattle.grid_versions.specs.Versions.{MapState, map_state, state_code};
+    ghost use Rattle.grid_versions.specs.Versions.{MapState, map_state};
+    ghost use Rattle.grid_versions.specs.inner.Codes.{state_code};
     ghost use Rattle.std.specs.Arc.{arc_value};
 
     ghost Value = { MapState };
@@ -81,7 +82,8 @@ impl Model for Version {
     ghost use Rattle.std.specs.Coded.{coded_ℕ};
     ghost use Rattle.obstruction_shapes.specs.contracts.shapes.Obstruction.{the_row as obstruction_row};
     ghost use Rattle.posts.specs.contracts.maps.MapSpec.{the_row as map_row};
-    ghost use Rattle.grid_versions.specs.Versions.{MapState, state_code};
+    ghost use Rattle.grid_versions.specs.Versions.{MapState};
+    ghost use Rattle.grid_versions.specs.inner.Codes.{state_code};
     ghost use Rattle.std.specs.Arc.{arc_value};
 
     ghost Value = { MapState };

@@ -1,9 +1,9 @@
 pub mod Calls
 pub mod Finds
 pub mod Handles
-pub mod Owned
 pub mod Questions
 pub mod Sizes
 pub mod Statuses
 pub mod Structs
 pub mod Texts
+pub mod inner

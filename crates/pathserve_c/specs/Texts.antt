@@ -1,6 +1,5 @@
 -- Matches by text, whose text is taken piece by piece.
-use Rattle.std.specs.Prelude.{ℕ, ◌≡◌, ◌≢◌, ◌↔◌, List, [], ◌++◌, drop, IsFalse, IsTrue, Result, Err, refl}
-use Rattle.std.specs.Coded.{Coded, code_by, coded×, coded_list, coded_ℕ}
+use Rattle.std.specs.Prelude.{ℕ, ◌≡◌, ◌≢◌, ◌↔◌, List, [], ◌++◌, drop, IsFalse, IsTrue, Result, Err}
 use Rattle.posts.specs.declared.notes.Report.{Report}
 use Rattle.match_play.specs.declared.states.Course.{Course}
 use Rattle.match_play.specs.declared.faults.MatchFault.{MatchFault}
@@ -11,12 +10,6 @@ use Rattle.match_play.specs.Playing.{FeedPlays, FinishPlays, HasPlayed, IsOver, 
 pub record TextState : Type 0 where
   pub game : Course
   pub waiting : List ℕ
-
--- such a match is stored as the pair of its parts
-abbrev pub text_code : Coded Course → Coded TextState
-text_code course_code =
-    code_by (Course × List ℕ) (coded× course_code (coded_list coded_ℕ)) (λ s. (s.game, s.waiting))
-    (λ p. record { game = p.0; waiting = p.1 }) (λ _. refl)
 
 -- no byte has come, and nothing waits
 pub record IsUnread (asked : Report) (state : TextState) : Type 0 where

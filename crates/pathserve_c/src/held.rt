@@ -1,7 +1,7 @@
 //! What a handle holds: a box of its state, in a type that names no other, so that it crosses to C.
 ghost use Rattle.std.specs.Prelude.{◌≡◌, Option, Some, None, IsSome, IfOk};
 ghost use Rattle.pathserve_c.specs.declared.states.State.{State};
-ghost use Rattle.pathserve_c.specs.Owned.{held_coded, held_owns};
+ghost use Rattle.pathserve_c.specs.inner.Owned.{held_coded, held_owns};
 
 use crate::raw_box::RawBox;
 use crate::states::State;

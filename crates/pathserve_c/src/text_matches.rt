@@ -22,7 +22,8 @@ pub struct TextMatch {
 impl Model for TextMatch {
     ghost use Rattle.std.specs.Prelude.{◌≤◌, drop, length};
     ghost use Rattle.match_play.specs.contracts.matches.Match.{the_row as match_row};
-    ghost use Rattle.pathserve_c.specs.Texts.{TextState, text_code};
+    ghost use Rattle.pathserve_c.specs.Texts.{TextState};
+    ghost use Rattle.pathserve_c.specs.inner.Codes.{text_code};
 
     ghost Value = { TextState };
 

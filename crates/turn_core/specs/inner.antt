@@ -1,3 +1,4 @@
+pub mod Codes
 pub mod Sweeps
 pub mod ReplyLists
 pub mod EditedTurns

@@ -34,7 +34,8 @@ pub(crate) struct EditedTurn {
 impl Model for EditedTurn {
     ghost use Rattle.posts.specs.contracts.posts.Post.{the_row as post_row};
     ghost use Rattle.grid_versions.specs.contracts.versions.Version.{the_row as version_row};
-    ghost use Rattle.turn_core.specs.ReadyTurns.{Ready, ready_code};
+    ghost use Rattle.turn_core.specs.ReadyTurns.{Ready};
+    ghost use Rattle.turn_core.specs.inner.Codes.{ready_code};
     ghost use Rattle.turn_core.specs.inner.EditedTurns.{ready_of, HoldsEdited};
 
     ghost Value = { Ready };

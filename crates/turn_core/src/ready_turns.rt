@@ -33,7 +33,8 @@ impl Model for ReadyTurn {
     ghost use Rattle.std.specs.Prelude.{◌≡◌};
     ghost use Rattle.posts.specs.contracts.posts.Post.{the_row as post_row};
     ghost use Rattle.grid_versions.specs.contracts.versions.Version.{the_row as version_row};
-    ghost use Rattle.turn_core.specs.ReadyTurns.{Ready, ready_code};
+    ghost use Rattle.turn_core.specs.ReadyTurns.{Ready};
+    ghost use Rattle.turn_core.specs.inner.Codes.{ready_code};
 
     ghost Value = { Ready };
 

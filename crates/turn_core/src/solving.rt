@@ -97,7 +97,8 @@ pub struct Solver<'a> {
 impl<'a> Model for Solver<'a> {
     ghost use Rattle.grid_versions.specs.contracts.versions.Version.{the_row as version_row};
     ghost use Rattle.posts.specs.contracts.notes.Report.{the_row as report_row};
-    ghost use Rattle.turn_core.specs.Solvers.{SolverState, solver_code};
+    ghost use Rattle.turn_core.specs.Solvers.{SolverState};
+    ghost use Rattle.turn_core.specs.inner.Codes.{solver_code};
     ghost use Rattle.turn_core.specs.inner.Searching.{IsKeptOn};
 
     ghost Value = { SolverState };

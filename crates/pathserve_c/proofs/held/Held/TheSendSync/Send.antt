@@ -11,7 +11,7 @@ use Rattle.std.proofs.Crossing as heap
 use Rattle.std.specs.Global.{Global}
 use Rattle.std_alloc.proofs.SendSync.{quiet, lies}
 use Rattle.std_heap.proofs.Global.TheSendSync as handle
-use Rattle.pathserve_c.specs.Owned.{held_owns}
+use Rattle.pathserve_c.specs.inner.Owned.{held_owns}
 use Rattle.pathserve_c.specs.contracts.states.State as state
 use Rattle.pathserve_c.proofs.states.State.TheSendSync.{the_send as state_send}
 use Rattle.pathserve_c.specs.contracts.held.Held.{the_row, the_type}
