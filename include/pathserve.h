@@ -117,8 +117,8 @@ pathserve_status pathserve_open(pathserve_match *match, uint32_t report);
 
 /* Feeds the next bytes of the script, cut anywhere, and tells the text of each turn whose end line has come; it then waits
  * to be taken. `taken` is how many of the bytes were taken.
- *   DONE                  all bytes were taken. What was told since the match was opened is what the program writes for the
- *                         whole lines that were fed.
+ *   DONE                  all bytes were taken. What was told since the match was opened is what the program has written
+ *                         once it has read the whole lines that were fed.
  *   BAD_LINE, TOO_LONG    the match stops: each later call answers the same, the first pathserve_finish too, and those after
  *                         it ENDED. What was told is what the program writes for the script, whatever follows. All bytes
  *                         were taken.
