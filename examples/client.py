@@ -1,9 +1,15 @@
 #!/usr/bin/env python3
-"""A game that asks the service turn by turn, over a pipe: client.py PROGRAM (out/pathserve or out/pathserve-unproved)."""
+"""A game that asks the service turn by turn, over a pipe: client.py PROGRAM [WORD].
+
+PROGRAM is the built file, out/pathserve or out/pathserve-unproved. WORD is replay, or profile, flow or smooth, under which a
+line more follows each path.
+"""
 import json
 import math
 import subprocess
 import sys
+
+LINES_OF_PATH = {"replay": 1, "profile": 2, "flow": 2, "smooth": 2}  # by the program's word: how many lines answer a path
 
 
 def decimal(number):
@@ -12,8 +18,9 @@ def decimal(number):
 
 
 class Service:
-    def __init__(self, program, map_line):
-        self.process = subprocess.Popen([program, "replay"], stdin=subprocess.PIPE, stdout=subprocess.PIPE, text=True)
+    def __init__(self, program, map_line, word="replay"):
+        self.process = subprocess.Popen([program, word], stdin=subprocess.PIPE, stdout=subprocess.PIPE, text=True)
+        self.lines_of_path = LINES_OF_PATH[word]
         self.send([map_line])
 
     def send(self, lines):
@@ -25,13 +32,20 @@ class Service:
             pass  # the service has ended, and its last answer says why
 
     def play(self, turn, posts):
-        """Sends the posts of a turn, and gives its answers: the turn line, and one line for each post."""
+        """Sends the posts of a turn, and gives its answers: the turn line, and the lines for each post."""
         self.send([*posts, {"end": turn}])
         # (read before the next turn is sent: where nobody reads, the pipe fills and the service waits)
-        answers = [self.process.stdout.readline().rstrip() for _ in range(1 + len(posts))]
+        answers = [self.line()]
         if not answers[0].startswith("turn "):
             raise RuntimeError(answers[0] or f"the service has ended with status {self.process.wait()}")
+        for _ in posts:
+            answers.append(self.line())
+            is_path = answers[-1].split()[2:3] == ["path"]
+            answers += [self.line() for _ in range(self.lines_of_path - 1) if is_path]
         return answers
+
+    def line(self):
+        return self.process.stdout.readline().rstrip()
 
     def close(self):
         """The exit status of the service."""
@@ -40,12 +54,12 @@ class Service:
 
 
 def main(words):
-    if len(words) != 1 or words[0].startswith("-"):
+    if len(words) not in (1, 2) or words[0].startswith("-") or not LINES_OF_PATH.keys() >= {*words[1:]}:
         is_asked = words in (["-h"], ["--help"])
         print(__doc__, file=sys.stdout if is_asked else sys.stderr)
         return 0 if is_asked else 2
     classes = [{"name": "infantry", "clearance": decimal(0.5)}]
-    service = Service(words[0], {"version": 3, "size": [12, 8], "callers": 1, "classes": classes})
+    service = Service(words[0], {"version": 3, "size": [12, 8], "callers": 1, "classes": classes}, *words[1:])
     ask = {"caller": 0, "path": "infantry", "from": ["1.5", "1.5"], "goal": {"point": [decimal(10.5), decimal(1.5)]}}
     print(*service.play(1, [ask]), sep="\n")
     # what comes next may depend on those answers

@@ -26,6 +26,17 @@ class Examples(unittest.TestCase):
         self.assertEqual(words[1], "0 0 path 1 1 10 1".split())
 
     @needs_program
+    def test_a_client_under_each_word(self):
+        plain, _, _ = tool("examples/client.py", PROGRAM)
+        for word, note in (("replay", None), ("profile", b"opened"), ("flow", b"flow"), ("smooth", b"smooth")):
+            out, status, _ = tool("examples/client.py", PROGRAM, word)
+            lines = out.splitlines()
+            notes = [it.split()[:3] for it in lines if it.split()[2] == note]
+            self.assertEqual((status, notes), (0, [] if note is None else [[b"0", b"0", note], [b"0", b"1", note]]))
+            self.assertEqual([it for it in lines if it.split()[2] != note], plain.splitlines())
+        self.assertEqual(tool("examples/client.py", PROGRAM, "serve")[1], 2)
+
+    @needs_program
     def test_two_callers(self):
         ran = subprocess.run([sys.executable, f"{TOP}/examples/two_callers.py", PROGRAM], capture_output=True, timeout=300)
         self.assertEqual(ran.returncode, 0, ran.stdout)
