@@ -71,7 +71,7 @@ enum {
     PATHSERVE_SIZE_CELL = 9   /* 4 */
 };
 
-/* ---- statuses: those below 16 are the exit statuses of the program `pathserve` ---- */
+/* ---- statuses: those below 16 are exit statuses of the program `pathserve` (docs/FORMAT.md, "Words and statuses") ---- */
 
 typedef uint32_t pathserve_status;
 enum {
