@@ -8,7 +8,8 @@
     replays.py --sum reports/*                              the report of all parts
 
 Beside NAME.script stand its answers, NAME.answers, or the digests of its turns, NAME.digests, or both (docs/REPLAYS.md).
-PROGRAM is the built file; the script ./pathserve would look at all sources for each match.
+PROGRAM is the built file: out/pathserve, which `./pathserve prove` makes, or out/pathserve-unproved, which any other use of
+./pathserve does before. The script itself would look at all sources for each match.
 
 Of each match that differs the first turn is told, and where the answers are kept the post and both lines. A match is cut
 short where its script or its kept answers end before the other, `failed` where the program was stopped (out of memory, a
@@ -35,7 +36,7 @@ import kept
 from kept import AGREES, CUT, DIFFERS, FAILED, OTHER, STORED, THERE, WORDS
 
 KINDS = {False: (AGREES, DIFFERS, FAILED, CUT, OTHER), True: (STORED, THERE, FAILED)}  # by whether answers are stored
-FORK = multiprocessing.get_context("fork")
+FORK = multiprocessing.get_context("fork") if "fork" in multiprocessing.get_all_start_methods() else None  # as on Windows
 BATCH = 40  # the most matches that a process has at a time
 MOST = 100  # findings that a report for readers lists
 SHOWN = 160  # letters of a line there
@@ -78,7 +79,7 @@ def number_of_answers(program):
 
 def side_by_side(work, items, jobs):
     """The items with what `work` gives for each, as they come, by so many processes. One that is ended loses no item."""
-    if jobs == 1:
+    if jobs == 1 or not FORK:
         yield from ((it, work(it)) for it in items)
         return
     size = max(1, min(BATCH, len(items) // (4 * jobs)))
@@ -249,12 +250,19 @@ def words():
     return said
 
 
+def not_there(program):
+    """Why a program cannot be run, and which to name."""
+    if os.access(f"{program}-unproved", os.X_OK):
+        return f"{program} is not built, which `./pathserve prove` does; {program}-unproved is: name that one, or prove first"
+    return f"{program} is no program: `./pathserve prove` makes out/pathserve, and any other use of ./pathserve out/pathserve-unproved"
+
+
 def made(said):
     """The report that the words ask for."""
     if said.sum:
         return summed(sys.stdin.read() if it == "-" else commands.bytes_of(it).decode("utf-8", "replace") for it in said.sum)
     if not os.access(said.program, os.X_OK) or os.path.isdir(said.program):
-        raise commands.Unreadable(f"{said.program} is no program; ./pathserve builds one into out/")
+        raise commands.Unreadable(not_there(said.program))
     program = os.path.abspath(said.program)
     folder = os.path.dirname(os.path.realpath(program))
     if os.path.isfile(os.path.join(folder, "crates.txt")):

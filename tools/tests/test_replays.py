@@ -1,9 +1,11 @@
 """Kept matches beside a program, and the digests of turns."""
 import json
 import os
+import shutil
 import subprocess
 import tempfile
 import unittest
+import unittest.mock
 
 from places import PROGRAM, TOP, needs_program, read, tool
 from pretender import Pretender, write
@@ -169,6 +171,10 @@ class Replays(Pretender):
         write(reports[0], tool("tools/replays.py", "--part", "1/3", self.program, "--list", f"{self.kept}/list")[0])
         self.assertEqual(self.run_it("--sum", *reports)[1:], (2, "replays.py: the reports are of other lists of matches, or of other numbers of parts\n"))
 
+    def test_where_no_process_can_be_copied_one_match_follows_another(self):
+        with unittest.mock.patch.object(replays, "FORK", None):
+            self.assertEqual(list(replays.side_by_side(lambda it: 2 * it, [1, 2, 3], jobs=4)), [(1, 2), (2, 4), (3, 6)])
+
     def test_wrong_words(self):
         self.match("a", *skirmish())
         write(f"{self.folder}/text", b"no program")
@@ -178,7 +184,10 @@ class Replays(Pretender):
         self.assertEqual(self.run_it(f"{self.folder}/text", self.kept), ([], 2, f"replays.py: {self.folder}/text: Exec format error\n"))
         told = f"./pathserve looks at all sources for each match: name the file that it built, {TOP}/out/pathserve or pathserve-unproved there"
         self.assertEqual(tool("tools/replays.py", "./pathserve", self.kept), (b"", 2, f"replays.py: {told}\n"))
-        cases = [(["no-program", self.kept], "no-program is no program; ./pathserve builds one into out/"), ([self.program, "--list", "no.list"], "no such file: no.list")]
+        shutil.copy(self.program, f"{self.folder}/built-unproved")
+        none = "no-program is no program: `./pathserve prove` makes out/pathserve, and any other use of ./pathserve out/pathserve-unproved"
+        other = f"is not built, which `./pathserve prove` does; {self.folder}/built-unproved is: name that one, or prove first"
+        cases = [(["no-program", self.kept], none), ([f"{self.folder}/built", self.kept], f"{self.folder}/built {other}"), ([self.program, "--list", "no.list"], "no such file: no.list")]
         for words, told in cases:
             self.assertEqual(tool("tools/replays.py", *words), (b"", 2, f"replays.py: {told}\n"))
         for words in ([], [self.program], ["--part", "4/3", self.program, self.kept], ["--jobs", "0", self.program, self.kept]):
