@@ -2,7 +2,7 @@
 """Makes the library for another platform out of the module that library_module.py keeps.
 
     library_targets.py linux   MODULE FOLDER    libpathserve_noheap.a, for a module without proof
-    library_targets.py windows MODULE FOLDER    bin/pathserve.dll and lib: its import library, and archives
+    library_targets.py windows MODULE FOLDER    bin: pathserve.dll and pathserve.exe; lib: an import library, and archives
     library_targets.py web     MODULE FOLDER    pathserve.wasm, and an archive for programs of a 64-bit memory
     library_targets.py macos   MODULE FOLDER    an archive for each of its processors
 
@@ -27,9 +27,15 @@ MAC = {"arm64": "arm64-apple-macosx11.0", "x86_64": "x86_64-apple-macosx10.15"}
 # as the kit compiles a proved module
 FLAGS = ["--no-default-config", "-no-canonical-prefixes", "-O3"]
 LLVM_FLAGS = ["-no-trap-after-noreturn", "-trap-unreachable", "-disable-machine-licm", "-disable-postra-machine-licm", "-sink-common-insts=false"]
-# what Windows gives to a library that starts nothing
+# what Windows gives to a library that starts nothing, and to the program
 MSVCRT = ("free", "malloc", "memcmp", "memcpy", "memmove", "memset", "realloc")
+MSVCRT_PROGRAM = ("__getmainargs", "_read", "_setmode", "_write", "exit")
 STACK = 1 << 20
+# the kit's compiler comes without the headers that pathserve.h takes its types from
+HEADERS = {
+    "stddef.h": "typedef __SIZE_TYPE__ size_t;\n#define NULL ((void *)0)\n",
+    "stdint.h": "".join(f"typedef __{it.upper()}{bits}_TYPE__ {it}{bits}_t;\n" for it in ("int", "uint") for bits in (8, 16, 32, 64)),
+}
 
 
 def names():
@@ -97,8 +103,12 @@ class Maker:
     def part(self, source):
         """The object of a file in C or for the assembler, of tools/library where it names no other folder."""
         name = f"{os.path.splitext(os.path.basename(source))[0]}.o"
-        words = ["-ffreestanding", "-fno-builtin", "-O2", "-c", os.path.join(PARTS, source), "-o", name]
-        self.run("clang", f"--target={self.triple}", "--no-default-config", *words)
+        for header, text in HEADERS.items():
+            with open(f"{self.folder}/{header}", "w", encoding="utf-8") as it:
+                it.write(text)
+        words = ["-I.", f"-I{TOP}/include", "-ffreestanding", "-fno-builtin", "-O2", "-c", os.path.join(PARTS, source), "-o", name]
+        more = ["-fasynchronous-unwind-tables"] if self.triple == WINDOWS else []
+        self.run("clang", f"--target={self.triple}", "--no-default-config", *more, *words)
         return name
 
     def heap(self, renamed=None):
@@ -126,13 +136,14 @@ def windows(maker, module, out):
     own = [maker.compiled(module, "pathserve.o"), maker.part("numbers.c"), maker.part("stack_probe.s")]
     maker.archive("libpathserve.a", [*own, maker.heap()])
     maker.archive("libpathserve_noheap.a", [*own, maker.heap(OWN)])
-    maker.definitions("msvcrt.def", "msvcrt.dll", MSVCRT)
+    maker.definitions("msvcrt.def", "msvcrt.dll", MSVCRT + MSVCRT_PROGRAM)
     maker.run("llvm-lib", "/machine:x64", "/def:msvcrt.def", "/out:msvcrt.lib")
     maker.definitions("pathserve.def", "pathserve.dll", names())
-    words = ["/dll", "/noentry", "/machine:x64", "/Brepro", "/def:pathserve.def", "/out:pathserve.dll"]
-    maker.run("lld-link", *words, "/implib:pathserve.lib", *own, "heap.o", "msvcrt.lib")
+    words = ["/machine:x64", "/Brepro", *own, "heap.o", "msvcrt.lib"]
+    maker.run("lld-link", "/dll", "/noentry", "/def:pathserve.def", "/out:pathserve.dll", "/implib:pathserve.lib", *words)
+    maker.run("lld-link", "/entry:start", "/subsystem:console", "/out:pathserve.exe", maker.part("program.c"), *words)
     shutil.copy(f"{maker.folder}/pathserve.lib", f"{maker.folder}/libpathserve.dll.a")
-    put(maker, f"{out}/bin", ["pathserve.dll"])
+    put(maker, f"{out}/bin", ["pathserve.dll", "pathserve.exe"])
     put(maker, f"{out}/lib", ["pathserve.lib", "libpathserve.dll.a", "libpathserve.a", "libpathserve_noheap.a"])
 
 

@@ -1,6 +1,7 @@
 /* Plays a match by the text of its script: by_text < skirmish.script. It writes what `pathserve replay` writes, turn by turn
- * also over a pipe, and ends with its status. */
+ * also over a pipe, and ends with its status; after by_text profile, flow or smooth, what these words of the program write. */
 #include <stdio.h>
+#include <string.h>
 #include <pathserve.h>
 #ifdef _WIN32
 #include <fcntl.h>
@@ -19,14 +20,22 @@ static void write_answers(pathserve_match *match) {
     fflush(stdout);
 }
 
-int main(void) {
+static uint32_t report_of(const char *word) {
+    static const char *const words[] = {"replay", "profile", "flow", "smooth"};
+    for (uint32_t report = PATHSERVE_PROFILE; report <= PATHSERVE_SMOOTH; report++) {
+        if (strcmp(word, words[report]) == 0) return report;
+    }
+    return PATHSERVE_REPLAY;
+}
+
+int main(int count, char **words) {
     pathserve_match match = {0};
     uint8_t bytes[4096];
     long length;
     size_t taken;
 
     as_bytes();
-    pathserve_status status = pathserve_open(&match, PATHSERVE_REPLAY);
+    pathserve_status status = pathserve_open(&match, report_of(count > 1 ? words[1] : "replay"));
     while (status == PATHSERVE_DONE && (length = (long)read(0, bytes, sizeof bytes)) > 0) {
         status = pathserve_feed(&match, bytes, (size_t)length, &taken);
         write_answers(&match);

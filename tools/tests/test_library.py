@@ -149,6 +149,9 @@ class Clients(unittest.TestCase):
                 self.assertEqual(answers(program, read(f"examples/{name}.script")), (read(f"examples/{name}.answers"), 0))
             for script, text, status in scripts(100):
                 self.assertEqual(answers(program, script), (text, status), script)
+            for word in check.WORDS:
+                script = read("examples/skirmish.script")
+                self.assertEqual(answers(program, script, [word]), check.predicted(script, word), word)
 
     def test_by_structs(self):
         for archive in ARCHIVES:
