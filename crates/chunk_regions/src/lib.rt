@@ -6,9 +6,10 @@
 //!    1 1 . . 4
 //! ```
 //!
-//! [`label`] finds them row by row: the runs of passable cells of a row are joined with those that they touch in the row
-//! before (union-find). [`Labels`] keeps the runs of each row, and finds the region of a cell among them. Which regions
-//! touch across chunks is `region_edges`, and what they join is `reach_sets`.
+//! [`label`] finds them in one pass, row by row: a span of passable cells gets the region of a span that it touches in the
+//! row before. Where it touches two regions, they become one at once, and the numbers above move down. [`Labels`] keeps the
+//! spans of each row, and finds the region of a cell among them. Which regions touch across chunks is `region_edges`, and
+//! what they join is `reach_sets`.
 #![tactic(auto)]
 
 mod bits;
