@@ -36,9 +36,7 @@ pub record Finishes (old new : TextState) (answer : Result (Unit {0}) MatchFault
   pub again : (answer ≡ Err Ended) ↔ IsOver old.game
   pub kept : answer ≡ Err Ended → new.game ≡ old.game
 
--- So many bytes that waited wait no longer, and else the match is as it was.
+-- So many bytes that waited wait no longer, and but for what waits the match is as it was.
 pub record Takes (old new : TextState) (count : ℕ) : Type 0 where
   pub waits : new.waiting ≡ drop count old.waiting
-  pub report : new.game.report ≡ old.game.report
-  pub ended : new.game.ended ≡ old.game.ended
-  pub played : (fed told : List ℕ) → HasPlayed old.game fed told → HasPlayed new.game fed told
+  pub same : new.game ≡ record old.game { waiting = new.game.waiting }
