@@ -5,6 +5,7 @@ ghost use Rattle.std.specs.Io.{ReadsAtMost};
 ghost use Rattle.std.specs.Io.KnownBytes.{ReadConsumes};
 ghost use Rattle.nav_types.specs.declared.limits.TheConstants.{MAX_LINE_BYTES};
 ghost use Rattle.io_edges.specs.Faults.{Rose, ReadHasCause};
+ghost use Rattle.input_lines.specs.Lines.{first_line};
 
 use crate::faults::LineFault;
 use io_edges::{Failed, Source};
@@ -25,7 +26,7 @@ pub enum LineEnd {
     Input,
 }
 
-/// The bytes taken from a source that no line has used yet, and whether the end of the input was met.
+/// The bytes taken from a source that were not used yet, and whether the end of the input was met.
 #[derive(Drop)]
 pub struct Intake {
     buffer: Vec<u8>,
@@ -53,6 +54,7 @@ impl Intake {
     ghost use Rattle.input_lines.specs.inner.Taking.{RefillAnswer, MovesLine, LineTold};
     ghost use Rattle.input_lines.specs.Held.{HasLine, IsHeldLine};
     ghost use Rattle.input_lines.specs.inner.Taking.{HoldsNewline, end_of};
+    ghost use Rattle.std.specs.Prelude.{drop};
 
     /// Nothing is taken yet. The buffer of one read is taken here, once.
     pub fn new(alloc: Global) -> Result<Intake, NoMemory>
@@ -69,23 +71,46 @@ impl Intake {
 
     /// How many bytes are held.
     pub fn len(&self) -> usize
-        ensures { result ≡ length self.now.bytes }
+        ensures bytes { result ≡ length self.now.bytes }
+        ensures few { result ≤ READ_SIZE }
     {
         self.to - self.from
     }
 
+    /// Whether the end of the input was met.
+    pub fn has_ended(&self) -> bool
+        ensures { result ≡ self.now.ended }
+    {
+        self.ended
+    }
+
     /// Whether each byte that was taken was used.
-    fn is_used_up(&self) -> bool
+    pub fn is_used_up(&self) -> bool
         ensures { IsTrue result ↔ (self.now.bytes ≡ []) }
     {
         self.from == self.to
     }
 
-    /// The bytes that no line has used yet.
+    /// The bytes that were not used yet.
     pub fn held(&self) -> &[u8]
         ensures { result.now ≡ self.now.bytes }
     {
         &self.buffer[self.from..self.to]
+    }
+
+    /// The first line of these bytes, without its newline, and all of them where there is none.
+    pub fn first_line(&self) -> &[u8]
+        ensures { result.now ≡ first_line self.now.bytes }
+    {
+        up_to_newline(self.held())
+    }
+
+    /// Lets go of the first bytes that are held.
+    pub fn use_first(&mut self, count: usize)
+        requires held { count ≤ length self.old.bytes }
+        ensures { self.new ≡ record { bytes = drop count self.old.bytes; ended = self.old.ended } }
+    {
+        self.from += count;
     }
 
     /// Takes the next line from the source: its bytes without the newline. It reads only while no newline is held, and
@@ -123,7 +148,7 @@ impl Intake {
     }
 
     /// Takes the next bytes from the source where none are held, and none once the end of the input was met.
-    fn refill<S: Source>(&mut self, source: &mut S) -> Result<(), LineFault>
+    pub fn refill<S: Source>(&mut self, source: &mut S) -> Result<(), LineFault>
         ensures told { WhereTold (S.left source.old) (S.left source.new) (RefillAnswer self.old self.new result) }
         ensures still { self.old.bytes ≢ [] → source.new ≡ source.old }
         ensures reads { ReadsByNeedTold self.old.bytes self.old.ended (S.left source.old) (S.left source.new) }
@@ -133,6 +158,7 @@ impl Intake {
         ensures going { OnOk result (0 < length self.new.bytes → self.new.ended ≡ self.old.ended) }
         ensures few { length self.new.bytes ≤ READ_SIZE }
         ensures failed { IfErr result (λ fault. fault ≡ LineFault.ReadFault) }
+        ensures nothing { OnErr result (self.new.bytes ≡ []) }
         ensures later { S.faults source.old ≤ S.faults source.new }
         ensures fault { IsErrOf result LineFault.ReadFault → Rose (S.faults source.old) (S.faults source.new) }
     {
@@ -186,6 +212,16 @@ pub(crate) fn first_newline(bytes: &[u8]) -> Option<usize>
     ensures within { IfSome result (λ at. at < length bytes.now) }
 {
     bytes.iter().position(|byte| *byte == b'\n')
+}
+
+/// The bytes up to the first newline, and all where there is none.
+pub(crate) fn up_to_newline(bytes: &[u8]) -> &[u8]
+    ensures { result.now ≡ first_line bytes.now }
+{
+    match first_newline(bytes) {
+        Some(at) => &bytes[..at],
+        None => bytes,
+    }
 }
 
 /// A buffer of the size of one read.

@@ -79,6 +79,7 @@ impl PushedLine {
         ensures kept { IsSome self.old.line_end → (self.new ≡ self.old) × (bytes.new.now ≡ bytes.old.now) }
         ensures refused { OnErr result ((self.new ≡ self.old) × (bytes.new.now ≡ bytes.old.now)) }
         ensures plain { IsPlain self.new.line }
+        ensures few { length self.new.line ≤ MAX_LINE_BYTES }
         ensures behind { self.new.rest ≡ record { bytes = []; ended = false } }
     {
         if self.is_whole {
@@ -108,6 +109,7 @@ impl PushedLine {
         ensures refused { OnErr result (self.new ≡ self.old) }
         ensures fault { IfErr result (IsNoPart (self.old.line ++ part.now) room) }
         ensures plain { IsPlain self.new.line }
+        ensures few { length self.new.line ≤ MAX_LINE_BYTES }
     {
         // Tested before the bytes are kept: a line without an end must not fill the memory.
         let size = self.line.len() as u64 + part.len() as u64;

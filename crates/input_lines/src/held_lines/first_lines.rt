@@ -3,7 +3,6 @@ ghost use Rattle.std.specs.Prelude.{◌≡◌, ◌++◌, IfOk};
 ghost use Rattle.input_lines.specs.Lines.{first_line};
 
 use crate::held_lines::HeldLines;
-use crate::intake::first_newline;
 use nav_types::NoMemory;
 use std::alloc::Global;
 
@@ -26,17 +25,7 @@ impl HeldLines {
     {
         match self.line_end {
             Some(_) => &[],
-            None => up_to_newline(self.intake.held()),
+            None => self.intake.first_line(),
         }
-    }
-}
-
-/// The bytes up to the first newline, and all where there is none.
-fn up_to_newline(bytes: &[u8]) -> &[u8]
-    ensures { result.now ≡ first_line bytes.now }
-{
-    match first_newline(bytes) {
-        Some(at) => &bytes[..at],
-        None => bytes,
     }
 }
