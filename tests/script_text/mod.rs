@@ -7,6 +7,7 @@ use script_text::{Cause, ScriptFault, ScriptReader, have_lines, write_journal, w
 use std::alloc::Global;
 
 mod causes;
+mod items;
 mod lines;
 mod pushing;
 mod reading;

@@ -8,7 +8,7 @@ use std::alloc::Global;
 use std::test::*;
 
 /// A script of version 1: paths alone.
-const FIRST: &[&str] = &[
+pub(super) const FIRST: &[&str] = &[
     "{\"version\":1,\"size\":[5,4],\"callers\":1,\"classes\":[{\"name\":\"infantry\",\"clearance\":\"0\"}]}\n",
     "{\"caller\":0,\"path\":\"infantry\",\"from\":[\"0.5\",\"0.5\"],\"goal\":{\"point\":[\"4.5\",\"3.5\"]}}\n",
     "{\"caller\":0,\"path\":\"infantry\",\"from\":[\"3.5\",\"1.5\"],\"goal\":{\"point\":[\"0.5\",\"0.5\"]}}\n",
@@ -17,7 +17,7 @@ const FIRST: &[&str] = &[
 ];
 
 /// A script of version 3: base rectangles, and posts of each form.
-const SKIRMISH: &[&str] = &[
+pub(super) const SKIRMISH: &[&str] = &[
     "{\"version\":3,\"size\":[12,8],\"callers\":2,\"classes\":[{\"name\":\"infantry\",\"clearance\":\"0.5\"},{\"name\":\"siege\",\"clearance\":\"1.5\"}]}\n",
     "{\"base\":[[0,7,11,7,3]]}\n",
     "{\"caller\":0,\"add\":1,\"square\":[\"6\",\"3\",\"1\",\"0\",\"0.5\",\"2\"],\"mask\":3}\n",
@@ -32,7 +32,7 @@ const SKIRMISH: &[&str] = &[
 ];
 
 /// A script of version 2 with two base lines, and lines of which one is bad.
-const WITH_BAD: &[&str] = &[
+pub(super) const WITH_BAD: &[&str] = &[
     MAP_2,
     "{\"base\":[[0,0,1,1,1]]}\n",
     "{\"base\":[[2,2,2,3,1]]}\n",
@@ -44,7 +44,7 @@ const WITH_BAD: &[&str] = &[
 ];
 
 /// Keeps what a line gave.
-fn keep(item: ScriptItem, outcome: &mut Outcome, base: &mut BaseRects) -> Result<(), NoMemory> {
+pub(super) fn keep(item: ScriptItem, outcome: &mut Outcome, base: &mut BaseRects) -> Result<(), NoMemory> {
     match item {
         ScriptItem::Map(map) => outcome.map = Some(map),
         ScriptItem::Base(rects) => base.extend(rects.as_slice())?,
@@ -105,7 +105,7 @@ fn end_script(
 }
 
 /// The map with these base rectangles.
-fn with_base(alloc: Global, map: &MapSpec, base: &BaseRects) -> Result<Option<MapSpec>, NoMemory> {
+pub(super) fn with_base(alloc: Global, map: &MapSpec, base: &BaseRects) -> Result<Option<MapSpec>, NoMemory> {
     let classes = map.classes().copy(alloc)?;
     let base = base.copy(alloc)?;
     Ok(MapSpec::new(map.version(), map.size(), map.callers(), classes, base))
@@ -145,7 +145,7 @@ fn push_all(
 }
 
 /// Whether two outcomes are the same.
-fn are_alike(alloc: Global, one: &Outcome, other: &Outcome) -> bool {
+pub(super) fn are_alike(alloc: Global, one: &Outcome, other: &Outcome) -> bool {
     let text = written(alloc, one);
     let other_text = written(alloc, other);
     let same_text = match (&text, &other_text) {

@@ -6,6 +6,7 @@ pub mod ReadCalls
 pub mod ReadStill
 pub mod ReadNeed
 pub mod ReadAnswers
+pub mod ItemReads
 pub mod ReadWhole
 pub mod PushedReads
 pub mod PushedEnds

@@ -15,7 +15,7 @@ use Rattle.script_text.specs.declared.faults.ScriptFault.{ScriptFault}
 use Rattle.script_text.specs.declared.faults.ScriptFault.TheVariants.{BadLine, TooLong, ReadFault, NoMemory}
 use Rattle.script_text.specs.Faults.{script_fault}
 use Rattle.script_text.specs.Script.{Place, Item, too_long, arrived, stuck, counted, accept, walk, reading}
-use Rattle.script_text.specs.Reader.{Held, GoesOn}
+use Rattle.script_text.specs.Reader.{Held, GoesOn, taken_bytes}
 use Rattle.script_text.specs.Pushed.{EndsLine, PushAnswers, PushTold}
 use Rattle.script_text.specs.inner.Judging.{IsBadAt, IsStuckBy, held_at}
 use Rattle.script_text.proofs.ReadNext.{goes_line, goes_next, goes_nowhere, refuses_line, refuses_long}
@@ -147,3 +147,23 @@ held_begun h behind short =
     let same : bytes_of h ≡ h.line ++ (newline_of h.line_end ++ []) = ap (λ (r : Taken). h.line ++ (newline_of h.line_end ++ r.bytes)) behind in
     let Short : List ℕ → Type 0 = λ l. length l ≤ length h.line in
     same ∙ by_begun h.line_end h.line (subst Short same short)
+
+-- ---- how many bytes were taken
+
+more_bytes : (h now : HeldLine) (y z : List ℕ) → TakesMore h now y z → length (bytes_of now) + length z ≡ length (bytes_of h) + length y
+more_bytes h now y z t = omega (arith, ap length t.took, ap length t.bytes, length-append t.taken z, length-append (bytes_of h) t.taken)
+
+line_bytes : (h after : HeldLine) (size : ℕ) → after ≡ after_line h → h.rest ≡ nothing_behind → IsWholeLine h size → length (bytes_of after) + size ≡ length (bytes_of h)
+line_bytes h after size used behind w =
+    let none : length h.rest.bytes ≡ 0 = ap (λ (r : Taken). length r.bytes) behind in
+    let nothing : length (bytes_of after) ≡ length h.rest.bytes = ap (λ l. length (bytes_of l)) used in
+    omega (arith, none, nothing, w.counted, length-append h.line (newline_of h.line_end ++ h.rest.bytes), length-append (newline_of h.line_end) h.rest.bytes, length-append h.line (newline_of h.line_end))
+
+-- a line goes on
+pub count_more : (first : ℕ) (p : Place) (h now : HeldLine) (y z : List ℕ) → TakesMore h now y z → taken_bytes (held_at p h) + length y ≡ first → taken_bytes (held_at p now) + length z ≡ first
+count_more first p h now y z t all = omega (arith, all, more_bytes h now y z t)
+
+-- a line was used
+pub count_line : (first : ℕ) (p q : Place) (h now after : HeldLine) (size : ℕ) (y z : List ℕ) → TakesMore h now y z → after ≡ after_line now → now.rest ≡ nothing_behind → IsWholeLine now size → q.bytes ≡ p.bytes + size
+    → taken_bytes (held_at p h) + length y ≡ first → taken_bytes (held_at q after) + length z ≡ first
+count_line first p q h now after size y z t used behind w counted all = omega (arith, all, counted, more_bytes h now y z t, line_bytes now after size used behind w)

@@ -122,9 +122,9 @@ few_whole h size w plain behind =
     let newline = newline_of h.line_end in
     omega (arith, ap length (first_of_whole h.line h.line_end h.rest plain w.ends), length-append h.line (newline ++ h.rest.bytes), length-append newline h.rest.bytes, short_newline h.line_end, behind)
 
--- where calls may follow, there was a turn
-pub where_going : {P : Type 0} (result : Result (Option (List (List Post))) ScriptFault) → IfOk result (λ next. IfSome next (λ turn. P)) → is_last result ≡ false → P
-where_going (Ok (Some turn)) holds going = holds
+-- where calls may follow, something was given
+pub where_going : {A P : Type 0} (result : Result (Option A) ScriptFault) → IfOk result (λ next. IfSome next (λ given. P)) → is_last result ≡ false → P
+where_going (Ok (Some given)) holds going = holds
 where_going (Ok None) holds going = absurd (cc)
 where_going (Err fault) holds going = absurd (cc)
 

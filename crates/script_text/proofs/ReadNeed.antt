@@ -41,12 +41,12 @@ ahead_line Wants p h b c wants = told-weaker b c _ _ (λ y z reads. line_by Want
 -- ---- lines one after another
 
 -- lines were used that give these items, and what is wanted behind them is wanted with them in front
-record LeadsOn (Wants : Walk → Type 0) (old new : Held) (before after : List ℕ) : Type 0 where
-  items : List Item
-  on : GoesOn old new before after items
-  wants : (w : Walk) → Wants w → Wants (chain (arrived items new.place) (λ q. w))
+pub record LeadsOn (Wants : Walk → Type 0) (old new : Held) (before after : List ℕ) : Type 0 where
+  pub items : List Item
+  pub on : GoesOn old new before after items
+  pub wants : (w : Walk) → Wants w → Wants (chain (arrived items new.place) (λ q. w))
 
-abbrev LeadsTold : (Walk → Type 0) → Held → Held → Option (List ℕ) → Option (List ℕ) → Type 0
+abbrev pub LeadsTold : (Walk → Type 0) → Held → Held → Option (List ℕ) → Option (List ℕ) → Type 0
 LeadsTold Wants old new left later = WhereTold left later (λ before after. (IsTrue old.ended → before ≡ []) → LeadsOn Wants old new before after)
 
 then_by : (Wants : Walk → Type 0) (old new : Held) (x y z : List ℕ) → (IsTrue old.ended → IsTrue new.ended) → ((IsTrue old.ended → x ≡ []) → LeadsOn Wants old new x y)
@@ -71,7 +71,7 @@ then_by Wants old new x y z stays leads before (inr r) =
       wants = subst Wants (sym walked) (l.wants (walk more new.place) r.wants);
     })
 
-ahead_then : (Wants : Walk → Type 0) (old new : Held) (a b c : Option (List ℕ)) → (IsTrue old.ended → IsTrue new.ended) → LeadsTold Wants old new a b → TakesNoneAhead Wants old a b → TakesNoneAhead Wants new b c
+pub ahead_then : (Wants : Walk → Type 0) (old new : Held) (a b c : Option (List ℕ)) → (IsTrue old.ended → IsTrue new.ended) → LeadsTold Wants old new a b → TakesNoneAhead Wants old a b → TakesNoneAhead Wants new b c
     → TakesNoneAhead Wants old a c
 ahead_then Wants old new None b c stays leads before next = tt
 ahead_then Wants old new (Some x) None c stays leads before next = absurd leads

@@ -9,6 +9,9 @@ use Rattle.script_text.specs.declared.faults.ScriptFault.TheVariants.{BadLine, T
 use Rattle.input_lines.specs.declared.intake.LineEnd.{LineEnd}
 use Rattle.input_lines.specs.declared.intake.LineEnd.TheVariants.{Newline, Input}
 use Rattle.input_lines.specs.Lines.{full_lines, unlines, IsPlain}
+use Rattle.script_text.specs.declared.items.ScriptItem.{ScriptItem}
+use Rattle.script_text.specs.Items.{ItemAnswers, ItemTold}
+use Rattle.script_text.specs.Pushed.{item_of}
 use Rattle.script_text.specs.Script.{Place, Item, Walk, ends_turn, arrived, chain, accept, walk}
 use Rattle.script_text.specs.Reader.{Held, HoldsTurn, UsesLines, GoesOn, Refuses, RefusesMap, MapAnswers, MapTold, ReadsWhile, TakesNoneAhead, TurnAnswers, TurnTold}
 use Rattle.input_lines.specs.Held.{Taken, HasLine, HeldLine, newline_of, bytes_of, HasEnd, IsWholeLine, after_line}
@@ -111,6 +114,16 @@ answers_flags old new a b c d x y (Err fault) t = refuses_flags old new a b c d 
 pub turn_flags : (old new : Held) (a b c d : Bool) (left later : Option (List ℕ)) (result : Result (Option (List (List Post))) ScriptFault) → TurnTold old new left later result
     → TurnTold (with_flags old a b) (with_flags new c d) left later result
 turn_flags old new a b c d left later result = told-weaker left later _ _ (λ x y t end. answers_flags old new a b c d x y result (t end))
+
+item_answers_flags : (old new : Held) (a b c d : Bool) (x y : List ℕ) (result : Result (Option ScriptItem) ScriptFault) → ItemAnswers old new result x y
+    → ItemAnswers (with_flags old a b) (with_flags new c d) result x y
+item_answers_flags old new a b c d x y (Ok (Some item)) t = goes_flags old new a b c d x y (item_of item ∷ []) t
+item_answers_flags old new a b c d x y (Ok None) t = record { whole = t.whole; nothing = t.nothing }
+item_answers_flags old new a b c d x y (Err fault) t = refuses_flags old new a b c d x y [] fault t
+
+pub item_flags : (old new : Held) (a b c d : Bool) (left later : Option (List ℕ)) (result : Result (Option ScriptItem) ScriptFault) → ItemTold old new left later result
+    → ItemTold (with_flags old a b) (with_flags new c d) left later result
+item_flags old new a b c d left later result = told-weaker left later _ _ (λ x y t end. item_answers_flags old new a b c d x y result (t end))
 
 ahead_by : (Wants : Walk → Type 0) (old : Held) (a b : Bool) (x y : List ℕ) → (x ≡ y) ⊎ ReadsWhile Wants old x y → (x ≡ y) ⊎ ReadsWhile Wants (with_flags old a b) x y
 ahead_by Wants old a b x y (inl e) = inl e

@@ -1,7 +1,8 @@
 -- What a line of a turn gives, as an item.
-use Rattle.std.proofs.Common.{◌≡◌, ℕ, List, Option, Some, None, Result, Ok, Err, IfErr, IfOk, IfSome, OnOk, length, refl, sym, subst}
+use Rattle.std.proofs.Common.{◌≡◌, ℕ, ◌+◌, ◌<◌, ◌≤◌, List, Option, Some, None, Result, Ok, Err, IfErr, IfOk, IfSome, OnOk, length, refl, ap, sym, subst, arith}
 use Rattle.std.specs.Prelude.{IsErrOf, IsSome}
 use Rattle.posts.specs.declared.posts.Post.{Post}
+use Rattle.posts.specs.Posts.{post_count}
 use Rattle.script_text.specs.declared.faults.ScriptFault.{ScriptFault}
 use Rattle.script_text.specs.declared.faults.ScriptFault.TheVariants.{BadLine, TooLong, ReadFault, NoMemory}
 use Rattle.script_text.specs.declared.items.ScriptItem.{ScriptItem}
@@ -11,7 +12,8 @@ use Rattle.script_text.specs.Canon.{HaveLines}
 use Rattle.script_text.specs.Script.{Place, Walk, accept}
 use Rattle.script_text.specs.Reader.{HaveLinesAt, callers_of, rules_at}
 use Rattle.script_text.specs.Pushed.{KeepsRules}
-use Rattle.script_text.specs.inner.Judging.{CountsPosts, GivesItem, GivesTurn, turn_item}
+use Rattle.script_text.specs.Items.{HasFewPosts}
+use Rattle.script_text.specs.inner.Judging.{CountsPosts, GivesItem, GivesTurn, HasFewerPosts, turn_item}
 use Rattle.script_text.proofs.PostVersions.{have_by, have_on, none_have_at}
 
 abbrev pub Turn : Type 0
@@ -80,3 +82,19 @@ turn_have old now size line (Ok (Some posts)) item is same counts gives have =
 turn_have old now size line (Ok None) item is same counts gives have =
     subst (λ i. OnOk i (HaveLinesAt now.part now.posts)) (sym is) (have_by old.part now.part now.posts same (have_on old.part size line old now refl have gives))
 turn_have old now size line (Err fault) item is same counts gives have = subst (λ i. OnOk i (HaveLinesAt now.part now.posts)) (sym is) tt
+
+-- there are no more posts than bytes
+pub turn_fewer : (old now : Place) (size : ℕ) (turn : Turn) (item : Given) → item ≡ turn_item turn → IfOk turn (CountsPosts old.posts now.posts) → OnOk turn (now.bytes ≡ old.bytes + size) → 1 ≤ size
+    → HasFewerPosts old → OnOk item (HasFewerPosts now)
+turn_fewer old now size (Ok (Some posts)) item is counts used some few = subst (λ i. OnOk i (HasFewerPosts now)) (sym is) (omega (arith, counts.1))
+turn_fewer old now size (Ok None) item is counts used some few = subst (λ i. OnOk i (HasFewerPosts now)) (sym is) (omega (arith, counts, used, some, few))
+turn_fewer old now size (Err fault) item is counts used some few = subst (λ i. OnOk i (HasFewerPosts now)) (sym is) tt
+
+-- a turn has fewer posts than an input may have bytes
+pub turn_few : (old now : Place) (size : ℕ) (turn : Turn) (item : Given) → item ≡ turn_item turn → IfOk turn (CountsPosts old.posts now.posts) → OnOk turn (now.bytes ≡ old.bytes + size) → 1 ≤ size
+    → now.bytes ≤ 4294967296 → HasFewerPosts old → IfOk item (λ next. IfSome next HasFewPosts)
+turn_few old now size (Ok (Some posts)) item is counts used some limit few =
+    let fewer : post_count posts < 4294967296 = omega (arith, ap post_count counts.0, used, some, limit, few) in
+    subst (λ i. IfOk i (λ next. IfSome next HasFewPosts)) (sym is) fewer
+turn_few old now size (Ok None) item is counts used some limit few = subst (λ i. IfOk i (λ next. IfSome next HasFewPosts)) (sym is) tt
+turn_few old now size (Err fault) item is counts used some limit few = subst (λ i. IfOk i (λ next. IfSome next HasFewPosts)) (sym is) tt

@@ -31,6 +31,10 @@ pub record Held : Type 0 where
 abbrev pub unread : Held
 unread = record { place = beginning; bytes = []; ended = false; over = false; failed = false }
 
+-- how many bytes of the input were taken
+abbrev pub taken_bytes : Held → ℕ
+taken_bytes h = h.place.bytes + length h.bytes
+
 -- why what a reader holds is refused
 abbrev pub held_cause : Held → Option Cause
 held_cause h = next_cause h.place h.bytes
@@ -179,9 +183,9 @@ WantsMap w = EndsInMap w.ends
 abbrev pub HoldsFew : List ℕ → Type 0
 HoldsFew bytes = length bytes ≤ length (first_line bytes) + 1 + READ_SIZE
 
--- no call follows an answer without a turn
-abbrev pub is_last : Result (Option (List (List Post))) ScriptFault → Bool
-is_last (Ok (Some posts)) = false
+-- no call follows an answer without a turn, or without an item
+abbrev pub is_last : {A : Type 0} → Result (Option A) ScriptFault → Bool
+is_last (Ok (Some given)) = false
 is_last (Ok None) = true
 is_last (Err fault) = true
 

@@ -14,6 +14,7 @@ mod causes;
 mod faults;
 mod forms;
 mod goals;
+mod item_reader;
 mod items;
 mod laws;
 mod nesting;
@@ -29,6 +30,7 @@ pub use faults::ScriptFault;
 pub use forms::CallerPost;
 pub use goals::GoalKey;
 pub use input_lines::READ_SIZE;
+pub use item_reader::ItemReader;
 pub use items::ScriptItem;
 pub use laws::{
     base_lines, blank_lines, canonical_reads_back, deep_lines, end_causes, end_lines, line_causes,

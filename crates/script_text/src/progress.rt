@@ -53,10 +53,11 @@ impl Progress {
     ghost use Rattle.script_text.specs.Reader.{HaveLinesAt, callers_of, rules_at};
     ghost use Rattle.script_text.specs.Faults.{script_fault};
     ghost use Rattle.script_text.specs.Pushed.{KeepsRules};
+    ghost use Rattle.script_text.specs.Items.{HasFewPosts};
     ghost use Rattle.script_text.specs.Causes.{end_cause};
     ghost use Rattle.script_text.specs.inner.Judging.{cause_of_held};
     ghost use Rattle.script_text.specs.inner.Judging.{AddsBase, BeginsMap, CountsPosts, GivesItem, GivesTurn, IsBadAt, IsBase};
-    ghost use Rattle.script_text.specs.inner.Judging.{IsInTurns, IsInsideAt, IsNoBaseAt, IsObject, Stops};
+    ghost use Rattle.script_text.specs.inner.Judging.{HasFewerPosts, IsInTurns, IsInsideAt, IsNoBaseAt, IsObject, Stops};
 
     /// Nothing is read yet.
     pub fn new(alloc: Global) -> Progress
@@ -191,7 +192,7 @@ impl Progress {
 
     /// Takes the next line, of so many bytes with its newline where it has one, and answers what it gives. Where there is
     /// no memory, nothing changes, and the line may come again.
-    #[tactic(auto, using(crate::proofs::TurnItems::turn_gives, crate::proofs::TurnItems::turn_ok, crate::proofs::TurnItems::turn_bad, crate::proofs::TurnItems::turn_kept, crate::proofs::TurnItems::turn_rules, crate::proofs::TurnItems::turn_have))]
+    #[tactic(auto, using(crate::proofs::TurnItems::turn_gives, crate::proofs::TurnItems::turn_ok, crate::proofs::TurnItems::turn_bad, crate::proofs::TurnItems::turn_kept, crate::proofs::TurnItems::turn_rules, crate::proofs::TurnItems::turn_have, crate::proofs::TurnItems::turn_fewer, crate::proofs::TurnItems::turn_few))]
     pub fn take_line(
         &mut self,
         alloc: Global,
@@ -200,10 +201,13 @@ impl Progress {
     ) -> Result<Option<ScriptItem>, ScriptFault>
         requires some_byte { 1 ≤ size }
         requires have { HaveLinesAt self.old.part self.old.posts }
+        requires few { HasFewerPosts self.old }
         ensures gives { GivesItem (accept size line.now self.old) self.new result }
         ensures used { OnOk result (self.new.bytes ≡ self.old.bytes + size) }
         ensures rules { KeepsRules (rules_at self.old.part) (rules_at self.new.part) result }
         ensures have { OnOk result (HaveLinesAt self.new.part self.new.posts) }
+        ensures few { OnOk result (HasFewerPosts self.new) }
+        ensures few_posts { IfOk result (λ next. IfSome next HasFewPosts) }
         ensures limit { self.new.bytes ≤ MAX_INPUT_BYTES }
         ensures bad { IfErr result (IsBadAt self.new (counted self.old size)) }
         ensures memory { IsErrOf result ScriptFault.NoMemory → self.new ≡ self.old }

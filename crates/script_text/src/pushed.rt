@@ -1,14 +1,15 @@
 //! Scripts whose bytes are pushed.
 ghost use Rattle.std.specs.Prelude.{◌≡◌, ◌+◌, ◌≤◌, [], length, false, IfErr, IsFalse, IsSome, IsTrue, IsErrOf, OnErr, OnOk};
-ghost use Rattle.std.specs.Prelude.{IfOk, Some};
+ghost use Rattle.std.specs.Prelude.{IfOk, IfSome, Some};
 ghost use Rattle.nav_types.specs.declared.limits.TheConstants.{MAX_INPUT_BYTES, MAX_LINE_BYTES};
 ghost use Rattle.input_lines.specs.Lines.{IsPlain};
 ghost use Rattle.input_lines.specs.Held.{after_line, bytes_of};
 ghost use Rattle.input_lines.specs.Pushed.{PushAnswer};
 ghost use Rattle.script_text.specs.Script.{accept, counted, finish};
-ghost use Rattle.script_text.specs.Reader.{HaveLinesAt, HoldsRefused, held_cause, rules_at};
+ghost use Rattle.script_text.specs.Reader.{HaveLinesAt, HoldsRefused, held_cause, rules_at, taken_bytes};
+ghost use Rattle.script_text.specs.Items.{HasFewPosts};
 ghost use Rattle.script_text.specs.Pushed.{EndTold, KeepsRules, PushTold, TakenUpTo, is_refused};
-ghost use Rattle.script_text.specs.inner.Judging.{EndsHere, GivesItem, IsBadAt, held_at};
+ghost use Rattle.script_text.specs.inner.Judging.{EndsHere, GivesItem, HasFewerPosts, IsBadAt, cause_of_held, held_at};
 
 use crate::causes::Cause;
 use crate::faults::ScriptFault;
@@ -89,6 +90,9 @@ impl PushedScript {
         ensures told { PushTold self.old self.new bytes.old.now bytes.new.now result }
         ensures taken { TakenUpTo self.old self.new bytes.old.now bytes.new.now result }
         ensures rules { KeepsRules (rules_at self.old.place.part) (rules_at self.new.place.part) result }
+        ensures few { IfOk result (λ next. IfSome next HasFewPosts) }
+        ensures count { OnOk result (taken_bytes self.new + length bytes.new.now ≡ taken_bytes self.old + length bytes.old.now) }
+        ensures short { length self.new.bytes ≤ MAX_LINE_BYTES + 1 }
         ensures limit { self.new.place.bytes ≤ MAX_INPUT_BYTES }
         ensures bad { IfErr result (HoldsRefused self.new) }
         ensures more { IsFalse self.new.ended }
@@ -108,6 +112,7 @@ impl PushedScript {
         requires going { IsFalse self.old.failed }
         ensures told { EndTold self.old self.new result }
         ensures rules { KeepsRules (rules_at self.old.place.part) (rules_at self.new.place.part) result }
+        ensures few { IfOk result (λ next. IfSome next HasFewPosts) }
         ensures limit { self.new.place.bytes ≤ MAX_INPUT_BYTES }
         ensures bad { IfErr result (HoldsRefused self.new) }
         ensures ended { IsTrue self.new.ended }
@@ -134,6 +139,19 @@ impl PushedScript {
     {
         self.progress.cause(alloc, self.held(), self.line.line())
     }
+
+    /// Why bytes are refused that come next and were not pushed: by how many they are and their first line.
+    pub(crate) fn cause_behind(
+        &self,
+        alloc: Global,
+        count: usize,
+        line: &[u8],
+    ) -> Result<Cause, NoMemory>
+        requires bad { IsSome (cause_of_held self.now.place count line.now) }
+        ensures cause { IfOk result (λ found. Some found ≡ cause_of_held self.now.place count line.now) }
+    {
+        self.progress.cause(alloc, count, line)
+    }
 }
 
 /// Whether no call follows an answer.
@@ -156,15 +174,21 @@ fn next_item(
 ) -> Result<Option<ScriptItem>, ScriptFault>
     requires behind { line.old.rest ≡ record { bytes = []; ended = false } }
     requires have { HaveLinesAt progress.old.part progress.old.posts }
+    requires few { HasFewerPosts progress.old }
     ensures told { PushTold (held_at progress.old line.old) (held_at progress.new line.new) bytes.old.now bytes.new.now
         result }
     ensures taken { TakenUpTo (held_at progress.old line.old) (held_at progress.new line.new) bytes.old.now
         bytes.new.now result }
     ensures rules { KeepsRules (rules_at progress.old.part) (rules_at progress.new.part) result }
+    ensures few_posts { IfOk result (λ next. IfSome next HasFewPosts) }
+    ensures count { OnOk result (taken_bytes (held_at progress.new line.new) + length bytes.new.now
+        ≡ taken_bytes (held_at progress.old line.old) + length bytes.old.now) }
+    ensures short { length (bytes_of line.new) ≤ MAX_LINE_BYTES + 1 }
     ensures limit { progress.new.bytes ≤ MAX_INPUT_BYTES }
     ensures bad { IfErr result (HoldsRefused (held_at progress.new line.new)) }
     ensures behind { line.new.rest ≡ record { bytes = []; ended = false } }
     ensures have { IsFalse (is_refused result) → HaveLinesAt progress.new.part progress.new.posts }
+    ensures few { IsFalse (is_refused result) → HasFewerPosts progress.new }
 {
     'lines: loop {
         let room = progress.room();
@@ -189,6 +213,7 @@ fn next_size(line: &mut PushedLine, bytes: &mut &[u8], room: u64) -> Result<Opti
     ensures begun { OnErr result (bytes_of line.old ≡ line.old.line) }
     ensures refused { OnErr result ((line.new ≡ line.old) × (bytes.new.now ≡ bytes.old.now)) }
     ensures plain { IsPlain line.new.line }
+    ensures short { length (bytes_of line.new) ≤ MAX_LINE_BYTES + 1 }
     ensures behind { line.new.rest ≡ record { bytes = []; ended = false } }
 {
     let held = line.held();
@@ -207,6 +232,7 @@ fn take_held(
 ) -> Result<Option<ScriptItem>, ScriptFault>
     requires some_byte { 1 ≤ size }
     requires have { HaveLinesAt progress.old.part progress.old.posts }
+    requires few { HasFewerPosts progress.old }
     ensures gives { GivesItem (accept size line.old.line progress.old) progress.new result }
     ensures plain { IsPlain line.old.line }
     ensures line { OnOk result (line.new ≡ after_line line.old) }
@@ -214,6 +240,8 @@ fn take_held(
     ensures used { OnOk result (progress.new.bytes ≡ progress.old.bytes + size) }
     ensures rules { KeepsRules (rules_at progress.old.part) (rules_at progress.new.part) result }
     ensures have { OnOk result (HaveLinesAt progress.new.part progress.new.posts) }
+    ensures few { OnOk result (HasFewerPosts progress.new) }
+    ensures few_posts { IfOk result (λ next. IfSome next HasFewPosts) }
     ensures limit { progress.new.bytes ≤ MAX_INPUT_BYTES }
     ensures bad { IfErr result (IsBadAt progress.new (counted progress.old size)) }
     ensures memory { IsErrOf result ScriptFault.NoMemory → progress.new ≡ progress.old }
@@ -231,12 +259,15 @@ fn last_item(
 ) -> Result<Option<ScriptItem>, ScriptFault>
     requires behind { line.old.rest ≡ record { bytes = []; ended = false } }
     requires have { HaveLinesAt progress.old.part progress.old.posts }
+    requires few { HasFewerPosts progress.old }
     ensures told { EndTold (held_at progress.old line.old) (held_at progress.new line.new) result }
     ensures rules { KeepsRules (rules_at progress.old.part) (rules_at progress.new.part) result }
+    ensures few_posts { IfOk result (λ next. IfSome next HasFewPosts) }
     ensures limit { progress.new.bytes ≤ MAX_INPUT_BYTES }
     ensures bad { IfErr result (HoldsRefused (held_at progress.new line.new)) }
     ensures behind { line.new.rest ≡ record { bytes = []; ended = false } }
     ensures have { IsFalse (is_refused result) → HaveLinesAt progress.new.part progress.new.posts }
+    ensures few { IsFalse (is_refused result) → HasFewerPosts progress.new }
 {
     let size = line.held() as u64;
     if size == 0 {

@@ -1,5 +1,5 @@
 -- What a line gives in its place, as the answers to it say.
-use Rattle.std.specs.Prelude.{ℕ, ◌≡◌, ◌+◌, ◌≤◌, ◌==◌, if◌then◌else◌, List, [], ◌∷◌, length, Bool, true, false, All, IsFalse, IsTrue, Option, Some, None, option_and_then, Result, Ok, Err, ⊤}
+use Rattle.std.specs.Prelude.{ℕ, ◌≡◌, ◌+◌, ◌≤◌, ◌==◌, ◌++◌, ◌⊎◌, if◌then◌else◌, List, [], ◌∷◌, length, Bool, true, false, All, IsFalse, IsTrue, Option, Some, None, option_and_then, Result, Ok, Err, ⊤}
 use Rattle.posts.specs.declared.posts.Post.{Post}
 use Rattle.posts.specs.Maps.{Map, with_base}
 use Rattle.posts.specs.Posts.{post_count}
@@ -13,15 +13,15 @@ use Rattle.serde_json.specs.Data.{Data, null, boolean, number, string, array, ob
 use Rattle.script_text.specs.Forms.{base_of}
 use Rattle.script_text.specs.declared.parts.Part.{Part}
 use Rattle.script_text.specs.declared.parts.Part.TheVariants.{BeforeMap, InBase, InTurns}
-use Rattle.script_text.specs.Script.{Place, Item, Walk, begins, adds_base, ends_turn, whole_input, too_long, bad_line, arrived, stuck, map_after, turns_of, reading_of, is_long, accept}
+use Rattle.script_text.specs.Script.{Place, Item, Walk, begins, adds_base, ends_turn, whole_input, too_long, bad_line, arrived, stuck, map_after, turns_of, reading_of, is_long, accept, reading}
 use Rattle.script_text.specs.declared.items.ScriptItem.{ScriptItem}
 use Rattle.script_text.specs.declared.items.ScriptItem.TheVariants.{Turn}
 use Rattle.script_text.specs.declared.causes.Cause.{Cause}
 use Rattle.script_text.specs.Causes.{cause, end_cause}
 use Rattle.script_text.specs.Pushed.{item_of}
-use Rattle.script_text.specs.Reader.{Held, GoesOn, HaveLinesAt, RefusesMap, callers_of}
-use Rattle.input_lines.specs.Held.{WhereTold, HeldLine, HasEnd, bytes_of, after_line}
-use Rattle.input_lines.specs.Lines.{IsPlain}
+use Rattle.script_text.specs.Reader.{Held, GoesOn, HaveLinesAt, HoldsRefused, RefusesMap, StopsAtBad, callers_of, taken_bytes}
+use Rattle.input_lines.specs.Held.{WhereTold, HeldLine, HasEnd, Taken, bytes_of, after_line}
+use Rattle.input_lines.specs.Lines.{IsPlain, full_lines}
 
 -- base lines may stand here
 abbrev pub IsBase : Part → Type 0
@@ -196,13 +196,72 @@ turn_item (Err fault) = Err fault
 abbrev pub cause_of_held : Place → ℕ → List ℕ → Option Cause
 cause_of_held p held line = if held == 0 then end_cause p.part p.posts else cause p.part (p.turns + 1) line
 
--- nothing is held behind the line, and while the script was not refused, each post so far has a line in its version
+-- there are no more posts than bytes
+abbrev pub HasFewerPosts : Place → Type 0
+HasFewerPosts p = post_count p.posts ≤ p.bytes
+
+-- nothing is held behind the line, and while the script was not refused, each post so far has a line in its version, and
+-- bytes of its own
 pub record IsPushedTo (p : Place) (h : HeldLine) (failed : Bool) : Type 0 where
   pub behind : h.rest ≡ record { bytes = []; ended = false }
   pub have : IsFalse failed → HaveLinesAt p.part p.posts
+  pub few : IsFalse failed → HasFewerPosts p
 
 -- an input that ends here is whole, and gives nothing more; or the walk is stuck as the refusal says
 abbrev pub EndsHere : Walk → Result (Option ScriptItem) ScriptFault → Type 0
 EndsHere w (Ok None) = w ≡ stuck whole_input
 EndsHere w (Ok (Some item)) = ⊥
 EndsHere w (Err fault) = IsStuckBy w fault
+
+-- ---- a source, item by item
+
+-- what a reader holds: what its script holds, and the bytes that were taken behind that
+abbrev pub held_with : Held → Taken → Held
+held_with script taken = record { place = script.place; bytes = script.bytes ++ taken.bytes; ended = taken.ended; over = false; failed = false }
+
+-- the bytes that are held lie in the script, or behind it
+abbrev pub IsApart : Held → Taken → Type 0
+IsApart script taken = (script.bytes ≡ []) ⊎ (taken.bytes ≡ [])
+
+-- A reader that may be called: the script was not refused, its end was told to it where it was met, and nothing was taken
+-- behind the end.
+pub record IsReadable (script : Held) (taken : Taken) : Type 0 where
+  pub going : IsFalse script.failed
+  pub same_end : script.ended ≡ taken.ended
+  pub at_end : IsTrue taken.ended → taken.bytes ≡ []
+
+-- What an answer to what was taken says, where these bytes are left in the source: a line gave an item, or none did, or a
+-- line was refused.
+abbrev pub TakenAnswers : Held → Held → Result (Option ScriptItem) ScriptFault → List ℕ → Type 0
+TakenAnswers old new (Ok (Some item)) left = GoesOn old new left left (item_of item ∷ [])
+TakenAnswers old new (Ok None) left = GoesOn old new left left []
+TakenAnswers old new (Err (BadLine n)) left = StopsAtBad old new left [] n
+TakenAnswers old new (Err (TooLong n)) left = reading (old.bytes ++ left) old.place ≡ stuck (too_long n)
+TakenAnswers old new (Err ReadFault) left = ⊥
+TakenAnswers old new (Err NoMemory) left = ⊤
+
+-- where what was taken was pushed and gave no item, all of it was, and no whole line is held
+abbrev pub IsUsedWhere : Held → Taken → Result (Option ScriptItem) ScriptFault → Type 0
+IsUsedWhere script taken (Ok (Some item)) = ⊤
+IsUsedWhere script taken (Ok None) = (taken.bytes ≡ []) × (full_lines script.bytes ≡ [])
+IsUsedWhere script taken (Err fault) = ⊤
+
+-- What was taken was pushed, up to the first line that gives something: no byte is lost.
+pub record PushesOn (old new : Held) (taken left : Taken) (next : Option ScriptItem) : Type 0 where
+  pub told : (more : List ℕ) → TakenAnswers (held_with old taken) (held_with new left) (Ok next) more
+  pub used : IsUsedWhere new left (Ok next)
+  pub apart : IsApart new left
+  pub count : taken_bytes (held_with new left) ≡ taken_bytes (held_with old taken)
+  pub unmet : IsFalse left.ended
+
+-- The script refused what was taken, and nothing is left of it.
+pub record PushRefused (old new : Held) (taken left : Taken) (fault : ScriptFault) : Type 0 where
+  pub told : (more : List ℕ) → TakenAnswers (held_with old taken) (held_with new left) (Err fault) more
+  pub none : left.bytes ≡ []
+  pub unmet : IsFalse left.ended
+  pub bad : HoldsRefused (held_with new left) fault
+
+-- what was taken was pushed, and the script goes on, or refused it
+abbrev pub IsPushed : Held → Held → Taken → Taken → Result (Option ScriptItem) ScriptFault → Type 0
+IsPushed old new taken left (Ok next) = PushesOn old new taken left next
+IsPushed old new taken left (Err fault) = PushRefused old new taken left fault

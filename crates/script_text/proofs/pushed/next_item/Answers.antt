@@ -8,7 +8,7 @@ use Rattle.script_text.specs.Reader.{rules_at}
 use Rattle.script_text.specs.Pushed.{KeepsRules}
 use Rattle.script_text.specs.inner.Judging.{GivesItem, held_at}
 use Rattle.script_text.proofs.HeldCauses.{holds_refused}
-use Rattle.script_text.proofs.PushedReads.{ends_line, line_refused, next_refused, no_line_held, pushes_line, pushes_more}
+use Rattle.script_text.proofs.PushedReads.{count_line, count_more, ends_line, line_refused, next_refused, no_line_held, pushes_line, pushes_more}
 use Rattle.script_text.proofs.pushed.next_item.Goals as goal
 
 -- the line gives nothing
@@ -27,6 +27,9 @@ lines-preserved c =
       behind = ap (λ (h : HeldLine). h.rest) c.in_ok-item.ensures.line ∙ c.next_size.ensures.behind;
       rules = subst Kept c.in_default-2.is c.in_ok-item.ensures.rules ∙ c.lines.invariant.rules;
       have = c.in_ok-item.ensures.have;
+      few = c.in_ok-item.ensures.few;
+      count = count_line _ c.lines.progress c.take_held.new.progress c.lines.line now c.take_held.new.line c.in-Some.size c.lines.bytes.now c.next_size.new.bytes.now found.0
+          c.in_ok-item.ensures.line c.next_size.ensures.behind found.1 c.in_ok-item.ensures.used c.lines.invariant.count;
     }
 
 -- the line gives something
@@ -51,6 +54,14 @@ returns-in-Some-2-clause-taken c =
     found.1 c.next_size.ensures.plain
     (pushes_more first c.lines.progress c.lines.line now c.args.bytes.now.now c.lines.bytes.now c.next_size.new.bytes.now c.lines.invariant.behind c.next_size.ensures.behind found.0 c.lines.invariant.told)
 
+pub returns-in-Some-2-clause-count : goal.returns-in-Some-2-clause-count
+returns-in-Some-2-clause-count c =
+    let now = c.next_size.new.line in
+    let Found : Option ℕ → Type 0 = λ found. PushAnswer c.lines.line now c.room-room.result (Ok found) c.lines.bytes.now c.next_size.new.bytes.now in
+    let found = subst Found c.in-Some.is c.in-Ok.ensures.takes in
+    count_line _ c.lines.progress c.take_held.new.progress c.lines.line now c.take_held.new.line c.in-Some.size c.lines.bytes.now c.next_size.new.bytes.now found.0
+    c.in_ok-item.ensures.line c.next_size.ensures.behind found.1 c.in_ok-item.ensures.used c.lines.invariant.count
+
 -- the bytes are used up
 pub returns-in_default-clause-told : goal.returns-in_default-clause-told
 returns-in_default-clause-told c =
@@ -66,6 +77,13 @@ returns-in_default-clause-taken c =
     let Found : Option ℕ → Type 0 = λ found. PushAnswer c.lines.line now c.room-room.result (Ok found) c.lines.bytes.now c.next_size.new.bytes.now in
     let found = subst Found c.in_default.is c.in-Ok.ensures.takes in
     (found.1.0, no_line_held c.lines.progress now c.next_size.ensures.plain found.1.1 c.next_size.ensures.behind)
+
+pub returns-in_default-clause-count : goal.returns-in_default-clause-count
+returns-in_default-clause-count c =
+    let now = c.next_size.new.line in
+    let Found : Option ℕ → Type 0 = λ found. PushAnswer c.lines.line now c.room-room.result (Ok found) c.lines.bytes.now c.next_size.new.bytes.now in
+    let found = subst Found c.in_default.is c.in-Ok.ensures.takes in
+    count_more _ c.lines.progress c.lines.line now c.lines.bytes.now c.next_size.new.bytes.now found.0 c.lines.invariant.count
 
 -- the line is refused
 pub returns-in_err-item-clause-told : goal.returns-in_err-item-clause-told
