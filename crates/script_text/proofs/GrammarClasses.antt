@@ -1,19 +1,18 @@
 -- The table of classes of the grammar is the one that is read of a value.
-use Rattle.std.proofs.Common.{◌≡◌, ◌≢◌, ℕ, ◌≤◌, ◌&&◌, ◌||◌, List, [], ◌∷◌, length, Bool, true, false, not, cond, Option, Some, None, is_some, option_map, option_and_then, ℤ, refl, ap, sym, subst, ◌∙◌, nat_le}
+use Rattle.std.proofs.Common.{◌≡◌, ◌≢◌, ℕ, ◌≤◌, ◌&&◌, ◌||◌, List, [], ◌∷◌, length, Bool, true, false, not, Option, Some, None, is_some, option_map, option_and_then, ℤ, refl, ap, sym, subst, ◌∙◌, nat_le}
 use Rattle.std.specs.Prelude.{All, bytes_eq, codes}
-use Rattle.std.specs.List.{list_all, list_any, filter_map, cons_option}
+use Rattle.std.specs.List.{list_all, filter_map, cons_option}
 use Rattle.std.proofs.lemmas.Bool.{and_parts, and_from, leb-true, le-leb, cond-true}
 use Rattle.std.proofs.lemmas.List.Elements.{All-nil, All-cons, All-head, All-tail}
 use Rattle.std.proofs.lemmas.Slice.Eq.{bytes_eq-Decides}
 use Rattle.serde_json.specs.Data.{Data, null, boolean, number, string, array, object}
 use Rattle.serde_json.specs.Find.{as_array, as_str, get}
-use Rattle.serde_json.specs.View.{items_of}
 use Rattle.fixed_point.specs.Text.{fixed_value, some_if}
 use Rattle.class_config.specs.Forms.{has_keys, text_under, is_class_name}
 use Rattle.class_config.specs.Classes.{has_name, are_distinct, is_clearance, clearance_under, class_with, class_of, list_of, are_classes, classes_of}
 use Rattle.class_config.specs.declared.table.PassabilityClass.{PassabilityClass}
 use Rattle.script_text.specs.Values.{array_items}
-use Rattle.script_text.specs.Grammar.{IsName, IsDecimal, IsObject, SayEach, IsArray, IsClassEntry, HaveOwnNames, IsClassTable}
+use Rattle.script_text.specs.Grammar.{SayEach, IsClassEntry, HaveOwnNames, IsClassTable}
 use Rattle.script_text.proofs.GrammarValues.{then_some, if_some, some_if-some, array_items-is, array_items-from, say_length}
 use Rattle.script_text.proofs.Members.{open_two, has_keys-object, stand-object}
 

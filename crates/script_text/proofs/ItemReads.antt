@@ -1,5 +1,5 @@
 -- A source that is read item by item: what was taken is pushed, and more is taken where it gives nothing.
-use Rattle.std.proofs.Common.{◌≡◌, ◌≢◌, ℕ, ◌+◌, ◌-◌, ◌<◌, ◌≤◌, ◌==◌, ◌⊎◌, cond, eqb-true, List, [], ◌∷◌, ◌++◌, length, drop, Bool, true, false, Option, Some, None, Result, Ok, Err, IfErr, IfOk, IfSome, IsTrue, IsFalse, OnErr, OnOk, refl, ap, sym, subst, inl, inr, ◌∙◌, arith, append_assoc, length-append}
+use Rattle.std.proofs.Common.{◌≡◌, ℕ, ◌+◌, ◌-◌, ◌<◌, ◌≤◌, ◌==◌, ◌⊎◌, cond, eqb-true, List, [], ◌∷◌, ◌++◌, length, drop, Bool, true, false, Option, Some, None, Result, Ok, Err, IfErr, IfOk, IfSome, IsTrue, IsFalse, OnErr, OnOk, refl, ap, sym, subst, inl, inr, ◌∙◌, arith, append_assoc, length-append}
 use Rattle.std.specs.Prelude.{IsErrOf, is_err}
 use Rattle.std.specs.Bool.{⊤}
 use Rattle.std.proofs.lemmas.Bool.{false≢true}
@@ -17,10 +17,10 @@ use Rattle.script_text.specs.declared.faults.ScriptFault.TheVariants.{BadLine, T
 use Rattle.script_text.specs.declared.items.ScriptItem.{ScriptItem}
 use Rattle.script_text.specs.declared.parts.Rules.{Rules}
 use Rattle.script_text.specs.Causes.{cause, end_cause, next_cause, stop_cause}
-use Rattle.script_text.specs.Script.{Item, Place, Walk, arrived, chain, finish, reading, stuck, too_long, walk}
+use Rattle.script_text.specs.Script.{Item, Place, arrived, chain, reading, too_long, walk}
 use Rattle.script_text.specs.Items.{ItemAnswers, ItemTold}
-use Rattle.script_text.specs.Pushed.{EndTold, EndsLine, EndsWith, KeepsRules, PushTold, TakenUpTo, is_refused, item_of}
-use Rattle.script_text.specs.Reader.{Held, GoesOn, HoldsRefused, HoldsTurn, LeavesHeld, ReadsWhile, Refuses, StopsAtBad, TakesFrom, TakesNoneAhead, UsesLines, WantsTurn, held_cause, taken_bytes}
+use Rattle.script_text.specs.Pushed.{EndTold, KeepsRules, PushTold, TakenUpTo, is_refused, item_of}
+use Rattle.script_text.specs.Reader.{Held, GoesOn, HoldsRefused, HoldsTurn, LeavesHeld, ReadsWhile, Refuses, TakesFrom, TakesNoneAhead, UsesLines, WantsTurn, held_cause, taken_bytes}
 use Rattle.script_text.specs.inner.Judging.{IsApart, IsReadable, IsUsedWhere, PushRefused, PushesOn, TakenAnswers, cause_of_held, held_with}
 use Rattle.script_text.proofs.ReadCalls.{GoesTold, fault_then, goes_then, stuck_then, uses_then}
 use Rattle.script_text.proofs.ReadNeed.{ahead_then, given_ahead}

@@ -1,11 +1,10 @@
 -- What an answer cannot be, what it takes, and what it leaves.
-use Rattle.std.proofs.Common.{◌≡◌, ℕ, ◌+◌, ◌≤◌, List, [], ◌++◌, length, Bool, false, Option, Some, None, Result, Ok, Err, IfOk, IfErr, IfSome, refl, ap, sym, subst, ◌∙◌, arith, length-append}
+use Rattle.std.proofs.Common.{◌≡◌, ℕ, ◌≤◌, List, [], ◌++◌, length, Bool, false, Option, Some, None, Result, Ok, Err, IfOk, IfErr, IfSome, refl, ap, sym, subst, ◌∙◌, arith, length-append}
 use Rattle.std.specs.Prelude.{IsErrOf, IsSome, is_err}
 use Rattle.io_edges.specs.Faults.{Rose}
 use Rattle.io_edges.specs.Passing.{HasGiven}
 use Rattle.io_edges.proofs.Passed.{given_more}
 use Rattle.posts.specs.Maps.{Map}
-use Rattle.posts.specs.declared.posts.Post.{Post}
 use Rattle.input_lines.specs.declared.faults.LineFault.{LineFault}
 use Rattle.input_lines.specs.declared.faults.LineFault.TheVariants as no_line
 use Rattle.script_text.specs.Faults.{script_fault}

@@ -7,7 +7,6 @@ use Rattle.input_lines.specs.Lines.{full_lines, unlines}
 use Rattle.input_lines.specs.Held.{WhereTold, ReadsByNeed, ReadsByNeedTold, HeldLine, bytes_of}
 use Rattle.input_lines.proofs.LineLists.{full_lines-plain, full_lines-behind}
 use Rattle.input_lines.proofs.ToldLines.{told-same, told-weaker}
-use Rattle.script_text.specs.declared.parts.Part.{Part}
 use Rattle.script_text.specs.declared.parts.Rules.{Rules}
 use Rattle.script_text.specs.declared.parts.Part.TheVariants.{InBase}
 use Rattle.script_text.specs.Script.{Place, Item, Walk, arrived, beginning, chain, walk}

@@ -1,12 +1,13 @@
-//! Scripts: the grammar of their lines, two readers, why a line is bad, and the canonical text.
+//! Scripts: the grammar of their lines, their readers, why a line is bad, and the canonical text.
 //!
 //! ```text
 //!    map line, base lines, then for each turn: post lines of its callers, an end line
 //! ```
 //!
-//! [`ScriptReader`] pulls a script from a source turn by turn, and [`PushedScript`] is given its bytes in pieces. Both read
-//! what `specs/Script.antt` says of whole inputs. `write_map` and `write_journal` write the canonical script, which reads
-//! back as what it was written from. A bad line has a [`Cause`] in plain words. Nothing here answers a post.
+//! [`PushedScript`] is given a script's bytes in pieces, [`ItemReader`] pulls them from a source and pushes them, and
+//! [`ScriptReader`] pulls a script turn by turn. All read what `specs/Script.antt` says of whole inputs. `write_map` and
+//! `write_journal` write the canonical script, which reads back as what it was written from. A bad line has a [`Cause`]
+//! in plain words. Nothing here answers a post.
 #![tactic(auto)]
 
 mod canon;

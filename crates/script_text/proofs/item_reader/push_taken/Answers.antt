@@ -1,4 +1,4 @@
-use Rattle.std.proofs.Common.{◌∙◌, ◌-◌, length, sym, ap, arith}
+use Rattle.std.proofs.Common.{◌-◌, length, ap, arith}
 use Rattle.script_text.proofs.ItemReads.{left_of, push_refused, pushes_on}
 use Rattle.script_text.proofs.item_reader.push_taken.Goals as goal
 

@@ -1,4 +1,4 @@
-use Rattle.std.proofs.Common.{◌≡◌, ◌≢◌, ◌∙◌, ◌≤◌, [], Option, Some, None, Ok, Err, IfSome, IfOk, IsTrue, refl, ap, sym, subst, inl, inr, arith}
+use Rattle.std.proofs.Common.{◌∙◌, Option, Some, Ok, Err, IfSome, refl, sym, subst, inr, arith}
 use Rattle.std.proofs.lemmas.Bool.{false≢true}
 use Rattle.std.proofs.lemmas.Result.{err_from_is_err_and}
 use Rattle.input_lines.proofs.ToldLines.{rose-later, some_held}

@@ -1,7 +1,7 @@
 use Rattle.std.proofs.Common.{◌∙◌, sym}
 use Rattle.std.proofs.lemmas.Bool.{false≢true}
 use Rattle.serde_json.specs.View.{view}
-use Rattle.script_text.proofs.ReadWalk.{reading_of-text, reading_of-none, reading_of-deep}
+use Rattle.script_text.proofs.ReadWalk.{reading_of-text, reading_of-none}
 use Rattle.script_text.proofs.progress.read_line.Goals as goal
 
 pub returns-in-Ok : goal.returns-in-Ok
