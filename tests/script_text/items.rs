@@ -110,8 +110,18 @@ fn the_rest_of_a_read_waits_for_the_next_item(rt: HostRuntime) {
     let script = script_of(alloc, FIRST).expect(&rt, "memory");
     let mut source = MemorySource::new(alloc, script.as_slice(), 4096, &[2]).expect(&rt, "memory");
     let mut reader = ItemReader::new(alloc).expect(&rt, "memory");
-    assert!(rt; matches!(reader.next_item(alloc, &mut source), Ok(Some(ScriptItem::Map(_)))));
+    assert!(rt;
+        matches!(
+            reader.next_item(alloc, &mut source),
+            Ok(Some(ScriptItem::Map(_)))
+        )
+    );
     assert!(rt; reader.held() == script.len() - FIRST[0].len());
-    assert!(rt; matches!(reader.next_item(alloc, &mut source), Ok(Some(ScriptItem::Turn(_)))));
+    assert!(rt;
+        matches!(
+            reader.next_item(alloc, &mut source),
+            Ok(Some(ScriptItem::Turn(_)))
+        )
+    );
     assert!(rt; reader.held() == 0 && !reader.failed());
 }

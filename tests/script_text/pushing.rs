@@ -44,7 +44,11 @@ pub(super) const WITH_BAD: &[&str] = &[
 ];
 
 /// Keeps what a line gave.
-pub(super) fn keep(item: ScriptItem, outcome: &mut Outcome, base: &mut BaseRects) -> Result<(), NoMemory> {
+pub(super) fn keep(
+    item: ScriptItem,
+    outcome: &mut Outcome,
+    base: &mut BaseRects,
+) -> Result<(), NoMemory> {
     match item {
         ScriptItem::Map(map) => outcome.map = Some(map),
         ScriptItem::Base(rects) => base.extend(rects.as_slice())?,
@@ -105,7 +109,11 @@ fn end_script(
 }
 
 /// The map with these base rectangles.
-pub(super) fn with_base(alloc: Global, map: &MapSpec, base: &BaseRects) -> Result<Option<MapSpec>, NoMemory> {
+pub(super) fn with_base(
+    alloc: Global,
+    map: &MapSpec,
+    base: &BaseRects,
+) -> Result<Option<MapSpec>, NoMemory> {
     let classes = map.classes().copy(alloc)?;
     let base = base.copy(alloc)?;
     Ok(MapSpec::new(map.version(), map.size(), map.callers(), classes, base))
