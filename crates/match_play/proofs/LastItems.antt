@@ -25,10 +25,12 @@ use Rattle.match_play.specs.declared.states.Ahead.TheVariants as ahead
 use Rattle.match_play.specs.declared.states.Ground.{Ground}
 use Rattle.match_play.specs.declared.states.Ground.TheVariants as ground
 use Rattle.match_play.specs.declared.states.Course.{Course}
-use Rattle.match_play.specs.inner.Fitting.{FitsAhead, FitsItem, FitsPart, HasTold, IsFit, IsGoing, IsLast, IsStopped, MayGoOn, StaysFit, WillFitPart, turns_in, stop_in}
+use Rattle.match_play.specs.Grounds.{FitsPart, turns_in}
+use Rattle.match_play.specs.inner.Fitting.{FitsAhead, FitsLines, IsFit, IsGoing, IsLast, IsStopped, stop_in}
 use Rattle.match_play.specs.Playing.{IsTold}
 use Rattle.match_play.proofs.Walked.{AreTurns, turns_both}
 use Rattle.match_play.proofs.Finishing.{kept_held}
+use Rattle.match_play.proofs.Items.{fits_now}
 
 -- ---- items behind a place among turns
 
@@ -160,31 +162,6 @@ rest_shorter old new i e =
     positive [] some = absurd (some refl)
     positive (byte ∷ bytes) some = omega arith
 
--- the last item fits
-last_fits : (g : Ground) (old new : Held) (i : ScriptItem) → FitsPart g old.place.part → (IsInTurns old.place.part → AreTurns (item_of i ∷ []))
-    → KeepsRules (rules_at old.place.part) (rules_at new.place.part) (Ok (Some i)) → turns_in g < MAX_INPUT_BYTES → FitsItem g i
-last_fits ground.Nothing old new (item.Map m) fits turns keeps few = tt
-last_fits ground.Nothing old new (item.Base rects) fits turns keeps few =
-    let k = subst (λ (r : Option Rules). KeepsRules r (rules_at new.place.part) (Ok (Some (item.Base rects)))) (ap rules_at fits) keeps in
-    absurd k
-last_fits ground.Nothing old new (item.Turn posts) fits turns keeps few =
-    let k = subst (λ (r : Option Rules). KeepsRules r (rules_at new.place.part) (Ok (Some (item.Turn posts)))) (ap rules_at fits) keeps in
-    absurd k
-last_fits (ground.Map m) old new (item.Map other) fits turns keeps few =
-    let k = subst (λ (r : Option Rules). KeepsRules r (rules_at new.place.part) (Ok (Some (item.Map other)))) fits keeps in
-    absurd k
-last_fits (ground.Map m) old new (item.Base rects) fits turns keeps few =
-    let k = subst (λ (r : Option Rules). KeepsRules r (rules_at new.place.part) (Ok (Some (item.Base rects)))) fits keeps in
-    k.1
-last_fits (ground.Map m) old new (item.Turn posts) fits turns keeps few = tt
-last_fits (ground.Turns v n) old new (item.Map other) fits turns keeps few =
-    let k = subst (λ (r : Option Rules). KeepsRules r (rules_at new.place.part) (Ok (Some (item.Map other)))) (ap rules_at fits) keeps in
-    absurd k
-last_fits (ground.Turns v n) old new (item.Base rects) fits turns keeps few =
-    let inside : IsInTurns old.place.part = subst IsInTurns (sym fits) tt in
-    absurd (turns inside)
-last_fits (ground.Turns v n) old new (item.Turn posts) fits turns keeps few = omega (arith, few)
-
 first_turns : (i : Item) (more : List Item) → AreTurns (i ∷ more) → AreTurns (i ∷ [])
 first_turns (ends_turn posts) more are = tt
 first_turns (adds_base rects) more are = absurd are
@@ -199,8 +176,8 @@ rest_next g old new i last e keeps going =
     let room = room_read old.bytes old.place (item_of i) (finish new.place).items items in
     let turns : IsInTurns old.place.part → AreTurns (item_of i ∷ []) =
     λ inside. first_turns (item_of i) (finish new.place).items (subst AreTurns items (stays_reading old.bytes old.place inside).items) in (
-      record { going = going; few = λ more. absurd (more e.nothing); fits = λ more. absurd (more e.nothing) },
-      last_fits g old new i (last.fits some) turns keeps (omega (arith, before, room)),
+      fits_now g old.place.part new.place.part i (last.fits some) keeps turns (omega (arith, before, room)),
+      λ next is. record { going = going; few = λ more. absurd (more e.nothing); fits = λ more. absurd (more e.nothing) },
     )
 
 may_go_on : (old new : Held) (fault : ScriptFault) → EndTold old new (Err fault) → stop_in fault ≡ None → IsFalse (is_refused (Err fault))
@@ -222,39 +199,16 @@ rest_stays g old new fault last told none failed =
 
 -- ---- what fits a script that ends
 
+lines_ended : (ended : Bool) (g : Ground) (held : Held) → FitsLines ended g held → FitsLines true g held
+lines_ended true g held fits = fits
+lines_ended false g held (opens, fits) = record { going = opens.going; few = λ some. opens.few; fits = λ some. fits }
+
 pub fits_ended : (ended : Bool) (g : Ground) (held : Held) (next : Ahead) → FitsAhead ended g held next → FitsAhead true g held next
-fits_ended true g held next fits = fits
-fits_ended false g held ahead.Lines (opens, fits) = record { going = opens.going; few = λ some. opens.few; fits = λ some. fits }
-fits_ended false g held (ahead.Item i) ((opens, will), fits) = (record { going = opens.going; few = λ some. opens.few; fits = λ some. will }, fits)
-fits_ended false g held (ahead.Stop stop) fits = tt
-fits_ended false g held (ahead.Nothing stop) fits = tt
-fits_ended false g held ahead.Whole fits = refl
-
--- with no more turns, and what fits then
-goes_on : (ended : Bool) (held : Held) (n k : ℕ) (Old New : Type 0) → k ≤ n → (Old → New) → MayGoOn ended held n Old → MayGoOn ended held k New
-goes_on false held n k Old New less fits (opens, old) =
-    let few = opens.few in
-    (record { going = opens.going; more = opens.more; few = omega (arith, few, less); limit = opens.limit }, fits old)
-goes_on true held n k Old New less fits last = record {
-  going = last.going;
-  few = λ some. let few = last.few some in omega (arith, few, less);
-  fits = λ some. fits (last.fits some);
-}
-
--- an item was told
-pub fits_told : (ended : Bool) (g new : Ground) (held : Held) (i : ScriptItem) → FitsAhead ended g held (ahead.Item i) → HasTold g i new → FitsAhead ended new held ahead.Lines
-fits_told ended g new held i (next, fits) told =
-    goes_on ended held (turns_in g + 1) (turns_in new) (WillFitPart g i held.place.part) (FitsPart new held.place.part) told.turns (told.part held.place.part) next
-
--- it was not told, and waits
-pub fits_kept : (ended : Bool) (g new : Ground) (held : Held) (i : ScriptItem) → FitsAhead ended g held (ahead.Item i) → StaysFit g i new
-    → FitsAhead ended new held (ahead.Item i)
-fits_kept ended g new held i (next, fits) stays =
-    let same = stays.turns in (
-      goes_on ended held (turns_in g + 1) (turns_in new + 1) (WillFitPart g i held.place.part) (WillFitPart new i held.place.part) (omega (arith, same))
-          (stays.part held.place.part) next,
-      stays.fits,
-    )
+fits_ended ended g held ahead.Lines fits = lines_ended ended g held fits
+fits_ended ended g held (ahead.Item i) (fits, then) = (fits, λ next is. lines_ended ended next held (then next is))
+fits_ended ended g held (ahead.Stop stop) fits = tt
+fits_ended ended g held (ahead.Nothing stop) fits = tt
+fits_ended ended g held ahead.Whole fits = refl
 
 -- what fits where lines come next
 pub last_lines : (m : Course) → IsTrue m.ended → m.ahead ≡ ahead.Lines → IsFit m → IsLast m.script (turns_in m.ground) (FitsPart m.ground m.script.place.part)

@@ -24,7 +24,8 @@ use Rattle.match_play.specs.declared.faults.MatchFault.{MatchFault}
 use Rattle.match_play.specs.declared.faults.MatchFault.TheVariants as fault
 use Rattle.match_play.specs.Texts.{Said, unsaid, Says, Gives, IsText, stop_text, ends_text}
 use Rattle.match_play.specs.Playing.{said_of, stop_of, ReadsItems, StopsBehind, HasRead, told_stop, IsOver, HasPlayed, IsLinesText, IsStopText, FeedTold, Plays, FeedPlays, HasTaken}
-use Rattle.match_play.specs.inner.Fitting.{IsStopped, Tells, TellsStop, fault_of, stop_in}
+use Rattle.match_play.specs.Grounds.{Tells}
+use Rattle.match_play.specs.inner.Fitting.{IsStopped, TellsStop, fault_of, stop_in}
 
 -- ---- texts
 
@@ -249,23 +250,6 @@ plays_told a item next waits left at (piece, (says, is)) = record {
             (gives_one a.report (said_of a.ground) (said_of next) (item_of item) piece says);
         all = ap (λ (l : List ℕ). l ++ piece) said ∙ sym (append-nil (h.text ++ piece));
       };
-}
-
--- the item that waits was not told
-pub plays_kept : (a : Course) (next : Ground) (left : List ℕ) → said_of next ≡ said_of a.ground → Plays a (record a { ground = next }) left left
-plays_kept a next left same = record {
-  taken = [];
-  took = refl;
-  text = [];
-  waits = sym (append-nil a.waiting);
-  report = refl;
-  played = λ fed told h. record {
-    items = h.items;
-    text = h.text;
-    read = subst (λ (l : List ℕ). HasRead a.ended a.script l h.items a.ahead) (sym (append-nil fed)) h.read;
-    gives = subst (Gives a.report unsaid h.items h.text) (sym same) h.gives;
-    all = append-nil told ∙ h.all;
-  };
 }
 
 -- the stop was told

@@ -1,7 +1,7 @@
 -- What a match has been fed with, what it has told, and how the one goes with the other.
 use Rattle.std.specs.Prelude.{ℕ, ◌≡◌, List, [], ◌∷◌, ◌++◌, Bool, true, false, IsTrue, Option, Some, None, Result, Ok, Err, ⊤}
 use Rattle.posts.specs.declared.notes.Report.{Report}
-use Rattle.turn_core.specs.Words.{MapState, bare}
+use Rattle.turn_core.specs.Words.{MapState}
 use Rattle.input_lines.specs.Lines.{full_lines}
 use Rattle.script_text.specs.Script.{Item, Place, beginning, Stop, whole_input, too_long, bad_line, stuck_by, arrived, chain, walk, reading}
 use Rattle.script_text.specs.Reader.{Held, unread, UsesLines, stuck_after}
@@ -10,18 +10,11 @@ use Rattle.match_play.specs.declared.states.ScriptStop.{ScriptStop}
 use Rattle.match_play.specs.declared.states.ScriptStop.TheVariants.{BadLine, TooLong}
 use Rattle.match_play.specs.declared.states.Ahead.{Ahead}
 use Rattle.match_play.specs.declared.states.Ahead.TheVariants as ahead
-use Rattle.match_play.specs.declared.states.Ground.{Ground}
-use Rattle.match_play.specs.declared.states.Ground.TheVariants as ground
 use Rattle.match_play.specs.declared.states.Course.{Course}
 use Rattle.match_play.specs.declared.faults.MatchFault.{MatchFault}
 use Rattle.match_play.specs.declared.faults.MatchFault.TheVariants as fault
 use Rattle.match_play.specs.Texts.{Said, unsaid, Gives, IsText, stop_text, IsOut}
-
--- what the next answers rest on
-abbrev pub said_of : Ground → Said
-said_of ground.Nothing = unsaid
-said_of (ground.Map m) = record { map = Some m; standing = bare; turns = 0 }
-said_of (ground.Turns version turns) = record { map = Some version.map; standing = version.standing; turns = turns }
+pub use Rattle.match_play.specs.Grounds.{said_of}
 
 -- a stop, as the reading of an input names it
 abbrev pub stop_of : ScriptStop → Stop

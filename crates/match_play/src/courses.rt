@@ -14,16 +14,17 @@ use nav_types::{Bytes, NoMemory};
 use script_text::ScriptFault;
 use std::alloc::Global;
 use std::mem;
-use turn_core::OneThread;
+use turn_core::Answerer;
 
 /// Plays the next bytes of the script. At a stop it takes them all.
-pub(crate) fn feed(
+pub(crate) fn feed<A: Answerer>(
     alloc: Global,
-    thread: &mut OneThread,
+    answerer: &mut A,
     course: &mut Course,
     bytes: &mut &[u8],
 ) -> Result<(), MatchFault>
     requires fit { IsFit course.old }
+    requires takes { (count : ℕ) → A.takes answerer.old count }
     ensures plays { FeedPlays course.old course.new bytes.old.now bytes.new.now result }
     ensures all { TakesAll bytes.new.now result }
     ensures ended { (result ≡ Err Ended) ↔ IsTrue course.old.ended }
@@ -38,16 +39,17 @@ pub(crate) fn feed(
         *bytes = &[];
         return tell_stop(alloc, course);
     }
-    read_on(alloc, thread, course, bytes)
+    read_on(alloc, answerer, course, bytes)
 }
 
 /// Ends the script, and plays what is left of it.
-pub(crate) fn finish(
+pub(crate) fn finish<A: Answerer>(
     alloc: Global,
-    thread: &mut OneThread,
+    answerer: &mut A,
     course: &mut Course,
 ) -> Result<(), MatchFault>
     requires fit { IsFit course.old }
+    requires takes { (count : ℕ) → A.takes answerer.old count }
     ensures plays { FinishPlays course.old course.new result }
     ensures ended { IsTrue course.new.ended }
     ensures over { result ≢ Err no_memory → IsOver course.new }
@@ -62,7 +64,7 @@ pub(crate) fn finish(
     if is_stopped(&course.ahead) {
         return tell_stop(alloc, course);
     }
-    read_rest(alloc, thread, course)
+    read_rest(alloc, answerer, course)
 }
 
 /// Whether a stop was met.
@@ -93,13 +95,14 @@ fn is_told(ahead: &Ahead) -> bool
 }
 
 /// Plays the next bytes of a script that has not stopped.
-fn read_on(
+fn read_on<A: Answerer>(
     alloc: Global,
-    thread: &mut OneThread,
+    answerer: &mut A,
     course: &mut Course,
     bytes: &mut &[u8],
 ) -> Result<(), MatchFault>
     requires fit { IsFit course.old }
+    requires takes { (count : ℕ) → A.takes answerer.old count }
     requires going { IsGoing course.old.ahead }
     requires unended { IsFalse course.old.ended }
     ensures plays { FeedPlays course.old course.new bytes.old.now bytes.new.now result }
@@ -109,7 +112,7 @@ fn read_on(
     ensures fit { IsFit course.new }
 {
     'items: loop {
-        match tell_item(alloc, thread, course) {
+        match tell_item(alloc, answerer, course) {
             Ok(()) => {}
             Err(NoMemory) => return Err(MatchFault::NoMemory),
         }
@@ -129,8 +132,13 @@ fn read_on(
 }
 
 /// Plays what is left of a script that has ended.
-fn read_rest(alloc: Global, thread: &mut OneThread, course: &mut Course) -> Result<(), MatchFault>
+fn read_rest<A: Answerer>(
+    alloc: Global,
+    answerer: &mut A,
+    course: &mut Course,
+) -> Result<(), MatchFault>
     requires fit { IsFit course.old }
+    requires takes { (count : ℕ) → A.takes answerer.old count }
     requires going { IsGoing course.old.ahead }
     requires ended { IsTrue course.old.ended }
     ensures plays { FinishPlays course.old course.new result }
@@ -140,7 +148,7 @@ fn read_rest(alloc: Global, thread: &mut OneThread, course: &mut Course) -> Resu
     ensures fit { IsFit course.new }
 {
     'items: loop {
-        match tell_item(alloc, thread, course) {
+        match tell_item(alloc, answerer, course) {
             Ok(()) => {}
             Err(NoMemory) => return Err(MatchFault::NoMemory),
         }
@@ -162,14 +170,20 @@ fn read_rest(alloc: Global, thread: &mut OneThread, course: &mut Course) -> Resu
 }
 
 /// Tells the item that waits, if one does.
-fn tell_item(alloc: Global, thread: &mut OneThread, course: &mut Course) -> Result<(), NoMemory>
+fn tell_item<A: Answerer>(
+    alloc: Global,
+    answerer: &mut A,
+    course: &mut Course,
+) -> Result<(), NoMemory>
     requires fit { IsFit course.old }
+    requires takes { (count : ℕ) → A.takes answerer.old count }
     requires going { IsGoing course.old.ahead }
     ensures plays { (left : List ℕ) → Plays course.old course.new left left }
     ensures fit { IsFit course.new }
     ensures going { IsGoing course.new.ahead }
     ensures told { OnOk result (course.new.ahead ≡ Lines) }
     ensures script { course.new.script ≡ course.old.script }
+    ensures takes { (count : ℕ) → A.takes answerer.new count }
     ensures ended { course.new.ended ≡ course.old.ended }
 {
     match mem::replace(&mut course.ahead, Ahead::Lines) {
@@ -177,7 +191,7 @@ fn tell_item(alloc: Global, thread: &mut OneThread, course: &mut Course) -> Resu
             let report = course.report;
             match play_item(
                 alloc,
-                thread,
+                answerer,
                 report,
                 &mut course.ground,
                 item,

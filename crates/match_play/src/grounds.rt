@@ -1,37 +1,39 @@
 //! What the answers of a match rest on: its map, and what stands on it.
-ghost use Rattle.std.specs.Prelude.{◌≡◌, ◌<◌, ◌^◌, ◌+◌, ◌++◌, IfErr, OnErr, OnOk};
+ghost use Rattle.std.specs.Prelude.{◌≡◌, ℕ, IfErr, OnErr, OnOk, length};
+ghost use Rattle.posts.specs.Posts.{jobs};
 ghost use Rattle.script_text.specs.Pushed.{item_of};
 ghost use Rattle.script_text.specs.Script.{ends_turn};
 ghost use Rattle.script_text.specs.declared.items.ScriptItem.TheVariants.{Turn};
-ghost use Rattle.match_play.specs.Playing.{said_of};
-ghost use Rattle.match_play.specs.inner.Fitting.{AddsBase, Begins, FitsBase, FitsItem, FitsTurn, HasTold, StaysFit, Tells};
+ghost use Rattle.match_play.specs.Grounds.{AddsBase, Becomes, FitsBase, FitsItem, FitsTurn, TakesItem, Tells, said_of, turns_in};
 
 use crate::states::Ground;
 use crate::turn_texts::{TurnText, text_of_turn};
-use grid_versions::Version;
+use crate::views::view_of;
 use nav_types::{Bytes, NoMemory};
 use posts::{BaseRects, Report, TurnPosts};
 use script_text::ScriptItem;
 use std::alloc::Global;
-use turn_core::{OneThread, bare_version};
+use turn_core::Answerer;
 
-/// Plays an item: takes what it says of the map, or tells the text of its turn behind what waits. It refuses for want of
-/// memory alone, hands the item back, and what is told and said stays.
-pub(crate) fn play_item(
+/// Plays an item of a script: takes what it says of the map, or tells the text of its turn behind what waits (`Says`),
+/// whoever answers it. It refuses for want of memory alone, hands the item back, and what is told and said stays.
+pub fn play_item<A: Answerer>(
     alloc: Global,
-    thread: &mut OneThread,
+    answerer: &mut A,
     report: Report,
     ground: &mut Ground,
     item: ScriptItem,
     waiting: &mut Bytes,
 ) -> Result<(), (NoMemory, ScriptItem)>
     requires fits { FitsItem ground.old item }
+    requires takes { TakesItem (A.takes answerer.old) item }
     ensures told { OnOk result (Tells report (said_of ground.old) (item_of item) (said_of ground.new) waiting.old
         waiting.new) }
-    ensures ground { OnOk result (HasTold ground.old item ground.new) }
-    ensures still { OnErr result (StaysFit ground.old item ground.new) }
+    ensures ground { OnOk result (Becomes ground.old item ground.new) }
+    ensures kept { OnErr result (ground.new ≡ ground.old) }
     ensures waiting { OnErr result (waiting.new ≡ waiting.old) }
     ensures item { IfErr result (λ refused. refused.1 ≡ item) }
+    ensures takes { (count : ℕ) → A.takes answerer.old count → A.takes answerer.new count }
 {
     match item {
         ScriptItem::Map(map) => {
@@ -42,10 +44,12 @@ pub(crate) fn play_item(
             Ok(()) => Ok(()),
             Err(NoMemory) => Err((NoMemory, ScriptItem::Base(rects))),
         },
-        ScriptItem::Turn(posts) => match play_turn(alloc, thread, report, ground, posts, waiting) {
-            Ok(()) => Ok(()),
-            Err((NoMemory, posts)) => Err((NoMemory, ScriptItem::Turn(posts))),
-        },
+        ScriptItem::Turn(posts) => {
+            match play_turn(alloc, answerer, report, ground, posts, waiting) {
+                Ok(()) => Ok(()),
+                Err((NoMemory, posts)) => Err((NoMemory, ScriptItem::Turn(posts))),
+            }
+        }
     }
 }
 
@@ -61,75 +65,49 @@ fn add_base(ground: &mut Ground, rects: &BaseRects) -> Result<(), NoMemory>
     }
 }
 
-/// Makes the version before the first turn, where no turn has come.
-fn begin_turns(alloc: Global, ground: &mut Ground) -> Result<(), NoMemory>
-    requires fits { FitsTurn ground.old }
-    ensures begun { OnOk result (Begins ground.old ground.new) }
-    ensures kept { OnErr result (ground.new ≡ ground.old) }
-{
-    let version = match ground {
-        Ground::Map(map) => bare_version(alloc, map)?,
-        Ground::Nothing | Ground::Turns(_, _) => return Ok(()),
-    };
-    *ground = Ground::Turns(version, 0);
-    Ok(())
-}
-
-/// Tells the text of the next turn behind what waits.
-fn play_turn(
+/// Tells the text of the next turn behind what waits, and steps to the version after it.
+fn play_turn<A: Answerer>(
     alloc: Global,
-    thread: &mut OneThread,
+    answerer: &mut A,
     report: Report,
     ground: &mut Ground,
     posts: TurnPosts,
     waiting: &mut Bytes,
 ) -> Result<(), (NoMemory, TurnPosts)>
     requires fits { FitsTurn ground.old }
+    requires takes { A.takes answerer.old (length (jobs posts)) }
     ensures told { OnOk result (Tells report (said_of ground.old) (ends_turn posts) (said_of ground.new) waiting.old
         waiting.new) }
-    ensures ground { OnOk result (HasTold ground.old (Turn posts) ground.new) }
-    ensures still { OnErr result (StaysFit ground.old (Turn posts) ground.new) }
+    ensures ground { OnOk result (Becomes ground.old (Turn posts) ground.new) }
+    ensures kept { OnErr result (ground.new ≡ ground.old) }
     ensures waiting { OnErr result (waiting.new ≡ waiting.old) }
     ensures posts { IfErr result (λ refused. refused.1 ≡ posts) }
+    ensures takes { (count : ℕ) → A.takes answerer.old count → A.takes answerer.new count }
 {
-    match begin_turns(alloc, ground) {
-        Ok(()) => {}
+    let version = match view_of(alloc, ground) {
+        Ok(Some(version)) => version,
+        Ok(None) => unreachable!(),
         Err(NoMemory) => return Err((NoMemory, posts)),
-    }
-    match ground {
-        Ground::Turns(version, turns) => {
-            let turn = *turns + 1;
-            let told = text_of_turn(alloc, thread, report, version, turn, posts)?;
-            step_to(told, version, turns, waiting)
-        }
-        Ground::Nothing | Ground::Map(_) => unreachable!(),
-    }
-}
-
-/// Tells the text of the next turn behind what waits, and steps to the version after it. Where there is no memory it hands the
-/// posts back.
-fn step_to(
-    told: TurnText,
-    version: &mut Version,
-    turns: &mut u64,
-    waiting: &mut Bytes,
-) -> Result<(), (NoMemory, TurnPosts)>
-    requires few { turns.old < 2 ^ 32 }
-    ensures text { OnOk result (waiting.new ≡ waiting.old ++ told.text) }
-    ensures after { OnOk result (version.new ≡ told.after) }
-    ensures turns { OnOk result (turns.new ≡ turns.old + 1) }
-    ensures version { OnErr result (version.new ≡ version.old) }
-    ensures same { OnErr result (turns.new ≡ turns.old) }
-    ensures waiting { OnErr result (waiting.new ≡ waiting.old) }
-    ensures posts { IfErr result (λ refused. refused.1 ≡ told.posts) }
-{
-    let TurnText { text, after, posts } = told;
+    };
+    let turn = turns_in(ground) + 1;
+    let TurnText { text, after, posts } = text_of_turn(
+        alloc, answerer, report, &version, turn, posts,
+    )?;
     match waiting.extend(text.as_slice()) {
         Ok(()) => {
-            *version = after;
-            *turns += 1;
+            *ground = Ground::Turns(after, turn);
             Ok(())
         }
         Err(NoMemory) => Err((NoMemory, posts)),
+    }
+}
+
+/// How many turns were told.
+fn turns_in(ground: &Ground) -> u64
+    ensures { result ≡ turns_in ground.now }
+{
+    match ground {
+        Ground::Nothing | Ground::Map(_) => 0,
+        Ground::Turns(_, turns) => *turns,
     }
 }

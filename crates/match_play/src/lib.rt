@@ -20,7 +20,9 @@ mod turn_texts;
 mod views;
 
 pub use faults::MatchFault;
+pub use grounds::play_item;
 pub use matches::Match;
 pub use posted::{EndedTurn, PostedMatch};
 pub use posts::Report;
+pub use states::Ground;
 pub use turn_texts::{TurnText, text_of_ready};

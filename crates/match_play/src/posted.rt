@@ -13,7 +13,7 @@ use posts::{Journal, MapSpec, Notes, Report, TurnPosts, TurnReplies};
 use script_text::{write_journal, write_map};
 use std::alloc::Global;
 use std::marker::Model;
-use turn_core::{AnsweredTurn, NotedAnswers, OneThread, ReadyTurn, bare_version};
+use turn_core::{AnsweredTurn, Answerer, NotedAnswers, OneThread, ReadyTurn, bare_version};
 
 /// What a turn is answered: the replies to its posts with the turn's numbers, and the notes of its requests.
 #[derive(Drop)]

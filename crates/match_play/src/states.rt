@@ -28,7 +28,7 @@ pub enum Ahead {
     Whole,
 }
 
-/// What the next answers rest on.
+/// What the next answers of a match rest on. It begins with nothing.
 #[derive(Drop)]
 pub enum Ground {
     /// Nothing: the map has not come.

@@ -1,5 +1,5 @@
 //! The text of a turn.
-ghost use Rattle.std.specs.Prelude.{◌≡◌, IfErr, IfOk};
+ghost use Rattle.std.specs.Prelude.{◌≡◌, IfErr, IfOk, ℕ, length};
 ghost use Rattle.posts.specs.Posts.{jobs};
 ghost use Rattle.turn_core.specs.Notes.{AreNotes};
 ghost use Rattle.turn_core.specs.ReadyTurns.{after_edits_of};
@@ -12,7 +12,7 @@ use grid_versions::Version;
 use nav_types::{Bytes, NoMemory};
 use posts::{Report, TurnPosts};
 use std::alloc::Global;
-use turn_core::{AnsweredTurn, NotedAnswers, OneThread, ReadyTurn};
+use turn_core::{AnsweredTurn, Answerer, NotedAnswers, ReadyTurn};
 
 /// A turn's posts, its text, and the version after it.
 #[derive(Drop)]
@@ -22,25 +22,27 @@ pub struct TurnText {
     pub after: Version,
 }
 
-/// Has a thread answer the turn of a number on the version before it, and tells the answers. It refuses for want of memory
+/// Has someone answer the turn of a number on the version before it, and tells the answers. It refuses for want of memory
 /// alone, and hands the posts back.
-pub(crate) fn text_of_turn(
+pub(crate) fn text_of_turn<A: Answerer>(
     alloc: Global,
-    thread: &mut OneThread,
+    answerer: &mut A,
     report: Report,
     version: &Version,
     turn: u64,
     posts: TurnPosts,
 ) -> Result<TurnText, (NoMemory, TurnPosts)>
+    requires takes { A.takes answerer.old (length (jobs posts)) }
     ensures text { IfOk result (λ told. IsTurnText report version.now.map version.now.standing turn posts told.text) }
     ensures map { IfOk result (λ told. told.after.map ≡ version.now.map) }
     ensures standing { IfOk result (λ told. told.after.standing
         ≡ after_turn version.now.map version.now.standing posts) }
     ensures posts { IfOk result (λ told. told.posts ≡ posts) }
     ensures back { IfErr result (λ refused. refused.1 ≡ posts) }
+    ensures takes { (count : ℕ) → A.takes answerer.old count → A.takes answerer.new count }
 {
     let ready = ReadyTurn::new(alloc, version, posts)?;
-    match thread.noted_answers(alloc, ready.version(), ready.jobs(), report) {
+    match answerer.noted_answers(alloc, ready.version(), ready.jobs(), report) {
         Ok(noted) => text_of_ready(alloc, report, ready, noted, turn),
         Err(NoMemory) => Err((NoMemory, ready.into_parts().0)),
     }

@@ -10,6 +10,7 @@
 //! program. `path_service` says how turns are staged, run and delivered beside each other.
 #![tactic(auto)]
 
+mod answerers;
 mod edited_turns;
 mod journals;
 mod last_fields;
@@ -26,10 +27,11 @@ mod searches;
 mod solving;
 mod turn_versions;
 
+pub use answerers::{Answerer, NotedAnswers};
 pub use journals::{answer_turn, one_thread};
 pub use jump_search::Pool;
 pub use named_goals::goal_of;
-pub use one_threads::{NotedAnswers, OneThread};
+pub use one_threads::OneThread;
 pub use posts::{
     AllReplies, Answer, Answers, CallerReplies, Copied, FlowLine, FlowSummary, Jobs, Journal, Note,
     Noted, Notes, PathAnswer, Post, Posts, RegionAnswer, Replies, Reply, Report, Request,

@@ -1,9 +1,8 @@
 //! One thread that answers turns.
 ghost use Rattle.std.specs.Prelude.{◌≡◌, IfOk};
-ghost use Rattle.turn_core.specs.Notes.{AreNotes};
-ghost use Rattle.turn_core.specs.Solving.{AreAnswersTo};
 ghost use Rattle.turn_core.specs.Turns.{after_turn, IsTurnTold};
 
+use crate::answerers::{Answerer, NotedAnswers};
 use crate::edited_turns::EditedTurn;
 use crate::ready_turns::AnsweredTurn;
 use crate::solving::Solver;
@@ -12,13 +11,6 @@ use jump_search::Pool;
 use nav_types::NoMemory;
 use posts::{Answers, Jobs, Noted, Notes, Report, TurnPosts};
 use std::alloc::Global;
-
-/// The answers to the jobs of a turn, and their notes, each in the place of its job.
-#[derive(Debug, Drop)]
-pub struct NotedAnswers {
-    pub answers: Answers,
-    pub notes: Notes,
-}
 
 /// One thread that answers turns, one after another. From turn to turn it keeps the room of its searches (`Pool`), unless
 /// one long search has made that large (`Pool::is_small`). What it answers does not depend on what it answered before.
@@ -61,34 +53,6 @@ impl OneThread {
         Ok(edited.answered(noted.answers))
     }
 
-    /// The answers to the jobs on a version, each in the place of its job (`AreAnswersTo`), with what the report tells of
-    /// each (`AreNotes`). It refuses for want of memory alone, and can be asked again.
-    pub fn noted_answers(
-        &mut self,
-        alloc: Global,
-        version: &Version,
-        jobs: &Jobs,
-        report: Report,
-    ) -> Result<NotedAnswers, NoMemory>
-        ensures answers { IfOk result (λ noted. AreAnswersTo version.now.map version.now.standing jobs.now noted.answers) }
-        ensures notes { IfOk result (λ noted. AreNotes version.now.map version.now.standing report jobs.now noted.notes) }
-    {
-        let requests = jobs.as_slice();
-        let mut answers = Vec::with_capacity(alloc, requests.len())?;
-        let mut notes = Vec::with_capacity(alloc, requests.len())?;
-        let mut solver = self.solver(alloc, version, report)?;
-        for job in requests {
-            let Noted { answer, note } = solver.solve(alloc, job)?;
-            answers.push_reserved(answer);
-            notes.push_reserved(note);
-        }
-        self.keep(solver.into_pool());
-        Ok(NotedAnswers {
-            answers: Answers::from(answers),
-            notes: Notes::from(notes),
-        })
-    }
-
     /// One who answers on a version in the room that is kept, or in a new one.
     fn solver<'v>(
         &mut self,
@@ -109,5 +73,34 @@ impl OneThread {
         if room.is_small() {
             self.room = Some(room);
         }
+    }
+}
+
+impl Answerer for OneThread {
+    ghost use Rattle.std.specs.Prelude.{⊤};
+
+    ghost takes = { λ thread count. ⊤ };
+
+    fn noted_answers(
+        &mut self,
+        alloc: Global,
+        version: &Version,
+        jobs: &Jobs,
+        report: Report,
+    ) -> Result<NotedAnswers, NoMemory> {
+        let requests = jobs.as_slice();
+        let mut answers = Vec::with_capacity(alloc, requests.len())?;
+        let mut notes = Vec::with_capacity(alloc, requests.len())?;
+        let mut solver = self.solver(alloc, version, report)?;
+        for job in requests {
+            let Noted { answer, note } = solver.solve(alloc, job)?;
+            answers.push_reserved(answer);
+            notes.push_reserved(note);
+        }
+        self.keep(solver.into_pool());
+        Ok(NotedAnswers {
+            answers: Answers::from(answers),
+            notes: Notes::from(notes),
+        })
     }
 }

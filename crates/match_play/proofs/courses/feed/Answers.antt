@@ -3,10 +3,10 @@ use Rattle.match_play.proofs.Playing.{plays_stopped, plays_then, feed_told, feed
 use Rattle.match_play.proofs.courses.feed.Goals as goal
 
 pub returns-then-course-clause-plays : goal.returns-then-course-clause-plays
-returns-then-course-clause-plays c = feed_ended c.args.course.now c.args.bytes.now.now
+returns-then-course-clause-plays g c = feed_ended c.args.course.now c.args.bytes.now.now
 
 pub returns-then-is_stopped-clause-plays : goal.returns-then-is_stopped-clause-plays
-returns-then-is_stopped-clause-plays c =
+returns-then-is_stopped-clause-plays g c =
     let a = c.args.course.now in
     let t = c.tell_stop.new.course in
     let piece = c.args.bytes.now.now in
@@ -14,14 +14,14 @@ returns-then-is_stopped-clause-plays c =
     feed_told a t piece [] c.tell_stop.result (plays_then a a t piece [] [] stopped (c.tell_stop.ensures.plays [])) (c.tell_stop.ensures.ended ∙ c.if-course.false) c.tell_stop.ensures.stop
 
 pub returns-then-is_stopped-clause-ended : goal.returns-then-is_stopped-clause-ended
-returns-then-is_stopped-clause-ended c =
+returns-then-is_stopped-clause-ended g c =
     only_ended c.tell_stop.result c.args.course.now.ended c.if-course.false (stop_answer c.tell_stop.new.course.ahead c.tell_stop.result c.tell_stop.ensures.stop)
 
 pub returns-then-is_stopped-clause-kept : goal.returns-then-is_stopped-clause-kept
-returns-then-is_stopped-clause-kept c = λ is. absurd (stop_answer c.tell_stop.new.course.ahead c.tell_stop.result c.tell_stop.ensures.stop is)
+returns-then-is_stopped-clause-kept g c = λ is. absurd (stop_answer c.tell_stop.new.course.ahead c.tell_stop.result c.tell_stop.ensures.stop is)
 
 pub returns-clause-ended : goal.returns-clause-ended
-returns-clause-ended c = only_ended c.read_on.result c.args.course.now.ended c.if-course.false c.read_on.ensures.answer
+returns-clause-ended g c = only_ended c.read_on.result c.args.course.now.ended c.if-course.false c.read_on.ensures.answer
 
 pub returns-clause-kept : goal.returns-clause-kept
-returns-clause-kept c = λ is. absurd (c.read_on.ensures.answer is)
+returns-clause-kept g c = λ is. absurd (c.read_on.ensures.answer is)

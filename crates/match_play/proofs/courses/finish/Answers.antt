@@ -6,57 +6,57 @@ use Rattle.match_play.proofs.LastItems.{fits_ended, going_on}
 use Rattle.match_play.proofs.courses.finish.Goals as goal
 
 pub returns-then-is_over-clause-plays : goal.returns-then-is_over-clause-plays
-returns-then-is_over-clause-plays c = finish_again c.args.course.now (c.is_over.ensures.0 c.if-is_over.true)
+returns-then-is_over-clause-plays g c = finish_again c.args.course.now (c.is_over.ensures.0 c.if-is_over.true)
 
 pub returns-then-is_over-clause-ended : goal.returns-then-is_over-clause-ended
-returns-then-is_over-clause-ended c = (c.is_over.ensures.0 c.if-is_over.true).0
+returns-then-is_over-clause-ended g c = (c.is_over.ensures.0 c.if-is_over.true).0
 
 pub returns-then-is_over-clause-over : goal.returns-then-is_over-clause-over
-returns-then-is_over-clause-over c = λ some. c.is_over.ensures.0 c.if-is_over.true
+returns-then-is_over-clause-over g c = λ some. c.is_over.ensures.0 c.if-is_over.true
 
 pub returns-then-is_over-clause-again : goal.returns-then-is_over-clause-again
-returns-then-is_over-clause-again c = (λ is. c.is_over.ensures.0 c.if-is_over.true, λ over. refl)
+returns-then-is_over-clause-again g c = (λ is. c.is_over.ensures.0 c.if-is_over.true, λ over. refl)
 
 pub returns-then-is_stopped-clause-plays : goal.returns-then-is_stopped-clause-plays
-returns-then-is_stopped-clause-plays c =
+returns-then-is_stopped-clause-plays g c =
     let a = c.args.course.now in
     let b : Course = record a { ended = true } in
     let t = c.tell_stop.new.course in
     finish_then a b t c.tell_stop.result (plays_ended a) (finish_stop b t c.tell_stop.result (c.tell_stop.ensures.plays []) c.tell_stop.ensures.ended c.tell_stop.ensures.stop)
 
 pub returns-then-is_stopped-clause-over : goal.returns-then-is_stopped-clause-over
-returns-then-is_stopped-clause-over c = λ some. (c.tell_stop.ensures.ended, stop_over c.tell_stop.new.course.ahead c.tell_stop.result c.tell_stop.ensures.stop some)
+returns-then-is_stopped-clause-over g c = λ some. (c.tell_stop.ensures.ended, stop_over c.tell_stop.new.course.ahead c.tell_stop.result c.tell_stop.ensures.stop some)
 
 pub returns-then-is_stopped-clause-again : goal.returns-then-is_stopped-clause-again
-returns-then-is_stopped-clause-again c =
+returns-then-is_stopped-clause-again g c =
     only_over c.args.course.now c.tell_stop.result c.is_over.result c.is_over.ensures.1 c.if-is_over.false
     (stop_answer c.tell_stop.new.course.ahead c.tell_stop.result c.tell_stop.ensures.stop)
 
 pub returns-then-is_stopped-clause-kept : goal.returns-then-is_stopped-clause-kept
-returns-then-is_stopped-clause-kept c = λ is. absurd (stop_answer c.tell_stop.new.course.ahead c.tell_stop.result c.tell_stop.ensures.stop is)
+returns-then-is_stopped-clause-kept g c = λ is. absurd (stop_answer c.tell_stop.new.course.ahead c.tell_stop.result c.tell_stop.ensures.stop is)
 
 pub returns-clause-plays : goal.returns-clause-plays
-returns-clause-plays c =
+returns-clause-plays g c =
     let a = c.args.course.now in
     let b : Course = record a { ended = true } in
     finish_then a b c.read_rest.new.course c.read_rest.result (plays_ended a) c.read_rest.ensures.plays
 
 pub returns-clause-over : goal.returns-clause-over
-returns-clause-over c = λ some. (c.read_rest.ensures.ended, c.read_rest.ensures.told some)
+returns-clause-over g c = λ some. (c.read_rest.ensures.ended, c.read_rest.ensures.told some)
 
 pub returns-clause-again : goal.returns-clause-again
-returns-clause-again c = only_over c.args.course.now c.read_rest.result c.is_over.result c.is_over.ensures.1 c.if-is_over.false c.read_rest.ensures.answer
+returns-clause-again g c = only_over c.args.course.now c.read_rest.result c.is_over.result c.is_over.ensures.1 c.if-is_over.false c.read_rest.ensures.answer
 
 pub returns-clause-kept : goal.returns-clause-kept
-returns-clause-kept c = λ is. absurd (c.read_rest.ensures.answer is)
+returns-clause-kept g c = λ is. absurd (c.read_rest.ensures.answer is)
 
 pub read_rest-requires-clause-fit : goal.read_rest-requires-clause-fit
-read_rest-requires-clause-fit c =
+read_rest-requires-clause-fit g c =
     let a = c.args.course.now in
     fits_ended a.ended a.ground a.script a.ahead c.requires.fit
 
 pub read_rest-requires-clause-going : goal.read_rest-requires-clause-going
-read_rest-requires-clause-going c =
+read_rest-requires-clause-going g c =
     let a = c.args.course.now in
     going_on a.ended a.ground a.script a.ahead c.requires.fit
     (λ stopped. let is = c.is_stopped.ensures.1 stopped in let none = c.if-is_stopped.false in absurd (cc))

@@ -6,10 +6,10 @@ use Rattle.match_play.proofs.Fits.{fit_lines, lines_fit, item_fits, fits_item, f
 use Rattle.match_play.proofs.courses.read_on.Goals as goal
 
 pub items-init : goal.items-init
-items-init c = record { plays = plays_none c.args.course.now c.args.bytes.now.now; fit = c.requires.fit; going = c.requires.going; unended = c.requires.unended }
+items-init g c = record { plays = plays_none c.args.course.now c.args.bytes.now.now; takes = c.requires.takes; fit = c.requires.fit; going = c.requires.going; unended = c.requires.unended }
 
 pub returns-in-Err-clause-plays : goal.returns-in-Err-clause-plays
-returns-in-Err-clause-plays c =
+returns-in-Err-clause-plays g c =
     let a = c.args.course.now in
     let m = c.tell_item.new.course in
     let x = c.args.bytes.now.now in
@@ -17,7 +17,7 @@ returns-in-Err-clause-plays c =
     feed_nothing a m x y (plays_then a c.items.course m x y y c.items.invariant.plays (c.tell_item.ensures.plays y))
 
 pub items-smaller : goal.items-smaller
-items-smaller c =
+items-smaller g c =
     let taken = rw c.in-Ok-Some.field-0-is at c.in-Ok-Some.ensures.taken in
     let m = c.tell_item.new.course in
     let new = c.next.new.self in
@@ -26,7 +26,7 @@ items-smaller c =
     subst (λ (h : Held). length new.bytes + length z < length h.bytes + length y) c.tell_item.ensures.script (shorter m.script new y z taken)
 
 pub items-preserved : goal.items-preserved
-items-preserved c =
+items-preserved g c =
     let a = c.args.course.now in
     let m = c.tell_item.new.course in
     let new = c.next.new.self in
@@ -42,13 +42,14 @@ items-preserved c =
     let fit = fit_lines m unended at c.tell_item.ensures.fit in
     record {
       plays = plays_then a m (with_ahead m new (ahead.Item i)) x y z here (plays_item m new i y z unended at told c.next.ensures.more);
+      takes = c.tell_item.ensures.takes;
       fit = item_fits m new i unended (fits_item m.ground m.script new y z i fit.0 fit.1 told rules c.in-Ok-Some.ensures.failed c.next.ensures.more c.next.ensures.limit);
       going = tt;
       unended = unended;
     }
 
 pub returns-in-Ok-None-clause-plays : goal.returns-in-Ok-None-clause-plays
-returns-in-Ok-None-clause-plays c =
+returns-in-Ok-None-clause-plays g c =
     let a = c.args.course.now in
     let m = c.tell_item.new.course in
     let new = c.next.new.self in
@@ -63,7 +64,7 @@ returns-in-Ok-None-clause-plays c =
     feed_lines a (with_script m new) x z (plays_then a m (with_script m new) x y z here (plays_lines m new y z unended at told c.next.ensures.more)) unended at taken.1
 
 pub returns-in-Ok-None-clause-fit : goal.returns-in-Ok-None-clause-fit
-returns-in-Ok-None-clause-fit c =
+returns-in-Ok-None-clause-fit g c =
     let m = c.tell_item.new.course in
     let new = c.next.new.self in
     let at = c.in-Ok.ensures.told in
@@ -75,7 +76,7 @@ returns-in-Ok-None-clause-fit c =
     c.next.ensures.more c.next.ensures.limit)
 
 pub returns-in-Some-clause-plays : goal.returns-in-Some-clause-plays
-returns-in-Some-clause-plays c =
+returns-in-Some-clause-plays g c =
     let a = c.args.course.now in
     let m = c.tell_item.new.course in
     let new = c.next.new.self in
@@ -92,10 +93,10 @@ returns-in-Some-clause-plays c =
     feed_told a t x [] c.tell_stop.result (plays_then a b t x [] [] stops (c.tell_stop.ensures.plays [])) (c.tell_stop.ensures.ended ∙ unended) c.tell_stop.ensures.stop
 
 pub returns-in-Some-clause-answer : goal.returns-in-Some-clause-answer
-returns-in-Some-clause-answer c = λ is. stop_answer c.tell_stop.new.course.ahead c.tell_stop.result c.tell_stop.ensures.stop is
+returns-in-Some-clause-answer g c = λ is. stop_answer c.tell_stop.new.course.ahead c.tell_stop.result c.tell_stop.ensures.stop is
 
 pub returns-in-None-clause-plays : goal.returns-in-None-clause-plays
-returns-in-None-clause-plays c =
+returns-in-None-clause-plays g c =
     let a = c.args.course.now in
     let m = c.tell_item.new.course in
     let new = c.next.new.self in
@@ -109,7 +110,7 @@ returns-in-None-clause-plays c =
     (plays_fault m new y z c.in-Err-next.fault (c.tell_item.ensures.ended ∙ c.items.invariant.unended) at c.in-Err-next.ensures.told c.next.ensures.more (sym c.stop_in.ensures ∙ c.in-None.is)))
 
 pub returns-in-None-clause-fit : goal.returns-in-None-clause-fit
-returns-in-None-clause-fit c =
+returns-in-None-clause-fit g c =
     let m = c.tell_item.new.course in
     let new = c.next.new.self in
     let at = c.in-Ok.ensures.told in
@@ -119,11 +120,11 @@ returns-in-None-clause-fit c =
     c.in-Err-next.ensures.told c.in-Err-next.ensures.rules c.in-Err-next.ensures.failed c.next.ensures.more c.next.ensures.limit)
 
 pub next-requires-clause-going : goal.next-requires-clause-going
-next-requires-clause-going c =
+next-requires-clause-going g c =
     let m = c.tell_item.new.course in
     (fit_lines m (c.tell_item.ensures.ended ∙ c.items.invariant.unended) c.in-Ok.ensures.told c.tell_item.ensures.fit).0.going
 
 pub next-requires-clause-more : goal.next-requires-clause-more
-next-requires-clause-more c =
+next-requires-clause-more g c =
     let m = c.tell_item.new.course in
     (fit_lines m (c.tell_item.ensures.ended ∙ c.items.invariant.unended) c.in-Ok.ensures.told c.tell_item.ensures.fit).0.more

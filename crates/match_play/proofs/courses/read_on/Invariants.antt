@@ -1,15 +1,16 @@
-use Rattle.std.proofs.Common.{◌+◌, IsFalse, length}
+use Rattle.std.proofs.Common.{ℕ, ◌+◌, IsFalse, length}
 use Rattle.match_play.specs.Playing.{Plays}
 use Rattle.match_play.specs.inner.Fitting.{IsFit, IsGoing}
 use Rattle.match_play.proofs.courses.read_on.Given as goal
 
 abbrev pub invariant-items : goal.invariant-items
-invariant-items l = record {
+invariant-items g l = record {
   plays : Plays l.fn.course l.course l.fn.bytes.now l.bytes.now;
+  takes : (count : ℕ) → g.A.Answerer.takes l.answerer count;
   fit : IsFit l.course;
   going : IsGoing l.course.ahead;
   unended : IsFalse l.course.ended;
 }
 
 abbrev pub decreases-items : goal.decreases-items
-decreases-items l = length l.course.script.bytes + length l.bytes.now
+decreases-items g l = length l.course.script.bytes + length l.bytes.now

@@ -7,23 +7,23 @@ use Rattle.match_play.proofs.LastItems.{last_lines, lines_last, item_last, rest_
 use Rattle.match_play.proofs.courses.read_rest.Goals as goal
 
 pub items-init : goal.items-init
-items-init c = record { plays = plays_none c.args.course.now []; fit = c.requires.fit; going = c.requires.going; ended = c.requires.ended }
+items-init g c = record { plays = plays_none c.args.course.now []; takes = c.requires.takes; fit = c.requires.fit; going = c.requires.going; ended = c.requires.ended }
 
 pub returns-in-Err-clause-plays : goal.returns-in-Err-clause-plays
-returns-in-Err-clause-plays c =
+returns-in-Err-clause-plays g c =
     let a = c.args.course.now in
     let m = c.tell_item.new.course in
     finish_nothing a m (plays_then a c.items.course m [] [] [] c.items.invariant.plays (c.tell_item.ensures.plays []))
 
 pub items-smaller : goal.items-smaller
-items-smaller c =
+items-smaller g c =
     let told = rw c.in-Ok-Some.field-0-is at c.in-Ok-Some.ensures.told in
     let m = c.tell_item.new.course in
     let new = c.finish.new.self in
     subst (λ (h : Held). length new.bytes < length h.bytes) c.tell_item.ensures.script (rest_shorter m.script new c.in-Ok-Some.item told)
 
 pub items-preserved : goal.items-preserved
-items-preserved c =
+items-preserved g c =
     let a = c.args.course.now in
     let m = c.tell_item.new.course in
     let new = c.finish.new.self in
@@ -36,13 +36,14 @@ items-preserved c =
     let last = last_lines m ended at c.tell_item.ensures.fit in
     record {
       plays = plays_then a m (with_ahead m new (ahead.Item i)) [] [] [] here (rest_item m new i ended at told);
+      takes = c.tell_item.ensures.takes;
       fit = item_last m new i ended (rest_next m.ground m.script new i last told rules c.in-Ok-Some.ensures.failed);
       going = tt;
       ended = ended;
     }
 
 pub returns-in-Ok-None-clause-plays : goal.returns-in-Ok-None-clause-plays
-returns-in-Ok-None-clause-plays c =
+returns-in-Ok-None-clause-plays g c =
     let a = c.args.course.now in
     let m = c.tell_item.new.course in
     let new = c.finish.new.self in
@@ -53,7 +54,7 @@ returns-in-Ok-None-clause-plays c =
     finish_whole a (with_ahead m new ahead.Whole) (plays_then a m (with_ahead m new ahead.Whole) [] [] [] here (rest_whole m new ended at told)) ended refl
 
 pub returns-in-Some-clause-plays : goal.returns-in-Some-clause-plays
-returns-in-Some-clause-plays c =
+returns-in-Some-clause-plays g c =
     let a = c.args.course.now in
     let m = c.tell_item.new.course in
     let new = c.finish.new.self in
@@ -67,13 +68,13 @@ returns-in-Some-clause-plays c =
     finish_stop a t c.tell_stop.result (plays_then a b t [] [] [] stops (c.tell_stop.ensures.plays [])) (c.tell_stop.ensures.ended ∙ ended) c.tell_stop.ensures.stop
 
 pub returns-in-Some-clause-answer : goal.returns-in-Some-clause-answer
-returns-in-Some-clause-answer c = λ is. stop_answer c.tell_stop.new.course.ahead c.tell_stop.result c.tell_stop.ensures.stop is
+returns-in-Some-clause-answer g c = λ is. stop_answer c.tell_stop.new.course.ahead c.tell_stop.result c.tell_stop.ensures.stop is
 
 pub returns-in-Some-clause-told : goal.returns-in-Some-clause-told
-returns-in-Some-clause-told c = λ some. stop_over c.tell_stop.new.course.ahead c.tell_stop.result c.tell_stop.ensures.stop some
+returns-in-Some-clause-told g c = λ some. stop_over c.tell_stop.new.course.ahead c.tell_stop.result c.tell_stop.ensures.stop some
 
 pub returns-in-None-clause-plays : goal.returns-in-None-clause-plays
-returns-in-None-clause-plays c =
+returns-in-None-clause-plays g c =
     let a = c.args.course.now in
     let m = c.tell_item.new.course in
     let new = c.finish.new.self in
@@ -85,7 +86,7 @@ returns-in-None-clause-plays c =
     (rest_kept m new c.in-Err-finish.fault ended at c.in-Err-finish.ensures.told (sym c.stop_in.ensures ∙ c.in-None.is)))
 
 pub returns-in-None-clause-fit : goal.returns-in-None-clause-fit
-returns-in-None-clause-fit c =
+returns-in-None-clause-fit g c =
     let m = c.tell_item.new.course in
     let new = c.finish.new.self in
     let at = c.in-Ok.ensures.told in
@@ -95,6 +96,6 @@ returns-in-None-clause-fit c =
     lines_last m new ended at (rest_stays m.ground m.script new c.in-Err-finish.fault last c.in-Err-finish.ensures.told none c.in-Err-finish.ensures.failed)
 
 pub finish-requires : goal.finish-requires
-finish-requires c =
+finish-requires g c =
     let m = c.tell_item.new.course in
     record { going = (last_lines m (c.tell_item.ensures.ended ∙ c.items.invariant.ended) c.in-Ok.ensures.told c.tell_item.ensures.fit).going }

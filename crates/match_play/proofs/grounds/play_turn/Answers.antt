@@ -1,17 +1,20 @@
-use Rattle.std.proofs.Common.{ap, ◌∙◌}
-use Rattle.turn_core.specs.Words.{MapState}
-use Rattle.match_play.proofs.Fits.{all_ok, stood, turn_told}
+use Rattle.std.proofs.Common.{◌+◌, ◌++◌, ℕ, List, ap, ◌∙◌}
+use Rattle.match_play.proofs.Items.{turn_told, turn_becomes}
 use Rattle.match_play.proofs.grounds.play_turn.Goals as goal
 
-pub returns-clause-told : goal.returns-clause-told
-returns-clause-told c =
-    let old = c.args.ground.now in
-    let v = c.in-Turns.version in
-    let n = c.in-Turns.turns in
-    let told = c.in_ok-told-in-Turns.told in
-    let is = c.in_ok-told-in-Turns.ensures in
-    let steps = c.step_to.ensures in
-    all_ok c.step_to.result steps.text steps.after steps.turns steps.turns
-    (λ waited after turns again. turn_told c.args.report old v c.step_to.new.version n c.step_to.new.turns c.args.posts c.args.waiting.now c.step_to.new.waiting
-    (stood old c.begin_turns.new.ground v n c.requires.fits c.in-Ok.ensures.begun c.in-Turns.is)
-    (told.text, (is.text, waited)) (ap (λ (w : MapState). w.map) after ∙ is.map) (ap (λ (w : MapState). w.standing) after ∙ is.standing) turns)
+pub returns-in-Ok-clause-told : goal.returns-in-Ok-clause-told
+returns-in-Ok-clause-told g c =
+    let stands = c.args.ground.now in
+    let view = rw c.in-Ok-Some.field-0-is at c.in-Ok-Some.ensures in
+    let told = c.in_ok-posts.field-0 in
+    let is = c.in_ok-posts.ensures in
+    let waited = c.in-Ok.ensures.ok ∙ ap (λ (text : List ℕ). c.args.waiting.now ++ text) c.as_slice.ensures in
+    turn_told c.args.report stands c.in-Ok-Some.version told.after (c.turns_in-turn.result + 1) c.args.posts told.text c.args.waiting.now c.extend.new.self view is.map
+    is.standing (ap (λ (k : ℕ). k + 1) c.turns_in-turn.ensures) is.text waited
+
+pub returns-in-Ok-clause-ground : goal.returns-in-Ok-clause-ground
+returns-in-Ok-clause-ground g c =
+    let view = rw c.in-Ok-Some.field-0-is at c.in-Ok-Some.ensures in
+    let told = c.in_ok-posts.field-0 in
+    turn_becomes c.args.ground.now c.in-Ok-Some.version told.after (c.turns_in-turn.result + 1) view c.in_ok-posts.ensures.map
+    (ap (λ (k : ℕ). k + 1) c.turns_in-turn.ensures)

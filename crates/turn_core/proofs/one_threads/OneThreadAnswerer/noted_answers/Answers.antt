@@ -5,7 +5,7 @@ use Rattle.turn_core.specs.Solvers.{SolverState}
 use Rattle.turn_core.specs.Notes.{IsNotedTo, AreNotes}
 use Rattle.turn_core.proofs.TurnByTurn.{answers_next}
 use Rattle.turn_core.proofs.TurnNotes.{notes_next, note_of}
-use Rattle.turn_core.proofs.one_threads.OneThread.noted_answers.Goals as goal
+use Rattle.turn_core.proofs.one_threads.OneThreadAnswerer.noted_answers.Goals as goal
 
 pub loop-job-preserved : goal.loop-job-preserved
 loop-job-preserved c =

@@ -2,7 +2,7 @@ use Rattle.std.proofs.Common.{◌≡◌, ◌≤◌, length, take}
 use Rattle.std.specs.Prelude.{vec_capacity}
 use Rattle.turn_core.specs.Notes.{AreNotes}
 use Rattle.turn_core.specs.Solving.{AreAnswersTo}
-use Rattle.turn_core.proofs.one_threads.OneThread.noted_answers.Given as goal
+use Rattle.turn_core.proofs.one_threads.OneThreadAnswerer.noted_answers.Given as goal
 
 abbrev pub invariant-loop-job : goal.invariant-loop-job
 invariant-loop-job l = record {
