@@ -1,5 +1,5 @@
 -- A goal that is turned inside out, along a row: which cells it has, and how remote they are.
-use Rattle.std.proofs.Common.{ℕ, ◌≡◌, ◌+◌, ◌-◌, ◌*◌, ◌^◌, ◌<◌, ◌≤◌, ◌⊎◌, ◌||◌, inl, inr, ap, subst, suc, arith, Bool, false, nat_le, leb-true, le-leb, IsTrue, ℤ, pos, negsuc, ◌+ℤ◌, ◌-ℤ◌, ◌*ℤ◌}
+use Rattle.std.proofs.Common.{ℕ, ◌≡◌, ◌+◌, ◌-◌, ◌*◌, ◌^◌, ◌<◌, ◌≤◌, ◌⊎◌, ◌||◌, inl, inr, ap, subst, suc, arith, Bool, false, nat_le, leb-true, le-leb, IsTrue, ℤ, pos, negsuc, ◌+ℤ◌, ◌-ℤ◌, ◌*ℤ◌, ◌≤ℤ◌, ◌<ℤ◌}
 use borrow.Author.Differences.{up, down}
 use Rattle.std.specs.Prelude.{unsigned_abs}
 use Rattle.std.specs.List.{list_any}
@@ -19,23 +19,32 @@ use Rattle.goal_reach.proofs.Ends.{IsSteady, steady_sum, steady_difference, furt
 -- ---- which cells
 
 -- where a corner is off, so is one of any two in its row that it lies between
-abbrev Spreads : (ℕ × ℕ → Bool) → Type 0
+abbrev pub Spreads : (ℕ × ℕ → Bool) → Type 0
 Spreads off = (lo c hi y : ℕ) → lo ≤ c → c < hi → IsTrue (off (c, y)) → IsTrue (off (lo, y)) ⊎ IsTrue (off (hi, y))
+
+-- of three places along a line the middle one is no further from a point than one of the others is
+pub disc_spreads : (least s : ℕ) (u v w : ℤ) → u ≤ℤ v → v <ℤ w → least ≤ square (unsigned_abs v) + s
+    → (least ≤ square (unsigned_abs u) + s) ⊎ (least ≤ square (unsigned_abs w) + s)
+disc_spreads least s u v w first last far =
+    let p = unsigned_abs v in let a = unsigned_abs u in let b = unsigned_abs w in
+    elim (cases_lt a p) [
+      | inl more ↦
+          let end : p ≤ b = omega (arith, ints) in
+          let squares : p * p ≤ b * b = mul-le-mul end end in inr (omega arith)
+      | inr less ↦ (let squares : p * p ≤ a * a = mul-le-mul less less in inl (omega arith))
+    ]
 
 circle_spreads : (x z r : ℤ) → Spreads (is_off_circle x z r)
 circle_spreads x z r lo c hi y first last off =
     let least = square (unsigned_abs r) in let pz = from_edge y z in
     let far = leb-true least (squared_length (from_edge c x) pz) off in
-    let p = unsigned_abs (from_edge c x) in let a = unsigned_abs (from_edge lo x) in let b = unsigned_abs (from_edge hi x) in
-    elim (cases_lt a p) [
-      | inl more ↦
-          let end : p ≤ b = omega (arith, ints) in
-          let squares : p * p ≤ b * b = mul-le-mul end end in inr (le-leb least (squared_length (from_edge hi x) pz) (omega arith))
-      | inr less ↦
-          let squares : p * p ≤ a * a = mul-le-mul less less in inl (le-leb least (squared_length (from_edge lo x) pz) (omega arith))
+    elim (disc_spreads least (square (unsigned_abs pz)) (from_edge lo x) (from_edge c x) (from_edge hi x)
+    (omega (arith, ints)) (omega (arith, ints)) far) [
+      | inl west ↦ inl (le-leb least (squared_length (from_edge lo x) pz) west)
+      | inr east ↦ inr (le-leb least (squared_length (from_edge hi x) pz) east)
     ]
 
-side_spreads : (h : ℕ) (u v w : ℤ) → IsSteady u v w → IsTrue (nat_le h (unsigned_abs v))
+pub side_spreads : (h : ℕ) (u v w : ℤ) → IsSteady u v w → IsTrue (nat_le h (unsigned_abs v))
     → IsTrue (nat_le h (unsigned_abs u)) ⊎ IsTrue (nat_le h (unsigned_abs w))
 side_spreads h u v w steady off =
     let far = leb-true h (unsigned_abs v) off in
@@ -62,23 +71,23 @@ square_spreads s lo c hi y first last off =
     ]
 
 -- the test of four, one after another
-abbrev any_of : Bool → Bool → Bool → Bool → Bool
+abbrev pub any_of : Bool → Bool → Bool → Bool → Bool
 any_of p q r s = p || (q || (r || (s || false)))
 
-any_first : (p q r s : Bool) → IsTrue p → IsTrue (any_of p q r s)
+pub any_first : (p q r s : Bool) → IsTrue p → IsTrue (any_of p q r s)
 any_first p q r s h = or_left p (q || (r || (s || false))) h
 
-any_second : (p q r s : Bool) → IsTrue q → IsTrue (any_of p q r s)
+pub any_second : (p q r s : Bool) → IsTrue q → IsTrue (any_of p q r s)
 any_second p q r s h = or_right p (q || (r || (s || false))) (or_left q (r || (s || false)) h)
 
-any_third : (p q r s : Bool) → IsTrue r → IsTrue (any_of p q r s)
+pub any_third : (p q r s : Bool) → IsTrue r → IsTrue (any_of p q r s)
 any_third p q r s h = or_right p (q || (r || (s || false))) (or_right q (r || (s || false)) (or_left r (s || false) h))
 
-any_fourth : (p q r s : Bool) → IsTrue s → IsTrue (any_of p q r s)
+pub any_fourth : (p q r s : Bool) → IsTrue s → IsTrue (any_of p q r s)
 any_fourth p q r s h = or_right p (q || (r || (s || false))) (or_right q (r || (s || false)) (or_right r (s || false) (or_left s false h)))
 
 -- some corner of the cell is off
-abbrev HasOff : (ℕ × ℕ → Bool) → ℕ → ℕ → Type 0
+abbrev pub HasOff : (ℕ × ℕ → Bool) → ℕ → ℕ → Type 0
 HasOff off i j = IsTrue (list_any off (corners_of (cell_at i j)))
 
 south_off : (off : ℕ × ℕ → Bool) → Spreads off → (j a c b : ℕ) → a ≤ c → c < b + 1 → IsTrue (off (c, j)) → HasOff off a j ⊎ HasOff off b j
@@ -93,7 +102,7 @@ north_off off spreads j a c b first last hit = elim (spreads a c (b + 1) (j + 1)
   | inr east ↦ inr (any_fourth (off (b, j)) (off (b + 1, j)) (off (b, j + 1)) (off (b + 1, j + 1)) east)
 ]
 
-ends_off : (off : ℕ × ℕ → Bool) → Spreads off → (j a k b : ℕ) → a ≤ k → k < b → HasOff off k j → HasOff off a j ⊎ HasOff off b j
+pub ends_off : (off : ℕ × ℕ → Bool) → Spreads off → (j a k b : ℕ) → a ≤ k → k < b → HasOff off k j → HasOff off a j ⊎ HasOff off b j
 ends_off off spreads j a k b first last hit =
     let p = off (k, j) in let q = off (k + 1, j) in let r = off (k, j + 1) in let s = off (k + 1, j + 1) in
     elim (or_cases p (q || (r || (s || false))) hit) [

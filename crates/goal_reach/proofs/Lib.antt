@@ -11,3 +11,5 @@ pub mod GoalRows
 pub mod Ends
 pub mod InsideOut
 pub mod Stretching
+pub mod Upright
+pub mod Roomy

@@ -1,4 +1,5 @@
 pub mod Choices
+pub mod Rooms
 pub mod Starts
 pub mod Targets
 pub mod inner

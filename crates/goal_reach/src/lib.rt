@@ -15,10 +15,12 @@ mod laws;
 mod reaching;
 mod remote;
 mod rings;
+mod rooms;
 mod starts;
 mod targets;
 
 pub use laws::{one_start_cell, one_target};
 pub use reaching::made_reachable;
+pub use rooms::room_in;
 pub use starts::nearest_passable;
 pub use targets::Target;

@@ -251,7 +251,7 @@ fn stand_ends(axis: Axis, goal: &Goal) -> bool
 }
 
 /// Whether the goal is a circle or a square turned inside out.
-fn is_inside_out(goal: &Goal) -> bool
+pub(crate) fn is_inside_out(goal: &Goal) -> bool
     ensures { result ≡ is_inside_out goal.now }
 {
     match *goal {
