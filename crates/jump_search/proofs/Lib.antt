@@ -15,6 +15,7 @@ pub mod Covering
 pub mod Answering
 pub mod OneNumber
 pub mod Framing
+pub mod WaysOut
 pub mod Halting
 pub mod Keeping
 pub mod Landing

@@ -1,5 +1,6 @@
 -- What a search takes a cell to be away from the cells that it looks for.
-use Rattle.std.specs.Prelude.{ℕ, Bool, ◌≡◌, ◌+◌, ◌≤◌, IsTrue}
+use Rattle.std.specs.Prelude.{ℕ, Bool, ◌≡◌, ◌+◌, ◌-◌, ◌*◌, ◌≤◌, IsTrue, min}
+use Rattle.nav_types.specs.declared.limits.TheConstants.{STRAIGHT_COST}
 use Rattle.nav_types.specs.declared.cells.Cell.{Cell}
 use Rattle.nav_types.specs.declared.cells.Rect.{Rect}
 use Rattle.nav_types.specs.declared.cells.Size.{Size}
@@ -7,6 +8,8 @@ use Rattle.nav_types.specs.declared.directions.Dir.{Dir}
 use Rattle.nav_types.specs.Directions.{step_cost}
 use Rattle.nav_types.specs.Frames.{IsFrame}
 use Rattle.nav_types.specs.Walks.{Step}
+use Rattle.jump_search.specs.declared.estimates.Ahead.{Ahead}
+use Rattle.jump_search.specs.declared.estimates.Ahead.TheVariants.{Octile, Leaving}
 use Rattle.jump_search.specs.JumpStates.{octile_to}
 
 -- The estimate is consistent: 0 at a passable cell that is hit, and along a legal step it falls by no more than the step
@@ -21,3 +24,17 @@ pub record IsEstimate (passes hit framed : Cell → Bool) (size : Size) (ahead :
   pub consistent : IsConsistent passes hit ahead
   pub octile : (rect : Rect) → IsFrame framed size rect → (cell : Cell) → IsTrue (passes cell)
       → octile_to rect cell ≤ ahead cell
+
+-- how few steps lead from the cell out of the rectangle; 0 outside
+abbrev pub steps_out : Rect → Cell → ℕ
+steps_out rect cell =
+    min (min (cell.i + 1 - rect.i0) (rect.i1 + 1 - cell.i)) (min (cell.j + 1 - rect.j0) (rect.j1 + 1 - cell.j))
+
+-- what they cost at least
+abbrev pub cost_out : Rect → Cell → ℕ
+cost_out rect cell = STRAIGHT_COST * steps_out rect cell
+
+-- what is ahead of a cell: the octile distance to a rectangle, or the way out of it
+abbrev pub least_ahead : Ahead → Cell → ℕ
+least_ahead (Octile rect) = octile_to rect
+least_ahead (Leaving rect) = cost_out rect

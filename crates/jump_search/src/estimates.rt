@@ -1,5 +1,9 @@
 //! Estimates of what is ahead of a cell.
+ghost use Rattle.std.specs.Prelude.{◌≡◌, ◌+◌, ◌-◌, ◌^◌, ◌<◌, ◌≤◌, min};
+ghost use Rattle.jump_search.specs.Estimates.{cost_out};
+
 use crate::octile::octile_to;
+use nav_types::limits::STRAIGHT_COST;
 use nav_types::{Cell, Rect};
 
 /// What a walk from a cell to the cells that are looked for costs at least. A search opens the cells first from which, with
@@ -18,19 +22,46 @@ pub trait Estimate {
         ensures most { result < 2 ^ 40 };
 }
 
-/// The estimate by octile distances to the rectangle of an aim.
+/// The estimates by which searches for a target go. They are one type, so that one search goes by either.
 #[derive(Drop)]
-pub struct Octile {
-    pub rect: Rect,
+pub enum Ahead {
+    /// The octile distance to the rectangle of an aim.
+    Octile(Rect),
+    /// The way out of a rectangle in which no cell is looked for.
+    Leaving(Rect),
 }
 
-impl Estimate for Octile {
-    ghost use Rattle.jump_search.specs.JumpStates.{octile_to};
+impl Estimate for Ahead {
+    ghost use Rattle.jump_search.specs.Estimates.{least_ahead};
 
-    ghost least = { λ octile. octile_to octile.rect };
+    ghost least = { least_ahead };
 
     #[inline(always)]
     fn at_least(&self, cell: Cell) -> u64 {
-        octile_to(&self.rect, cell)
+        match self {
+            Ahead::Octile(rect) => octile_to(rect, cell),
+            Ahead::Leaving(rect) => cost_out(rect, cell),
+        }
     }
+}
+
+/// How few steps lead from a place out of a part of one side of a map.
+fn steps_out(place: u16, first: u16, last: u16) -> u64
+    ensures value { result ≡ min (place + 1 - first) (last + 1 - place) }
+    ensures few { result ≤ 2 ^ 16 }
+{
+    let back = (place as u64 + 1).saturating_sub(first as u64);
+    let ahead = (last as u64 + 1).saturating_sub(place as u64);
+    back.min(ahead)
+}
+
+/// What the steps out of a rectangle cost at least. Searches seldom ask for it, so it stays out of what they do at each node.
+#[inline(never)]
+fn cost_out(rect: &Rect, cell: Cell) -> u64
+    ensures value { result ≡ cost_out rect.now cell }
+    ensures most { result < 2 ^ 40 }
+{
+    let columns = steps_out(cell.i, rect.i0, rect.i1);
+    let rows = steps_out(cell.j, rect.j0, rect.j1);
+    STRAIGHT_COST * columns.min(rows)
 }

@@ -9,7 +9,7 @@ ghost use Rattle.jump_search.specs.JumpStates.{octile_to, CanSearch, IsOpened, C
 ghost use Rattle.jump_search.specs.Questions.{Asked, CountsFor, IsAnswerTo, Traces};
 ghost use Rattle.jump_search.specs.inner.Traced.{IsTraceable};
 
-use crate::estimates::{Estimate, Octile};
+use crate::estimates::{Ahead, Estimate};
 use crate::framed::Framed;
 use crate::front::Front;
 use crate::nodes::Nodes;
@@ -172,7 +172,7 @@ fn by_octile<R: Runs, A: Aim, L: Ledger>(
         question.now.start ticks.old ticks.new }
 {
     let rect = question.aim.bounds(question.runs.size());
-    answered(front, alloc, question, &Octile { rect }, all, ticks)
+    answered(front, alloc, question, &Ahead::Octile(rect), all, ticks)
 }
 
 /// The same answer for a caller who counts no ticks, which are those of a ledger of its own.
