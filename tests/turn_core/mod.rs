@@ -1,5 +1,7 @@
 //! Requests and turns on maps of one row, with their answers.
 
+mod inside_out;
+
 use crate::fixtures::turns::{
     answers_to, halves, map_of, path_asked, point, row_version, shared, stays, unit,
 };

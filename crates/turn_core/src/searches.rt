@@ -1,13 +1,13 @@
 //! Searches on a version.
-ghost use Rattle.std.specs.Prelude.{◌≡◌, IfOk};
+ghost use Rattle.std.specs.Prelude.{◌≡◌, IfOk, IfSome};
 ghost use Rattle.turn_core.specs.Solving.{is_near};
-ghost use Rattle.turn_core.specs.inner.Searching.{CanFind, IsFoundTo, path_by};
+ghost use Rattle.turn_core.specs.inner.Searching.{CanFind, IsFoundTo, IsRoomFor, path_by};
 
 use class_planes::PlaneRuns;
-use goal_reach::Target;
+use goal_reach::{Target, room_in};
 use grid_versions::Version;
-use jump_search::{JumpSearch, Pool, Question};
-use nav_types::{Cell, Class, NoMemory};
+use jump_search::{Ahead, Guided, JumpSearch, Pool, Question};
+use nav_types::{Cell, Class, NoMemory, Rect, View};
 use posts::{Note, PathAnswer};
 use std::alloc::Global;
 use walks::Found;
@@ -29,12 +29,37 @@ pub(crate) struct Search<'a> {
 }
 
 impl<'a> Search<'a> {
-    /// The chosen walk, by the room of the pool.
+    /// The chosen walk, by the room of the pool. Where the goal leaves room about the start, the search goes by the way out
+    /// of it.
     pub(crate) fn find(&self, alloc: Global, pool: &mut Pool) -> Result<Found, NoMemory>
         requires { CanFind self.now.version.now self.now.class self.now.start self.now.target.now }
         ensures { IfOk result (IsFoundTo self.now.version.now self.now.class self.now.start self.now.target.now) }
     {
-        self.question(&self.runs()).find(pool, alloc)
+        let runs = self.runs();
+        let question = self.question(&runs);
+        match self.room() {
+            Some(rect) => {
+                let ahead = &Ahead::Leaving(rect);
+                Guided { question, ahead }.find(pool, alloc)
+            }
+            None => question.find(pool, alloc),
+        }
+    }
+
+    /// A rectangle about the start in which the target has no cell, where it is a goal that is turned inside out.
+    fn room(&self) -> Option<Rect>
+        requires { CanFind self.now.version.now self.now.class self.now.start self.now.target.now }
+        ensures { IfSome result (IsRoomFor self.now.target.now) }
+    {
+        let Target::Goal(goal) = self.target else {
+            return None;
+        };
+        let rect = room_in(goal, self.version.size())?;
+        if rect.contains(self.start) {
+            Some(rect)
+        } else {
+            None
+        }
     }
 
     /// The path of a walk that this search found.

@@ -1,9 +1,12 @@
 -- What a search on a version asks for and gives.
 use Rattle.std.specs.Prelude.{ℕ, ◌≡◌, ◌<◌, Option, Some, None, length, IsTrue, ⊤}
 use Rattle.nav_types.specs.declared.cells.Cell.{Cell}
+use Rattle.nav_types.specs.declared.cells.Rect.{Rect}
 use Rattle.nav_types.specs.Regions.{HasArea}
 use Rattle.nav_types.specs.Walks.{CanReach}
 use Rattle.goal_reach.specs.declared.targets.Target.{Target}
+use Rattle.goal_reach.specs.declared.targets.Target.TheVariants.{Goal as GoalTarget, Near}
+use Rattle.goal_reach.specs.Rooms.{IsRoomIn}
 use Rattle.goal_reach.specs.Targets.{hit_by, IsSoundTarget}
 use Rattle.walks.specs.Chosen.{IsAnswer}
 use Rattle.walks.specs.declared.found_walk.Found.{Found}
@@ -27,6 +30,11 @@ pub record CanFind (state : MapState) (class : ℕ) (start : Cell) (target : Tar
 abbrev pub IsFoundTo : MapState → ℕ → Cell → Target → Found → Type 0
 IsFoundTo state class start target found =
     IsAnswer (passes_of state class) start (hit_by target) found.end found.cost.0 found.waypoints
+
+-- the rectangle is room in the goal that is the target
+abbrev pub IsRoomFor : Target → Rect → Type 0
+IsRoomFor (GoalTarget goal) rect = IsRoomIn goal rect
+IsRoomFor (Near cell) rect = ⊥
 
 -- the path of a walk that was found
 abbrev pub path_by : Cell → Target → Found → PathAnswer

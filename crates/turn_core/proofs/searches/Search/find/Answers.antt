@@ -1,13 +1,11 @@
-use Rattle.std.proofs.Common.{IfOk, ◌∙◌}
-use Rattle.turn_core.specs.inner.Searching.{IsFoundTo}
-use Rattle.turn_core.proofs.Searchable.{can_search, same_search}
+use Rattle.std.proofs.Common.{◌∙◌}
+use Rattle.turn_core.proofs.Searchable.{can_search, can_leave}
 use Rattle.turn_core.proofs.searches.Search.find.Goals as goal
 
 pub find-requires : goal.find-requires
 find-requires c =
-    can_search (c.question.ensures.runs ∙ c.runs.ensures) c.question.ensures.class c.question.ensures.start c.question.ensures.aim c.requires
-
-pub returns : goal.returns
-returns c =
-    same_search (λ s n from t. IfOk c.find.result (IsFoundTo s n from t))
-    (c.question.ensures.runs ∙ c.runs.ensures) c.question.ensures.class c.question.ensures.start c.question.ensures.aim c.find.ensures
+    let asked = c.question-question.ensures in
+    let runs = asked.runs ∙ c.runs-runs.ensures in (
+      can_search runs asked.class asked.start asked.aim c.requires,
+      can_leave runs asked.class asked.start asked.aim c.in-Some.rect c.in-Some.ensures,
+    )
