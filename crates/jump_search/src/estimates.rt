@@ -55,8 +55,8 @@ fn steps_out(place: u16, first: u16, last: u16) -> u64
     back.min(ahead)
 }
 
-/// What the steps out of a rectangle cost at least. Searches seldom ask for it, so it stays out of what they do at each node.
-#[inline(never)]
+/// What the steps out of a rectangle cost at least.
+#[inline(always)]
 fn cost_out(rect: &Rect, cell: Cell) -> u64
     ensures value { result ≡ cost_out rect.now cell }
     ensures most { result < 2 ^ 40 }
