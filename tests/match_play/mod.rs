@@ -4,7 +4,8 @@ use answer_text::turn_text;
 use io_edges::MemorySource;
 use match_play::{EndedTurn, Match, MatchFault, PostedMatch, Report};
 use nav_types::{Bytes, NoMemory};
-use script_text::{ScriptFault, ScriptReader, have_lines};
+use posts::{Journal, TurnPosts};
+use script_text::{ScriptFault, ScriptItem, ScriptReader, have_lines};
 use std::alloc::Global;
 use std::test::*;
 
@@ -116,17 +117,13 @@ fn a_script_may_end_without_a_newline(rt: HostRuntime) {
     assert!(rt; is_ended(rt.alloc(), &begun, ends, &["bad line 3\n"]) == Ok(true));
 }
 
-/// Ends the next turn of a script in a match by posts, and gives its text.
-fn end_next(
+/// Ends a turn in a match by posts, and gives its text.
+fn ended(
     alloc: Global,
-    reader: &mut ScriptReader,
-    source: &mut MemorySource,
     game: &mut PostedMatch,
     turn: u64,
+    posts: TurnPosts,
 ) -> Result<Bytes, ScriptFault> {
-    let Some(posts) = reader.next_turn(alloc, source)? else {
-        return Err(ScriptFault::ReadFault);
-    };
     if !have_lines(game.version().map(), &posts) {
         return Err(ScriptFault::ReadFault);
     }
@@ -136,17 +133,28 @@ fn end_next(
     }
 }
 
-/// The text of a match whose turns are the posts of a script, one or two, and the match as a script.
-fn played(alloc: Global, script: &[&str], two: bool) -> Result<(Bytes, Bytes), ScriptFault> {
+/// The text of a match whose turns are the posts of a script, nine at most, and the match as a script.
+fn played(alloc: Global, script: &[&str]) -> Result<(Bytes, Bytes), ScriptFault> {
     let script = joined(alloc, script)?;
     let mut source = MemorySource::new(alloc, script.as_slice(), 4096, &[])?;
     let mut reader = ScriptReader::new(alloc)?;
-    let map = reader.read_map(alloc, &mut source)?;
+    let Some(ScriptItem::Map(mut map)) = reader.next_item(alloc, &mut source)? else {
+        return Err(ScriptFault::ReadFault);
+    };
+    let mut turns = Journal::new(alloc);
+    for _ in 0..9u32 {
+        match reader.next_item(alloc, &mut source)? {
+            Some(ScriptItem::Base(rects)) => map.add_base(rects.as_slice())?,
+            Some(ScriptItem::Turn(posts)) => turns.push(posts)?,
+            Some(ScriptItem::Map(_)) => return Err(ScriptFault::ReadFault),
+            None => break,
+        }
+    }
     let mut game = PostedMatch::open(alloc, &map)?;
-    let mut text = end_next(alloc, &mut reader, &mut source, &mut game, 1)?;
-    if two {
-        let second = end_next(alloc, &mut reader, &mut source, &mut game, 2)?;
-        text.extend(second.as_slice())?;
+    let mut text = Bytes::new(alloc);
+    for (before, posts) in turns.into_items().into_iter().enumerate() {
+        let told = ended(alloc, &mut game, before as u64 + 1, posts)?;
+        text.extend(told.as_slice())?;
     }
     Ok((text, game.script(alloc)?))
 }
@@ -155,10 +163,9 @@ fn played(alloc: Global, script: &[&str], two: bool) -> Result<(Bytes, Bytes), S
 fn is_played(
     alloc: Global,
     script: &[&str],
-    two: bool,
     answers: &[&str],
 ) -> Result<bool, ScriptFault> {
-    let (text, again) = played(alloc, script, two)?;
+    let (text, again) = played(alloc, script)?;
     let answers = joined(alloc, answers)?;
     let mut game = Match::open(alloc, Report::Answers);
     let ended = feed_by(alloc, &mut game, again.as_slice(), 7);
@@ -168,8 +175,8 @@ fn is_played(
 
 #[test]
 fn posts_are_answered_as_their_script(rt: HostRuntime) {
-    assert!(rt; is_played(rt.alloc(), FIRST, false, FIRST_ANSWERS) == Ok(true));
-    assert!(rt; is_played(rt.alloc(), SKIRMISH, true, SKIRMISH_ANSWERS) == Ok(true));
+    assert!(rt; is_played(rt.alloc(), FIRST, FIRST_ANSWERS) == Ok(true));
+    assert!(rt; is_played(rt.alloc(), SKIRMISH, SKIRMISH_ANSWERS) == Ok(true));
 }
 
 /// How many turns stand in a view: whether a match has one before its map, and behind it.

@@ -2,8 +2,10 @@
 
 use io_edges::MemorySource;
 use nav_types::{Bytes, NoMemory};
-use posts::{Journal, MapSpec};
-use script_text::{Cause, ScriptFault, ScriptReader, have_lines, write_journal, write_map};
+use posts::{BaseRects, Journal, MapSpec};
+use script_text::{
+    Cause, ScriptFault, ScriptItem, ScriptReader, have_lines, write_journal, write_map,
+};
 use std::alloc::Global;
 
 mod causes;
@@ -36,7 +38,7 @@ struct Outcome {
 /// How many turns a script gives, and the fault that ends it.
 type Ending = (usize, Option<ScriptFault>);
 
-/// Reads a script, where a read takes so many bytes at most, and the reads of these numbers fail.
+/// Reads a script, thirty items at most, where a read takes so many bytes at most, and the reads of these numbers fail.
 fn read_script(
     alloc: Global,
     script: &[u8],
@@ -51,37 +53,36 @@ fn read_script(
         fault: None,
         cause: None,
     };
-    match reader.read_map(alloc, &mut source) {
-        Ok(map) => {
-            outcome.map = Some(map);
-            read_turns(alloc, &mut reader, &mut source, &mut outcome);
+    let mut base = BaseRects::new(alloc);
+    for _ in 0..30u32 {
+        match reader.next_item(alloc, &mut source) {
+            Ok(Some(item)) => keep(item, &mut outcome, &mut base)?,
+            Ok(None) => break,
+            Err(fault) => {
+                end_by(alloc, &reader, fault, &mut outcome);
+                break;
+            }
         }
-        Err(fault) => end_by(alloc, &reader, fault, &mut outcome),
     }
+    add_base(alloc, &mut outcome, &base)?;
     Ok(outcome)
 }
 
-/// Reads the turns behind the map.
-fn read_turns(
-    alloc: Global,
-    reader: &mut ScriptReader,
-    source: &mut MemorySource,
-    outcome: &mut Outcome,
-) {
-    for _ in 0..9u32 {
-        match reader.next_turn(alloc, source) {
-            Ok(Some(turn)) => {
-                if outcome.turns.push(turn).is_err() {
-                    outcome.fault = Some(ScriptFault::NoMemory);
-                    return;
-                }
-            }
-            Ok(None) => return,
-            Err(fault) => {
-                end_by(alloc, reader, fault, outcome);
-                return;
-            }
-        }
+/// Keeps what a line gave.
+fn keep(item: ScriptItem, outcome: &mut Outcome, base: &mut BaseRects) -> Result<(), NoMemory> {
+    match item {
+        ScriptItem::Map(map) => outcome.map = Some(map),
+        ScriptItem::Base(rects) => base.extend(rects.as_slice())?,
+        ScriptItem::Turn(turn) => outcome.turns.push(turn)?,
+    }
+    Ok(())
+}
+
+/// Gives the map, where there is one, these base rectangles.
+fn add_base(alloc: Global, outcome: &mut Outcome, base: &BaseRects) -> Result<(), NoMemory> {
+    match &mut outcome.map {
+        Some(map) => map.add_base(base.as_slice()),
+        None => Ok(()),
     }
 }
 

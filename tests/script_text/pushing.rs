@@ -1,9 +1,9 @@
 //! Scripts that are pushed, in pieces that are cut anywhere, give what a reader gives.
 
-use super::{MAP_2, Outcome, read_script, written};
+use super::{MAP_2, Outcome, add_base, keep, read_script, written};
 use nav_types::{Bytes, NoMemory};
-use posts::{BaseRects, Journal, MapSpec};
-use script_text::{PushedScript, ScriptFault, ScriptItem};
+use posts::{BaseRects, Journal};
+use script_text::{PushedScript, ScriptFault};
 use std::alloc::Global;
 use std::test::*;
 
@@ -32,7 +32,7 @@ pub(super) const SKIRMISH: &[&str] = &[
 ];
 
 /// A script of version 2 with two base lines, and lines of which one is bad.
-pub(super) const WITH_BAD: &[&str] = &[
+const WITH_BAD: &[&str] = &[
     MAP_2,
     "{\"base\":[[0,0,1,1,1]]}\n",
     "{\"base\":[[2,2,2,3,1]]}\n",
@@ -42,20 +42,6 @@ pub(super) const WITH_BAD: &[&str] = &[
     "{\"caller\":2,\"remove\":1}\n",
     "{\"end\":2}\n",
 ];
-
-/// Keeps what a line gave.
-pub(super) fn keep(
-    item: ScriptItem,
-    outcome: &mut Outcome,
-    base: &mut BaseRects,
-) -> Result<(), NoMemory> {
-    match item {
-        ScriptItem::Map(map) => outcome.map = Some(map),
-        ScriptItem::Base(rects) => base.extend(rects.as_slice())?,
-        ScriptItem::Turn(turn) => outcome.turns.push(turn)?,
-    }
-    Ok(())
-}
 
 /// Ends an outcome by a refusal.
 fn end_by(alloc: Global, script: &PushedScript, fault: ScriptFault, outcome: &mut Outcome) {
@@ -108,17 +94,6 @@ fn end_script(
     Ok(())
 }
 
-/// The map with these base rectangles.
-pub(super) fn with_base(
-    alloc: Global,
-    map: &MapSpec,
-    base: &BaseRects,
-) -> Result<Option<MapSpec>, NoMemory> {
-    let classes = map.classes().copy(alloc)?;
-    let base = base.copy(alloc)?;
-    Ok(MapSpec::new(map.version(), map.size(), map.callers(), classes, base))
-}
-
 /// What the pieces of a script give that are pushed one after another, and then its end.
 fn push_script(alloc: Global, pieces: &[&[u8]]) -> Result<Outcome, NoMemory> {
     let mut outcome = Outcome {
@@ -129,10 +104,7 @@ fn push_script(alloc: Global, pieces: &[&[u8]]) -> Result<Outcome, NoMemory> {
     };
     let mut base = BaseRects::new(alloc);
     push_all(alloc, pieces, &mut outcome, &mut base)?;
-    match &outcome.map {
-        Some(map) => outcome.map = with_base(alloc, map, &base)?,
-        None => {}
-    }
+    add_base(alloc, &mut outcome, &base)?;
     Ok(outcome)
 }
 
@@ -153,7 +125,7 @@ fn push_all(
 }
 
 /// Whether two outcomes are the same.
-pub(super) fn are_alike(alloc: Global, one: &Outcome, other: &Outcome) -> bool {
+fn are_alike(alloc: Global, one: &Outcome, other: &Outcome) -> bool {
     let text = written(alloc, one);
     let other_text = written(alloc, other);
     let same_text = match (&text, &other_text) {

@@ -113,40 +113,6 @@ impl Intake {
         self.from += count;
     }
 
-    /// Takes the next line from the source: its bytes without the newline. It reads only while no newline is held, and
-    /// no more once the line is longer than a line may be, or than the room that the input has left.
-    pub fn next_line<S: Source>(
-        &mut self,
-        source: &mut S,
-        line: &mut Vec<u8>,
-        room: u64,
-    ) -> Result<LineEnd, LineFault>
-        requires empty { line.old.items ≡ [] }
-        ensures stays { IsTrue self.old.ended → IsTrue self.new.ended }
-        ensures told { LineTold self.old self.new (S.left source.old) (S.left source.new) line.new.items room result }
-        ensures held { HasLine self.old.bytes
-            → (source.new ≡ source.old) × OnOk result (HoldsNewline self.old self.new line.new.items result) }
-        ensures reads { ReadsByNeedTold self.old.bytes self.old.ended (S.left source.old) (S.left source.new) }
-        ensures later { S.faults source.old ≤ S.faults source.new }
-        ensures fault { IsErrOf result LineFault.ReadFault → Rose (S.faults source.old) (S.faults source.new) }
-        ensures holds { IsHeldLine (record { line = line.new.items; line_end = end_of result; rest = self.new }) }
-    {
-        'parts: loop {
-            self.refill(source)?;
-            if self.is_used_up() {
-                return Ok(LineEnd::Input);
-            }
-            if self.move_line(line)? {
-                return Ok(LineEnd::Newline);
-            }
-            // Tested before the newline comes: a line without an end must not fill the memory.
-            let size = line.len() as u64;
-            if size > MAX_LINE_BYTES || size > room {
-                return Err(LineFault::TooLong);
-            }
-        }
-    }
-
     /// Takes the next bytes from the source where none are held, and none once the end of the input was met.
     pub fn refill<S: Source>(&mut self, source: &mut S) -> Result<(), LineFault>
         ensures told { WhereTold (S.left source.old) (S.left source.new) (RefillAnswer self.old self.new result) }
@@ -178,30 +144,6 @@ impl Intake {
                 Ok(())
             }
             Err(Failed) => Err(LineFault::ReadFault),
-        }
-    }
-
-    /// Moves the bytes up to the first newline to the end of the line, and lets go of the newline. Where there is none,
-    /// all bytes move. It answers whether there is one.
-    fn move_line(&mut self, line: &mut Vec<u8>) -> Result<bool, NoMemory>
-        ensures moves { IfOk result (MovesLine self.old self.new line.old.items line.new.items) }
-        ensures fewer { length self.new.bytes ≤ length self.old.bytes }
-        ensures ended { self.new.ended ≡ self.old.ended }
-        ensures err { OnErr result ((line.new.items ≡ line.old.items) × (self.new ≡ self.old)) }
-    {
-        let held = self.held();
-        match first_newline(held) {
-            Some(at) => {
-                let (part, _) = held.split_at(at);
-                line.extend_from_slice(part)?;
-                self.from += at + 1;
-                Ok(true)
-            }
-            None => {
-                line.extend_from_slice(held)?;
-                self.from = self.to;
-                Ok(false)
-            }
         }
     }
 }

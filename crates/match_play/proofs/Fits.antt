@@ -1,5 +1,5 @@
 -- What a match stands on goes with how far its script was read.
-use Rattle.std.proofs.Common.{false, refl, ◌≡◌, ℕ, ◌+◌, ◌≤◌, ◌<◌, List, [], ◌∷◌, length, Bool, IsFalse, Some, None, Ok, Err, sym, ap, subst, ◌∙◌, ◌++◌, length-append, arith}
+use Rattle.std.proofs.Common.{◌≡◌, ℕ, ◌+◌, ◌≤◌, ◌<◌, List, [], ◌∷◌, length, Bool, false, IsFalse, Some, None, Ok, Err, refl, sym, ap, subst, ◌∙◌, ◌++◌, length-append, arith}
 use Rattle.nav_types.specs.declared.limits.TheConstants.{MAX_INPUT_BYTES}
 use Rattle.script_text.specs.declared.faults.ScriptFault.{ScriptFault}
 use Rattle.script_text.specs.declared.faults.ScriptFault.TheVariants as met

@@ -1,11 +1,13 @@
 pub mod Lines
 pub mod Writes
 pub mod Progress
+pub mod Refusals
 pub mod Replaying
 pub mod OneText
 pub mod Stops
 pub mod OneThread
 pub mod Passes
+pub mod Endings
 pub mod ShortWalks
 pub mod FewReplies
 pub mod SummaryTexts

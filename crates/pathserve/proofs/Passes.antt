@@ -20,7 +20,9 @@ use Rattle.pathserve.specs.inner.Writing.{WritesPiece, WritesSome, StopsWith, En
 use Rattle.posts.specs.declared.notes.Report.{Report}
 use Rattle.pathserve.specs.Output.{Said, stop_text, ComesByMaking}
 use Rattle.script_text.specs.Reader.{Held}
-use Rattle.pathserve.proofs.Replaying.{Stands, WentTold, refused_no_read, refused_no_usage}
+use Rattle.pathserve.proofs.Progress.{WentTold}
+use Rattle.pathserve.proofs.Refusals.{refused_no_read, refused_no_usage}
+use Rattle.pathserve.proofs.Replaying.{Stands}
 
 -- what was read for the items so far
 went_given : (start now : Option (List ℕ)) (held : Held) (items : List Item) → WentTold start now held items → HasGiven start now

@@ -1,19 +1,24 @@
 -- How far a replay has gone through its input, and what it has written until then.
-use Rattle.std.proofs.Common.{◌≡◌, ℕ, inl, inr, List, [], ◌∷◌, ◌++◌, take, refl, sym, ap, ◌∙◌, subst, append_assoc, append-nil, IsTrue}
+use Rattle.std.proofs.Common.{◌≡◌, ℕ, inl, inr, List, [], ◌∷◌, ◌++◌, take, Option, refl, sym, ap, ◌∙◌, subst, append_assoc, append-nil, IsTrue}
 use Rattle.std.proofs.lemmas.Bool.{true≢false}
-use Rattle.posts.specs.declared.posts.Post.{Post}
+use Rattle.input_lines.specs.Held.{WhereTold}
 use Rattle.input_lines.specs.Lines.{full_lines}
-use Rattle.script_text.specs.Script.{Item, begins, adds_base, ends_turn, map_after, turns_of, beginning, Stop, Walk, arrived, walk, reading}
+use Rattle.script_text.specs.Script.{Item, beginning, Stop, Walk, arrived, walk, reading}
 use Rattle.script_text.specs.Reader.{Held, unread, GoesOn, StopsAtFault, stuck_after}
 use Rattle.script_text.proofs.ReadNext.{goes_nowhere}
 use Rattle.input_lines.proofs.LineLists.{full_lines-behind}
-use Rattle.script_text.proofs.ReadCalls.{fault_then}
+use Rattle.input_lines.proofs.ToldLines.{told-then}
+use Rattle.script_text.proofs.ReadCalls.{fault_then, goes_then}
 use Rattle.posts.specs.declared.notes.Report.{Report}
-use Rattle.pathserve.specs.Output.{Said, unsaid, with_map, Says, Gives, IsText, stop_text, ends_text, IsOut, IsBeginning, IsTakenText}
+use Rattle.pathserve.specs.Output.{Said, unsaid, Says, Gives, IsText, stop_text, ends_text, IsOut, IsBeginning, IsTakenText}
 
 -- the reading has come, after these items, to what the reader holds and what is left
 abbrev pub Went : List ℕ → List ℕ → Held → List Item → Type 0
 Went bytes left held items = GoesOn unread held bytes left items
+
+-- the same where the source tells its bytes
+abbrev pub WentTold : Option (List ℕ) → Option (List ℕ) → Held → List Item → Type 0
+WentTold start now held items = WhereTold start now (λ bytes left. Went bytes left held items)
 
 -- a reader that was not called has not met the end
 pub going : {A : Type 0} → IsTrue unread.ended → A
@@ -21,6 +26,13 @@ going ended = absurd (true≢false (sym ended))
 
 pub went_nowhere : (bytes : List ℕ) → Went bytes bytes unread []
 went_nowhere bytes = goes_nowhere unread bytes going
+
+-- and goes on with more
+pub went_on_told : (start before now : Option (List ℕ)) (held new : Held) (items more : List Item)
+    → WentTold start before held items → WhereTold before now (λ left after. (IsTrue held.ended → left ≡ []) → GoesOn held new left after more) → (IsTrue held.ended → IsTrue new.ended)
+    → WentTold start now new (items ++ more)
+went_on_told start before now held new items more w a stays =
+    told-then start before now _ _ _ (λ bytes left after went said. goes_then unread held new bytes left after items more stays went (said went.at_end)) w a
 
 -- what is written for items, and then for more
 pub gives_on : (report : Report) (s mid t : Said) (items more : List Item) (text piece : List ℕ)
@@ -47,18 +59,6 @@ gives_on report s mid t (first ∷ items) more text piece (one, (next, (rest, (s
 -- what is written for one item
 pub gives_one : (report : Report) (s t : Said) (item : Item) (piece : List ℕ) → Says report s item piece t → Gives report s (item ∷ []) piece t
 gives_one report s t item piece says = (piece, (t, ([], (says, ((refl, refl), sym (append-nil piece))))))
-
-never_empty : (posts : List (List Post)) (turns : List (List (List Post))) → posts ∷ turns ≡ [] → ⊥
-never_empty posts turns is = cc
-
--- nothing is written for items without a turn
-pub gives_map : (report : Report) (s : Said) (items : List Item) → turns_of items ≡ [] → Gives report s items [] (record s { map = map_after s.map items })
-gives_map report s [] none = (refl, refl)
-gives_map report s (begins m ∷ items) none =
-    ([], (with_map s (begins m), ([], ((refl, refl), (gives_map report (with_map s (begins m)) items none, refl)))))
-gives_map report s (adds_base rects ∷ items) none =
-    ([], (with_map s (adds_base rects), ([], ((refl, refl), (gives_map report (with_map s (adds_base rects)) items none, refl)))))
-gives_map report s (ends_turn posts ∷ items) none = absurd (never_empty posts (turns_of items) none)
 
 -- ---- exits, over the bytes
 
@@ -119,15 +119,15 @@ walked_taken bytes after new items s =
     ∙ (ap (λ (ls : List (List ℕ)). used.lines ++ ls) s.no_line ∙ append-nil used.lines)) in
     ap (λ (ls : List (List ℕ)). walk ls beginning) lines ∙ used.walked
 
-pub taken_here : (report : Report) (bytes left after : List ℕ) (held new : Held) (items more : List Item) (state : Said) (text : List ℕ)
-    → Went bytes left held items → StopsAtFault held new left after more → Gives report unsaid (items ++ more) text state → IsTakenText report bytes after text
-taken_here report bytes left after held new items more state text w s gives =
-    let stopped = fault_then unread held new bytes left after items more going w s in
+pub taken_here : (report : Report) (bytes left after : List ℕ) (held new : Held) (items : List Item) (state : Said) (text : List ℕ)
+    → Went bytes left held items → StopsAtFault held new left after [] → Gives report unsaid items text state → IsTakenText report bytes after text
+taken_here report bytes left after held new items state text w s gives =
+    let stopped = fault_then unread held new bytes left after items [] going w s in
     record {
       taken = stopped.taken;
       took = stopped.took;
-      items = items ++ more;
+      items = items;
       place = new.place;
-      walked = walked_taken bytes after new (items ++ more) stopped;
+      walked = walked_taken bytes after new (items ++ []) stopped ∙ ap (λ (l : List Item). arrived l new.place) (append-nil items);
       text = (state, gives);
     }

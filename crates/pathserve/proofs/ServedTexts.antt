@@ -1,9 +1,9 @@
 -- What is written for a script that is served, over a source that may tell its bytes and a sink that may keep them.
-use Rattle.std.proofs.Common.{◌≡◌, ◌≢◌, ℕ, List, [], ◌∷◌, ◌++◌, take, zero, suc, Bool, true, Option, Some, None, Result, Ok, Err, inl, inr, refl, sym, ap, ◌∙◌, subst, false}
-use Rattle.std.specs.Prelude.{All, IfSome}
+use Rattle.std.proofs.Common.{◌≡◌, ◌≢◌, ℕ, List, [], ◌∷◌, ◌++◌, take, zero, suc, Bool, true, Option, Some, None, Result, Ok, Err, inl, inr, refl, sym, ap, ◌∙◌, subst, append-nil, false}
+use Rattle.std.specs.Prelude.{All, ⊤}
 use Rattle.std.specs.List.{list_all}
 use Rattle.std.specs.Io.KnownBytes.{Appends}
-use Rattle.std.proofs.lemmas.Option.{IfSome_then}
+use Rattle.std.proofs.KnownBytes.{Appends-nil}
 use Rattle.std.proofs.lemmas.Bool.{and_parts, and_from}
 use Rattle.std.proofs.lemmas.List.Folds.{list_all-append}
 use Rattle.std.proofs.lemmas.List.Sums.{AllPass-from_list_all}
@@ -18,67 +18,21 @@ use Rattle.turn_core.specs.Turns.{IsOneThread}
 use Rattle.script_text.specs.declared.faults.ScriptFault.{ScriptFault}
 use Rattle.script_text.specs.declared.faults.ScriptFault.TheVariants as fault
 use Rattle.script_text.specs.Canon.{is_post_of, HaveLines}
-use Rattle.script_text.specs.Script.{Item, map_after, turns_of, beginning, Stop, whole_input, too_long, bad_line, Ends, stuck_by, Walk, reading}
-use Rattle.script_text.specs.Reader.{Held, unread, IsWholeMap, MapTold, StopsAtFault, stuck_after}
+use Rattle.script_text.specs.Script.{Item, map_after, turns_of, beginning, whole_input, too_long, bad_line, Ends, stuck_by, Walk, reading}
+use Rattle.script_text.specs.Reader.{Held, unread, StopsAtFault}
 use Rattle.input_lines.specs.Held.{WhereTold}
-use Rattle.script_text.proofs.ReadCalls.{stuck_then, turns_of-append}
-use Rattle.input_lines.proofs.ToldLines.{told-then, told-weaker}
+use Rattle.input_lines.proofs.ToldLines.{told-same}
 use Rattle.answer_text.specs.Answers.{bad_line_text}
 use Rattle.pathserve.specs.declared.status.Status.{Status}
 use Rattle.pathserve.specs.declared.status.Status.TheVariants.{Done, Usage, BadLine, ReadFault, WriteFault, NoMemory, TooLong}
-use Rattle.pathserve.specs.declared.bad_lines.BadLine as reason
 use Rattle.pathserve.specs.Output.{ComesByStop, stop_status, stop_text}
-use Rattle.pathserve.specs.declared.reasons.Reason.{Reason}
-use Rattle.pathserve.specs.declared.reasons.Reason.TheVariants as why_so
-use Rattle.pathserve.specs.Reasons.{IsReason, IsWhyBad}
 use Rattle.pathserve.specs.Runs.{names_line}
 use Rattle.pathserve.specs.Serving.{IsJournalOf, IsServed, IsServedTo, IsServedBeginning, Serves, ServesTold, TakesNoStop, journal_text}
-use Rattle.pathserve.specs.inner.Stopping.{IsHeldReason}
-use Rattle.pathserve.specs.inner.WholeScripts.{AllTold, IsTextOfSession, IsWholeScript, RefusedTold, RefusesAll, WholeTold}
+use Rattle.pathserve.specs.inner.WholeScripts.{IsTextOfSession, IsWholeScript, RefusedTold, RefusesAll, WholeTold}
 use Rattle.pathserve.specs.inner.Writing.{WritesPiece, WritesSome, StopsWith, EndsWith, refused_status, status_after}
 use Rattle.pathserve.proofs.Passes.{after_other, done_no_read, done_no_usage, refused_no_line}
-use Rattle.pathserve.proofs.Progress.{going, walked_taken}
-use Rattle.pathserve.proofs.Replaying.{map_refusal, refused_by_fault, refused_no_read, refused_no_usage, stop_bad_line}
-use Rattle.pathserve.proofs.WholeReadings.{refuses_then}
-
--- ---- the whole script
-
-pub whole_read : (held new : Held) (start mid now : Option (List ℕ)) (m : Map) (lists : List (List Post)) → MapTold unread held start mid (Ok m)
-    → IsWholeMap unread start m → AllTold held new mid now (Ok lists) → WholeTold m lists start now
-whole_read held new None mid now m lists a w b = tt
-whole_read held new (Some bytes) None now m lists a w b = absurd a
-whole_read held new (Some bytes) (Some left) None m lists a w b = absurd b
-whole_read held new (Some bytes) (Some left) (Some rest) m lists a w b =
-    let first = a going in
-    let all = b first.on.at_end in
-    let whole : reading bytes beginning ≡ stuck_after (first.items ++ all.items) whole_input =
-    stuck_then unread held bytes left first.items all.items whole_input first.on all.whole in
-    record {
-      items = first.items ++ all.items;
-      whole = whole;
-      nothing = all.nothing;
-      on_map = ap (λ (v : Walk). map_after None v.items) (sym whole) ∙ w going;
-      posts = λ caller. all.posts caller ∙ ap (λ (turns : List (List (List Post))). of_caller caller turns)
-          (sym (turns_of-append first.items all.items ∙ ap (λ (turns : List (List (List Post))). turns ++ turns_of all.items) first.no_turn));
-    }
-
--- ---- a script that is refused
-
-pub map_stops : (new : Held) (met : ScriptFault) (start now : Option (List ℕ)) → MapTold unread new start now (Err met) → RefusedTold new met start now
-map_stops new met start now a =
-    told-weaker start now _ _ (λ bytes rest said. let r = said going in record { items = r.items; refused = r.refused })
-    (map_refusal unread new start now met a)
-
-pub turns_stop : (held new : Held) (m : Map) (met : ScriptFault) (start mid now : Option (List ℕ)) → MapTold unread held start mid (Ok m)
-    → AllTold held new mid now (Err met) → RefusedTold new met start now
-turns_stop held new m met start mid now a b =
-    told-then start mid now _ _ _ (λ bytes left rest said refused.
-    let first = said going in
-    let r = refused first.on.at_end in
-    record {
-      items = first.items ++ r.items;
-      refused = refuses_then unread held new bytes left rest first.items r.items met going first.on r.refused;
-    }) a b
+use Rattle.pathserve.proofs.Progress.{walked_taken}
+use Rattle.pathserve.proofs.Refusals.{at_bytes, ends_of, refused_by_fault, refused_no_read, refused_no_usage}
 
 -- ---- what is written
 
@@ -90,6 +44,10 @@ serves_told (Some bytes) (Some rest) None final Says out status s wrote here = t
 serves_told (Some bytes) (Some rest) (Some kept) None Says out status s wrote here = absurd wrote
 serves_told (Some bytes) (Some rest) (Some kept) (Some final) Says out status s wrote here = (out, (wrote, here bytes rest s))
 
+-- there was no memory for a reader
+pub told_no_reader : (start kept : Option (List ℕ)) → ServesTold start start kept kept NoMemory
+told_no_reader start kept = serves_told start start kept kept (λ bytes rest. ⊤) [] NoMemory (told-same start _ (λ bytes. tt)) (Appends-nil kept) (λ bytes rest s. inl refl)
+
 begun_refused : (refused : WriteRefusal) (bytes rest out : List ℕ) → IsServedBeginning bytes out → Serves bytes rest out (refused_status refused)
 begun_refused refusal.Failed bytes rest out begun = begun
 begun_refused refusal.NoMemory bytes rest out begun = begun
@@ -98,9 +56,6 @@ begun_refused refusal.NoMemory bytes rest out begun = begun
 begun_by : (bytes text : List ℕ) (ends : Ends) (n : ℕ) → (reading bytes beginning).ends ≡ ends → IsServedTo bytes ends text
     → IsServedBeginning bytes (take n text)
 begun_by bytes text ends n is served = inr (text, (subst (λ (e : Ends). IsServedTo bytes e text) (sym is) served, (n, refl)))
-
-ends_of : (bytes : List ℕ) (items : List Item) (stop : Stop) → reading bytes beginning ≡ stuck_after items stop → (reading bytes beginning).ends ≡ stuck_by stop
-ends_of bytes items stop is = ap (λ (v : Walk). v.ends) is
 
 served : (m : Map) (lists : List (List Post)) (journal : List (List (List Post))) (told : List TurnReplies) (bytes rest : List ℕ)
     → IsWholeScript m lists bytes rest → IsJournalOf m.callers (list_of lists) journal → IsOneThread m journal told
@@ -205,15 +160,6 @@ told_refused new fault.NoMemory start now kept final status s (is, wrote) =
 
 -- ---- the status
 
--- what is told of the bytes of the source
-at_bytes : (P : List ℕ → Type 0) (start now : Option (List ℕ)) (Says : List ℕ → List ℕ → Type 0) (bytes : List ℕ) → WhereTold start now Says
-    → start ≡ Some bytes → ((left rest : List ℕ) → Says left rest → P left) → P bytes
-at_bytes P None now Says bytes s is here = absurd (cc)
-at_bytes P (Some first) None Says bytes s is here = absurd s
-at_bytes P (Some first) (Some rest) Says bytes s is here =
-    let same : first ≡ bytes = cc in
-    subst P same (here first rest s)
-
 pub stop_served : (m : Map) (lists : List (List Post)) (start now kept final : Option (List ℕ)) (status : Status) (reads reading_now writes writing_now : ℕ)
     → WholeTold m lists start now → EndsWith (IsTextOfSession m lists) kept final status → (status ≡ WriteFault → Rose writes writing_now)
     → (bytes : List ℕ) → start ≡ Some bytes → ComesByStop reads reading_now writes writing_now (reading bytes beginning).ends status
@@ -245,42 +191,6 @@ no_line_named (Err refused) = refused_no_line refused
 
 pub ends_no_line : (Is : List ℕ → Type 0) (kept final : Option (List ℕ)) (status : Status) → EndsWith Is kept final status → names_line status ≡ false
 ends_no_line Is kept final status ends = ends_so (λ s. names_line s ≡ false) Is kept final status ends no_line_named
-
-pub stop_of_refusal : (new : Held) (met : ScriptFault) (start now kept final : Option (List ℕ)) (status : Status) (reads reading_now writes writing_now : ℕ)
-    → RefusedTold new met start now → StopsWith met kept final status → (met ≡ fault.ReadFault → Rose reads reading_now)
-    → (status ≡ WriteFault → Rose writes writing_now) → (bytes : List ℕ) → start ≡ Some bytes
-    → ComesByStop reads reading_now writes writing_now (reading bytes beginning).ends status
-stop_of_refusal new (fault.BadLine n) start now kept final status reads reading_now writes writing_now s (written, (wrote, is)) rose_read rose bytes told =
-    at_bytes (λ (l : List ℕ). ComesByStop reads reading_now writes writing_now (reading l beginning).ends status) start now
-    (λ bytes rest. RefusesAll unread new bytes rest (fault.BadLine n)) bytes s told
-    (λ left rest r. stop_bad_line reads reading_now writes writing_now (reading left beginning).ends n written status is
-    (ends_of left r.items (bad_line n) r.refused.stuck) rose)
-stop_of_refusal new (fault.TooLong n) start now kept final status reads reading_now writes writing_now s (is, wrote) rose_read rose bytes told =
-    at_bytes (λ (l : List ℕ). ComesByStop reads reading_now writes writing_now (reading l beginning).ends status) start now
-    (λ bytes rest. RefusesAll unread new bytes rest (fault.TooLong n)) bytes s told
-    (λ left rest r. inl (is ∙ ap stop_status (sym (ends_of left r.items (too_long n) r.refused))))
-stop_of_refusal new fault.ReadFault start now kept final status reads reading_now writes writing_now s (is, wrote) rose_read rose bytes told =
-    inr (inr (inl (is, rose_read refl)))
-stop_of_refusal new fault.NoMemory start now kept final status reads reading_now writes writing_now s (is, wrote) rose_read rose bytes told = inr (inl is)
-
--- ---- why a line is bad
-
-pub why_refused : (new : Held) (met : ScriptFault) (start now : Option (List ℕ)) (why : Option Reason) → RefusedTold new met start now
-    → IfSome why (IsHeldReason new met) → (bytes : List ℕ) → start ≡ Some bytes → IfSome why (IsReason bytes)
-why_refused new met start now None s h bytes is = tt
-why_refused new met start now (Some (why_so.BadLine bad)) s h bytes is =
-    at_bytes (λ (l : List ℕ). IsWhyBad l bad) start now (λ bytes rest. RefusesAll unread new bytes rest met) bytes s is
-    (λ left rest r.
-    let bad_one = subst (λ (f : ScriptFault). RefusesAll unread new left rest f) h.line r in
-    record {
-      stops = ends_of left bad_one.items (bad_line bad.number) bad_one.refused.stuck;
-      cause = IfSome_then bad.cause h.cause (λ found held_so. bad_one.refused.cause ∙ held_so);
-    })
-why_refused new met start now (Some (why_so.TooLong n)) s h bytes is =
-    at_bytes (λ (l : List ℕ). IsReason l (why_so.TooLong n)) start now (λ bytes rest. RefusesAll unread new bytes rest met) bytes s is
-    (λ left rest r.
-    let long = subst (λ (f : ScriptFault). RefusesAll unread new left rest f) h r in
-    ends_of left long.items (too_long n) long.refused)
 
 -- ---- the lines of the journal
 

@@ -1,24 +1,38 @@
 //! Scripts that are answered turn by turn: each turn's text is written once its end line was read.
-ghost use Rattle.std.specs.Prelude.{◌≡◌, ◌<◌, ◌≤◌, ◌^◌, IsErrOf, OnOk, length};
+ghost use Rattle.std.specs.Prelude.{◌≡◌, ◌<◌, ◌≤◌, ◌^◌, ℕ, IfOk, IsErrOf, OnOk, length};
+ghost use denote.Param.Send.{IsSync};
 ghost use Rattle.io_edges.specs.Faults.{Rose};
-ghost use Rattle.posts.specs.Posts.{jobs};
-ghost use Rattle.turn_core.specs.Turns.{after_turn};
-ghost use Rattle.pathserve.specs.Output.{IsTurnText, ReplaysTold};
+ghost use Rattle.turn_core.specs.Notes.{AreNotes};
+ghost use Rattle.turn_core.specs.Solving.{AreAnswersTo};
+ghost use Rattle.script_text.specs.Pushed.{item_of};
+ghost use Rattle.match_play.specs.Grounds.{Becomes, FitsItem, TakesItem, said_of};
+ghost use Rattle.pathserve.specs.Output.{ReplaysTold, Says};
 ghost use Rattle.pathserve.specs.Runs.{RunsScript};
 ghost use Rattle.pathserve.specs.inner.Writing.{WritesSome};
 
 use crate::reasons::Reason;
-use crate::scripts::{Opened, open_script, stop_at};
+use crate::scripts::stop_at;
 use crate::status::Status;
-use crate::turn_answers::{Reporter, text_of_turn};
+use crate::teams::Team;
 use crate::writing::{status_of, write_all};
 use grid_versions::Version;
 use io_edges::{Gate, Sink, Source, WriteRefusal};
-use match_play::TurnText;
-use nav_types::NoMemory;
+use match_play::{Ground, play_item};
+use nav_types::{Bytes, NoMemory};
+use path_workers::{Rooms, Workers};
+use script_text::{ScriptItem, ScriptReader};
 use std::alloc::Global;
 use std::thread::Threads;
-use turn_core::{TurnPosts, bare_version};
+use turn_core::{Answerer, Jobs, NotedAnswers, Report};
+
+/// Who answers the turns of a script, what is told beside the answers, and the rooms that are kept from turn to turn.
+#[derive(Drop)]
+pub struct Reporter<'a, R, G> {
+    pub rt: &'a R,
+    pub workers: Workers<'a, G>,
+    pub report: Report,
+    pub rooms: Rooms,
+}
 
 /// Answers a script turn by turn: the text of a turn, with what the report tells beside the answers, is written as one
 /// piece when its end line was read. It waits for nobody. What was written is the output text of the input (`IsOut`)
@@ -30,63 +44,93 @@ use turn_core::{TurnPosts, bare_version};
 /// `why` has at the end what it has behind `run`.
 pub fn run_replay<R: Threads + Sync, S: Source, K: Sink, G: Gate + Sync>(
     alloc: Global,
-    reporter: &mut Reporter<'_, R, G>,
+    reporter: Reporter<'_, R, G>,
     source: &mut S,
     sink: &mut K,
     why: &mut Option<Reason>,
 ) -> Status
     ensures run { RunsScript (S.left source.old) (S.left source.new) (S.faults source.old) (S.faults source.new)
         (K.kept sink.old) (K.kept sink.new) (K.faults sink.old) (K.faults sink.new) why.new result }
-    ensures told { ReplaysTold reporter.old.report (S.left source.old) (S.left source.new) (K.kept sink.old)
+    ensures told { ReplaysTold reporter.entry.report (S.left source.old) (S.left source.new) (K.kept sink.old)
         (K.kept sink.new) result }
 {
-    let Opened { map, mut reader } = match open_script(alloc, source, sink, why) {
-        Ok(script) => script,
-        Err(status) => return status,
+    let Reporter {
+        rt,
+        workers,
+        report,
+        rooms,
+    } = reporter;
+    let mut team = Team {
+        rooms,
+        run: move |alloc: Global, rooms: Rooms, version: &Version, jobs: &Jobs, report: Report| -> (
+            Rooms,
+            Result<NotedAnswers, NoMemory>,
+        )
+            requires { IsSync R.row × IsSync G.row × (length jobs.now < 2 ^ 32) }
+            ensures { IfOk result.1 (λ noted. AreAnswersTo version.now.map version.now.standing jobs.now noted.answers
+                × AreNotes version.now.map version.now.standing report jobs.now noted.notes) }
+        {
+            let mut rooms = rooms;
+            let few = workers.sized_for(version, jobs, report);
+            let noted = few.run_noted(rt, alloc, version, jobs, report, &mut rooms);
+            (rooms, noted)
+        },
     };
-    let Ok(mut version) = bare_version(alloc, &map) else {
+    replay_by(alloc, &mut team, report, source, sink, why)
+}
+
+/// Answers a script turn by turn, by someone who takes the jobs of each turn.
+fn replay_by<A: Answerer, S: Source, K: Sink>(
+    alloc: Global,
+    answerer: &mut A,
+    report: Report,
+    source: &mut S,
+    sink: &mut K,
+    why: &mut Option<Reason>,
+) -> Status
+    requires takes { (count : ℕ) → count < 2 ^ 32 → A.takes answerer.old count }
+    ensures run { RunsScript (S.left source.old) (S.left source.new) (S.faults source.old) (S.faults source.new)
+        (K.kept sink.old) (K.kept sink.new) (K.faults sink.old) (K.faults sink.new) why.new result }
+    ensures told { ReplaysTold report (S.left source.old) (S.left source.new) (K.kept sink.old) (K.kept sink.new) result }
+{
+    *why = None;
+    let Ok(mut reader) = ScriptReader::new(alloc) else {
         return Status::NoMemory;
     };
-    let mut turns: u64 = 0;
-    'turns: loop {
-        match reader.next_turn(alloc, source) {
-            Ok(Some(posts)) => {
-                turns += 1;
-                match write_turn(alloc, reporter, &mut version, turns, posts, sink) {
-                    Ok(()) => {}
-                    Err(refusal) => return status_of(refusal),
-                }
-            }
+    let mut ground = Ground::Nothing;
+    'items: loop {
+        match reader.next_item(alloc, source) {
+            Ok(Some(item)) => match write_item(alloc, answerer, report, &mut ground, item, sink) {
+                Ok(()) => {}
+                Err(refusal) => return status_of(refusal),
+            },
             Ok(None) => return Status::Done,
             Err(fault) => return stop_at(alloc, sink, &reader, fault, why),
         }
     }
 }
 
-/// Answers a turn, and writes its text. What was the version before it is then the one after it.
-fn write_turn<R: Threads + Sync, K: Sink, G: Gate + Sync>(
+/// Plays an item, and writes its text. Nothing is written for a part of the map.
+fn write_item<A: Answerer, K: Sink>(
     alloc: Global,
-    reporter: &mut Reporter<'_, R, G>,
-    version: &mut Version,
-    turn: u64,
-    posts: TurnPosts,
+    answerer: &mut A,
+    report: Report,
+    ground: &mut Ground,
+    item: ScriptItem,
     sink: &mut K,
 ) -> Result<(), WriteRefusal>
-    requires { length (jobs posts) < 2 ^ 32 }
-    ensures written { WritesSome (IsTurnText reporter.old.report version.old.map version.old.standing turn posts)
+    requires fits { FitsItem ground.old item }
+    requires takes { TakesItem (A.takes answerer.old) item }
+    ensures written { WritesSome (λ text. Says report (said_of ground.old) (item_of item) text (said_of ground.new))
         (K.kept sink.old) (K.kept sink.new) result }
-    ensures map { OnOk result (version.new.map ≡ version.old.map) }
-    ensures standing { OnOk result (version.new.standing ≡ after_turn version.old.map version.old.standing posts) }
+    ensures ground { OnOk result (Becomes ground.old item ground.new) }
     ensures later { K.faults sink.old ≤ K.faults sink.new }
     ensures fault { IsErrOf result WriteRefusal.Failed → Rose (K.faults sink.old) (K.faults sink.new) }
-    ensures report { reporter.new.report ≡ reporter.old.report }
+    ensures takes { (count : ℕ) → A.takes answerer.old count → A.takes answerer.new count }
 {
-    match text_of_turn(alloc, reporter, version, turn, posts) {
-        Ok(TurnText { text, after, .. }) => {
-            write_all(sink, text.as_slice())?;
-            *version = after;
-            Ok(())
-        }
-        Err(NoMemory) => Err(WriteRefusal::NoMemory),
+    let mut text = Bytes::new(alloc);
+    match play_item(alloc, answerer, report, ground, item, &mut text) {
+        Ok(()) => write_all(sink, text.as_slice()),
+        Err((NoMemory, _item)) => Err(WriteRefusal::NoMemory),
     }
 }

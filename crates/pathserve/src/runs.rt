@@ -10,11 +10,10 @@ ghost use Rattle.pathserve.specs.Runs.{ReadsFrom, WritesTo, NamesReason};
 
 use crate::commands::{Command, NotWords, read_words};
 use crate::reasons::Reason;
-use crate::replay::run_replay;
+use crate::replay::{Reporter, run_replay};
 use crate::serving::run_serve;
 use crate::status::Status;
 use crate::summing::run_make;
-use crate::turn_answers::Reporter;
 use io_edges::{Gate, Sink, Source};
 use nav_types::Words;
 use path_workers::{Rooms, Workers};
@@ -73,13 +72,13 @@ pub fn run<R: Threads + Wait + Sync, S: Source, K: Sink, G: Gate + Sync>(
 {
     match read_words(words) {
         Ok(Command::Replay { report, workers }) => {
-            let mut reporter = Reporter {
+            let reporter = Reporter {
                 rt,
                 workers: Workers::new(workers, gate),
                 report,
                 rooms: Rooms::new(alloc),
             };
-            run_replay(alloc, &mut reporter, source, sink, why)
+            run_replay(alloc, reporter, source, sink, why)
         }
         Ok(Command::Serve { workers }) => run_serve(rt, alloc, workers, source, sink, gate, why),
         Ok(Command::Make { seed, workers }) => {

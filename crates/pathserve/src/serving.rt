@@ -1,6 +1,6 @@
 //! Scripts that are served: a script is read whole, a session of its callers is run, and the journal that came of it is
 //! written with the answers.
-ghost use Rattle.std.specs.Prelude.{◌≡◌, ◌<◌, ◌≤◌, ◌^◌, All, IfErr, IfOk, IsErrOf, IsFalse, IsSome, OnOk, length, slice_set, ◌++◌};
+ghost use Rattle.std.specs.Prelude.{◌≡◌, ◌<◌, ◌≤◌, ◌^◌, ◌++◌, All, IfErr, IfOk, IsErrOf, None, OnOk, Some, length, slice_set};
 ghost use Rattle.nav_types.specs.declared.limits.TheConstants.{MAX_WORKERS};
 ghost use Rattle.io_edges.specs.Faults.{Rose};
 ghost use Rattle.io_edges.specs.Passing.{HasGiven};
@@ -9,15 +9,15 @@ ghost use Rattle.posts.specs.Posts.{post_count};
 ghost use Rattle.path_service.specs.machine.Effects.{joined_up};
 ghost use Rattle.script_text.specs.Canon.{HaveLines};
 ghost use Rattle.script_text.specs.ReadsBack.{canon_script};
-ghost use Rattle.script_text.specs.Reader.{HaveLinesAt, HoldsRefused, callers_of, rules_at};
+ghost use Rattle.script_text.specs.Reader.{HoldsRefused, unread};
 ghost use Rattle.pathserve.specs.Output.{turn_texts};
 ghost use Rattle.pathserve.specs.Runs.{RunsScript};
 ghost use Rattle.pathserve.specs.Serving.{ServesTold, journal_text};
-ghost use Rattle.pathserve.specs.inner.WholeScripts.{AllTold, IsTextOfSession};
+ghost use Rattle.pathserve.specs.inner.WholeScripts.{FitsBehind, IsTextOfSession, ScriptTold, with_item};
 ghost use Rattle.pathserve.specs.inner.Writing.{WritesPiece, WritesSome};
 
 use crate::reasons::Reason;
-use crate::scripts::{Opened, open_script, stop_at};
+use crate::scripts::stop_at;
 use crate::sessions::serve_session;
 use crate::status::Status;
 use crate::writing::{status_written, write_text};
@@ -26,7 +26,7 @@ use grid_versions::MapSpec;
 use io_edges::{Gate, Sink, Source, WriteRefusal};
 use nav_types::{NoMemory, Sequence};
 use path_service::Closed;
-use script_text::{ScriptFault, ScriptReader, write_journal, write_map};
+use script_text::{ScriptFault, ScriptItem, ScriptReader, write_journal, write_map};
 use std::alloc::Global;
 use std::sync::Wait;
 use std::thread::Threads;
@@ -34,9 +34,9 @@ use turn_core::{Posts, TurnPosts, empty_lists};
 
 /// A script: its map, and the posts of each caller in all its turns.
 #[derive(Drop)]
-struct Script {
-    map: MapSpec,
-    posts: TurnPosts,
+pub(crate) struct Script {
+    pub map: MapSpec,
+    pub posts: TurnPosts,
 }
 
 /// Serves a script: it is read whole, without regard to where its turns end, each of its callers posts its posts by
@@ -61,44 +61,92 @@ pub fn run_serve<R: Threads + Wait + Sync, S: Source, K: Sink, G: Gate + Sync>(
         (K.kept sink.old) (K.kept sink.new) (K.faults sink.old) (K.faults sink.new) why.new result }
     ensures told { ServesTold (S.left source.old) (S.left source.new) (K.kept sink.old) (K.kept sink.new) result }
 {
-    let Opened { map, mut reader } = match open_script(alloc, source, sink, why) {
-        Ok(script) => script,
-        Err(status) => return status,
+    *why = None;
+    let Ok(mut reader) = ScriptReader::new(alloc) else {
+        return Status::NoMemory;
     };
-    match read_posts(alloc, source, &mut reader, map.callers()) {
-        Ok(posts) => {
-            let script = Script { map, posts };
-            status_written(serve_script(rt, alloc, &script, workers, sink, gate))
-        }
+    match read_script(alloc, source, &mut reader) {
+        Ok(script) => status_written(serve_script(rt, alloc, &script, workers, sink, gate)),
         Err(fault) => stop_at(alloc, sink, &reader, fault, why),
     }
 }
 
-/// Reads the turns to the end of the script, and gives all posts, caller by caller.
-fn read_posts<S: Source>(
+/// Reads a script to its end: its map, and all posts, caller by caller.
+fn read_script<S: Source>(
     alloc: Global,
     source: &mut S,
     reader: &mut ScriptReader,
-    callers: u8,
-) -> Result<TurnPosts, ScriptFault>
-    requires map { IsSome (rules_at reader.old.place.part) }
-    requires callers { callers ≡ callers_of reader.old.place.part }
-    requires going { IsFalse reader.old.over }
-    ensures told { AllTold reader.old reader.new (S.left source.old) (S.left source.new) result }
-    ensures lists { IfOk result (λ lists. length lists ≡ callers) }
-    ensures count { IfOk result (λ lists. post_count lists < 2 ^ 32) }
-    ensures lines { IfOk result (HaveLinesAt reader.old.place.part) }
+) -> Result<Script, ScriptFault>
+    requires first { reader.old ≡ unread }
+    ensures told { ScriptTold reader.new (S.left source.old) (S.left source.new) result }
+    ensures wide { IfOk result (λ script. length script.posts ≡ script.map.callers) }
+    ensures count { IfOk result (λ script. post_count script.posts < 2 ^ 32) }
+    ensures lines { IfOk result (λ script. HaveLines script.map.version script.posts) }
     ensures given { HasGiven (S.left source.old) (S.left source.new) }
     ensures later { S.faults source.old ≤ S.faults source.new }
     ensures fault { IsErrOf result ScriptFault.ReadFault → Rose (S.faults source.old) (S.faults source.new) }
     ensures bad { IfErr result (HoldsRefused reader.new) }
 {
-    let mut lists = empty_lists(alloc, usize::from(callers))?;
-    'turns: loop {
-        match reader.next_turn(alloc, source)? {
-            Some(turn) => append_turn(&mut lists, turn)?,
-            None => return Ok(Sequence::from(lists)),
+    let mut read: Option<Script> = None;
+    'items: loop {
+        match reader.next_item(alloc, source)? {
+            Some(item) => read = Some(with_item(alloc, read, item)?),
+            None => match read {
+                Some(script) => return Ok(script),
+                None => unreachable!(),
+            },
         }
+    }
+}
+
+/// What was read of a script, with one item more.
+fn with_item(alloc: Global, read: Option<Script>, item: ScriptItem) -> Result<Script, NoMemory>
+    requires { FitsBehind read item }
+    ensures { IfOk result (λ made. Some made ≡ with_item read item) }
+{
+    match read {
+        Some(script) => more_of(script, item),
+        None => begin_script(alloc, item),
+    }
+}
+
+/// A script of which the map was read.
+fn begin_script(alloc: Global, item: ScriptItem) -> Result<Script, NoMemory>
+    requires { FitsBehind None item }
+    ensures { IfOk result (λ made. Some made ≡ with_item None item) }
+{
+    match item {
+        ScriptItem::Map(map) => {
+            let posts = empty_lists(alloc, usize::from(map.callers()))?;
+            Ok(Script {
+                map,
+                posts: Sequence::from(posts),
+            })
+        }
+        ScriptItem::Base(_) | ScriptItem::Turn(_) => unreachable!(),
+    }
+}
+
+/// A script with one item more behind its map.
+fn more_of(script: Script, item: ScriptItem) -> Result<Script, NoMemory>
+    requires { FitsBehind (Some script) item }
+    ensures { IfOk result (λ made. Some made ≡ with_item (Some script) item) }
+{
+    let Script { mut map, posts } = script;
+    match item {
+        ScriptItem::Base(rects) => {
+            map.add_base(rects.as_slice())?;
+            Ok(Script { map, posts })
+        }
+        ScriptItem::Turn(turn) => {
+            let mut lists = posts.into_items();
+            append_turn(&mut lists, turn)?;
+            Ok(Script {
+                map,
+                posts: Sequence::from(lists),
+            })
+        }
+        ScriptItem::Map(_) => unreachable!(),
     }
 }
 

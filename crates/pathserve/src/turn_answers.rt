@@ -1,79 +1,16 @@
-//! The answers to a turn by many workers, as replies and as text.
+//! The replies to a turn by many workers.
 ghost use Rattle.std.specs.Prelude.{◌≡◌, ◌^◌, ◌<◌, IfOk, length};
 ghost use Rattle.posts.specs.Posts.{jobs};
-ghost use Rattle.turn_core.specs.Notes.{AreNotes};
 ghost use Rattle.turn_core.specs.ReadyTurns.{after_edits_of};
-ghost use Rattle.turn_core.specs.Solving.{AreAnswersTo};
 ghost use Rattle.turn_core.specs.Turns.{after_turn, IsTurnTold};
-ghost use Rattle.pathserve.specs.Output.{IsTurnText};
 
 use grid_versions::Version;
 use io_edges::Gate;
-use match_play::{TurnText, text_of_ready};
 use nav_types::NoMemory;
 use path_workers::{Rooms, Workers};
 use std::alloc::Global;
 use std::thread::Threads;
-use turn_core::{AnsweredTurn, NotedAnswers, ReadyTurn, Report, TurnPosts};
-
-/// Who answers the turns of a script, what is told beside the answers, and the rooms that are kept from turn to turn.
-#[derive(Drop)]
-pub struct Reporter<'a, R, G> {
-    pub rt: &'a R,
-    pub workers: Workers<'a, G>,
-    pub report: Report,
-    pub rooms: Rooms,
-}
-
-/// Answers the turn of a number on the version before it, and tells the answers.
-pub(crate) fn text_of_turn<R: Threads + Sync, G: Gate + Sync>(
-    alloc: Global,
-    reporter: &mut Reporter<'_, R, G>,
-    version: &Version,
-    turn: u64,
-    posts: TurnPosts,
-) -> Result<TurnText, NoMemory>
-    requires { length (jobs posts) < 2 ^ 32 }
-    ensures text { IfOk result (λ told.
-        IsTurnText reporter.old.report version.now.map version.now.standing turn posts told.text) }
-    ensures map { IfOk result (λ told. told.after.map ≡ version.now.map) }
-    ensures standing { IfOk result (λ told. told.after.standing
-        ≡ after_turn version.now.map version.now.standing posts) }
-    ensures report { reporter.new.report ≡ reporter.old.report }
-{
-    let ready = ready_turn(alloc, version, posts)?;
-    let noted = noted_answers(alloc, reporter, &ready)?;
-    match text_of_ready(alloc, reporter.report, ready, noted, turn) {
-        Ok(told) => Ok(told),
-        Err((NoMemory, _posts)) => Err(NoMemory),
-    }
-}
-
-/// The answers to the jobs of a turn by as many of the workers as they are worth, with what the report tells of each.
-fn noted_answers<R: Threads + Sync, G: Gate + Sync>(
-    alloc: Global,
-    reporter: &mut Reporter<'_, R, G>,
-    ready: &ReadyTurn,
-) -> Result<NotedAnswers, NoMemory>
-    requires { length (jobs ready.now.turn) < 2 ^ 32 }
-    ensures answers { IfOk result (λ noted.
-        AreAnswersTo ready.now.map (after_edits_of ready.now) (jobs ready.now.turn) noted.answers) }
-    ensures notes { IfOk result (λ noted. AreNotes ready.now.map (after_edits_of ready.now) reporter.old.report
-        (jobs ready.now.turn) noted.notes) }
-    ensures report { reporter.new.report ≡ reporter.old.report }
-{
-    let workers = reporter
-        .workers
-        .sized_for(ready.version(), ready.jobs(), reporter.report);
-    workers.run_noted(
-        reporter.rt,
-        alloc,
-        ready.version(),
-        ready.jobs(),
-        reporter.report,
-        &mut reporter.rooms,
-    )
-}
+use turn_core::{AnsweredTurn, ReadyTurn, Report, TurnPosts};
 
 /// The replies to a turn on the version before it, and the version after it.
 pub(crate) fn replies_to_turn<R: Threads + Sync, G: Gate + Sync>(

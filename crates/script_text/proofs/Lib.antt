@@ -10,6 +10,7 @@ pub mod ItemReads
 pub mod ReadWhole
 pub mod PushedReads
 pub mod PushedEnds
+pub mod LedLines
 pub mod FormValues
 pub mod Members
 pub mod StrangeKeys

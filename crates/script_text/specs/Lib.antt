@@ -8,6 +8,7 @@ pub mod Grammar
 pub mod Nesting
 pub mod Reader
 pub mod Pushed
+pub mod Led
 pub mod Items
 pub mod ReadsBack
 pub mod Script

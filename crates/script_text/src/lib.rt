@@ -4,10 +4,10 @@
 //!    map line, base lines, then for each turn: post lines of its callers, an end line
 //! ```
 //!
-//! [`PushedScript`] is given a script's bytes in pieces, [`ItemReader`] pulls them from a source and pushes them, and
-//! [`ScriptReader`] pulls a script turn by turn. All read what `specs/Script.antt` says of whole inputs. `write_map` and
-//! `write_journal` write the canonical script, which reads back as what it was written from. A bad line has a [`Cause`]
-//! in plain words. Nothing here answers a post.
+//! [`PushedScript`] is given a script's bytes in pieces, and hands out item by item what its lines give;
+//! [`ScriptReader`] reads such pieces from a source and pushes them. What both say is what `specs/Script.antt` says of whole
+//! inputs. `write_map` and `write_journal` write the canonical script, which reads back as what it was written from. A bad
+//! line has a [`Cause`] in plain words. Nothing here answers a post.
 #![tactic(auto)]
 
 mod canon;
@@ -15,7 +15,6 @@ mod causes;
 mod faults;
 mod forms;
 mod goals;
-mod item_reader;
 mod items;
 mod laws;
 mod nesting;
@@ -31,7 +30,6 @@ pub use faults::ScriptFault;
 pub use forms::CallerPost;
 pub use goals::GoalKey;
 pub use input_lines::READ_SIZE;
-pub use item_reader::ItemReader;
 pub use items::ScriptItem;
 pub use laws::{
     base_lines, blank_lines, canonical_reads_back, deep_lines, end_causes, end_lines, line_causes,

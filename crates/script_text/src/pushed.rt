@@ -8,6 +8,7 @@ ghost use Rattle.input_lines.specs.Pushed.{PushAnswer};
 ghost use Rattle.script_text.specs.Script.{accept, counted, finish};
 ghost use Rattle.script_text.specs.Reader.{HaveLinesAt, HoldsRefused, held_cause, rules_at, taken_bytes};
 ghost use Rattle.script_text.specs.Items.{HasFewPosts};
+ghost use Rattle.script_text.specs.Led.{LedBy};
 ghost use Rattle.script_text.specs.Pushed.{EndTold, KeepsRules, PushTold, TakenUpTo, is_refused};
 ghost use Rattle.script_text.specs.inner.Judging.{EndsHere, GivesItem, HasFewerPosts, IsBadAt, cause_of_held, held_at};
 
@@ -111,6 +112,7 @@ impl PushedScript {
     pub fn finish(&mut self, alloc: Global) -> Result<Option<ScriptItem>, ScriptFault>
         requires going { IsFalse self.old.failed }
         ensures told { EndTold self.old self.new result }
+        ensures led { LedBy self.old.place self.new.place result }
         ensures rules { KeepsRules (rules_at self.old.place.part) (rules_at self.new.place.part) result }
         ensures few { IfOk result (λ next. IfSome next HasFewPosts) }
         ensures limit { self.new.place.bytes ≤ MAX_INPUT_BYTES }
@@ -261,6 +263,7 @@ fn last_item(
     requires have { HaveLinesAt progress.old.part progress.old.posts }
     requires few { HasFewerPosts progress.old }
     ensures told { EndTold (held_at progress.old line.old) (held_at progress.new line.new) result }
+    ensures led { LedBy progress.old progress.new result }
     ensures rules { KeepsRules (rules_at progress.old.part) (rules_at progress.new.part) result }
     ensures few_posts { IfOk result (λ next. IfSome next HasFewPosts) }
     ensures limit { progress.new.bytes ≤ MAX_INPUT_BYTES }

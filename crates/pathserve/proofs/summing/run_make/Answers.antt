@@ -1,7 +1,7 @@
 use Rattle.std.proofs.Common.{Result, Ok, Err, ap, sym, ◌∙◌}
 use Rattle.io_edges.specs.declared.edges.WriteRefusal.{WriteRefusal}
 use Rattle.pathserve.proofs.Passes.{done_no_write}
-use Rattle.pathserve.proofs.Replaying.{refused_by_fault}
+use Rattle.pathserve.proofs.Refusals.{refused_by_fault}
 use Rattle.pathserve.proofs.SummaryTexts.{made_told, made_status, text_taken}
 use Rattle.pathserve.proofs.summing.run_make.Goals as goal
 

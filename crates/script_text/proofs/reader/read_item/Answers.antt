@@ -1,17 +1,19 @@
-use Rattle.std.proofs.Common.{◌∙◌, Option, Some, Ok, Err, IfSome, refl, sym, subst, inr, arith}
+use Rattle.std.proofs.Common.{◌∷◌, [], ◌∙◌, Option, Some, Ok, Err, IfSome, refl, sym, subst, inr, arith}
 use Rattle.std.proofs.lemmas.Bool.{false≢true}
 use Rattle.std.proofs.lemmas.Result.{err_from_is_err_and}
 use Rattle.input_lines.proofs.ToldLines.{rose-later, some_held}
 use Rattle.script_text.specs.declared.items.ScriptItem.{ScriptItem}
 use Rattle.script_text.specs.Items.{HasFewPosts}
-use Rattle.script_text.specs.Pushed.{KeepsRules}
+use Rattle.script_text.specs.Led.{LedBy}
+use Rattle.script_text.specs.Pushed.{KeepsRules, item_of}
 use Rattle.script_text.specs.Reader.{WantsTurn, rules_at}
 use Rattle.script_text.specs.inner.Judging.{PushesOn, held_with}
 use Rattle.script_text.proofs.ItemReads.{ahead_kept, ahead_refilled, end_unread, ends_then, ends_told, fails_told, goes_refilled, goes_taken, has_refilled, item_told, leaves_by, no_turn_held, not_refilled, read_failed, ready_at_end, refused_behind, refused_told, rules_then, still_unmet, taken_unread, takes_by, takes_less, where_failed, where_went}
+use Rattle.script_text.proofs.LedLines.{led_both, led_nowhere, led_on, led_then}
 use Rattle.script_text.proofs.ReadCalls.{goes_begun}
 use Rattle.script_text.proofs.ReadNeed.{ahead-none}
 use Rattle.script_text.proofs.ReadStill.{uses_none}
-use Rattle.script_text.proofs.item_reader.read_item.Goals as goal
+use Rattle.script_text.proofs.reader.read_item.Goals as goal
 
 -- ---- the end was met before
 
@@ -59,6 +61,7 @@ pieces-init g c =
       ahead = ahead-none WantsTurn old left;
       still = λ holds. (refl, uses_none old);
       rules = refl;
+      led = led_nowhere c.args.script.now.place;
       later = omega arith;
     }
 
@@ -90,6 +93,7 @@ pieces-preserved g c =
       ahead = ahead_refilled old s1 t1 now a b l on.unmet on.used.1 on.used.0 c.refill.ensures.few goes c.pieces.invariant.ahead r.told (λ end. absurd (false≢true (sym c.pieces.invariant.began ∙ end)));
       still = λ holds. absurd (no_turn_held old s0 s1 t0 t1 on.unmet on.used.0 on.used.1 (c.pieces.invariant.still holds).1 on.told holds);
       rules = subst Kept c.in_default.is c.in_ok-item.ensures.rules ∙ c.pieces.invariant.rules;
+      led = led_both c.args.script.now.place s0.place s1.place [] [] c.pieces.invariant.led (led_on (held_with s0 t0) (held_with s1 t1) [] [] [] (on.told []) on.unmet);
       later = omega (arith, c.pieces.invariant.later, c.refill.ensures.later);
     }
 
@@ -325,3 +329,34 @@ pub returns-then-is_used_up-clause-leaves : goal.returns-then-is_used_up-clause-
 returns-then-is_used_up-clause-leaves g c =
     leaves_by (held_with c.args.script.now c.args.taken.now) c.finish-then-is_used_up.new.self c.refill.new.self c.finish-then-is_used_up.result c.finish-then-is_used_up.ensures.limit (λ end. absurd (false≢true (sym c.pieces.invariant.began ∙ end)))
     (refused_behind c.finish-then-is_used_up.new.self c.refill.new.self c.finish-then-is_used_up.result (c.is_used_up.ensures.0 c.if-is_used_up.true) c.finish-then-is_used_up.ensures.bad)
+
+-- ---- where it leads
+
+pub returns-in-Some-clause-led : goal.returns-in-Some-clause-led
+returns-in-Some-clause-led g c =
+    let s0 = c.pieces.script in
+    let t0 = c.pieces.taken in
+    let s1 = c.push_taken.new.script in
+    let t1 = c.push_taken.new.taken in
+    let On : Option ScriptItem → Type 0 = λ next. PushesOn s0 s1 t0 t1 next in
+    let on = subst On c.in-Some.is c.in_ok-item.ensures.pushed in
+    led_both c.args.script.now.place s0.place s1.place [] (item_of c.in-Some.item ∷ []) c.pieces.invariant.led
+    (led_on (held_with s0 t0) (held_with s1 t1) [] [] (item_of c.in-Some.item ∷ []) (on.told []) on.unmet)
+
+pub returns-in_err-item-clause-led : goal.returns-in_err-item-clause-led
+returns-in_err-item-clause-led g c =
+    let p = err_from_is_err_and c.from_residual.result c.from_residual.ensures.1 in
+    subst (λ result. LedBy c.args.script.now.place c.push_taken.new.script.place result) (sym p.1) tt
+
+pub returns-then-is_used_up-clause-led : goal.returns-then-is_used_up-clause-led
+returns-then-is_used_up-clause-led g c =
+    let s0 = c.pieces.script in
+    let t0 = c.pieces.taken in
+    let s1 = c.push_taken.new.script in
+    let t1 = c.push_taken.new.taken in
+    let On : Option ScriptItem → Type 0 = λ next. PushesOn s0 s1 t0 t1 next in
+    let Kept : Option ScriptItem → Type 0 = λ next. KeepsRules (rules_at s0.place.part) (rules_at s1.place.part) (Ok next) in
+    let on = subst On c.in_default.is c.in_ok-item.ensures.pushed in
+    let led = led_both c.args.script.now.place s0.place s1.place [] [] c.pieces.invariant.led (led_on (held_with s0 t0) (held_with s1 t1) [] [] [] (on.told []) on.unmet) in
+    led_then c.args.script.now.place s1.place c.finish-then-is_used_up.new.self.place c.finish-then-is_used_up.result led
+    (subst Kept c.in_default.is c.in_ok-item.ensures.rules ∙ c.pieces.invariant.rules) c.finish-then-is_used_up.ensures.led

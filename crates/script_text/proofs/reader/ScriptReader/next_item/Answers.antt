@@ -1,11 +1,12 @@
 use Rattle.std.proofs.Common.{◌≡◌, ◌∙◌, ap, sym, subst}
 use Rattle.script_text.specs.Items.{ItemTold}
+use Rattle.script_text.specs.Led.{LedBy}
 use Rattle.script_text.specs.Pushed.{KeepsRules}
 use Rattle.script_text.specs.Reader.{Held, HoldsTurn, Leaves, TakesNoneAhead, WantsTurn, is_last, rules_at}
 use Rattle.script_text.specs.inner.Judging.{held_with}
 use Rattle.script_text.proofs.ReadAnswers.{leaves_flags, where_going}
 use Rattle.script_text.proofs.ReadStill.{ahead_flags, item_flags, with_flags}
-use Rattle.script_text.proofs.item_reader.ItemReader.next_item.Goals as goal
+use Rattle.script_text.proofs.reader.ScriptReader.next_item.Goals as goal
 
 pub read_item-answer-requires : goal.read_item-answer-requires
 read_item-answer-requires g c = record { ready = c.self.invariant.1 (ap (λ h. h.over) c.self.view_is ∙ c.requires.going) }
@@ -44,6 +45,12 @@ returns-clause-rules g c =
     let read = c.read_item-answer in
     let Kept : Held → Type 0 = λ h. KeepsRules (rules_at h.place.part) (rules_at read.new.script.place.part) read.result in
     subst Kept c.self.view_is read.ensures.rules
+
+pub returns-clause-led : goal.returns-clause-led
+returns-clause-led g c =
+    let read = c.read_item-answer in
+    let Led : Held → Type 0 = λ h. LedBy h.place read.new.script.place read.result in
+    subst Led c.self.view_is read.ensures.led
 
 pub returns-clause-few : goal.returns-clause-few
 returns-clause-few g c = c.read_item-answer.ensures.few

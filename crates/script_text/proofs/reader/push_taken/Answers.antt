@@ -1,6 +1,6 @@
 use Rattle.std.proofs.Common.{◌-◌, length, ap, arith}
 use Rattle.script_text.proofs.ItemReads.{left_of, push_refused, pushes_on}
-use Rattle.script_text.proofs.item_reader.push_taken.Goals as goal
+use Rattle.script_text.proofs.reader.push_taken.Goals as goal
 
 -- the script goes on
 pub returns-in-Ok-clause-pushed : goal.returns-in-Ok-clause-pushed
