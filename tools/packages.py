@@ -1,10 +1,11 @@
 #!/usr/bin/env python3
-"""Makes the packages of a release: `packages.py [RELEASE [FOLDER]]`, out of out/release into out/packages by themselves.
+"""Makes the packages of a release: `packages.py [--url URL] [RELEASE [FOLDER]]`, out of out/release into out/packages by themselves.
 
     pathserve-VERSION-py3-none-PLATFORM.whl      for Python on Linux and on Windows, with the library in it
     pathserve-VERSION-linux-x86_64.tar.gz        the release without what is for other platforms
     pathserve-VERSION-windows-x86_64.zip         the same for Windows
     pathserve-VERSION.tgz                        for JavaScript: `npm install` takes the file
+    vcpkg/pathserve                              a port, which takes the two archives from URL, or from this folder
     SHA256SUMS                                   their checksums
 
 A package is left out where the release has not its platform. The same release gives the same bytes. The status is 0 where
@@ -15,13 +16,16 @@ import gzip
 import hashlib
 import io
 import os
+import pathlib
 import re
 import stat
-import sys
 import tarfile
 import zipfile
 
+import commands
+
 TOP = os.path.dirname(os.path.dirname(os.path.abspath(__file__)))
+PORT = os.path.join(TOP, "tools", "vcpkg")
 LINUX, WINDOWS = "lib/libpathserve.so.0", "windows/bin/pathserve.dll"
 PLATFORMS = {"lib", "windows", "web", "macos"}
 ABOUT = """\
@@ -107,36 +111,59 @@ def files_of(release, root, platform):
     return files, links
 
 
-def packages(release, version):
-    """Each package that the release has the files of."""
-    has = lambda name: os.path.isfile(os.path.join(release, name))
+def port(version, url, archives):
+    """The files of a port for vcpkg, of which the archives by their platforms lie at a URL."""
+    sums = {it: hashlib.sha512(data).hexdigest() for it, data in archives.items()}
+    holes = {"VERSION": version, "URL": url, "PLATFORMS": " | ".join(archives), "LINUX": sums.get("linux", ""), "WINDOWS": sums.get("windows", "")}
+    for name in sorted(os.listdir(PORT)):
+        data = data_of(PORT, name)
+        if name.endswith(".in"):
+            data = re.sub("|".join(f"@{it}@" for it in holes), lambda it: holes[it[0].strip("@")], data.decode()).encode()
+        yield f"vcpkg/pathserve/{name.removesuffix('.in')}", data
+
+
+def packages(release, version, url):
+    """Each package that the release has the files of; from the URL a port takes its archives."""
+    has, archives = lambda name: os.path.isfile(os.path.join(release, name)), {}
     if has(LINUX):
         yield wheel(release, version, LINUX, linux_platform(data_of(release, LINUX)))
         root = f"pathserve-{version}-linux-x86_64"
-        yield f"{root}.tar.gz", tarred(*files_of(release, root, "lib"))
+        archives["linux"] = tarred(*files_of(release, root, "lib"))
+        yield f"{root}.tar.gz", archives["linux"]
     if has(WINDOWS):
         yield wheel(release, version, WINDOWS, "win_amd64")
         root = f"pathserve-{version}-windows-x86_64"
-        yield f"{root}.zip", zipped(files_of(release, root, "windows")[0])
+        archives["windows"] = zipped(files_of(release, root, "windows")[0])
+        yield f"{root}.zip", archives["windows"]
+    if archives:
+        yield from port(version, url, archives)
     if has("web/pathserve/pathserve.wasm"):
         folder = os.path.join(release, "web", "pathserve")
         its = {f"package/{name}": (data_of(folder, name), 0o644) for name in sorted(os.listdir(folder))}
         yield f"pathserve-{version}.tgz", tarred(its)
 
 
-def main(words):
-    if len(words) > 2 or words[:1] in (["-h"], ["--help"]):
-        print(__doc__)
-        return len(words) > 2
-    release, out = [*words, *(os.path.join(TOP, "out", it) for it in ("release", "packages")[len(words) :])]
+def words():
+    parser = commands.parser_of(__doc__)
+    parser.add_argument("release", nargs="?", default=os.path.join(TOP, "out", "release"), help="a folder that ./release made (out/release)")
+    parser.add_argument("folder", nargs="?", default=os.path.join(TOP, "out", "packages"), help="where the packages come (out/packages)")
+    parser.add_argument("--url", help="where the port finds the archives (that folder)")
+    return parser.parse_args()
+
+
+def main():
+    said = words()
+    release, out = said.release, said.folder
     if not os.path.isfile(os.path.join(release, "PROVENANCE")):
-        print(f"packages.py: {release} is no release: ./release makes one", file=sys.stderr)
+        commands.say(f"{release} is no release: ./release makes one")
         return 1
     version = re.match(r"libpathserve ([\w.]+)", data_of(release, "PROVENANCE").decode())[1]
     os.makedirs(out, exist_ok=True)
     sums = []
-    for name, data in packages(release, version):
-        with open(os.path.join(out, name), "wb") as it:
+    for name, data in packages(release, version, said.url or pathlib.Path(out).resolve().as_uri()):
+        place = os.path.join(out, name)
+        os.makedirs(os.path.dirname(place), exist_ok=True)
+        with open(place, "wb") as it:
             it.write(data)
         sums.append(f"{hashlib.sha256(data).hexdigest()}  {name}\n")
         print(f"{len(data):9} {name}")
@@ -146,4 +173,4 @@ def main(words):
 
 
 if __name__ == "__main__":
-    sys.exit(main(sys.argv[1:]))
+    commands.run(main)

@@ -16,10 +16,13 @@ import packages
 
 NODE = shutil.which("node")
 MODULE = os.path.join(RELEASE, "web", "pathserve", "pathserve.wasm")
+MINGW_CC = "x86_64-w64-mingw32-gcc"
 
 
 @needs_release
-class Packages(unittest.TestCase):
+class Made(unittest.TestCase):
+    """A folder of packages."""
+
     @classmethod
     def setUpClass(cls):
         made = tempfile.TemporaryDirectory()
@@ -35,14 +38,17 @@ class Packages(unittest.TestCase):
         self.assertEqual(len(found), 1)
         return found[0]
 
+
+class Packages(Made):
     def test_they_are_made_and_summed(self):
         self.assertEqual(self.said, (0, ""))
         subprocess.run(["sha256sum", "--check", "--quiet", "--strict", "SHA256SUMS"], cwd=self.folder, check=True)
         listed = {line.split("  ")[1] for line in read(os.path.join(self.folder, "SHA256SUMS")).decode().splitlines()}
-        self.assertEqual(listed, set(os.listdir(self.folder)) - {"SHA256SUMS"})
+        files = {os.path.relpath(it, self.folder) for it in glob.glob(f"{self.folder}/**", recursive=True) if os.path.isfile(it)}
+        self.assertEqual(listed, files - {"SHA256SUMS"})
 
     def test_the_same_release_gives_the_same_bytes(self):
-        for name, data in packages.packages(RELEASE, read("VERSION").decode().strip()):
+        for name, data in packages.packages(RELEASE, read("VERSION").decode().strip(), f"file://{self.folder}"):
             self.assertEqual(read(os.path.join(self.folder, name)), data, name)
 
     def test_a_wheel_is_installed_and_plays(self):
@@ -104,6 +110,82 @@ process.stdout.write(match.takeText());"""
                 it.write(code)
             ran = subprocess.run([NODE, "play.mjs"], cwd=folder, input=read("examples/skirmish.script"), capture_output=True)
             self.assertEqual((ran.stdout, ran.returncode), (read("examples/skirmish.answers"), 0), ran.stderr.decode())
+
+
+# by triplet: what vcpkg tells a port, and the files that a program is linked and run with
+LINUX, WINDOWS, MINGW = ["-DVCPKG_TARGET_IS_LINUX=1"], ["-DVCPKG_TARGET_IS_WINDOWS=1"], ["-DVCPKG_TARGET_IS_WINDOWS=1", "-DVCPKG_TARGET_IS_MINGW=1"]
+TRIPLETS = {
+    "x64-linux": (LINUX, "static", ["lib/libpathserve.a"]),
+    "x64-linux-dynamic": (LINUX, "dynamic", ["lib/libpathserve.so", "lib/libpathserve.so.0"]),
+    "x64-windows": (WINDOWS, "dynamic", ["bin/pathserve.dll", "lib/pathserve.lib"]),
+    "x64-windows-static": (WINDOWS, "static", ["bin/pathserve.dll", "lib/pathserve.lib"]),
+    "x64-mingw-static": (MINGW, "static", ["lib/libpathserve.a"]),
+    "x64-mingw-dynamic": (MINGW, "dynamic", ["bin/pathserve.dll", "lib/libpathserve.dll.a"]),
+}
+GAME = f"""cmake_minimum_required(VERSION 3.10)
+project(game C)
+set(CMAKE_C_STANDARD 11)
+find_package(pathserve {read("VERSION").decode().strip()} REQUIRED CONFIG)
+add_executable(game {TOP}/examples/c/by_structs.c)
+target_link_libraries(game PRIVATE pathserve::pathserve)
+"""
+
+
+@unittest.skipUnless(shutil.which("cmake"), "there is no cmake")
+class Port(Made):
+    """The port for vcpkg, which is run by CMake with stand-ins for vcpkg's own functions."""
+
+    def installed(self, triplet, folder):
+        """What the port installs for a triplet: its files, and the folder."""
+        system, linkage, _ = TRIPLETS[triplet]
+        self.one("*.tar.gz" if system == LINUX else "*.zip")
+        where = [f"-DPORT_FOLDER={self.folder}/vcpkg/pathserve", f"-DWORK={folder}", f"-DVCPKG_LIBRARY_LINKAGE={linkage}"]
+        ran = subprocess.run(["cmake", *system, *where, "-P", f"{TOP}/tools/tests/library/vcpkg.cmake"], capture_output=True)
+        self.assertEqual(ran.returncode, 0, ran.stderr.decode())
+        top = os.path.join(folder, "installed")
+        return {os.path.relpath(it, top) for it in glob.glob(f"{top}/**", recursive=True) if os.path.isfile(it)}, top
+
+    def game(self, top, folder, words=()):
+        """The example, linked with what is installed."""
+        with open(os.path.join(folder, "CMakeLists.txt"), "w", encoding="utf-8") as it:
+            it.write(GAME)
+        for line in (["-S", folder, "-B", f"{folder}/made", f"-DCMAKE_PREFIX_PATH={top}", *words], ["--build", f"{folder}/made"]):
+            ran = subprocess.run(["cmake", *line], capture_output=True)
+            self.assertEqual(ran.returncode, 0, ran.stderr.decode())
+        return f"{folder}/made/game"
+
+    def test_each_triplet_gets_its_library(self):
+        shared = ["copyright", "pathserve-config-version.cmake", "pathserve-config.cmake", "usage"]
+        for triplet, (_, _, files) in TRIPLETS.items():
+            with tempfile.TemporaryDirectory() as folder:
+                found, _ = self.installed(triplet, folder)
+            self.assertEqual(found, {"include/pathserve.h", *files, *(f"share/pathserve/{it}" for it in shared)}, triplet)
+
+    def test_a_game_is_linked_with_it(self):
+        for triplet in ("x64-linux", "x64-linux-dynamic"):
+            with tempfile.TemporaryDirectory() as folder:
+                ran = subprocess.run([self.game(self.installed(triplet, folder)[1], folder)], capture_output=True)
+            self.assertEqual((ran.stdout, ran.returncode), (read("examples/skirmish.answers"), 0), triplet)
+
+    @unittest.skipUnless(shutil.which(MINGW_CC), "there is no mingw")
+    def test_a_game_for_windows_is_linked_with_it(self):
+        system = ["-DCMAKE_SYSTEM_NAME=Windows", f"-DCMAKE_C_COMPILER={MINGW_CC}", "-DCMAKE_FIND_ROOT_PATH_MODE_PACKAGE=BOTH"]
+        for triplet, needs in (("x64-mingw-static", set()), ("x64-mingw-dynamic", {"pathserve.dll"})):
+            with tempfile.TemporaryDirectory() as folder:
+                game = read(self.game(self.installed(triplet, folder)[1], folder, system) + ".exe")
+            self.assertEqual({it for it in {"pathserve.dll"} if it.encode() in game}, needs, triplet)
+
+    def test_an_archive_that_was_changed_is_refused(self):
+        archive = self.one("*.tar.gz")
+        with tempfile.TemporaryDirectory() as folder:
+            kept = shutil.copy(archive, folder)
+            try:
+                with open(archive, "ab") as it:
+                    it.write(b"\0")
+                with self.assertRaisesRegex(AssertionError, "(?i)hash mismatch"):
+                    self.installed("x64-linux", os.path.join(folder, "work"))
+            finally:
+                shutil.copy(kept, archive)
 
 
 class Parts(unittest.TestCase):
