@@ -46,7 +46,7 @@ def live(text, script, title, folder=None):
     with open(os.path.join(folder, "pathserve.wasm"), "rb") as file:
         module = file.read()
     library = re.sub(r"(?m)^export ", "", text_of(folder, "pathserve.js"))
-    code = "\n".join([library, text_of(FOLDER, "live_match.js"), text_of(FOLDER, "live.js")])
+    code = "\n".join([library, *(text_of(FOLDER, it) for it in ("cells.js", "field.js", "live_match.js", "live.js"))])
     holes = {"@TITLE@": title.replace("&", "&amp;").replace("<", "&lt;"), "@STYLE@": text_of(FOLDER, "page.css"), "@CODE@": code}
     holes.update({"@SCRIPT@": packed(whole_turns(text, script)), "@MODULE@": packed(module)})
     return re.sub("|".join(holes), lambda it: holes[it[0]], text_of(FOLDER, "live.html"))

@@ -110,7 +110,7 @@ def part(name):
 def page(match, title):
     data = json.dumps(page_data(match, title), separators=(",", ":")).encode()
     safe = title.replace("&", "&amp;").replace("<", "&lt;")
-    code = "\n".join(part(it) for it in ("cells.js", "page.js", "moves.js"))
+    code = "\n".join(part(it) for it in ("cells.js", "field.js", "page.js", "moves.js"))
     holes = {"@TITLE@": safe, "@STYLE@": part("page.css"), "@CODE@": code}
     holes.update({"@DATA@": packed(data), "@BASE@": packed(base_bits(match.script.map))})
     text = part("page.html")

@@ -41,6 +41,11 @@ class Cells {
     for (const it of standing) if (it.mask >> k & 1) this.paint(it.square, clearance);
   }
 
+  /** Cells whose states are known. */
+  static of(w, h, state) {
+    return Object.assign(Object.create(Cells.prototype), { w, h, state });
+  }
+
   paint(s, clearance) {
     const [i0, j0, i1, j1] = reach(s, 2 * clearance, this.w, this.h);
     for (let j = j0; j <= j1; j++) {

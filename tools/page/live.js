@@ -1,19 +1,20 @@
-// The page that answers at once: what a drag does, and what is drawn. `pathserve.js` and `live_match.js` stand before it.
+// The page that answers at once: what a drag does, and what is drawn. The library, `field.js` and `live_match.js` stand before it.
 const ACTS = [
   ["ask", "ask for a path", "Drag from a start, or move the pointer: the path to it is found at once. A click is a new start."],
   ["box", "draw a rectangle", "Drag from corner to corner."],
   ["wall", "draw a wall", "Drag from end to end: it is one navcell wide."],
   ["erase", "take away", "Click at what stands."],
 ];
+const LAYERS = [["smooth", "smoothed path", true], ["field", "flow field to its end", false]];
 const INKS = {
-  light: { free: "#fbfaf7", blocked: "#4b535d", back: "#dcd9d2", line: "#8a5a00", path: "#0072b2", draw: "#c8102e", halo: "#ffffff" },
-  dark: { free: "#161b21", blocked: "#69747f", back: "#0b0e11", line: "#e2c078", path: "#56b4e9", draw: "#ff5d73", halo: "#000000" },
+  light: { free: [251, 250, 247], blocked: [75, 83, 93], back: "#dcd9d2", line: "#8a5a00", path: "#0072b2", smooth: "#111111", draw: "#c8102e", halo: "#ffffff" },
+  dark: { free: [22, 27, 33], blocked: [105, 116, 127], back: "#0b0e11", line: "#e2c078", path: "#56b4e9", smooth: "#ffffff", draw: "#ff5d73", halo: "#000000" },
 };
 const by = (id) => document.getElementById(id);
 const made = (name, text) => Object.assign(document.createElement(name), { textContent: text ?? "" });
 const map = by("map"), pen = map.getContext("2d"), image = document.createElement("canvas");
-const state = { k: 0, act: "ask", from: null, to: null, drag: null, theme: "light", scale: 1, x: 0, z: 0, found: null, asked: false };
-let live;
+const state = { k: 0, act: "ask", from: null, to: null, drag: null, theme: "light", scale: 1, x: 0, z: 0, found: null, asked: false, on: {} };
+let live, cells, field = null;
 
 async function inflated(id) {
   const bytes = Uint8Array.from(atob(by(id).textContent), (it) => it.charCodeAt(0));
@@ -26,24 +27,33 @@ const down = (z) => map.height - (z - state.z) * state.scale;
 
 // ---- drawing
 
-/** Paints the cells of the class: one point each. */
+/** Takes the cells of the class anew. */
 function painted() {
-  const [w, h] = live.head.size, inks = INKS[state.theme];
+  cells = live.cells(state.k);
+  field = null;
+  tinted();
+  asked();
+}
+
+/** Paints the cells, one point each, and the field on them. */
+function tinted() {
+  const { w, h } = cells, inks = INKS[state.theme], [free, blocked] = [inks.free, inks.blocked].map(packed);
   [image.width, image.height] = [w, h];
-  const ink = image.getContext("2d");
-  ink.fillStyle = inks.free;
-  ink.fillRect(0, 0, w, h);
-  ink.fillStyle = inks.blocked;
+  const ink = image.getContext("2d"), sheet = ink.createImageData(w, h), out = new Uint32Array(sheet.data.buffer);
   for (let j = 0; j < h; j++) {
-    const row = live.view.row(state.k, j, w);
-    for (let i = 0; i < w; i++) {
-      let end = i;
-      while (end < w && !row[end]) end++;
-      if (end > i) ink.fillRect(i, h - 1 - j, end - i, 1);
-      i = end;
+    for (let i = 0, at = j * w, to = (h - 1 - j) * w; i < w; i++, at++, to++) {
+      out[to] = cells.state[at] !== FREE ? blocked : field && field.far[at] >= 0 ? rampOf(field, at) : free;
     }
   }
-  asked();
+  ink.putImageData(sheet, 0, 0);
+}
+
+/** Makes the field to the end of the path anew, where it is shown and that is another. */
+function refield() {
+  const end = state.on.field ? state.found?.path?.end : undefined, to = end && end.j * cells.w + end.i;
+  if (field?.to === to) return;
+  field = end ? Object.assign(new Field(cells, [to]), { to }) : null;
+  tinted();
 }
 
 function redraw() {
@@ -52,12 +62,30 @@ function redraw() {
   pen.fillRect(0, 0, map.width, map.height);
   pen.imageSmoothingEnabled = false;
   pen.drawImage(image, across(0), down(h), w * state.scale, h * state.scale);
+  if (field) stepsDrawn(pen, field, seen(), state.scale, dots(), (x, z) => [across(x), down(z)]);
   pen.lineWidth = 1.5 * dots();
   pen.strokeStyle = inks.line;
   for (const { shape } of live.standing.values()) outlined(shape);
   pen.strokeStyle = inks.draw;
   if (state.drag && state.act !== "ask") outlined(drawn());
   walked(inks);
+}
+
+/** The columns and the rows that the canvas shows. */
+function seen() {
+  const [w, h] = live.head.size, right = state.x + map.width / state.scale, top = state.z + map.height / state.scale;
+  return { i0: Math.max(0, Math.floor(state.x)), j0: Math.max(0, Math.floor(state.z)), i1: Math.min(w, right), j1: Math.min(h, top) };
+}
+
+/** A line through the middles of cells. */
+function lined(its, width, ink, dash = []) {
+  pen.beginPath();
+  for (const it of its) pen.lineTo(across(it.i + 0.5), down(it.j + 0.5));
+  pen.setLineDash(dash.map((it) => it * dots()));
+  pen.lineWidth = width * dots();
+  pen.strokeStyle = ink;
+  pen.stroke();
+  pen.setLineDash([]);
 }
 
 function outlined(shape) {
@@ -81,13 +109,8 @@ function walked(inks) {
     pen.stroke();
   };
   if (way) {
-    for (const [width, ink] of [[6, inks.halo], [3, inks.path]]) {
-      pen.beginPath();
-      for (const it of [way.start, ...way.waypoints]) pen.lineTo(across(it.i + 0.5), down(it.j + 0.5));
-      pen.lineWidth = width * dots();
-      pen.strokeStyle = ink;
-      pen.stroke();
-    }
+    for (const [width, ink] of [[6, inks.halo], [3, inks.path]]) lined([way.start, ...way.waypoints], width, ink);
+    if (state.on.smooth) lined([way.start, ...way.smoothed], 1.8, inks.smooth, [5, 4]);
     spot(way.end.i + 0.5, way.end.j + 0.5, inks.draw);
   }
   if (state.from) spot(...state.from, inks.path);
@@ -114,9 +137,11 @@ function asked() {
 function searched() {
   state.asked = false;
   state.found = null;
-  if (!state.from || !state.to) return;
-  const begun = performance.now(), reply = (state.found = live.find(state.k, state.from, state.to)), took = performance.now() - begun;
-  by("path").textContent = said(reply, took);
+  if (state.from && state.to) {
+    const begun = performance.now(), reply = (state.found = live.find(state.k, state.from, state.to)), took = performance.now() - begun;
+    refield();
+    by("path").textContent = said(reply, took);
+  } else refield();
 }
 
 function said({ kind, why, path: way }, took) {
@@ -124,7 +149,8 @@ function said({ kind, why, path: way }, took) {
   if (!way) return kind === "refused" ? `refused: ${why}` : "no cell is passable for the class";
   const length = (way.cost / NAVCELL).toFixed(2);
   return `from ${where(way.start)} to ${where(way.end)}, ${kind === "at-goal" ? "the goal" : "as near as can be"}\n` +
-    `cost ${way.cost} (${length} navcells), ${way.waypoints.length} waypoints\nfound in ${took.toFixed(2)} ms`;
+    `cost ${way.cost} (${length} navcells)\n${way.waypoints.length} waypoints, ${way.smoothed.length} smoothed\n` +
+    (field ? `field: ${field.count} cells, farthest ${field.most}\n` : "") + `found in ${took.toFixed(2)} ms`;
 }
 
 // ---- editing
@@ -239,6 +265,13 @@ function panelled() {
     button.onchange = () => acting(name);
     row.append(button, " " + text);
     by("acts").append(row);
+  }
+  for (const [name, text, on] of LAYERS) {
+    const box = Object.assign(made("input"), { type: "checkbox", id: "layer-" + name, checked: on }), row = made("label");
+    box.onchange = () => { state.on[name] = box.checked; asked(); };
+    state.on[name] = on;
+    row.append(box, " " + text);
+    by("layers").append(row);
   }
   by("class").onchange = () => { state.k = +by("class").value; painted(); };
   Object.assign(by("undo"), { onclick: undone, disabled: true });

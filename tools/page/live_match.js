@@ -1,5 +1,5 @@
-// A match that is played as one draws: each edit is a turn of its own, and what was played is a script. `pathserve.js` stands
-// before it.
+// A match that is played as one draws: each edit and each path is a turn of its own, and the edits are a script. `pathserve.js`
+// and `cells.js` stand before it.
 
 /** A raw number as a decimal of a script: it has at most 16 places. */
 const decimalOf = (raw) => (raw / NAVCELL).toFixed(16).replace(/\.?0+$/, "");
@@ -35,6 +35,14 @@ function isIn([x, z], shape) {
   return Math.abs(dx * ux + dz * uz) <= hw && Math.abs(dz * ux - dx * uz) <= hh;
 }
 
+/** A path out of the words of its line, and of the line with its smoothed waypoints. */
+function pathTold([kind, ...words], smooth) {
+  if (kind !== "path") return kind === "refused" ? { kind, why: words[0] } : { kind };
+  const cell = (it) => { const [i, j] = it.split(",").map(Math.trunc); return { i, j }; };
+  const [i0, j0, i1, j1, , cost] = words.map(Number), [waypoints, smoothed] = [words.slice(7), smooth.slice(2)].map((its) => its.map(cell));
+  return { kind: words[4] === "goal" ? "at-goal" : "near-goal", path: { start: { i: i0, j: j0 }, end: { i: i1, j: j1 }, cost, waypoints, smoothed } };
+}
+
 class Live {
   /** Plays the whole turns of a script. */
   constructor(library, script) {
@@ -48,8 +56,8 @@ class Live {
   /** Plays what was played so far in a new match. */
   reopen() {
     this.match?.close();
-    this.match = this.library.textMatch();
-    Object.assign(this, { standing: new Map(), turns: 0, most: 0, posts: [] });
+    this.match = this.library.textMatch("smooth");
+    Object.assign(this, { standing: new Map(), turns: 0, ended: 0, most: 0, posts: [] });
     this.feed(this.lines);
   }
 
@@ -62,10 +70,16 @@ class Live {
     return this.lines.join("\n") + "\n";
   }
 
-  /** Feeds lines, and looks at what they make stand. The answers to them are returned. */
+  /** Feeds lines, and gives their answers without those about smoothed waypoints. The match has more turns than the script. */
+  answered(lines) {
+    const numbered = lines.map((it) => (JSON.parse(it).end === undefined ? it : `{"end":${++this.ended}}`));
+    this.match.feed(numbered.join("\n") + "\n");
+    return this.match.takeText().trimEnd().split("\n").filter((it) => it.split(" ", 3)[2] !== "smooth");
+  }
+
+  /** Feeds lines of the script, and looks at what they make stand. The answers to them are returned. */
   feed(lines) {
-    this.match.feed(lines.join("\n") + "\n");
-    const answers = this.match.takeText().trimEnd().split("\n");
+    const answers = this.answered(lines);
     let at = 0;
     for (const line of lines) {
       const value = JSON.parse(line);
@@ -129,8 +143,18 @@ class Live {
     return [...this.standing].filter(([, it]) => isIn(point, it.shape)).at(-1)?.[0];
   }
 
-  /** The path of a class from one point to another. */
+  /** The path of a class from one point to another, with its smoothed waypoints. */
   find(classNumber, from, to) {
-    return this.view.find(path(0, classNumber, ...from.map(fixed), Goal.point(...to.map(fixed))));
+    const [start, point] = [from, to].map((its) => its.map((it) => decimalOf(fixed(it))));
+    const ask = { caller: 0, path: this.classes[classNumber].name, from: start, goal: { point } };
+    this.match.feed(`${JSON.stringify(ask)}\n{"end":${++this.ended}}\n`);
+    return pathTold(...this.match.takeText().trimEnd().split("\n").slice(1).map((it) => it.split(" ").slice(2)));
+  }
+
+  /** The cells of a class. */
+  cells(classNumber) {
+    const [w, h] = this.head.size, state = new Uint8Array(w * h).fill(BODY);
+    for (let j = 0; j < h; j++) this.view.row(classNumber, j, w).forEach((it, i) => { if (it) state[j * w + i] = FREE; });
+    return Cells.of(w, h, state);
   }
 }

@@ -1,4 +1,4 @@
-// The page: what is drawn, and how it is moved through. `cells.js` stands before it.
+// The page: what is drawn, and how it is moved through. `cells.js` and `field.js` stand before it.
 const LAYERS = [
   ["paths", "paths", true], ["smooth", "smoothed waypoints", true], ["goals", "all goals", false], ["outlines", "obstructions", true],
   ["chunks", "chunks", false], ["regions", "regions", false], ["areas", "areas", false], ["field", "field of the post", false],
@@ -13,7 +13,6 @@ const INKS = {
   dark: { cells: ["#161b21", "#69747f", "#3b3422", "#9a7a3c"], back: "#0b0e11", line: "#e2c078", other: "#7d7461", chunk: "#8d99a6", grid: "#222931", halo: "#000000", alarm: "#ff5d73", ink: "#ffffff", change: "#d58bff" },
 };
 const TINTS = { light: ["#cfe3f2", "#f6dcc4", "#cdeadd", "#efd3e3", "#efe9b5", "#d6d2ee"], dark: ["#1c3c52", "#52331c", "#154536", "#4a2440", "#4a4519", "#2f2b55"] };
-const FAR = [[0, 32, 76], [0, 67, 106], [87, 93, 109], [124, 123, 120], [165, 156, 116], [211, 193, 100], [255, 234, 70]];
 const by = (id) => document.getElementById(id);
 const made = (name, text) => Object.assign(document.createElement(name), { textContent: text ?? "" });
 
@@ -100,7 +99,6 @@ function wrongHere() {
 // ---- the picture of the cells
 
 const hex = (it) => [1, 3, 5].map((n) => parseInt(it.slice(n, n + 2), 16));
-const packed = ([r, g, b]) => (255 << 24 | b << 16 | g << 8 | r) >>> 0;
 
 const kept = new Map(); // the cells that were made last, of two turns
 function cellsAfter(turn) {
@@ -159,25 +157,18 @@ function refield() {
   painted();
 }
 
-/** The colour of a field's cells, from the farthest at 0 to the goal at 1. */
-function rampAt(part) {
-  const at = part * (FAR.length - 1), low = Math.min(Math.floor(at), FAR.length - 2);
-  return FAR[low].map((it, c) => it + (FAR[low + 1][c] - it) * (at - low));
-}
-
 function painted() {
   const { w, h } = data, inks = INKS[state.theme], tints = TINTS[state.theme].map(hex);
   image.width = w;
   image.height = h;
   const paper = image.getContext("2d"), sheet = paper.createImageData(w, h), out = new Uint32Array(sheet.data.buffer);
   const plain = inks.cells.map((it) => packed(hex(it))), tinted = tints.map(packed);
-  const ramp = Array.from({ length: 256 }, (_, n) => packed(rampAt(n / 255)));
   if (state.on.regions || state.on.areas) cells.label();
   for (let j = 0; j < h; j++) {
     for (let i = 0, at = j * w, to = (h - 1 - j) * w; i < w; i++, at++, to++) {
       const what = cells.state[at];
       if (what !== FREE) out[to] = plain[what];
-      else if (field && field.far[at] >= 0) out[to] = ramp[Math.floor(255 - 255 * field.far[at] / (field.most || 1))];
+      else if (field && field.far[at] >= 0) out[to] = rampOf(field, at);
       else if (state.on.regions) {
         const chunk = 2 * Math.floor(i / CHUNK) + 3 * Math.floor(j / CHUNK);
         out[to] = tinted[(cells.region[at] * 5 + chunk) % tints.length];
@@ -222,7 +213,7 @@ function drawn() {
   const seen = { i0, j0, i1, j1 };
   if (s >= 10 * dpr()) rules(seen, 1, inks.grid, 1);
   if (state.on.chunks || state.on.regions) chunkRules(seen, inks);
-  if (field) arrows(seen, inks);
+  if (field) stepsDrawn(pen, field, seen, view.scale, dpr(), (x, z) => [toX(x), toY(z)]);
   if (state.on.changes) changesDrawn(seen, inks);
   if (state.on.outlines) outlines(seen, inks);
   const posts = shown();
@@ -441,24 +432,5 @@ function cross([i, j], inks) {
     pen.strokeStyle = ink;
     pen.lineWidth = width * dpr();
     pen.stroke();
-  }
-}
-
-function arrows(seen, inks) {
-  const step = Math.max(1, Math.ceil(18 * dpr() / view.scale)), r = Math.min(view.scale * step * 0.34, 12 * dpr());
-  pen.lineWidth = 1.6 * dpr();
-  for (let j = Math.ceil(seen.j0 / step) * step; j < seen.j1; j += step) {
-    for (let i = Math.ceil(seen.i0 / step) * step; i < seen.i1; i += step) {
-      const next = field.next(i, j), far = field.far[j * data.w + i];
-      if (far < 0) continue;
-      pen.strokeStyle = pen.fillStyle = far < field.most * 0.5 ? "#111" : "#fff";
-      const x = toX(i + 0.5), y = toY(j + 0.5);
-      if (!next) { pen.beginPath(); pen.arc(x, y, r * 0.6, 0, 7); pen.fill(); continue; }
-      const n = Math.hypot(next[1], next[2]), a = next[1] / n * r, b = -next[2] / n * r;
-      pen.beginPath();
-      pen.moveTo(x - a, y - b); pen.lineTo(x + a, y + b);
-      pen.lineTo(x + a * 0.2 - b * 0.5, y + b * 0.2 + a * 0.5); pen.moveTo(x + a, y + b); pen.lineTo(x + a * 0.2 + b * 0.5, y + b * 0.2 - a * 0.5);
-      pen.stroke();
-    }
   }
 }

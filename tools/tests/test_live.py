@@ -34,7 +34,7 @@ live.undo();
 def code():
     """The library and the match of the page, as one text."""
     library = re.sub(r"(?m)^export ", "", live_page.text_of(FOLDER, "pathserve.js"))
-    return library + live_page.text_of(live_page.FOLDER, "live_match.js")
+    return "\n".join([library, *(live_page.text_of(live_page.FOLDER, it) for it in ("cells.js", "live_match.js"))])
 
 
 class Scripts(unittest.TestCase):
@@ -77,22 +77,27 @@ class Page(unittest.TestCase):
 import {{ readFileSync }} from "node:fs";
 const live = new Live(await load(readFileSync(process.argv[2])), readFileSync(process.argv[3], "utf8"));
 {EDITS}
-const found = live.find(1, [10.5, 3.5], [1.5, 3.5]);
+const finds = [[0, [0.5, 0.5], [11.25, 6.75]], [0, [7.5, 2.5], [11, 7.5]], [1, [10.5, 3.5], [1.5, 3.5]]].map((it) => [it, live.find(...it)]);
+const fields = finds.map(([[k], {{ path }}]) => new Field(live.cells(k), [path.end.j * 12 + path.end.i]));
+const told = fields.map((it, n) => [it.next(finds[n][1].path.start.i, finds[n][1].path.start.j)?.[0] ?? "-", it.count, it.most, it.sum].join(" "));
 const standing = [...live.standing].map(([id, it]) => [id, it.mask, ...it.shape]);
-console.log(JSON.stringify([live.script, moves, standing, found.path ?? found.kind, live.edits.length]));"""
+console.log(JSON.stringify([live.script, moves, standing, finds, told, live.edits.length]));"""
         with tempfile.TemporaryDirectory() as folder:
             name = os.path.join(folder, "play.mjs")
             with open(name, "w", encoding="utf-8") as it:
                 it.write(play)
             ran = subprocess.run([NODE, name, os.path.join(FOLDER, "pathserve.wasm"), os.path.join(TOP, "examples/skirmish.script")], capture_output=True)
         self.assertEqual(ran.returncode, 0, ran.stderr.decode())
-        script, moves, standing, found, edits = json.loads(ran.stdout)
+        script, moves, standing, finds, fields, edits = json.loads(ran.stdout)
         self.assertEqual(moves, ["added 2", "added 3", "refused bad-shape", "removed 2", "refused unknown-id", "added 5"])
         self.assertEqual((edits, [it[0] for it in standing]), (5, [1, 3]))
-        self.assert_same(script, standing, found)
+        self.assert_standing(script, standing)
+        self.assertEqual({found["kind"] for _, found in finds}, {"at-goal", "near-goal"})
+        for (ask, found), field in zip(finds, fields):
+            self.assert_same(script, ask, found, field)
 
-    def assert_same(self, script, standing, found):
-        """The plain program makes of the script what stands, and of one more turn the path."""
+    def assert_standing(self, script, standing):
+        """The plain program makes of the script what stands."""
         parsed = mapscript.Script(script.encode())
         self.assertEqual(parsed.bad, 0)
         stands = {}
@@ -101,14 +106,20 @@ console.log(JSON.stringify([live.script, moves, standing, found.path ?? found.ki
                 if post.kind in mapscript.check.EDITS:
                     mapscript.check.edited(parsed.map, stands, post.values)
         self.assertEqual([[number, mask, *square] for number, (square, mask) in stands.items()], standing)
-        ask = '{"caller":0,"path":"siege","from":["10.5","3.5"],"goal":{"point":["1.5","3.5"]}}\n'
-        more = f"{script}{ask}" + '{"end":%d}\n' % (len(parsed.turns) + 1)
-        told, status = mapscript.check.predicted(more.encode())
-        said = told.decode().splitlines()[-1].split()
-        self.assertEqual(status, 0)
-        ends = [str(found[it][k]) for it in ("start", "end") for k in "ij"]
-        ways = [f"{it['i']}.5,{it['j']}.5" for it in found["waypoints"]]
-        self.assertEqual([*said[3:7], *said[8:]], [*ends, str(found["cost"]), str(len(ways)), *ways])
+
+    def assert_same(self, script, ask, found, field):
+        """The plain program answers one more turn by the path, its smoothed waypoints and its field."""
+        (number, start, goal), path = ask, found["path"]
+        line = {"caller": 0, "path": ("infantry", "siege")[number], "from": [*map(str, start)], "goal": {"point": [*map(str, goal)]}}
+        turn = script.count('"end"') + 1
+        more = f"{script}{json.dumps(line)}\n" + '{"end":%d}\n' % turn
+        told = {word: mapscript.check.predicted(more.encode(), word)[0].decode().splitlines() for word in ("smooth", "flow")}
+        ends = [str(path[it][k]) for it in ("start", "end") for k in "ij"]
+        ways, smoothed = ([f"{it['i']}.5,{it['j']}.5" for it in path[name]] for name in ("waypoints", "smoothed"))
+        word = {"at-goal": "goal", "near-goal": "near"}[found["kind"]]
+        self.assertEqual(told["smooth"][-2].split()[2:], ["path", *ends, word, str(path["cost"]), str(len(ways)), *ways])
+        self.assertEqual(told["smooth"][-1].split()[2:], ["smooth", str(len(smoothed)), *smoothed])
+        self.assertEqual(told["flow"][-1].split(maxsplit=3)[2:], ["flow", field])
 
     @needs_browser
     def test_it_answers_in_a_browser(self):
