@@ -121,6 +121,21 @@ console.log(JSON.stringify([live.script, moves, standing, finds, told, live.edit
         self.assertEqual(told["smooth"][-1].split()[2:], ["smooth", str(len(smoothed)), *smoothed])
         self.assertEqual(told["flow"][-1].split(maxsplit=3)[2:], ["flow", field])
 
+    @unittest.skipUnless(NODE, "there is no node")
+    def test_the_picture_of_the_readme_is_what_the_page_draws(self):
+        classes = [it for name in ("infantry:0", "siege:1") for it in ("--class", name)]
+        script, _, _ = tool("tools/from_movingai.py", "--paths", "0", *classes, "examples/valley.map")
+        with tempfile.TemporaryDirectory() as folder:
+            names = [os.path.join(folder, it) for it in ("valley.script", "live.html")]
+            with open(names[0], "wb") as it:
+                it.write(script)
+            page, _, said = tool("tools/view.py", "--live", "--package", FOLDER, names[0])
+            with open(names[1], "wb") as it:
+                it.write(page)
+            ran = subprocess.run([NODE, os.path.join(TOP, "tools", "live_picture.mjs"), names[1]], capture_output=True)
+        self.assertEqual((said, ran.stderr.decode()), ("", ""))
+        self.assertEqual(ran.stdout, read("docs/pictures/live.svg"))
+
     @needs_browser
     def test_it_answers_in_a_browser(self):
         # a path along the south, a wall across it, and the path again
