@@ -17,7 +17,7 @@ from measure import bases, blobs, end, largest_area, map_line, near_pairs, path
 
 TOP = os.path.dirname(os.path.dirname(os.path.abspath(__file__)))
 TESTS = os.path.join(TOP, "tools", "tests", "library")
-FILES = ("lib/libpathserve.so.0", "lib/libpathserve.a", "windows/bin/pathserve.dll", "windows/lib/libpathserve.a", "web/pathserve/pathserve.wasm")
+FILES = ("lib/libpathserve.so.0", "lib/libpathserve.a", "windows/bin/pathserve.dll", "windows/bin/pathserve.exe", "windows/lib/libpathserve.a", "web/pathserve/pathserve.wasm")
 
 
 def script(draw, side=512):
