@@ -16,28 +16,54 @@ def cases(suite):
         yield from cases(it) if isinstance(it, unittest.TestSuite) else [it]
 
 
+class Lines(unittest.TestResult):
+    """Tells of each test in a line as it ends. What fails for a whole class, as its set-up, is a failure too."""
+
+    def __init__(self):
+        super().__init__()
+        self.passed, self.failed = 0, set()
+
+    def tell(self, kind, test, more=""):
+        print(f"{kind} {name_of(test)}{more}", flush=True)
+
+    def addSuccess(self, test):
+        self.passed += 1
+        self.tell("ok", test)
+
+    def addSkip(self, test, reason):
+        self.tell("skipped", test, f": {reason}")
+
+    def addError(self, test, error):
+        super().addError(test, error)
+        self.told_fault(test, self.errors[-1][1])
+
+    def addFailure(self, test, error):
+        super().addFailure(test, error)
+        self.told_fault(test, self.failures[-1][1])
+
+    def addSubTest(self, test, part, error):
+        super().addSubTest(test, part, error)
+        if error:
+            self.told_fault(test, (self.failures if issubclass(error[0], test.failureException) else self.errors)[-1][1])
+
+    def told_fault(self, test, text):
+        if test.id() not in self.failed:
+            self.failed.add(test.id())
+            self.tell("FAILED", test, f"\n{text}")
+
+
+def name_of(test):
+    return ".".join(test.id().split(".")[-3:])
+
+
 def main(words):
     sys.dont_write_bytecode = True
     sys.path[:0] = [TESTS, os.path.dirname(TESTS)]
-    passed = failed = 0
-    for case in cases(unittest.defaultTestLoader.discover(TESTS)):
-        name = ".".join(case.id().split(".")[-3:])
-        if words and not any(it in name for it in words):
-            continue
-        result = unittest.TestResult()
-        case.run(result)
-        faults = result.failures + result.errors
-        if faults:
-            failed += 1
-            print(f"FAILED {name}\n{faults[0][1]}")
-        elif result.skipped:
-            print(f"skipped {name}: {result.skipped[0][1]}")
-        else:
-            passed += 1
-            print(f"ok {name}")
-        sys.stdout.flush()
-    print(f"{passed} passed, {failed} failed")
-    return 1 if failed else 0
+    found = cases(unittest.defaultTestLoader.discover(TESTS))
+    result = Lines()
+    unittest.TestSuite(it for it in found if not words or any(word in name_of(it) for word in words)).run(result)
+    print(f"{result.passed} passed, {len(result.failed)} failed")
+    return 1 if result.failed else 0
 
 
 if __name__ == "__main__":

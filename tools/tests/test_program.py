@@ -74,7 +74,7 @@ class UnderWine(Program, unittest.TestCase):
 
     @classmethod
     def setUpClass(cls):
-        made = tempfile.TemporaryDirectory()
+        made = tempfile.TemporaryDirectory(ignore_cleanup_errors=True)  # (Wine may still write there)
         cls.addClassCleanup(made.cleanup)
         cls.program = os.path.join(made.name, "pathserve")
         with open(cls.program, "w", encoding="utf-8") as it:

@@ -80,7 +80,7 @@ class Library(unittest.TestCase):
 class Clients(unittest.TestCase):
     @classmethod
     def setUpClass(cls):
-        made = tempfile.TemporaryDirectory()
+        made = tempfile.TemporaryDirectory(ignore_cleanup_errors=True)  # (Wine may still write there)
         cls.addClassCleanup(made.cleanup)
         cls.folder = made.name
         cls.where = dict(os.environ, WINEPREFIX=os.path.join(cls.folder, "wine"), WINEDEBUG="-all", DISPLAY="")
