@@ -58,7 +58,7 @@ PARTS = {
         ("Callers and driver make a run of the turn machine, and what is left at the end is a journal and its replies", "path_service drivers:close", "path_service: LaneSteps StartedTurns NextTurns Deliveries ReachedServices ClosedLanes"),
     ],
     "Texts": [
-        ("The reader gives what the grammar says of each line, in its place", "script_text reader:next_turn; script_text pushed:next", "script_text: ReadWalk ReadCalls GrammarLines GrammarPosts GrammarValues"),
+        ("The reader gives what the grammar says of each line, in its place", "script_text reader:next_item; script_text pushed:next", "script_text: ReadWalk ItemReads GrammarLines GrammarPosts GrammarValues"),
         ("A bad line has a cause, and what the cause says is true", "script_text true_causes; script_text line_causes", "script_text: CauseLemmas TrueCauses StrangeKeys"),
         ("The canonical script reads back", "script_text canonical_reads_back", "script_text: BackTexts BackScript BackPosts BackMaps BackWalk"),
         ("An input is read as a script exactly where its lines are one", "match_laws scripts_are_read", "match_laws: ScriptReads ScriptLines BadLines"),

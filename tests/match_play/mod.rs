@@ -133,6 +133,12 @@ fn ended(
     }
 }
 
+/// Keeps the posts of a turn.
+fn keep(turns: &mut Journal, posts: TurnPosts) -> Result<(), NoMemory> {
+    turns.push(posts)?;
+    Ok(())
+}
+
 /// The text of a match whose turns are the posts of a script, nine at most, and the match as a script.
 fn played(alloc: Global, script: &[&str]) -> Result<(Bytes, Bytes), ScriptFault> {
     let script = joined(alloc, script)?;
@@ -145,7 +151,7 @@ fn played(alloc: Global, script: &[&str]) -> Result<(Bytes, Bytes), ScriptFault>
     for _ in 0..9u32 {
         match reader.next_item(alloc, &mut source)? {
             Some(ScriptItem::Base(rects)) => map.add_base(rects.as_slice())?,
-            Some(ScriptItem::Turn(posts)) => turns.push(posts)?,
+            Some(ScriptItem::Turn(posts)) => keep(&mut turns, posts)?,
             Some(ScriptItem::Map(_)) => return Err(ScriptFault::ReadFault),
             None => break,
         }
