@@ -166,11 +166,7 @@ fn played(alloc: Global, script: &[&str]) -> Result<(Bytes, Bytes), ScriptFault>
 }
 
 /// Whether a match by posts tells the same, and its script is answered alike by a match that is fed.
-fn is_played(
-    alloc: Global,
-    script: &[&str],
-    answers: &[&str],
-) -> Result<bool, ScriptFault> {
+fn is_played(alloc: Global, script: &[&str], answers: &[&str]) -> Result<bool, ScriptFault> {
     let (text, again) = played(alloc, script)?;
     let answers = joined(alloc, answers)?;
     let mut game = Match::open(alloc, Report::Answers);

@@ -13,8 +13,8 @@ use posts::push_some;
 use std::alloc::Global;
 use std::test::*;
 use turn_core::{
-    Answer, Answerer, Copied, Jobs, Journal, OneThread, Post, Posts, ReadyTurn, RegionAnswer, Reply,
-    Report, Request, TurnPosts, TurnReplies, answer_turn, bare_version, one_thread, solve,
+    Answer, Answerer, Copied, Jobs, Journal, OneThread, Post, Posts, ReadyTurn, RegionAnswer,
+    Reply, Report, Request, TurnPosts, TurnReplies, answer_turn, bare_version, one_thread, solve,
 };
 
 /// The goal that is a circle about a point of the row, in halves.
