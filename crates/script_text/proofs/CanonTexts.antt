@@ -158,17 +158,6 @@ two_pieces t a b z = append_assoc (t ++ a) b z ∙ append_assoc t a (b ++ z)
 pub four_pieces : (t a b c d z : List ℕ) → ((((t ++ a) ++ b) ++ c) ++ d) ++ z ≡ t ++ (a ++ (b ++ (c ++ (d ++ z))))
 four_pieces t a b c d z = two_pieces ((t ++ a) ++ b) c d z ∙ two_pieces t a b (c ++ (d ++ z))
 
-pub six_pieces : (t a b c d e f z : List ℕ) → ((((((t ++ a) ++ b) ++ c) ++ d) ++ e) ++ f) ++ z ≡ t ++ (a ++ (b ++ (c ++ (d ++ (e ++ (f ++ z))))))
-six_pieces t a b c d e f z = four_pieces ((t ++ a) ++ b) c d e f z ∙ two_pieces t a b (c ++ (d ++ (e ++ (f ++ z))))
-
-pub eight_pieces : (t a b c d e f g h z : List ℕ)
-    → ((((((((t ++ a) ++ b) ++ c) ++ d) ++ e) ++ f) ++ g) ++ h) ++ z ≡ t ++ (a ++ (b ++ (c ++ (d ++ (e ++ (f ++ (g ++ (h ++ z))))))))
-eight_pieces t a b c d e f g h z = six_pieces ((t ++ a) ++ b) c d e f g h z ∙ two_pieces t a b (c ++ (d ++ (e ++ (f ++ (g ++ (h ++ z))))))
-
--- a member with a number, the key of the next one, and what follows
-pub opened_pieces : (t a d k b r : List ℕ) → ((t ++ (a ++ (d ++ k))) ++ b) ++ r ≡ t ++ (a ++ (d ++ (k ++ (b ++ r))))
-opened_pieces t a d k b r = two_pieces t (a ++ (d ++ k)) b r ∙ ap (λ x. t ++ x) (append_assoc a (d ++ k) (b ++ r) ∙ ap (λ x. a ++ x) (append_assoc d k (b ++ r)))
-
 -- two values of an array, and what follows it
 pub pair_pieces : (x z r : List ℕ) → x ++ 44 ∷ (z ++ 93 ∷ r) ≡ (x ++ 44 ∷ (z ++ 93 ∷ [])) ++ r
 pair_pieces x z r = sym (append_assoc x (44 ∷ (z ++ 93 ∷ [])) r ∙ ap (λ y. x ++ 44 ∷ y) (append_assoc z (93 ∷ []) r))

@@ -1,17 +1,13 @@
 -- What a reader holds after a bad line has a cause.
-use Rattle.std.proofs.Common.{◌≡◌, ◌≢◌, ℕ, ◌+◌, ◌≤◌, List, [], ◌∷◌, cond, Bool, true, false, Some, None, refl, ap, sym, subst, ◌∙◌}
+use Rattle.std.proofs.Common.{◌≡◌, ◌≢◌, ℕ, ◌+◌, ◌≤◌, List, [], ◌∷◌, cond, Bool, true, false, refl, ap, sym, subst, ◌∙◌}
 use Rattle.std.specs.Prelude.{IsSome}
-use Rattle.std.specs.List.{list_all}
 use Rattle.script_text.specs.declared.faults.ScriptFault.{ScriptFault}
 use Rattle.script_text.specs.declared.faults.ScriptFault.TheVariants.{BadLine, TooLong, ReadFault, NoMemory}
 use Rattle.input_lines.specs.Lines.{IsPlain, first_line}
-use Rattle.script_text.specs.Script.{Place, Walk, bad, bad_line, counted, placed, stuck, too_long, whole_input, is_empty, is_long, accept, finish, finish_in, reading_of}
+use Rattle.script_text.specs.Script.{Place, Walk, bad, bad_line, counted, placed, stuck, too_long, is_long, accept, reading_of}
 use Rattle.script_text.specs.Reader.{HoldsBad, HoldsRefused}
-use Rattle.script_text.specs.Causes.{cause, end_cause}
-use Rattle.script_text.specs.declared.causes.Cause.TheVariants.{EndsInsideTurn}
-use Rattle.script_text.specs.declared.parts.Part.{Part}
-use Rattle.script_text.specs.declared.parts.Part.TheVariants.{BeforeMap, InBase, InTurns}
-use Rattle.input_lines.specs.Held.{HeldLine, newline_of, bytes_of, IsUsedUp, IsWholeLine}
+use Rattle.script_text.specs.Causes.{cause}
+use Rattle.input_lines.specs.Held.{HeldLine, newline_of, bytes_of, IsWholeLine}
 use Rattle.script_text.specs.inner.Judging.{IsBadAt, IsStuckBy, held_at}
 use Rattle.input_lines.proofs.FirstLines.{first_of_whole, some_held}
 use Rattle.script_text.proofs.CauseLemmas.{bad_line-cause}
@@ -53,24 +49,3 @@ pub holds_refused : (p q : Place) (h : HeldLine) (size : ℕ) (fault : ScriptFau
 holds_refused p q h size fault line same plain whole refused at =
     let Refused : List ℕ → Type 0 = λ l. IsStuckBy (accept size l p) fault in
     holds_line p q h size fault (subst IsPlain same plain) whole (subst Refused same refused) at
-
--- ---- the input has ended
-
--- the line that is missing has its number, and there is a cause
-missing_in : (part : Part) (p : Place) (n : ℕ) → finish_in part p ≡ stuck (bad_line n) → (n ≡ p.lines + 1) × IsSome (end_cause part p.posts)
-missing_in BeforeMap p n e = let ends = ap (λ (w : Walk). w.ends) e in (cc, refl)
-missing_in (InBase rules) p n e = let ends = ap (λ (w : Walk). w.ends) e in absurd (cc)
-missing_in (InTurns rules) p n e = by_empty (list_all is_empty p.posts) e
-  where
-    by_empty : (empty : Bool) → cond empty (stuck whole_input) (stuck (bad_line (p.lines + 1))) ≡ stuck (bad_line n) → (n ≡ p.lines + 1) × IsSome (cond empty None (Some EndsInsideTurn))
-    by_empty true e = let ends = ap (λ (w : Walk). w.ends) e in absurd (cc)
-    by_empty false e = let ends = ap (λ (w : Walk). w.ends) e in (cc, refl)
-
-pub holds_missing : (p : Place) (h : HeldLine) (fault : ScriptFault) → IsUsedUp h → IsStuckBy (finish p) fault → HoldsRefused (held_at p h) fault
-holds_missing p h (BadLine n) u e =
-    let m = missing_in p.part p n e in
-    let Holds : List ℕ → Type 0 = λ bytes. HoldsBad n (record { place = p; bytes = bytes; ended = h.rest.ended; over = false; failed = false }) in
-    subst Holds (sym u.nothing) (record { number = m.0; cause = m.1 })
-holds_missing p h (TooLong n) u e = tt
-holds_missing p h ReadFault u e = tt
-holds_missing p h NoMemory u e = tt

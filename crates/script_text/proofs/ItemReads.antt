@@ -1,5 +1,5 @@
 -- A source that is read item by item: what was taken is pushed, and more is taken where it gives nothing.
-use Rattle.std.proofs.Common.{◌≡◌, ℕ, ◌+◌, ◌-◌, ◌<◌, ◌≤◌, ◌==◌, ◌⊎◌, cond, eqb-true, List, [], ◌∷◌, ◌++◌, length, drop, Bool, true, false, Option, Some, None, Result, Ok, Err, IfErr, IfOk, IfSome, IsTrue, IsFalse, OnErr, OnOk, refl, ap, sym, subst, inl, inr, ◌∙◌, arith, append_assoc, length-append}
+use Rattle.std.proofs.Common.{◌≡◌, ℕ, ◌+◌, ◌-◌, ◌<◌, ◌≤◌, ◌⊎◌, List, [], ◌∷◌, ◌++◌, length, drop, Bool, true, false, Option, Some, None, Result, Ok, Err, IfErr, IfOk, IfSome, IsTrue, IsFalse, OnErr, OnOk, refl, ap, sym, subst, inl, inr, ◌∙◌, arith, append_assoc, length-append}
 use Rattle.std.specs.Prelude.{IsErrOf, is_err}
 use Rattle.std.specs.Bool.{⊤}
 use Rattle.std.proofs.lemmas.Bool.{false≢true}
@@ -8,7 +8,7 @@ use Rattle.std.proofs.lemmas.List.Elements.{All-nil}
 use Rattle.io_edges.specs.Faults.{Rose}
 use Rattle.input_lines.specs.declared.faults.LineFault.{LineFault}
 use Rattle.input_lines.specs.declared.faults.LineFault.TheVariants as no_line
-use Rattle.input_lines.specs.Lines.{first_line, full_lines, unlines, IsPlain}
+use Rattle.input_lines.specs.Lines.{full_lines, unlines, IsPlain}
 use Rattle.input_lines.specs.Held.{Taken, WhereTold}
 use Rattle.input_lines.specs.inner.Taking.{FailsToRefill, Refills, RefillAnswer}
 use Rattle.input_lines.proofs.ToldLines.{told-same, told-then, told-weaker}
@@ -16,12 +16,12 @@ use Rattle.script_text.specs.declared.faults.ScriptFault.{ScriptFault}
 use Rattle.script_text.specs.declared.faults.ScriptFault.TheVariants.{BadLine, TooLong, ReadFault, NoMemory}
 use Rattle.script_text.specs.declared.items.ScriptItem.{ScriptItem}
 use Rattle.script_text.specs.declared.parts.Rules.{Rules}
-use Rattle.script_text.specs.Causes.{cause, end_cause, next_cause, stop_cause}
-use Rattle.script_text.specs.Script.{Item, Place, arrived, chain, reading, too_long, walk}
+use Rattle.script_text.specs.Causes.{next_cause, stop_cause}
+use Rattle.script_text.specs.Script.{Item, arrived, chain, reading, too_long, walk}
 use Rattle.script_text.specs.Items.{ItemAnswers, ItemTold}
 use Rattle.script_text.specs.Pushed.{EndTold, KeepsRules, PushTold, TakenUpTo, is_refused, item_of}
-use Rattle.script_text.specs.Reader.{Held, GoesOn, HoldsRefused, HoldsTurn, LeavesHeld, ReadsWhile, Refuses, TakesFrom, TakesNoneAhead, UsesLines, WantsTurn, held_cause, taken_bytes}
-use Rattle.script_text.specs.inner.Judging.{IsApart, IsReadable, IsUsedWhere, PushRefused, PushesOn, TakenAnswers, cause_of_held, held_with}
+use Rattle.script_text.specs.Reader.{Held, GoesOn, HoldsRefused, HoldsTurn, LeavesHeld, ReadsWhile, Refuses, TakesFrom, TakesNoneAhead, UsesLines, WantsTurn, taken_bytes}
+use Rattle.script_text.specs.inner.Judging.{IsApart, IsReadable, IsUsedWhere, PushRefused, PushesOn, TakenAnswers, held_with}
 use Rattle.script_text.proofs.ReadCalls.{GoesTold, fault_then, goes_then, stuck_then, uses_then}
 use Rattle.script_text.proofs.ReadNeed.{ahead_then, given_ahead}
 use Rattle.script_text.proofs.ReadStill.{holds_line}
@@ -395,33 +395,3 @@ where_failed (Err fault) failed is went holds = holds
 pub where_went : {P : Type 0} (result : Result ⊤ LineFault) (failed : Bool) → failed ≡ is_err result → failed ≡ false → OnOk result P → P
 where_went (Ok u) failed is went holds = holds
 where_went (Err fault) failed is went holds = absurd (false≢true (sym went ∙ is))
-
--- ---- causes
-
-no_bytes : (bytes : List ℕ) → length bytes ≤ 0 → bytes ≡ []
-no_bytes [] short = refl
-no_bytes (byte ∷ bytes) short = absurd (omega (arith, short))
-
-by_count : (p : Place) (bytes : List ℕ) (test : Bool) → (length bytes == 0) ≡ test → cond test (end_cause p.part p.posts) (cause p.part (p.turns + 1) (first_line bytes)) ≡ next_cause p bytes
-by_count p bytes true e = let none : length bytes ≡ 0 = eqb-true (length bytes) 0 e in ap (next_cause p) (sym (no_bytes bytes (omega (arith, none))))
-by_count p [] false e = absurd (cc)
-by_count p (byte ∷ bytes) false e = refl
-
-next_behind : (p : Place) (bytes : List ℕ) → cause_of_held p (length bytes) (first_line bytes) ≡ next_cause p bytes
-next_behind p bytes = by_count p bytes (length bytes == 0) refl
-
--- where the script holds nothing, what stands behind it comes next
-pub cause-behind : (s : Held) (t : Taken) (count : ℕ) (line : List ℕ) → length s.bytes ≤ 0 → count ≡ length t.bytes → line ≡ first_line t.bytes → cause_of_held s.place count line ≡ next_cause s.place (s.bytes ++ t.bytes)
-cause-behind s t count line none counted first =
-    ap (λ n. cause_of_held s.place n line) counted ∙ ap (λ l. cause_of_held s.place (length t.bytes) l) first ∙ next_behind s.place t.bytes
-    ∙ ap (λ b. next_cause s.place (b ++ t.bytes)) (sym (no_bytes s.bytes none))
-
--- where it holds some, nothing stands behind it
-pub cause-apart : (s : Held) (t : Taken) → IsApart s t → 0 < length s.bytes → held_cause s ≡ next_cause s.place (s.bytes ++ t.bytes)
-cause-apart s t (inl none) some = absurd (omega (arith, some, ap length none))
-cause-apart s t (inr none) some = ap (next_cause s.place) (sym (ap (λ b. s.bytes ++ b) none ∙ append-nil s.bytes))
-
--- so many bytes may be held
-pub few_held : (s : Held) (t : Taken) → IsApart s t → length s.bytes ≤ 8388609 → length t.bytes ≤ 65536 → length s.bytes + length t.bytes ≤ 8454144
-few_held s t (inl none) short few = omega (arith, ap length none, few)
-few_held s t (inr none) short few = omega (arith, ap length none, short)

@@ -1,13 +1,10 @@
 pub mod ReadWalk
-pub mod FormKinds
-pub mod ReadSize
 pub mod ReadNext
 pub mod ReadCalls
 pub mod ReadStill
 pub mod ReadNeed
 pub mod ReadAnswers
 pub mod ItemReads
-pub mod ReadWhole
 pub mod PushedReads
 pub mod PushedEnds
 pub mod LedLines

@@ -162,12 +162,6 @@ pub have_on : (part : Part) (size : ℕ) (line : List ℕ) (p q : Place) → rul
     → GivesTurn (accept size line p) q (Ok None) → HaveLinesAt part q.posts
 have_on part size line p q same have gives rules at = accept_has size line p q rules (same ∙ at) (have rules at) gives
 
--- the end line hands out the posts before it
-pub have_all : (part : Part) (turn posts : List (List Post)) → turn ≡ posts → HaveLinesAt part posts → HaveLinesAt part turn
-have_all part turn posts same have =
-    let Has : List (List Post) → Type 0 = λ own. HaveLinesAt part own in
-    subst Has (sym same) have
-
 -- and so do places whose lines keep to the same
 pub have_by : (old now : Part) (posts : List (List Post)) → rules_at now ≡ rules_at old → HaveLinesAt old posts → HaveLinesAt now posts
 have_by old now posts same have = λ rules at. have rules (sym same ∙ at)

@@ -1,5 +1,5 @@
 -- Lines of an input that is pushed, one after another.
-use Rattle.std.proofs.Common.{◌≡◌, ◌≢◌, ℕ, ◌+◌, ◌<◌, ◌≤◌, List, [], ◌∷◌, ◌++◌, length, false, Option, Some, None, Err, IsTrue, refl, ap, sym, subst, ◌∙◌, arith, append_assoc, length-append}
+use Rattle.std.proofs.Common.{◌≡◌, ◌≢◌, ℕ, ◌+◌, List, [], ◌∷◌, ◌++◌, length, false, Option, Some, None, Err, IsTrue, refl, ap, sym, subst, ◌∙◌, arith, append_assoc, length-append}
 use Rattle.std.proofs.lemmas.Bool.{false≢true}
 use Rattle.std.proofs.lemmas.List.{append-nil}
 use Rattle.std.proofs.lemmas.List.Elements.{All-append}
@@ -18,7 +18,7 @@ use Rattle.script_text.specs.Script.{Place, Item, too_long, arrived, stuck, coun
 use Rattle.script_text.specs.Reader.{Held, GoesOn, taken_bytes}
 use Rattle.script_text.specs.Pushed.{EndsLine, PushAnswers, PushTold}
 use Rattle.script_text.specs.inner.Judging.{IsBadAt, IsStuckBy, held_at}
-use Rattle.script_text.proofs.ReadNext.{goes_line, goes_next, goes_nowhere, refuses_line, refuses_long}
+use Rattle.script_text.proofs.ReadNext.{goes_line, goes_next, refuses_line, refuses_long}
 
 abbrev pub nothing_behind : Taken
 nothing_behind = record { bytes = []; ended = false }
@@ -29,9 +29,6 @@ Pushes old new piece left items = (more : List ℕ) → GoesOn old new (piece ++
 
 not_at_end : {P : Type 0} (h : HeldLine) → h.rest ≡ nothing_behind → IsTrue h.rest.ended → P
 not_at_end h behind ended = absurd (false≢true (sym (ap (λ (r : Taken). r.ended) behind) ∙ ended))
-
-pub pushes_nowhere : (p : Place) (h : HeldLine) (x : List ℕ) → h.rest ≡ nothing_behind → Pushes (held_at p h) (held_at p h) x x []
-pushes_nowhere p h x behind = λ more. goes_nowhere (held_at p h) (x ++ more) (λ ended. not_at_end h behind ended)
 
 more_behind : (h now : HeldLine) (y z more : List ℕ) → TakesMore h now y z → TakesMore h now (y ++ more) (z ++ more)
 more_behind h now y z more t = record { taken = t.taken; took = ap (λ l. l ++ more) t.took ∙ append_assoc t.taken z more; bytes = t.bytes }
@@ -122,31 +119,6 @@ next_refused first p h now room x y z no_line.NoMemory e plain begun behind same
     let Line : HeldLine → Type 0 = λ k. Pushes first (held_at p k) x z [] in
     let Left : List ℕ → Type 0 = λ k. Pushes first (held_at p h) x k [] in
     subst Line (sym same) (subst Left (sym left) g)
-
--- ---- the line that is held whole
-
-by_end : (line_end : Option LineEnd) (line : List ℕ) (size : ℕ) → size ≡ length (line ++ (newline_of line_end ++ [])) → length line < size → (rest : Taken) → rest ≡ nothing_behind
-    → IsWholeLine (record { line = line; line_end = line_end; rest = rest }) size
-by_end None line size counted longer rest behind = absurd (omega (arith, counted, length-append line []))
-by_end (Some Newline) line size counted longer rest behind = record { ends = tt; counted = counted; some_byte = omega (arith, longer) }
-by_end (Some Input) line size counted longer rest behind = absurd (omega (arith, counted, length-append line []))
-
--- more is held than the line without its newline
-pub held_whole : (h : HeldLine) (size : ℕ) → h.rest ≡ nothing_behind → size ≡ length (bytes_of h) → length h.line < size → IsWholeLine h size
-held_whole h size behind counted longer =
-    by_end h.line_end h.line size (counted ∙ ap (λ (r : Taken). length (h.line ++ (newline_of h.line_end ++ r.bytes))) behind) longer h.rest behind
-
-by_begun : (line_end : Option LineEnd) (line : List ℕ) → length (line ++ (newline_of line_end ++ [])) ≤ length line → line ++ (newline_of line_end ++ []) ≡ line
-by_begun None line short = append-nil line
-by_begun (Some Newline) line short = absurd (omega (arith, short, length-append line (10 ∷ [])))
-by_begun (Some Input) line short = append-nil line
-
--- no more is held than the line without a newline
-pub held_begun : (h : HeldLine) → h.rest ≡ nothing_behind → length (bytes_of h) ≤ length h.line → bytes_of h ≡ h.line
-held_begun h behind short =
-    let same : bytes_of h ≡ h.line ++ (newline_of h.line_end ++ []) = ap (λ (r : Taken). h.line ++ (newline_of h.line_end ++ r.bytes)) behind in
-    let Short : List ℕ → Type 0 = λ l. length l ≤ length h.line in
-    same ∙ by_begun h.line_end h.line (subst Short same short)
 
 -- ---- how many bytes were taken
 

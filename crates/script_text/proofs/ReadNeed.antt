@@ -1,41 +1,18 @@
 -- Nothing is read ahead: each read is made where no newline is held, and so where the call wants more.
-use Rattle.std.proofs.Common.{◌≡◌, ℕ, ◌⊎◌, List, [], ◌++◌, Option, Some, None, Ok, IsTrue, refl, ap, sym, subst, inl, inr, ◌∙◌, append_assoc}
+use Rattle.std.proofs.Common.{◌≡◌, ℕ, ◌⊎◌, List, [], ◌++◌, Option, Some, None, IsTrue, refl, ap, sym, subst, inl, inr, ◌∙◌, append_assoc}
 use Rattle.std.proofs.lemmas.Bool.{false≢true}
 use Rattle.io_edges.specs.Passing.{HasGiven}
-use Rattle.posts.specs.Maps.{Map}
 use Rattle.input_lines.specs.Lines.{full_lines, unlines}
-use Rattle.input_lines.specs.Held.{WhereTold, ReadsByNeed, ReadsByNeedTold, HeldLine, bytes_of}
-use Rattle.input_lines.proofs.LineLists.{full_lines-plain, full_lines-behind}
-use Rattle.input_lines.proofs.ToldLines.{told-same, told-weaker}
-use Rattle.script_text.specs.declared.parts.Rules.{Rules}
-use Rattle.script_text.specs.declared.parts.Part.TheVariants.{InBase}
-use Rattle.script_text.specs.Script.{Place, Item, Walk, arrived, beginning, chain, walk}
-use Rattle.script_text.specs.Reader.{Held, GoesOn, IsOfMap, MapTold, ReadsWhile, TakesNoneAhead, WantsMap, WantsTurn}
-use Rattle.script_text.specs.inner.Judging.{held_at}
-use Rattle.script_text.proofs.ReadCalls.{AddsTold, GoesTold}
+use Rattle.input_lines.specs.Held.{WhereTold}
+use Rattle.input_lines.proofs.LineLists.{full_lines-behind}
+use Rattle.input_lines.proofs.ToldLines.{told-same}
+use Rattle.script_text.specs.Script.{Item, Walk, arrived, chain, walk}
+use Rattle.script_text.specs.Reader.{Held, GoesOn, ReadsWhile, TakesNoneAhead}
 use Rattle.script_text.proofs.ReadNext.{not_ended}
 use Rattle.script_text.proofs.ReadWalk.{walk-append}
 
 pub ahead-none : (Wants : Walk → Type 0) (old : Held) (left : Option (List ℕ)) → TakesNoneAhead Wants old left left
 ahead-none Wants old left = told-same left _ (λ x. inl refl)
-
--- ---- the next line
-
-line_by : (Wants : Walk → Type 0) (p : Place) (h : HeldLine) (y z : List ℕ) → Wants (arrived [] p) → ReadsByNeed (bytes_of h) h.rest.ended y z → (y ≡ z) ⊎ ReadsWhile Wants (held_at p h) y z
-line_by Wants p h y z wants (inl e) = inl e
-line_by Wants p h y z wants (inr r) =
-    let After : List (List ℕ) → Type 0 = λ lines. Wants (walk lines p) in
-    inr (record {
-      earlier = r.earlier;
-      piece = r.piece;
-      took = r.took;
-      few = r.few;
-      going = r.going;
-      wants = subst After (sym (full_lines-plain (bytes_of h ++ r.earlier) r.plain)) wants;
-    })
-
-pub ahead_line : (Wants : Walk → Type 0) (p : Place) (h : HeldLine) (b c : Option (List ℕ)) → Wants (arrived [] p) → ReadsByNeedTold (bytes_of h) h.rest.ended b c → TakesNoneAhead Wants (held_at p h) b c
-ahead_line Wants p h b c wants = told-weaker b c _ _ (λ y z reads. line_by Wants p h y z wants reads)
 
 -- ---- lines one after another
 
@@ -76,30 +53,6 @@ ahead_then Wants old new None b c stays leads before next = tt
 ahead_then Wants old new (Some x) None c stays leads before next = absurd leads
 ahead_then Wants old new (Some x) (Some y) None stays leads before next = absurd next
 ahead_then Wants old new (Some x) (Some y) (Some z) stays leads before next = then_by Wants old new x y z stays leads before next
-
--- the next line of a turn
-pub ahead_on : (old : Held) (p : Place) (h : HeldLine) (a b c : Option (List ℕ)) → (IsTrue old.ended → IsTrue h.rest.ended) → GoesTold old (held_at p h) a b → TakesNoneAhead WantsTurn old a b
-    → ReadsByNeedTold (bytes_of h) h.rest.ended b c → TakesNoneAhead WantsTurn old a c
-ahead_on old p h a b c stays told before next =
-    ahead_then WantsTurn old (held_at p h) a b c stays (told-weaker a b _ _ (λ x y goes end. record { items = []; on = goes end; wants = λ w wants. wants }) told) before
-    (ahead_line WantsTurn p h b c (p, refl) next)
-
--- the first line of the map
-pub ahead_first : (p : Place) (h : HeldLine) (b c : Option (List ℕ)) → p ≡ beginning → ReadsByNeedTold (bytes_of h) h.rest.ended b c → TakesNoneAhead WantsMap (held_at p h) b c
-ahead_first p h b c first next = let At : Place → Type 0 = λ q. IsOfMap q.part in ahead_line WantsMap p h b c (subst At (sym first) tt) next
-
--- the next base line
-pub ahead_base : (old : Held) (p : Place) (h : HeldLine) (rules : Rules) (m now : Map) (a b c : Option (List ℕ)) → p.part ≡ InBase rules → (IsTrue old.ended → IsTrue h.rest.ended)
-    → AddsTold old (held_at p h) m now a b → TakesNoneAhead WantsMap old a b → ReadsByNeedTold (bytes_of h) h.rest.ended b c → TakesNoneAhead WantsMap old a c
-ahead_base old p h rules m now a b c part stays told before next =
-    ahead_then WantsMap old (held_at p h) a b c stays (told-weaker a b _ _ (λ x y adds end. record { items = (adds end).items; on = (adds end).on; wants = λ w wants. wants }) told) before
-    (ahead_line WantsMap p h b c (subst IsOfMap (sym part) tt) next)
-
--- base lines behind the map line
-pub ahead_map : (old new : Held) (m : Map) (a b c : Option (List ℕ)) → (IsTrue old.ended → IsTrue new.ended) → MapTold old new a b (Ok m) → TakesNoneAhead WantsMap old a b → TakesNoneAhead WantsMap new b c
-    → TakesNoneAhead WantsMap old a c
-ahead_map old new m a b c stays told before next =
-    ahead_then WantsMap old new a b c stays (told-weaker a b _ _ (λ x y gives end. record { items = (gives end).items; on = (gives end).on; wants = λ w wants. wants }) told) before next
 
 -- ---- what the source gave
 

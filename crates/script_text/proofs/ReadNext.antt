@@ -1,22 +1,19 @@
 -- Lines of an input that tells its bytes, one after another.
-use Rattle.std.proofs.Common.{◌≡◌, ℕ, ◌+◌, ◌<◌, ◌≤◌, ◌⊎◌, List, [], ◌∷◌, ◌++◌, length, Bool, true, false, Option, Some, None, Err, IsTrue, IsFalse, refl, ap, sym, inl, inr, ◌∙◌, arith, append_assoc, length-append}
+use Rattle.std.proofs.Common.{◌≡◌, ℕ, ◌+◌, ◌<◌, ◌≤◌, ◌⊎◌, List, [], ◌∷◌, ◌++◌, length, Bool, true, false, Option, Some, None, IsTrue, IsFalse, refl, ap, sym, inl, inr, ◌∙◌, arith, append_assoc, length-append}
 use Rattle.std.proofs.lemmas.List.{append-nil}
 use Rattle.std.proofs.lemmas.List.Elements.{All-nil, All-push}
 use Rattle.std.proofs.lemmas.Bool.{false≢true}
-use Rattle.input_lines.specs.declared.faults.LineFault.{LineFault}
-use Rattle.input_lines.specs.declared.faults.LineFault.TheVariants as no_line
-use Rattle.script_text.specs.Faults.{script_fault}
 use Rattle.script_text.specs.declared.faults.ScriptFault.{ScriptFault}
 use Rattle.script_text.specs.declared.faults.ScriptFault.TheVariants.{BadLine, TooLong, ReadFault, NoMemory}
 use Rattle.input_lines.specs.declared.intake.LineEnd.{LineEnd}
 use Rattle.input_lines.specs.declared.intake.LineEnd.TheVariants.{Newline, Input}
-use Rattle.input_lines.specs.Lines.{full_lines, unlines, IsPlain}
+use Rattle.input_lines.specs.Lines.{unlines, IsPlain}
 use Rattle.script_text.specs.Script.{Place, Item, Walk, Stop, too_long, bad_line, arrived, stuck, chain, counted, accept, finish, reading}
 use Rattle.script_text.specs.Causes.{next_cause, stop_cause}
-use Rattle.script_text.specs.Reader.{Held, UsesLines, GoesOn, StopsAtFault, StopsAtBad, Refuses, stuck_after}
-use Rattle.input_lines.specs.Held.{Taken, HeldLine, newline_of, bytes_of, HasEnd, IsWholeLine, IsUsedUp, TakesMore, TakesNext, IsPastLimit, BreaksOff, NextAnswer, after_line}
+use Rattle.script_text.specs.Reader.{Held, UsesLines, GoesOn, StopsAtBad, Refuses, stuck_after}
+use Rattle.input_lines.specs.Held.{Taken, HeldLine, newline_of, bytes_of, HasEnd, IsWholeLine, TakesMore, TakesNext, IsPastLimit, after_line}
 use Rattle.script_text.specs.inner.Judging.{IsBadAt, IsStuckBy, held_at}
-use Rattle.input_lines.proofs.LineLists.{full_lines-plain, unlines-push}
+use Rattle.input_lines.proofs.LineLists.{unlines-push}
 use Rattle.script_text.proofs.StopCauses.{next_cause-whole, stop_cause-used, stop_cause-stuck}
 use Rattle.script_text.proofs.ReadWalk.{line_at, walk-push, reading-line, reading-tail, reading-long, last_line-some}
 
@@ -163,36 +160,3 @@ refuses_long old p h now room x y z items e plain g t long =
     let bytes : bytes_of now ++ z ≡ now.line ++ behind = append_assoc now.line (newline_of now.line_end ++ now.rest.bytes) z in
     let stops : reading (bytes_of now ++ z) p ≡ stuck (too_long (p.lines + 1)) = ap (λ l. reading l p) bytes ∙ reading-long now.line behind p (omega arith) plain (past_limit p now room e long) in
     same_more old p h now x y z items g t ∙ ap (λ v. chain (arrived items p) (λ r. v)) stops ∙ chain-arrived_stuck items p (too_long (p.lines + 1))
-
-breaks_off : (old : Held) (p : Place) (h now : HeldLine) (x y z : List ℕ) (items : List Item) → (IsTrue old.ended → IsTrue h.rest.ended) → IsPlain now.line → GoesOn old (held_at p h) x y items
-    → TakesMore h now y z → BreaksOff h now → StopsAtFault old (held_at p now) x z items
-breaks_off old p h now x y z items stays plain g t b = record {
-  going = not_ended old.ended h.rest.ended stays b.going;
-  taken = g.taken ++ t.taken;
-  took = took_more x y z g.taken t.taken g.took t.took;
-  used = uses_more old p h now g.taken t.taken items t.bytes (g.used b.going);
-  no_line = ap full_lines b.no_line ∙ full_lines-plain now.line plain;
-}
-
--- no next line came
-pub refuses_next : (old : Held) (p : Place) (h now : HeldLine) (room : ℕ) (x y z : List ℕ) (items : List Item) (fault : LineFault) → room + p.bytes ≡ 4294967296 → (IsTrue old.ended → IsTrue h.rest.ended)
-    → IsPlain now.line → GoesOn old (held_at p h) x y items → NextAnswer h now room (Err fault) y z → Refuses old (held_at p now) x z items (script_fault (p.lines + 1) fault)
-refuses_next old p h now room x y z items no_line.TooLong e stays plain g a = refuses_long old p h now room x y z items e plain g a.0 a.1
-refuses_next old p h now room x y z items no_line.ReadFault e stays plain g a = breaks_off old p h now x y z items stays plain g a.0 a.1
-refuses_next old p h now room x y z items no_line.NoMemory e stays plain g a = tt
-
--- ---- the end of the input
-
-pub reading-used_up : (old : Held) (p : Place) (h : HeldLine) (x z : List ℕ) (items : List Item) → IsUsedUp h → GoesOn old (held_at p h) x z items
-    → reading (old.bytes ++ x) old.place ≡ chain (arrived items p) (λ r. finish p)
-reading-used_up old p h x z items u g =
-    let nothing : bytes_of h ++ z ≡ [] = ap (λ l. l ++ z) u.nothing ∙ g.at_end u.ended in
-    g.same ∙ ap (λ l. chain (arrived items p) (reading l)) nothing
-
--- the end is bad
-pub stops_at_end : (old : Held) (p : Place) (h : HeldLine) (x z : List ℕ) (items : List Item) (n : ℕ) → IsUsedUp h → finish p ≡ stuck (bad_line n) → GoesOn old (held_at p h) x z items
-    → StopsAtBad old (held_at p h) x items n
-stops_at_end old p h x z items n u e g = record {
-  stuck = reading-used_up old p h x z items u g ∙ ap (λ w. chain (arrived items p) (λ r. w)) e ∙ chain-arrived_stuck items p (bad_line n);
-  cause = g.cause ∙ ap (λ l. stop_cause l p) (ap (λ l. l ++ z) u.nothing ∙ g.at_end u.ended) ∙ ap (next_cause p) (sym u.nothing);
-}

@@ -55,15 +55,6 @@ unknown-entries (object ms) es is =
     let same : ms ≡ members_view es = cc in
     found_key es ∙ ap (λ m. find is_unknown (form.keys_of m)) (sym same)
 
-pub unknown-none : (d : Data) → None ≡ as_object d → None ≡ unknown_key d
-unfolding unknown_key
-unknown-none null is = refl
-unknown-none (boolean b) is = refl
-unknown-none (number n) is = refl
-unknown-none (string s) is = refl
-unknown-none (array ds) is = refl
-unknown-none (object ms) is = absurd (cc)
-
 mapped-passes : (ks : List (String Global)) (name : List ℕ) → Some name ≡ option_map string_bytes (find (λ key. is_unknown (string_bytes key)) ks) → is_unknown name ≡ true
 mapped-passes [] name e = absurd (cc)
 mapped-passes (k ∷ ks) name e = by_test (is_unknown (string_bytes k)) refl (mapped-passes ks name) e

@@ -1,22 +1,21 @@
 -- What a reader holds, and how its calls go through an input.
-use Rattle.std.specs.Prelude.{ℕ, ◌≡◌, ◌≢◌, ◌+◌, ◌≤◌, ◌⊎◌, List, [], ◌∷◌, ◌++◌, length, Bool, true, false, All, IfErr, IsErrOf, IsFalse, IsTrue, IsSome, Option, Some, None, Result, Ok, Err, is_err, ⊤}
+use Rattle.std.specs.Prelude.{ℕ, ◌≡◌, ◌≢◌, ◌+◌, ◌≤◌, ◌⊎◌, List, [], ◌++◌, length, Bool, true, false, All, IfErr, IsErrOf, IsFalse, IsTrue, IsSome, Option, Some, None, Result, Ok, Err, is_err, ⊤}
 use Rattle.nav_types.specs.declared.limits.TheConstants.{MAX_INPUT_BYTES}
 use Rattle.io_edges.specs.Faults.{Rose}
 use Rattle.io_edges.specs.Passing.{HasGiven}
 use Rattle.posts.specs.declared.posts.Post.{Post}
-use Rattle.posts.specs.Maps.{Map}
 use Rattle.input_lines.specs.declared.intake.TheConstants.{READ_SIZE}
 use Rattle.input_lines.specs.Held.{WhereTold}
 use Rattle.script_text.specs.declared.faults.ScriptFault.{ScriptFault}
 use Rattle.script_text.specs.declared.faults.ScriptFault.TheVariants.{BadLine, TooLong, ReadFault, NoMemory}
-use Rattle.input_lines.specs.Lines.{first_line, full_lines, unlines, IsPlain}
+use Rattle.input_lines.specs.Lines.{full_lines, unlines, IsPlain}
 use Rattle.script_text.specs.declared.parts.Rules.{Rules}
 use Rattle.script_text.specs.declared.parts.Part.{Part}
 use Rattle.script_text.specs.declared.parts.Part.TheVariants.{BeforeMap, InBase, InTurns}
 use Rattle.script_text.specs.declared.causes.Cause.{Cause}
 use Rattle.script_text.specs.Causes.{next_cause, stop_cause, bad_number}
 use Rattle.script_text.specs.Canon.{HaveLines}
-use Rattle.script_text.specs.Script.{Place, beginning, Item, ends_turn, Ends, at_place, Stop, whole_input, too_long, bad_line, stuck_by, Walk, arrived, stuck, chain, map_after, turns_of, walk, reading}
+use Rattle.script_text.specs.Script.{Place, beginning, Item, Stop, whole_input, too_long, bad_line, stuck_by, Walk, arrived, stuck, chain, walk, reading}
 
 -- The place that the reading has come to, the bytes taken that no line has used yet, whether the end of the input was
 -- met, whether no call may follow, and whether the reader has failed.
@@ -107,45 +106,6 @@ Refuses old new before after items (TooLong n) = reading (old.bytes ++ before) o
 Refuses old new before after items ReadFault = StopsAtFault old new before after items
 Refuses old new before after items NoMemory = ⊤
 
--- the lines used give the map, and no turn
-pub record GivesMap (old new : Held) (before after : List ℕ) (m : Map) : Type 0 where
-  pub items : List Item
-  pub on : GoesOn old new before after items
-  pub map : map_after None items ≡ Some m
-  pub no_turn : turns_of items ≡ []
-
--- a refusal came before the map was whole
-pub record RefusesMap (old new : Held) (before after : List ℕ) (fault : ScriptFault) : Type 0 where
-  pub items : List Item
-  pub refused : Refuses old new before after items fault
-  pub no_turn : turns_of items ≡ []
-
--- what an answer with a map, or without, says of an input that tells its bytes; of bad lines only the first is named
-abbrev pub MapAnswers : Held → Held → Result Map ScriptFault → List ℕ → List ℕ → Type 0
-MapAnswers old new (Ok m) before after = GivesMap old new before after m
-MapAnswers old new (Err (BadLine n)) before after = (n ≡ 1) × StopsAtBad old new before [] n
-MapAnswers old new (Err (TooLong n)) before after = RefusesMap old new before after (TooLong n)
-MapAnswers old new (Err ReadFault) before after = RefusesMap old new before after ReadFault
-MapAnswers old new (Err NoMemory) before after = ⊤
-
--- what an answer with a turn, or without, says of an input that tells its bytes
-abbrev pub TurnAnswers : Held → Held → Result (Option (List (List Post))) ScriptFault → List ℕ → List ℕ → Type 0
-TurnAnswers old new (Ok (Some posts)) before after = GoesOn old new before after (ends_turn posts ∷ [])
-TurnAnswers old new (Ok None) before after = IsRead old before after
-TurnAnswers old new (Err fault) before after = Refuses old new before after [] fault
-
--- the same for any source, where it tells its bytes; a reader that has met the end finds nothing left
-abbrev pub MapTold : Held → Held → Option (List ℕ) → Option (List ℕ) → Result Map ScriptFault → Type 0
-MapTold old new left later result = WhereTold left later (λ before after. (IsTrue old.ended → before ≡ []) → MapAnswers old new result before after)
-
-abbrev pub TurnTold : Held → Held → Option (List ℕ) → Option (List ℕ) → Result (Option (List (List Post))) ScriptFault → Type 0
-TurnTold old new left later result = WhereTold left later (λ before after. (IsTrue old.ended → before ≡ []) → TurnAnswers old new result before after)
-
--- No line behind those used adds to the map: the whole input gives the same one.
-abbrev pub IsWholeMap : Held → Option (List ℕ) → Map → Type 0
-IsWholeMap old None m = ⊤
-IsWholeMap old (Some before) m = (IsTrue old.ended → before ≡ []) → map_after None (reading (old.bytes ++ before) old.place).items ≡ Some m
-
 -- The last read of a call took a piece, at most as much as one read takes, before the end of the input was met, and the lines
 -- of what was held with what was taken earlier left the call wanting more.
 pub record ReadsWhile (Wants : Walk → Type 0) (old : Held) (before after : List ℕ) : Type 0 where
@@ -163,25 +123,6 @@ TakesNoneAhead Wants old left later = WhereTold left later (λ before after. (be
 -- more is wanted for a turn: the lines neither end one nor stop the input
 abbrev pub WantsTurn : Walk → Type 0
 WantsTurn w = (place : Place) × (w ≡ arrived [] place)
-
--- a part of the script before its turns
-abbrev pub IsOfMap : Part → Type 0
-IsOfMap BeforeMap = ⊤
-IsOfMap (InBase rules) = ⊤
-IsOfMap (InTurns rules) = ⊥
-
--- a walk arrives before the turns
-abbrev pub EndsInMap : Ends → Type 0
-EndsInMap (at_place place) = IsOfMap place.part
-EndsInMap (stuck_by stop) = ⊥
-
--- more is wanted for the map: the lines are of the map alone, and do not stop the input
-abbrev pub WantsMap : Walk → Type 0
-WantsMap w = EndsInMap w.ends
-
--- behind the first line that is held stands at most as much as one read takes
-abbrev pub HoldsFew : List ℕ → Type 0
-HoldsFew bytes = length bytes ≤ length (first_line bytes) + 1 + READ_SIZE
 
 -- no call follows an answer without a turn, or without an item
 abbrev pub is_last : {A : Type 0} → Result (Option A) ScriptFault → Bool

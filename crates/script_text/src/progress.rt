@@ -1,5 +1,5 @@
 //! How far a script was read, and what its next line gives.
-ghost use Rattle.std.specs.Prelude.{◌≡◌, ◌+◌, ◌≤◌, ◌<◌, ◌∷◌, [], length, ℕ, All, IfErr, IfOk, IfSome, IsFalse, IsSome, IsErrOf, OnOk};
+ghost use Rattle.std.specs.Prelude.{◌≡◌, ◌+◌, ◌≤◌, ◌<◌, ◌∷◌, [], length, All, IfErr, IfOk, IfSome, IsFalse, IsSome, IsErrOf, OnOk};
 ghost use Rattle.std.specs.Prelude.{OnErr, option_and_then, option_map, Some};
 ghost use Rattle.std.specs.List.{list_all};
 ghost use Rattle.serde_json.specs.View.{view};
@@ -57,7 +57,7 @@ impl Progress {
     ghost use Rattle.script_text.specs.Causes.{end_cause};
     ghost use Rattle.script_text.specs.inner.Judging.{cause_of_held};
     ghost use Rattle.script_text.specs.inner.Judging.{AddsBase, BeginsMap, CountsPosts, GivesItem, GivesTurn, IsBadAt, IsBase};
-    ghost use Rattle.script_text.specs.inner.Judging.{HasFewerPosts, IsInTurns, IsInsideAt, IsNoBaseAt, IsObject, Stops};
+    ghost use Rattle.script_text.specs.inner.Judging.{HasFewerPosts, IsInTurns, IsInsideAt, IsNoBaseAt, Stops};
 
     /// Nothing is read yet.
     pub fn new(alloc: Global) -> Progress
@@ -92,7 +92,6 @@ impl Progress {
         ensures begins { BeginsMap (accept size line.now self.old) self.new result }
         ensures part { IfOk result (λ map. self.new.part ≡ Part.InBase (rules_of map)) }
         ensures posts { OnOk result (post_count self.new.posts ≡ 0) }
-        ensures number { IfErr result (λ fault. (n : ℕ) → fault ≡ ScriptFault.BadLine n → n ≡ self.old.lines + 1) }
         ensures limit { self.new.bytes ≤ MAX_INPUT_BYTES }
         ensures bad { IfErr result (IsBadAt self.new (counted self.old size)) }
         ensures used { OnOk result (self.new.bytes ≡ self.old.bytes + size) }
@@ -173,9 +172,7 @@ impl Progress {
         ensures gives { GivesTurn (accept size line.now self.old) self.new result }
         ensures used { OnOk result (self.new.bytes ≡ self.old.bytes + size) }
         ensures rules { rules_at self.new.part ≡ rules_at self.old.part }
-        ensures part { OnOk result (IsInTurns self.new.part) }
         ensures limit { self.new.bytes ≤ MAX_INPUT_BYTES }
-        ensures two_bytes { OnOk result (2 ≤ length line.now) }
         ensures counts { IfOk result (CountsPosts self.old.posts self.new.posts) }
         ensures lists { IfOk result (λ next. IfSome next (λ turn. length turn ≡ callers_of self.old.part)) }
         ensures bad { IfErr result (IsBadAt self.new (counted self.old size)) }
@@ -352,8 +349,6 @@ impl Progress {
         ensures limit { self.new.bytes ≤ MAX_INPUT_BYTES }
         ensures memory { IsErrOf result ScriptFault.NoMemory → self.new ≡ self.old }
         ensures rules { rules_at self.new.part ≡ rules_at self.old.part }
-        ensures part { OnOk result (IsInTurns self.new.part) }
-        ensures object { OnOk result (IsObject (view value.now)) }
         ensures counts { IfOk result (CountsPosts self.old.posts self.new.posts) }
         ensures lists { IfOk result (λ next. IfSome next (λ turn. length turn ≡ callers_of self.old.part)) }
         ensures bad { IfErr result (IsBadAt self.new (counted self.old size)) }
@@ -411,8 +406,6 @@ impl Progress {
         ensures limit { self.new.bytes ≤ MAX_INPUT_BYTES }
         ensures memory { IsErrOf result ScriptFault.NoMemory → self.new ≡ self.old }
         ensures rules { rules_at self.new.part ≡ rules_at self.old.part }
-        ensures part { OnOk result (IsInTurns self.new.part) }
-        ensures number { OnOk result (IsSome number) }
         ensures counts { IfOk result (CountsPosts self.old.posts self.new.posts) }
         ensures lists { IfOk result (λ next. IfSome next (λ turn. length turn ≡ rules.callers)) }
         ensures bad { IfErr result (IsBadAt self.new (counted self.old size)) }

@@ -1,7 +1,7 @@
 -- What a line gives in its place, as the answers to it say.
-use Rattle.std.specs.Prelude.{ℕ, ◌≡◌, ◌+◌, ◌≤◌, ◌==◌, ◌++◌, ◌⊎◌, if◌then◌else◌, List, [], ◌∷◌, length, Bool, true, false, All, IsFalse, IsTrue, Option, Some, None, option_and_then, Result, Ok, Err, ⊤}
+use Rattle.std.specs.Prelude.{ℕ, ◌≡◌, ◌+◌, ◌≤◌, ◌==◌, ◌++◌, ◌⊎◌, if◌then◌else◌, List, [], ◌∷◌, length, Bool, false, All, IsFalse, IsTrue, Option, Some, None, option_and_then, Result, Ok, Err, ⊤}
 use Rattle.posts.specs.declared.posts.Post.{Post}
-use Rattle.posts.specs.Maps.{Map, with_base}
+use Rattle.posts.specs.Maps.{Map}
 use Rattle.posts.specs.Posts.{post_count}
 use Rattle.script_text.specs.declared.faults.ScriptFault.{ScriptFault}
 use Rattle.script_text.specs.declared.faults.ScriptFault.TheVariants.{BadLine, TooLong, ReadFault, NoMemory}
@@ -9,19 +9,18 @@ use Rattle.nav_types.specs.declared.cells.Rect.{Rect}
 use Rattle.nav_types.specs.declared.cells.Size.{Size}
 use Rattle.nav_types.specs.Cells.{IsRectInside}
 use Rattle.nav_types.specs.declared.limits.TheConstants.{MAX_INPUT_BYTES}
-use Rattle.serde_json.specs.Data.{Data, null, boolean, number, string, array, object}
 use Rattle.script_text.specs.Forms.{base_of}
 use Rattle.script_text.specs.declared.parts.Part.{Part}
 use Rattle.script_text.specs.declared.parts.Part.TheVariants.{BeforeMap, InBase, InTurns}
-use Rattle.script_text.specs.Script.{Place, Item, Walk, begins, adds_base, ends_turn, whole_input, too_long, bad_line, arrived, stuck, map_after, turns_of, reading_of, is_long, accept, reading}
+use Rattle.script_text.specs.Script.{Place, Walk, begins, adds_base, ends_turn, whole_input, too_long, bad_line, arrived, stuck, reading_of, is_long, accept, reading}
 use Rattle.script_text.specs.declared.items.ScriptItem.{ScriptItem}
 use Rattle.script_text.specs.declared.items.ScriptItem.TheVariants.{Turn}
 use Rattle.script_text.specs.declared.causes.Cause.{Cause}
 use Rattle.script_text.specs.Causes.{cause, end_cause}
 use Rattle.script_text.specs.Pushed.{item_of}
-use Rattle.script_text.specs.Reader.{Held, GoesOn, HaveLinesAt, HoldsRefused, RefusesMap, StopsAtBad, callers_of, taken_bytes}
-use Rattle.input_lines.specs.Held.{WhereTold, HeldLine, HasEnd, Taken, bytes_of, after_line}
-use Rattle.input_lines.specs.Lines.{IsPlain, full_lines}
+use Rattle.script_text.specs.Reader.{Held, GoesOn, HaveLinesAt, HoldsRefused, StopsAtBad, callers_of, taken_bytes}
+use Rattle.input_lines.specs.Held.{HeldLine, Taken, bytes_of}
+use Rattle.input_lines.specs.Lines.{full_lines}
 
 -- base lines may stand here
 abbrev pub IsBase : Part → Type 0
@@ -103,78 +102,10 @@ AddsBase old new size line (Err NoMemory) = ⊤
 AddsBase old new size line (Err ReadFault) = ⊥
 AddsBase old new size line (Err (BadLine n)) = ⊥
 
--- the line that is held was used as a base line
-pub record UsesBase (old new : Place) (m now : Map) (h after : HeldLine) (size : ℕ) : Type 0 where
-  pub rects : List (Rect × ℕ)
-  pub adds : accept size h.line old ≡ arrived (adds_base rects ∷ []) new
-  pub map : now ≡ with_base m rects
-  pub line : after ≡ after_line h
-
--- the line that is held is no base line, and nothing changed
-pub record KeepsLine (old new : Place) (m now : Map) (h after : HeldLine) (size : ℕ) : Type 0 where
-  pub line : LeavesLine old new size h.line
-  pub map : now ≡ m
-  pub same : after ≡ h
-
--- whether the line that is held was used as a base line
-abbrev pub TakesBase : Place → Place → Map → Map → HeldLine → HeldLine → ℕ → Result Bool ScriptFault → Type 0
-TakesBase old new m now h after size (Ok true) = UsesBase old new m now h after size
-TakesBase old new m now h after size (Ok false) = KeepsLine old new m now h after size
-TakesBase old new m now h after size (Err (TooLong n)) = accept size h.line old ≡ stuck (too_long n)
-TakesBase old new m now h after size (Err NoMemory) = ⊤
-TakesBase old new m now h after size (Err ReadFault) = ⊥
-TakesBase old new m now h after size (Err (BadLine n)) = ⊥
-
--- the lines used add base rectangles to the map
-pub record AddsToMap (old new : Held) (before after : List ℕ) (m now : Map) : Type 0 where
-  pub items : List Item
-  pub on : GoesOn old new before after items
-  pub map : map_after (Some m) items ≡ Some now
-  pub no_turn : turns_of items ≡ []
-
--- what an answer to base lines says of an input that tells its bytes
-abbrev pub BaseAnswers : Held → Held → Map → Map → Result ⊤ ScriptFault → List ℕ → List ℕ → Type 0
-BaseAnswers old new m now (Ok u) before after = AddsToMap old new before after m now
-BaseAnswers old new m now (Err (TooLong n)) before after = RefusesMap old new before after (TooLong n)
-BaseAnswers old new m now (Err ReadFault) before after = RefusesMap old new before after ReadFault
-BaseAnswers old new m now (Err NoMemory) before after = ⊤
-BaseAnswers old new m now (Err (BadLine n)) before after = ⊥
-
-abbrev pub BaseTold : Held → Held → Map → Map → Option (List ℕ) → Option (List ℕ) → Result ⊤ ScriptFault → Type 0
-BaseTold old new m now left later result = WhereTold left later (λ before after. (IsTrue old.ended → before ≡ []) → BaseAnswers old new m now result before after)
-
--- the reading is an object
-abbrev pub IsObject : Data → Type 0
-IsObject null = ⊥
-IsObject (boolean b) = ⊥
-IsObject (number n) = ⊥
-IsObject (string s) = ⊥
-IsObject (array ds) = ⊥
-IsObject (object ms) = ⊤
-
 -- a post came to the posts of the turn; or the turn has them all, and none is left
 abbrev pub CountsPosts : List (List Post) → List (List Post) → Option (List (List Post)) → Type 0
 CountsPosts old new None = post_count new ≡ post_count old + 1
 CountsPosts old new (Some posts) = (posts ≡ old) × (post_count new ≡ 0)
-
--- the line that is held is whole, and no base line on a map of this size
-pub record HoldsNoBase (size : Size) (h : HeldLine) : Type 0 where
-  pub ends : HasEnd h.line_end h.rest
-  pub plain : IsPlain h.line
-  pub no_base : IsNoBaseLine size h.line
-
--- the same, where base lines may stand
-abbrev pub IsNoBaseNext : Part → HeldLine → Type 0
-IsNoBaseNext BeforeMap h = ⊤
-IsNoBaseNext (InBase rules) h = HoldsNoBase rules.size h
-IsNoBaseNext (InTurns rules) h = ⊤
-
--- A reader that may be called: no turn has begun, and either nothing of a line is held or the line is whole. Where base
--- lines may stand, the line that is held is none.
-pub record IsBetweenTurns (p : Place) (h : HeldLine) : Type 0 where
-  pub no_post : post_count p.posts ≡ 0
-  pub between : h.line_end ≡ None → h.line ≡ []
-  pub no_base : IsNoBaseNext p.part h
 
 -- what a reader holds at a place, with the line that it holds
 abbrev pub held_at : Place → HeldLine → Held
