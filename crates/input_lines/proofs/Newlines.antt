@@ -1,14 +1,12 @@
 -- Bytes up to a newline, and the part of a buffer that is held.
 use Rattle.std.proofs.Common.{◌≡◌, ◌≢◌, ℕ, ◌+◌, ◌<◌, ◌≤◌, ◌==◌, ◌⊎◌, List, [], ◌∷◌, ◌++◌, length, take, drop, get_or, cond, ltb, Bool, true, false, Option, Some, None, position, refl, ap, sym, inl, inr, ◌∙◌, arith, length-drop, length-take}
 use Rattle.std.specs.List.{position_or_len}
-use Rattle.std.proofs.lemmas.List.{drop_all, drop_more, drop-drop, get_or-take, take-append-drop}
+use Rattle.std.proofs.lemmas.List.{drop_all, drop_more, get_or-take, take-append-drop}
 use Rattle.std.proofs.lemmas.List.Elements.{All-from_get_or}
 use Rattle.std.proofs.lemmas.List.Quantifiers.{position-Some}
 use Rattle.std.proofs.lemmas.List.Sums.{fails_before_first}
 use Rattle.std.proofs.lemmas.Bool.{eqb-true, eqb-false, ltb-false}
 use Rattle.input_lines.specs.Lines.{IsPlain}
-use Rattle.input_lines.specs.Held.{Taken}
-use Rattle.input_lines.specs.inner.Taking.{MovesPart, MovesAll}
 
 abbrev pub is_newline : ℕ → Bool
 is_newline byte = byte == 10
@@ -41,20 +39,6 @@ pub no_newline : (bs : List ℕ) → position is_newline bs ≡ None → IsPlain
 no_newline bs e =
     let past : length bs ≤ position_or_len is_newline bs = ltb-false _ _ (not_below (ltb (position_or_len is_newline bs) (length bs)) _ e) in
     All-from_get_or (λ byte. byte ≢ 10) bs 0 (λ i low. eqb-false (get_or bs i 0) 10 (fails_before_first is_newline bs i 0 (omega arith)))
-
--- the bytes up to a newline move to a line
-pub moves_part : (old : Taken) (xs : List ℕ) (from to at : ℕ) (ended : Bool) (line longer : List ℕ) → drop from (take to xs) ≡ old.bytes → position is_newline old.bytes ≡ Some at
-    → longer ≡ line ++ take at old.bytes → MovesPart old (record { bytes = drop (from + (at + 1)) (take to xs); ended = ended }) line longer
-moves_part old xs from to at ended line longer held found grown =
-    let s = at_newline old.bytes at found in
-    let rest : drop (at + 1) old.bytes ≡ drop (from + (at + 1)) (take to xs) = ap (drop (at + 1)) (sym held) ∙ drop-drop (at + 1) from (take to xs) in
-    record { part = take at old.bytes; plain = s.1; grown = grown; bytes = s.0 ∙ ap (λ more. take at old.bytes ++ 10 ∷ more) rest }
-
--- all bytes move to a line
-pub moves_all : (old : Taken) (xs : List ℕ) (to : ℕ) (ended : Bool) (line longer : List ℕ) → to ≤ length xs → position is_newline old.bytes ≡ None → longer ≡ line ++ old.bytes
-    → MovesAll old (record { bytes = drop to (take to xs); ended = ended }) line longer
-moves_all old xs to ended line longer high found grown =
-    record { plain = no_newline old.bytes found; grown = grown; bytes = held-nil xs to to high refl }
 
 -- a list of bytes has a newline, behind plain bytes, or none
 pub cut_at_newline : (bs : List ℕ) → IsPlain bs ⊎ ((part : List ℕ) × (more : List ℕ) × IsPlain part × (bs ≡ part ++ 10 ∷ more))

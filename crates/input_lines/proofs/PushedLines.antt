@@ -6,7 +6,7 @@ use Rattle.input_lines.specs.declared.faults.LineFault.TheVariants.{TooLong, Rea
 use Rattle.input_lines.specs.Lines.{IsPlain}
 use Rattle.input_lines.specs.Held.{HeldLine, TakesMore, IsWholeLine}
 use Rattle.input_lines.specs.Pushed.{pushed_line, PushAnswer}
-use Rattle.input_lines.specs.inner.Taking.{IsNoPart}
+use Rattle.input_lines.specs.inner.Pushing.{IsNoPart}
 use Rattle.input_lines.proofs.Newlines.{is_newline, at_newline}
 
 -- the line ends in the piece

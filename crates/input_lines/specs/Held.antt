@@ -1,5 +1,5 @@
 -- What is held of an input, and how its next line is found.
-use Rattle.std.specs.Prelude.{ℕ, ◌≡◌, ◌≢◌, ◌+◌, ◌<◌, ◌≤◌, ◌⊎◌, List, [], ◌∷◌, ◌++◌, length, Bool, IsFalse, IsSome, IsTrue, Option, Some, None, Result, Ok, Err, ⊤}
+use Rattle.std.specs.Prelude.{ℕ, ◌≡◌, ◌≢◌, ◌<◌, ◌≤◌, ◌⊎◌, List, [], ◌∷◌, ◌++◌, length, Bool, IsFalse, IsTrue, Option, Some, None, Result, Ok, Err, ⊤}
 use Rattle.nav_types.specs.declared.limits.TheConstants.{MAX_LINE_BYTES}
 use Rattle.input_lines.specs.declared.faults.LineFault.{LineFault}
 use Rattle.input_lines.specs.declared.faults.LineFault.TheVariants.{TooLong, ReadFault, NoMemory}
@@ -23,6 +23,8 @@ pub record Taken : Type 0 where
 abbrev pub HasLine : List ℕ → Type 0
 HasLine bytes = full_lines bytes ≢ []
 
+-- ---- one read
+
 -- The last read took a piece, at most as much as one read takes: the end of the input was not met before, and what is held
 -- with what was taken earlier has no newline.
 pub record ReadsForLine (held : List ℕ) (ended : Bool) (before after : List ℕ) : Type 0 where
@@ -39,6 +41,29 @@ ReadsByNeed held ended before after = (before ≡ after) ⊎ ReadsForLine held e
 
 abbrev pub ReadsByNeedTold : List ℕ → Bool → Option (List ℕ) → Option (List ℕ) → Type 0
 ReadsByNeedTold held ended left later = WhereTold left later (λ before after. ReadsByNeed held ended before after)
+
+-- bytes were taken behind those held, and none are held only where the input ended
+pub record Refills (old new : Taken) (before after : List ℕ) : Type 0 where
+  pub taken : List ℕ
+  pub took : before ≡ taken ++ after
+  pub bytes : new.bytes ≡ old.bytes ++ taken
+  pub at_end : new.bytes ≡ [] → after ≡ []
+
+-- a read failed: there was none before that met the end, no byte was held, and none was taken
+pub record FailsToRefill (old new : Taken) (before after : List ℕ) : Type 0 where
+  pub going : IsFalse old.ended
+  pub held : old.bytes ≡ []
+  pub still : new.bytes ≡ []
+  pub same : before ≡ after
+
+-- what an answer to a read says; a reader that has met the end finds nothing left
+abbrev pub RefillAnswer : Taken → Taken → Result ⊤ LineFault → List ℕ → List ℕ → Type 0
+RefillAnswer old new (Ok u) before after = (IsTrue old.ended → before ≡ []) → Refills old new before after
+RefillAnswer old new (Err ReadFault) before after = FailsToRefill old new before after
+RefillAnswer old new (Err NoMemory) before after = ⊥
+RefillAnswer old new (Err TooLong) before after = ⊥
+
+-- ---- the next line
 
 -- What is held of an input: the next line, or the beginning of it; how it ended, once it is whole; and what was taken
 -- behind it.
@@ -61,14 +86,6 @@ bytes_of h = h.line ++ (newline_of h.line_end ++ h.rest.bytes)
 abbrev pub after_line : HeldLine → HeldLine
 after_line h = record { line = []; line_end = None; rest = h.rest }
 
--- the line has no newline in it, few bytes are held, those behind it are of one read, and nothing stands behind a line
--- that ended with the input
-pub record IsHeldLine (h : HeldLine) : Type 0 where
-  pub plain : IsPlain h.line
-  pub few : length (bytes_of h) ≤ MAX_LINE_BYTES + READ_SIZE
-  pub behind : length h.rest.bytes ≤ READ_SIZE
-  pub at_end : h.line_end ≡ Some Input → (h.rest.bytes ≡ []) × IsTrue h.rest.ended
-
 -- a line ends at its newline, or with the input
 abbrev pub HasEnd : Option LineEnd → Taken → Type 0
 HasEnd None rest = ⊥
@@ -80,17 +97,6 @@ pub record IsWholeLine (h : HeldLine) (size : ℕ) : Type 0 where
   pub ends : HasEnd h.line_end h.rest
   pub counted : size ≡ length (h.line ++ newline_of h.line_end)
   pub some_byte : 1 ≤ size
-
--- the input has ended, and nothing is held of it
-pub record IsUsedUp (h : HeldLine) : Type 0 where
-  pub ends : IsSome h.line_end
-  pub nothing : bytes_of h ≡ []
-  pub ended : IsTrue h.rest.ended
-
--- what was found of the next line: it is whole, or there is none
-abbrev pub FindsLine : HeldLine → Option ℕ → Type 0
-FindsLine h (Some size) = IsWholeLine h size
-FindsLine h None = IsUsedUp h
 
 -- bytes were taken behind those held
 pub record TakesMore (old new : HeldLine) (before after : List ℕ) : Type 0 where
@@ -106,19 +112,3 @@ pub record TakesNext (old new : HeldLine) (before after : List ℕ) : Type 0 whe
 -- the beginning of a line is longer than a line may be, or than the room that the input has left
 abbrev pub IsPastLimit : HeldLine → ℕ → Type 0
 IsPastLimit h room = (MAX_LINE_BYTES < length h.line) ⊎ (room < length h.line)
-
--- a read failed before the end of the input was met, and what is held is the beginning of a line
-pub record BreaksOff (old new : HeldLine) : Type 0 where
-  pub going : IsFalse old.rest.ended
-  pub no_line : bytes_of new ≡ new.line
-
--- what an answer says of the next line
-abbrev pub NextAnswer : HeldLine → HeldLine → ℕ → Result (Option ℕ) LineFault → List ℕ → List ℕ → Type 0
-NextAnswer old new room (Ok next) before after = TakesNext old new before after
-NextAnswer old new room (Err TooLong) before after = TakesMore old new before after × IsPastLimit new room
-NextAnswer old new room (Err ReadFault) before after = TakesMore old new before after × BreaksOff old new
-NextAnswer old new room (Err NoMemory) before after = ⊤
-
--- the same for any source, where it tells its bytes; a reader that has met the end finds nothing left
-abbrev pub NextTold : HeldLine → HeldLine → Option (List ℕ) → Option (List ℕ) → ℕ → Result (Option ℕ) LineFault → Type 0
-NextTold old new left later room result = WhereTold left later (λ before after. (IsTrue old.rest.ended → before ≡ []) → NextAnswer old new room result before after)

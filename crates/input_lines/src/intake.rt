@@ -1,16 +1,14 @@
 //! What is taken from a source: its bytes, cut into lines.
-ghost use Rattle.std.specs.Prelude.{◌≡◌, ◌≢◌, ◌+◌, ◌∷◌, ◌≤◌, ◌<◌, ◌↔◌, ◌==◌, [], length, false, position, ℕ};
-ghost use Rattle.std.specs.Prelude.{IsTrue, IfErr, IfOk, IfSome, OnOk, OnErr, IsErrOf, vec_len, Ok};
+ghost use Rattle.std.specs.Prelude.{◌≡◌, ◌≢◌, ◌≤◌, ◌<◌, ◌↔◌, ◌==◌, [], length, false, position};
+ghost use Rattle.std.specs.Prelude.{IsTrue, IfErr, IfOk, IfSome, OnOk, OnErr, IsErrOf, vec_len};
 ghost use Rattle.std.specs.Io.{ReadsAtMost};
 ghost use Rattle.std.specs.Io.KnownBytes.{ReadConsumes};
-ghost use Rattle.nav_types.specs.declared.limits.TheConstants.{MAX_LINE_BYTES};
 ghost use Rattle.io_edges.specs.Faults.{Rose, ReadHasCause};
 ghost use Rattle.input_lines.specs.Lines.{first_line};
 
 use crate::faults::LineFault;
 use io_edges::{Failed, Source};
 use nav_types::NoMemory;
-use nav_types::limits::MAX_LINE_BYTES;
 use std::alloc::Global;
 use std::marker::Model;
 
@@ -48,12 +46,7 @@ impl Model for Intake {
 }
 
 impl Intake {
-    ghost use Rattle.input_lines.specs.declared.intake.LineEnd.TheVariants.{Newline, Input};
-    ghost use Rattle.input_lines.specs.Held.{WhereTold};
-    ghost use Rattle.input_lines.specs.Held.{Taken, ReadsByNeedTold};
-    ghost use Rattle.input_lines.specs.inner.Taking.{RefillAnswer, MovesLine, LineTold};
-    ghost use Rattle.input_lines.specs.Held.{HasLine, IsHeldLine};
-    ghost use Rattle.input_lines.specs.inner.Taking.{HoldsNewline, end_of};
+    ghost use Rattle.input_lines.specs.Held.{Taken, ReadsByNeedTold, RefillAnswer, WhereTold};
     ghost use Rattle.std.specs.Prelude.{drop};
 
     /// Nothing is taken yet. The buffer of one read is taken here, once.

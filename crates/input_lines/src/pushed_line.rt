@@ -1,5 +1,5 @@
 //! The lines of an input whose bytes are pushed, one after another: the next one is held until it is used.
-ghost use Rattle.std.specs.Prelude.{◌≡◌, ◌+◌, ◌<◌, ◌≤◌, ◌⊎◌, ◌++◌, [], length, false, IfErr, IsFalse, IsSome, None, OnErr, OnOk};
+ghost use Rattle.std.specs.Prelude.{◌≡◌, ◌+◌, ◌≤◌, ◌++◌, [], length, false, IfErr, IsSome, None, OnErr, OnOk};
 ghost use Rattle.nav_types.specs.declared.limits.TheConstants.{MAX_LINE_BYTES};
 
 use crate::faults::LineFault;
@@ -28,11 +28,11 @@ impl Model for PushedLine {
 }
 
 impl PushedLine {
-    ghost use Rattle.input_lines.specs.declared.faults.LineFault.TheVariants.{TooLong, NoMemory as no_memory};
-    ghost use Rattle.input_lines.specs.Lines.{IsPlain, first_line};
+    ghost use Rattle.input_lines.specs.declared.faults.LineFault.TheVariants.{TooLong};
+    ghost use Rattle.input_lines.specs.Lines.{IsPlain};
     ghost use Rattle.input_lines.specs.Held.{after_line, bytes_of};
     ghost use Rattle.input_lines.specs.Pushed.{PushAnswer, pushed_line};
-    ghost use Rattle.input_lines.specs.inner.Taking.{IsNoPart};
+    ghost use Rattle.input_lines.specs.inner.Pushing.{IsNoPart};
 
     /// Nothing is held.
     pub fn new(alloc: Global) -> PushedLine

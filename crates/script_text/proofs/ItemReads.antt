@@ -9,8 +9,7 @@ use Rattle.io_edges.specs.Faults.{Rose}
 use Rattle.input_lines.specs.declared.faults.LineFault.{LineFault}
 use Rattle.input_lines.specs.declared.faults.LineFault.TheVariants as no_line
 use Rattle.input_lines.specs.Lines.{full_lines, unlines, IsPlain}
-use Rattle.input_lines.specs.Held.{Taken, WhereTold}
-use Rattle.input_lines.specs.inner.Taking.{FailsToRefill, Refills, RefillAnswer}
+use Rattle.input_lines.specs.Held.{Taken, WhereTold, FailsToRefill, Refills, RefillAnswer}
 use Rattle.input_lines.proofs.ToldLines.{told-same, told-then, told-weaker}
 use Rattle.script_text.specs.declared.faults.ScriptFault.{ScriptFault}
 use Rattle.script_text.specs.declared.faults.ScriptFault.TheVariants.{BadLine, TooLong, ReadFault, NoMemory}
