@@ -6,10 +6,13 @@ ghost use Rattle.flow_field.specs.inner.Spreads.{WaitsIn, IsLowered, IsTaken, Is
 
 use crate::queues::Queue;
 use nav_types::NoMemory;
-use nav_types::limits::{DIAGONAL_COST, STRAIGHT_COST};
+use nav_types::limits::{DIAGONAL_COST, MAX_SIDE, STRAIGHT_COST};
 
 /// The mark of a passable cell that is not reached: more than that of any cell that is.
 pub const FREE: u64 = 1_099_511_627_776;
+
+// A mark is one more than a distance, and the shortest way meets no cell of the largest map twice.
+const _: () = prove!(MAX_SIDE as u64 * MAX_SIDE as u64 * DIAGONAL_COST < FREE);
 
 /// Marks that spread from the targets, and the places whose marks fell and whose neighbours wait to be looked at: those
 /// that a straight step reached, and those that a diagonal one did.

@@ -7,11 +7,15 @@ ghost use Rattle.nav_types.specs.Places.{place_of};
 ghost use Rattle.walks.specs.inner.Tables.{entry, CoversMap, IsSoundTable, IsSoundForSome, IsSettledAlong, IsSettledAt, IsSettled, Lowers, HasDistances};
 
 use crate::places::{cell_at_place, cell_count, place};
+use nav_types::limits::{DIAGONAL_COST, MAX_SIDE};
 use nav_types::{Cell, Class, Dir, NoMemory, View, step};
 use std::alloc::Global;
 
 /// What a table has for a cell that no walk has reached: more than the cost of any walk of least cost.
 pub const UNREACHED: u64 = 1_099_511_627_776;
+
+// Such a walk meets no cell twice, so on the largest map it has a step for each cell at most.
+const _: () = prove!(MAX_SIDE as u64 * MAX_SIDE as u64 * DIAGONAL_COST < UNREACHED);
 
 /// The table where a walk has reached the start alone.
 fn blank<V: View>(alloc: Global, view: &V, start: Cell) -> Result<Vec<u64>, NoMemory>
