@@ -2,7 +2,7 @@
 ghost use Rattle.std.specs.Prelude.{◌<◌, IsTrue, IsFalse, IfSome, IfNone};
 ghost use Rattle.nav_types.specs.declared.cells.Cell.{Cell};
 ghost use Rattle.nav_types.specs.Directions.{is_straight};
-ghost use Rattle.jump_scan.specs.Stops.{IsStraightStop, IsDiagonalStop};
+ghost use Rattle.jump_scan.specs.Stops.{IsStraightStop, IsDiagonalStop, IsDiagonalStopWithin};
 ghost use Rattle.class_planes.specs.Planes.{is_passable};
 
 use crate::class_plane::ClassPlane;
@@ -115,6 +115,21 @@ impl<'a, V: View> Runs for PlaneRuns<'a, V> {
             None => diagonal_by_cells(self.view, class, from, dir, aim),
         }
     }
+
+    #[inline(never)]
+    fn diagonal_within<A: Aim>(
+        &self,
+        class: Class,
+        from: Cell,
+        dir: Dir,
+        aim: &A,
+        most: u16,
+    ) -> Option<Cell> {
+        match self.plane(class) {
+            Some(plane) => stop_within(plane, from, dir, aim, most),
+            None => jump_scan::diagonal_within(self.view, class, from, dir, aim, most),
+        }
+    }
 }
 
 /// The stop of the straight run from the cell, scanned cell by cell. Its answer is kept apart from that of a plane, which
@@ -193,6 +208,25 @@ fn diagonal_stop<A: Aim>(plane: &ClassPlane, from: Cell, dir: Dir, aim: &A) -> O
     match dir.heading() {
         Heading::Diagonal(diagonal) => {
             plane_scans::diagonal(plane, from, diagonal, aim.bounds(plane.size()), aim)
+        }
+        Heading::Straight(_) => None,
+    }
+}
+
+/// The stop of the diagonal run from the cell where it is at most so many steps away.
+fn stop_within<A: Aim>(plane: &ClassPlane, from: Cell, dir: Dir, aim: &A, most: u16) -> Option<Cell>
+    requires start { IsTrue (is_passable plane.now from) }
+    requires diagonal { IsFalse (is_straight dir) }
+    requires aim { A.sound aim.now plane.now.size }
+    ensures some { IfSome result
+        (IsDiagonalStopWithin (is_passable plane.now) (A.hit aim.now plane.now.size) dir most from) }
+    ensures none { IfNone result ((stop : Cell)
+        → ¬ IsDiagonalStopWithin (is_passable plane.now) (A.hit aim.now plane.now.size) dir most from stop) }
+{
+    match dir.heading() {
+        Heading::Diagonal(diagonal) => {
+            let rect = aim.bounds(plane.size());
+            plane_scans::diagonal_within(plane, from, diagonal, rect, aim, most)
         }
         Heading::Straight(_) => None,
     }

@@ -8,7 +8,7 @@ ghost use Rattle.nav_types.specs.Lines.{cell_on, line_on, place_on};
 ghost use Rattle.nav_types.specs.Straights.{diagonal_dir, straight_dir};
 ghost use Rattle.nav_types.specs.Frames.{IsFrame};
 ghost use Rattle.nav_types.specs.Walks.{Step};
-ghost use Rattle.jump_scan.specs.Stops.{HaltsDiagonal, IsStraightStop, HasStraightStop, IsDiagonalStop};
+ghost use Rattle.jump_scan.specs.Stops.{HaltsDiagonal, IsStraightStop, HasStraightStop, IsDiagonalStop, IsDiagonalStopWithin};
 ghost use Rattle.class_planes.specs.Planes.{AreFreeBits, is_passable};
 ghost use Rattle.class_planes.specs.inner.Runs.{Far, bit_in, cell_along, place_along, RunsFar, IsFirstHit, HasRoom, HoldsSteps};
 
@@ -498,6 +498,39 @@ pub fn diagonal<A: Aim>(
     let mut cell = from;
     let mut row = plane.row_words(from.j);
     'run: while let Some(next) = next_cell(plane, row, cell, diagonal) {
+        let next_row = plane.row_words(next.j);
+        if halts_diagonal(plane, next, diagonal, rect, aim) {
+            return Some(next);
+        }
+        cell = next;
+        row = next_row;
+    }
+    None
+}
+
+/// The stop of the diagonal run from the cell where it is at most so many steps away.
+pub fn diagonal_within<A: Aim>(
+    plane: &ClassPlane,
+    from: Cell,
+    diagonal: Diagonal,
+    rect: Rect,
+    aim: &A,
+    most: u16,
+) -> Option<Cell>
+    requires start { IsTrue (is_passable plane.now from) }
+    requires aim { A.sound aim.now plane.now.size }
+    requires frame { IsFrame (A.framed aim.now plane.now.size) plane.now.size rect }
+    ensures some { IfSome result (IsDiagonalStopWithin (is_passable plane.now) (A.hit aim.now plane.now.size)
+        (diagonal_dir diagonal) most from) }
+    ensures none { IfNone result ((stop : Cell) → ¬ IsDiagonalStopWithin (is_passable plane.now)
+        (A.hit aim.now plane.now.size) (diagonal_dir diagonal) most from stop) }
+{
+    let mut cell = from;
+    let mut row = plane.row_words(from.j);
+    for _steps in 0..most {
+        let Some(next) = next_cell(plane, row, cell, diagonal) else {
+            return None;
+        };
         let next_row = plane.row_words(next.j);
         if halts_diagonal(plane, next, diagonal, rect, aim) {
             return Some(next);

@@ -1,5 +1,5 @@
 -- Runs of steps in one direction, and where they stop.
-use Rattle.std.proofs.Common.{ℕ, zero, suc, ◌≡◌, ◌-◌, ◌<◌, ◌≤◌, Bool, refl, inl, inr, sym, subst, ◌∙◌, arith}
+use Rattle.std.proofs.Common.{ℕ, zero, suc, ◌≡◌, ◌+◌, ◌-◌, ◌<◌, ◌≤◌, Bool, refl, inl, inr, sym, subst, ◌∙◌, arith}
 use Rattle.std.proofs.lemmas.Bool.{cases_lt, cases_order}
 use Rattle.nav_types.specs.declared.cells.Cell.{Cell}
 use Rattle.nav_types.specs.declared.cells.Size.{Size}
@@ -47,22 +47,40 @@ HasPassed-none passes Halts dir from = record {
   none = λ fewer passed some few run halts. omega (arith, some, few);
 }
 
+-- the same after so many steps
+abbrev pub HasGone : (Cell → Bool) → (Cell → Type 0) → Dir → Cell → Cell → ℕ → Type 0
+HasGone passes Halts dir from cell steps = (past : HasPassed passes Halts dir from cell) × (past.count ≡ steps)
+
+pub HasGone-none : (passes : Cell → Bool) (Halts : Cell → Type 0) (dir : Dir) (from : Cell) → HasGone passes Halts dir from from 0
+unfolding HasPassed-none
+HasGone-none passes Halts dir from = (HasPassed-none passes Halts dir from, refl)
+
+pub HasGone-more : (passes : Cell → Bool) (Halts : Cell → Type 0) (dir : Dir) (from cell next : Cell) (steps : ℕ)
+    → HasGone passes Halts dir from cell steps → Step passes dir cell next → (Halts next → ⊥)
+    → HasGone passes Halts dir from next (steps + 1)
+HasGone-more passes Halts dir from cell next steps gone step never =
+    let past = gone.0 in
+    let is = gone.1 in
+    let count = past.count in
+    let longer = run_more passes dir count from cell next past.run step in (
+      record {
+        count = suc count;
+        run = longer;
+        none = λ fewer passed some few run halts. elim (cases_lt count fewer) [
+          | inl last ↦
+              let all : fewer ≡ suc count = omega (arith, last, few) in
+              let same = run_once passes dir (suc count) from passed next (subst (λ (n : ℕ). IsRun passes dir n from passed) all run) longer in
+              never (subst Halts same halts)
+          | inr before ↦ past.none fewer passed some before run halts
+        ];
+      },
+      omega (arith, is),
+    )
+
 pub HasPassed-more : (passes : Cell → Bool) (Halts : Cell → Type 0) (dir : Dir) (from cell next : Cell) → HasPassed passes Halts dir from cell
     → Step passes dir cell next → (Halts next → ⊥) → HasPassed passes Halts dir from next
 HasPassed-more passes Halts dir from cell next past step never =
-    let count = past.count in
-    let longer = run_more passes dir count from cell next past.run step in
-    record {
-      count = suc count;
-      run = longer;
-      none = λ fewer passed some few run halts. elim (cases_lt count fewer) [
-        | inl last ↦
-            let all : fewer ≡ suc count = omega (arith, last, few) in
-            let same = run_once passes dir (suc count) from passed next (subst (λ (n : ℕ). IsRun passes dir n from passed) all run) longer in
-            never (subst Halts same halts)
-        | inr before ↦ past.none fewer passed some before run halts
-      ];
-    }
+    (HasGone-more passes Halts dir from cell next past.count (past, refl) step never).0
 
 pub IsStop-next : (passes : Cell → Bool) (Halts : Cell → Type 0) (dir : Dir) (from cell next : Cell) → HasPassed passes Halts dir from cell
     → Step passes dir cell next → Halts next → IsStop passes Halts dir from next
@@ -73,6 +91,34 @@ IsStop-next passes Halts dir from cell next past step halts = record {
   halts = halts;
   first = λ fewer passed some less run is. past.none fewer passed some (omega (arith, less)) run is;
 }
+
+-- a stop within so many steps
+abbrev pub IsStopWithin : (Cell → Bool) → (Cell → Type 0) → Dir → ℕ → Cell → Cell → Type 0
+IsStopWithin passes Halts dir most from stop = (is : IsStop passes Halts dir from stop) × (is.count ≤ most)
+
+pub IsStopWithin-next : (passes : Cell → Bool) (Halts : Cell → Type 0) (dir : Dir) (from cell next : Cell) (steps most : ℕ)
+    → HasGone passes Halts dir from cell steps → steps < most → Step passes dir cell next → Halts next
+    → IsStopWithin passes Halts dir most from next
+IsStopWithin-next passes Halts dir from cell next steps most gone less step halts =
+    let past = gone.0 in
+    let count = gone.1 in (
+      record {
+        count = suc past.count;
+        some = omega arith;
+        run = run_more passes dir past.count from cell next past.run step;
+        halts = halts;
+        first = λ fewer passed some less run is. past.none fewer passed some (omega (arith, less)) run is;
+      },
+      omega (arith, count, less),
+    )
+
+-- a run that has halted nowhere within so many steps has no stop there
+pub no_stop_within : (passes : Cell → Bool) (Halts : Cell → Type 0) (dir : Dir) (from cell : Cell) (steps most : ℕ)
+    → HasGone passes Halts dir from cell steps → most ≤ steps → (stop : Cell) → IsStopWithin passes Halts dir most from stop → ⊥
+no_stop_within passes Halts dir from cell steps most gone through stop is =
+    let count = gone.1 in
+    let near = is.1 in
+    gone.0.none is.0.count stop is.0.some (omega (arith, count, near, through)) is.0.run is.0.halts
 
 pub no_stop : (passes : Cell → Bool) (Halts : Cell → Type 0) (dir : Dir) (from cell : Cell) → HasPassed passes Halts dir from cell
     → ((next : Cell) → Step passes dir cell next → ⊥) → (stop : Cell) → IsStop passes Halts dir from stop → ⊥

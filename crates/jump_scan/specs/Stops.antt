@@ -1,6 +1,6 @@
 -- Where runs of legal steps in one direction stop: jump points, after Harabor and Grastien, "Online Graph Pruning for
 -- Pathfinding on Grid Maps", AAAI 2011.
-use Rattle.std.specs.Prelude.{ℕ, Bool, ◌<◌, ◌⊎◌, replicate, IsTrue}
+use Rattle.std.specs.Prelude.{ℕ, Bool, ◌<◌, ◌≤◌, ◌⊎◌, replicate, IsTrue}
 use Rattle.nav_types.specs.declared.cells.Cell.{Cell}
 use Rattle.nav_types.specs.declared.directions.Dir.{Dir}
 use Rattle.nav_types.specs.Directions.{row_part, column_part}
@@ -39,3 +39,8 @@ HaltsDiagonal passes hit dir cell = IsTrue (hit cell)
 -- the stop of a diagonal run
 abbrev pub IsDiagonalStop : (Cell → Bool) → (Cell → Bool) → Dir → Cell → Cell → Type 0
 IsDiagonalStop passes hit dir from stop = IsStop passes (HaltsDiagonal passes hit dir) dir from stop
+
+-- the stop of a diagonal run, after at most so many steps
+abbrev pub IsDiagonalStopWithin : (Cell → Bool) → (Cell → Bool) → Dir → ℕ → Cell → Cell → Type 0
+IsDiagonalStopWithin passes hit dir most from stop =
+    (is : IsDiagonalStop passes hit dir from stop) × (is.count ≤ most)

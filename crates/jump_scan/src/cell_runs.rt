@@ -54,4 +54,15 @@ impl<'a, V: View> Runs for CellRuns<'a, V> {
     fn diagonal<A: Aim>(&self, class: Class, from: Cell, dir: Dir, aim: &A) -> Option<Cell> {
         scans::diagonal(self.view, class, from, dir, aim)
     }
+
+    fn diagonal_within<A: Aim>(
+        &self,
+        class: Class,
+        from: Cell,
+        dir: Dir,
+        aim: &A,
+        most: u16,
+    ) -> Option<Cell> {
+        scans::diagonal_within(self.view, class, from, dir, aim, most)
+    }
 }

@@ -21,4 +21,4 @@ pub use cell_runs::CellRuns;
 pub use laws::{forced_where_a_side_opens, one_stop};
 pub use pruning::{beside, successors, successors_among};
 pub use run_views::Runs;
-pub use scans::{diagonal, straight};
+pub use scans::{diagonal, diagonal_within, straight};

@@ -8,7 +8,7 @@ pub trait Runs: View {
     ghost use Rattle.std.specs.Prelude.{◌<◌, IsTrue, IsFalse, IfSome, IfNone};
     ghost use Rattle.nav_types.specs.declared.cells.Cell.{Cell};
     ghost use Rattle.nav_types.specs.Directions.{is_straight};
-    ghost use Rattle.jump_scan.specs.Stops.{IsStraightStop, IsDiagonalStop};
+    ghost use Rattle.jump_scan.specs.Stops.{IsStraightStop, IsDiagonalStop, IsDiagonalStopWithin};
     ghost use Rattle.jump_scan.specs.Successors.{AreFreeBeside};
 
     /// The directions in which the cell beside is passable. Off the map no cell is.
@@ -40,4 +40,23 @@ pub trait Runs: View {
         ensures none { IfNone result
             ((stop : Cell) → ¬ IsDiagonalStop (Self.passes self.now class) (A.hit aim.now (Self.extent self.now)) dir
             from stop) };
+
+    /// The stop of the diagonal run from the cell within so many steps, as the function `diagonal_within` gives it.
+    fn diagonal_within<A: Aim>(
+        &self,
+        class: Class,
+        from: Cell,
+        dir: Dir,
+        aim: &A,
+        most: u16,
+    ) -> Option<Cell>
+        requires class { class < Self.class_count self.now }
+        requires start { IsTrue (Self.passes self.now class from) }
+        requires diagonal { IsFalse (is_straight dir) }
+        requires aim { A.sound aim.now (Self.extent self.now) }
+        ensures some { IfSome result
+            (IsDiagonalStopWithin (Self.passes self.now class) (A.hit aim.now (Self.extent self.now)) dir most from) }
+        ensures none { IfNone result
+            ((stop : Cell) → ¬ IsDiagonalStopWithin (Self.passes self.now class) (A.hit aim.now (Self.extent self.now))
+            dir most from stop) };
 }

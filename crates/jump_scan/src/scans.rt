@@ -4,6 +4,7 @@ ghost use Rattle.nav_types.specs.declared.cells.Cell.{Cell};
 ghost use Rattle.nav_types.specs.Cells.{IsInside};
 ghost use Rattle.nav_types.specs.Directions.{is_straight, row_part, column_part};
 ghost use Rattle.jump_scan.specs.Stops.{HaltsStraight, HaltsDiagonal, IsStraightStop, HasStraightStop, IsDiagonalStop};
+ghost use Rattle.jump_scan.specs.Stops.{IsDiagonalStopWithin};
 
 use crate::pruning::has_forced;
 use nav_types::{Aim, Cell, Class, Dir, View, step};
@@ -103,6 +104,38 @@ pub fn diagonal<V: View, A: Aim>(
 {
     let mut cell = from;
     'run: while let Some(next) = step(view, class, cell, dir) {
+        if halts_diagonal(view, class, next, dir, aim) {
+            return Some(next);
+        }
+        cell = next;
+    }
+    None
+}
+
+/// The stop of the diagonal run from the cell where it is at most so many steps away. None exactly where the run has no
+/// stop within them.
+pub fn diagonal_within<V: View, A: Aim>(
+    view: &V,
+    class: Class,
+    from: Cell,
+    dir: Dir,
+    aim: &A,
+    most: u16,
+) -> Option<Cell>
+    requires class { class < V.class_count view.now }
+    requires start { IsTrue (V.passes view.now class from) }
+    requires diagonal { IsFalse (is_straight dir) }
+    requires aim { A.sound aim.now (V.extent view.now) }
+    ensures some { IfSome result
+        (IsDiagonalStopWithin (V.passes view.now class) (A.hit aim.now (V.extent view.now)) dir most from) }
+    ensures none { IfNone result ((stop : Cell)
+        → ¬ IsDiagonalStopWithin (V.passes view.now class) (A.hit aim.now (V.extent view.now)) dir most from stop) }
+{
+    let mut cell = from;
+    for _steps in 0..most {
+        let Some(next) = step(view, class, cell, dir) else {
+            return None;
+        };
         if halts_diagonal(view, class, next, dir, aim) {
             return Some(next);
         }
