@@ -1,8 +1,7 @@
 -- What a search that has ended or was halted says of the answer and of the opened number.
-use Rattle.std.proofs.Common.{ℕ, ◌≡◌, ◌+◌, ◌≤◌, ◌⊎◌, Bool, true, IsTrue, List, Option, Some, None}
+use Rattle.std.proofs.Common.{ℕ, suc, ◌≡◌, ◌+◌, ◌≤◌, ◌⊎◌, Bool, true, IsTrue, List, Option, Some, None}
 use Rattle.std.proofs.Common.{[], ◌∷◌, inl, inr, refl, sym, subst, arith, Result, Ok, Err, IfOk}
 use Rattle.std.specs.Prelude.{slice_get}
-use Rattle.std.proofs.lemmas.Bool.{cases_lt}
 use Rattle.std.proofs.lemmas.List.Sums.{sum_by-cons}
 use Rattle.nav_types.specs.declared.cells.Cell.{Cell}
 use Rattle.nav_types.specs.declared.cells.Rect.{Rect}
@@ -23,8 +22,7 @@ use Rattle.jump_search.specs.JumpStates.{CanSearch, IsOpened, IsWithinOpened, oc
 use Rattle.jump_search.specs.inner.Searched.{AreMet, IsSearched}
 use Rattle.jump_search.specs.inner.Underway.{opened_count, IsHalted, IsExhausted, HasEnded}
 use Rattle.jump_search.specs.inner.Traced.{IsTraceable}
-use Rattle.jump_search.proofs.Bounding.{IsClosed}
-use Rattle.jump_search.proofs.Ending.{least_hit, some_hit, nearest_end, first_end, end_distance}
+use Rattle.jump_search.proofs.Ending.{none_nearer, some_hit, nearest_end, first_end, end_distance}
 use Rattle.jump_search.proofs.Opening.{opened_number, few_opened}
 use Rattle.jump_search.proofs.Taking.{node_free}
 
@@ -47,10 +45,11 @@ pub not_exhausted : (all : Bool) (passes hit : Cell → Bool) (start : Cell) (ah
     → IsConsistent passes hit ahead → CanReach passes start hit → IsExhausted all passes hit start nodes → ⊥
 not_exhausted all passes hit start ahead nodes passing consistent reach ended =
     some_hit all passes hit start ahead nodes
-    (λ bound. record {
+    (λ bound least. record {
       consistent = consistent;
       met = ended.met;
       followed = ended.followed;
+      least = least;
       beyond =
           λ place node known waits. inr (ended.beyond place node known waits);
     })
@@ -101,7 +100,7 @@ counts_of all passes hit start ahead rect end bound nodes able is same opened co
     let octile = subst (λ (f : Cell → ℕ). IsTraceable true passes hit start f end bound nodes) same
     (subst (λ (a : Bool). IsTraceable a passes hit start ahead end bound nodes) is able) in
     subst (λ (n : ℕ). Counts (IsOpened passes hit start rect bound) n) (sym count)
-    (opened_number passes hit start rect end bound nodes octile.consistent octile.searched)
+    (opened_number passes hit start rect end bound nodes octile.passing octile.consistent octile.searched)
 
 -- what a search opens is no more than the opened number
 
@@ -110,24 +109,18 @@ halted_below : (all : Bool) (passes hit : Cell → Bool) (start : Cell) (ahead :
     → IsHalted all passes hit start ahead floor nodes → IsTrue (passes start) → IsConsistent passes hit ahead
     → (target : Cell) (dirs : List Dir) → IsTrue (hit target) → IsWalk passes start dirs target → floor ≤ walk_cost dirs
 halted_below all passes hit start ahead floor nodes halted passing consistent target dirs is_hit walk =
-    elim (cases_lt (walk_cost dirs) floor) [
-      | inl less ↦
-          let ended : IsClosed all passes hit start ahead (walk_cost dirs) nodes = record {
-            consistent = consistent;
-            met = halted.met;
-            followed = halted.followed;
-            beyond = λ place node known waits. (elim (halted.beyond place node known waits) [
-              | inl far ↦ inl (omega (arith, less, far))
-              | inr dearer ↦ inr dearer
-            ]);
-          } in
-          absurd (least_hit all passes hit start ahead (walk_cost dirs) nodes ended passing consistent target dirs is_hit walk
-          (omega arith)
-          (λ place node known opened at cheap.
-          (let late = halted.passed place node known opened (subst (λ (c : Cell). IsTrue (hit c)) (sym at) is_hit) in
-          omega (arith, late, cheap, less))))
-      | inr more ↦ more
-    ]
+    none_nearer all passes hit start ahead floor nodes passing consistent
+    (λ bound less least. record {
+      consistent = consistent;
+      met = halted.met;
+      followed = halted.followed;
+      least = least;
+      beyond = λ place node known waits. elim (halted.beyond place node known waits) [
+        | inl far ↦ inl (omega (arith, less, far))
+        | inr dearer ↦ inr dearer
+      ];
+    })
+    halted.passed (suc (walk_cost dirs)) target dirs (omega arith) is_hit walk
 
 -- the estimate is nowhere below the octile distance to the rectangle
 abbrev IsAbove : (Cell → Bool) → Rect → (Cell → ℕ) → Type 0

@@ -5,7 +5,7 @@ use Rattle.std.specs.Prelude.{slice_get}
 use Rattle.std.proofs.lemmas.Bool.{false≢true, cases_Bool}
 use Rattle.nav_types.specs.declared.cells.Cell.{Cell}
 use Rattle.nav_types.specs.declared.directions.Dir.{Dir}
-use Rattle.nav_types.specs.Walks.{IsDistance}
+use Rattle.nav_types.specs.Walks.{IsWalk, walk_cost, IsDistance}
 use Rattle.jump_search.specs.declared.nodes.Node.{Node}
 use Rattle.jump_search.specs.declared.states.JumpState.{JumpState}
 use Rattle.jump_search.specs.Estimates.{IsConsistent}
@@ -16,23 +16,35 @@ use Rattle.jump_search.specs.inner.Searched.{IsLastRun, IsRelaxed, IsNoted, IsDe
 use Rattle.jump_search.specs.inner.Searched.{IsSearched}
 use Rattle.jump_search.proofs.Measuring.{falls_along, jumped, Walked, jumps_walk}
 
--- the estimate is consistent, the jumps of opened nodes have been followed, and nodes that are not opened are beyond the
--- bound, or, where the search is not for all, dearer than another of their cell
+-- no walk to a cell that is hit costs less
+abbrev pub IsLeastToHit : (Cell → Bool) → (Cell → Bool) → Cell → ℕ → Type 0
+IsLeastToHit passes hit start bound =
+    (target : Cell) (dirs : List Dir) → IsTrue (hit target) → IsWalk passes start dirs target → bound ≤ walk_cost dirs
+
+-- the estimate is consistent, the jumps of opened nodes have been followed, no hit is nearer than the bound, and nodes that
+-- are not opened are beyond it, or, where the search is not for all, dearer than another of their cell
 pub record IsClosed (all : Bool) (passes hit : Cell → Bool) (start : Cell) (ahead : Cell → ℕ) (bound : ℕ)
     (nodes : List Node) : Type 0 where
   pub consistent : IsConsistent passes hit ahead
   pub met : AreMet passes hit start nodes
   pub followed : (place : ℕ) (node : Node) → slice_get nodes place ≡ Some node → IsTrue node.opened
-      → IsFollowedFrom all passes hit nodes node
+      → IsFollowedFrom all passes hit start nodes node
+  pub least : IsLeastToHit passes hit start bound
   pub beyond : (place : ℕ) (node : Node) → slice_get nodes place ≡ Some node → IsFalse node.opened
       → (bound < node.cost + ahead node.state.cell) ⊎ (IsFalse all × IsDearer nodes node)
 
 pub closed : (all : Bool) (passes hit : Cell → Bool) (start : Cell) (ahead : Cell → ℕ) (end : Cell) (bound : ℕ)
     (nodes : List Node)
-    → IsConsistent passes hit ahead → IsSearched all passes hit start ahead end bound nodes
+    → IsConsistent passes hit ahead → IsLeastToHit passes hit start bound
+    → IsSearched all passes hit start ahead end bound nodes
     → IsClosed all passes hit start ahead bound nodes
-closed all passes hit start ahead end bound nodes consistent searched =
-    record { consistent = consistent; met = searched.met; followed = searched.followed; beyond = searched.beyond }
+closed all passes hit start ahead end bound nodes consistent least searched = record {
+  consistent = consistent;
+  met = searched.met;
+  followed = searched.followed;
+  least = least;
+  beyond = searched.beyond;
+}
 
 -- an opened node of the state that costs at most so much
 pub record HasOpened (nodes : List Node) (state : JumpState) (cost : ℕ) : Type 0 where
@@ -88,20 +100,29 @@ start_opened all passes hit start ahead bound nodes ended state is near =
     (omega (arith, free)) near
     (λ some dearer. (let less = dearer.1.1.1.1 in omega (arith, less, free)))
 
--- a jump from an opened node, than which no node of the cell is cheaper
+-- a jump within the bound from an opened node, than which no node of the cell is cheaper
 
 pub jump_relaxed : (all : Bool) (passes hit : Cell → Bool) (start : Cell) (ahead : Cell → ℕ) (bound : ℕ) (nodes : List Node)
     → IsClosed all passes hit start ahead bound nodes
     → (before state : JumpState) (cost : ℕ) (from : HasOpened nodes before cost)
     → IsJump passes hit before state → (run : ℕ) → IsLastRun passes before.cell state run
+    → from.node.cost + octile_between before.cell state.cell ≤ bound
     → (IsFalse all → HasCheaper nodes state.cell (from.node.cost + octile_between before.cell state.cell) → ⊥)
     → IsRelaxed nodes state (from.node.cost + octile_between before.cell state.cell) run
-jump_relaxed all passes hit start ahead bound nodes ended before state cost from jump run last cheapest =
+jump_relaxed all passes hit start ahead bound nodes ended before state cost from jump run last within cheapest =
     let P = λ (s : JumpState). IsJump passes hit s state → IsLastRun passes s.cell state run
-    → IsNoted all nodes state (from.node.cost + octile_between s.cell state.cell) run in
+    → IsNoted all passes hit start nodes state (from.node.cost + octile_between s.cell state.cell) run in
     elim (subst P from.same (ended.followed from.place from.node from.known from.opened state run) jump last) [
       | inl relaxed ↦ relaxed
-      | inr left ↦ absurd (cheapest left.0 left.1)
+      | inr other ↦ elim other [
+        | inl left ↦ absurd (cheapest left.0 left.1)
+        | inr nearer ↦
+            let to = nearer.1.0 in
+            let is = to.1.1.1.1 in
+            let less = nearer.1.1 in
+            let least = ended.least to.0 to.1.1.0 to.1.0 to.1.1.1.0 in
+            absurd (omega (arith, is, less, least, within))
+      ]
     ]
 
 -- each state within the bound, where the search is for all
@@ -117,7 +138,8 @@ bounded passes hit start ahead bound nodes ended (before ∷ rest) state jumps n
     let through = falls_along passes hit ahead ended.consistent jump.dir jump.count before.cell state.cell jump.run in
     let from = bounded passes hit start ahead bound nodes ended rest before jumps.1 (omega (arith, near, through)) in
     let to = jump_relaxed true passes hit start ahead bound nodes ended before state (jumps_cost rest before) from
-    jumps.0 jump.count (jump.dir, (jump.arrived, jump.run)) (λ some. absurd (false≢true (sym some))) in
+    jumps.0 jump.count (jump.dir, (jump.arrived, jump.run)) (let low = from.cheap in omega (arith, near, low))
+    (λ some. absurd (false≢true (sym some))) in
     let less = to.cheap in
     let cheap = from.cheap in
     found_opened true passes hit start ahead bound nodes ended state
@@ -170,7 +192,7 @@ followed_opened all passes hit start ahead bound nodes ended next (before ∷ re
     (omega (arith, near, through)) in
     let cheap = from.cheap in
     let to = jump_relaxed all passes hit start ahead bound nodes ended before state (jumps_cost rest before) from
-    followed.jump jump.count (jump.dir, (jump.arrived, jump.run))
+    followed.jump jump.count (jump.dir, (jump.arrived, jump.run)) (omega (arith, near, cheap))
     (λ some cheaper. none_cheaper passes hit start nodes ended.met state.cell state.cell refl
     (from.node.cost + octile_between before.cell state.cell)
     (jumps_cost rest before + octile_between before.cell state.cell) distance (omega (arith, cheap)) cheaper) in

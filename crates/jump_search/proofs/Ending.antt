@@ -1,5 +1,5 @@
 -- The end of a search is the first in cell order of the nearest hit cells.
-use Rattle.std.proofs.Common.{ℕ, ◌≡◌, ◌≤◌, Bool, IsTrue, List, [], ◌∷◌}
+use Rattle.std.proofs.Common.{ℕ, zero, suc, ◌≡◌, ◌<◌, ◌≤◌, Bool, IsTrue, List, [], ◌∷◌}
 use Rattle.std.proofs.Common.{Option, Some, None, inl, inr, sym, subst, ap, ◌∙◌, arith}
 use Rattle.std.specs.Prelude.{slice_get}
 use Rattle.std.proofs.lemmas.Bool.{cases_lt}
@@ -18,7 +18,7 @@ use Rattle.jump_search.specs.inner.Searched.{IsSearched}
 use Rattle.jump_search.proofs.Measuring.{Walked, jumps_walk}
 use Rattle.jump_search.proofs.Stable.{some_chosen}
 use Rattle.jump_search.proofs.Stopping.{stops}
-use Rattle.jump_search.proofs.Bounding.{IsClosed, closed, followed_opened}
+use Rattle.jump_search.proofs.Bounding.{IsClosed, IsLeastToHit, closed, followed_opened}
 
 -- the chosen walk to a hit cell that is joined to the start goes by jump states
 pub goes_by_states : (passes hit : Cell → Bool) (start : Cell) → IsTrue (passes start) → (cell : Cell)
@@ -58,37 +58,79 @@ least_hit all passes hit start ahead bound nodes ended passing consistent target
     none found.place found.node found.known found.opened (ap (λ (s : JumpState). s.cell) found.same ∙ at)
     (omega (arith, cheap, least))))
 
+-- no hit is nearer than `floor` where nodes are closed at each bound below it and opened nodes that are hit cost so much
+pub none_nearer : (all : Bool) (passes hit : Cell → Bool) (start : Cell) (ahead : Cell → ℕ) (floor : ℕ) (nodes : List Node)
+    → IsTrue (passes start) → IsConsistent passes hit ahead
+    → ((bound : ℕ) → bound < floor → IsLeastToHit passes hit start bound
+    → IsClosed all passes hit start ahead bound nodes)
+    → ((place : ℕ) (node : Node) → slice_get nodes place ≡ Some node → IsTrue node.opened → IsTrue (hit node.state.cell)
+    → floor ≤ node.cost)
+    → (most : ℕ) (target : Cell) (dirs : List Dir) → walk_cost dirs < most → IsTrue (hit target)
+    → IsWalk passes start dirs target → floor ≤ walk_cost dirs
+none_nearer all passes hit start ahead floor nodes passing consistent closes passed zero target dirs few is_hit walk =
+    absurd (omega (arith, few))
+none_nearer all passes hit start ahead floor nodes passing consistent closes passed (suc most) target dirs few is_hit walk =
+    elim (cases_lt (walk_cost dirs) floor) [
+      | inl less ↦
+          let least : IsLeastToHit passes hit start (walk_cost dirs) =
+          λ other others hit_other walk_other. elim (cases_lt (walk_cost others) (walk_cost dirs)) [
+            | inl nearer ↦
+                let late = none_nearer all passes hit start ahead floor nodes passing consistent closes passed most other
+                others (omega (arith, few, nearer)) hit_other walk_other in
+                absurd (omega (arith, late, nearer, less))
+            | inr more ↦ more
+          ] in
+          absurd (least_hit all passes hit start ahead (walk_cost dirs) nodes (closes (walk_cost dirs) less least) passing
+          consistent target dirs is_hit walk (omega arith)
+          (λ place node known opened at cheap.
+          (let late = passed place node known opened (subst (λ (c : Cell). IsTrue (hit c)) (sym at) is_hit) in
+          omega (arith, late, cheap, less))))
+      | inr more ↦ more
+    ]
+
 -- where no opened node is hit there is none to reach
 pub some_hit : (all : Bool) (passes hit : Cell → Bool) (start : Cell) (ahead : Cell → ℕ) (nodes : List Node)
-    → ((bound : ℕ) → IsClosed all passes hit start ahead bound nodes) → IsTrue (passes start) → IsConsistent passes hit ahead
+    → ((bound : ℕ) → IsLeastToHit passes hit start bound → IsClosed all passes hit start ahead bound nodes)
+    → IsTrue (passes start) → IsConsistent passes hit ahead
     → CanReach passes start hit
     → ((place : ℕ) (node : Node) → slice_get nodes place ≡ Some node → IsTrue node.opened → IsTrue (hit node.state.cell)
     → ⊥) → ⊥
 some_hit all passes hit start ahead nodes ended passing consistent reach none =
-    let target = reach.0 in
     let walk = reach.1.1 in
-    least_hit all passes hit start ahead (walk_cost walk.0) nodes (ended (walk_cost walk.0)) passing consistent target walk.0
-    reach.1.0 walk.1 (omega arith)
-    (λ place node known opened at cheap. none place node known opened
-    (subst (λ (c : Cell). IsTrue (hit c)) (sym at) reach.1.0))
+    let past = suc (walk_cost walk.0) in
+    let late = none_nearer all passes hit start ahead past nodes passing consistent
+    (λ bound below least. ended bound least) (λ place node known opened is. absurd (none place node known opened is)) past
+    reach.0 walk.0 (omega arith) reach.1.0 walk.1 in
+    omega (arith, late)
 
 -- the end and the bound
 
 pub nearest_end : (all : Bool) (passes hit : Cell → Bool) (start : Cell) (ahead : Cell → ℕ) (end : Cell) (bound : ℕ)
     (nodes : List Node)
     → IsSearched all passes hit start ahead end bound nodes → IsTrue (passes start) → IsConsistent passes hit ahead
-    → (target : Cell) (dirs : List Dir) → IsTrue (hit target) → IsWalk passes start dirs target → bound ≤ walk_cost dirs
+    → IsLeastToHit passes hit start bound
 nearest_end all passes hit start ahead end bound nodes searched passing consistent target dirs is_hit walk =
-    elim (cases_lt (walk_cost dirs) bound) [
-      | inl less ↦ absurd (least_hit all passes hit start ahead bound nodes
-          (closed all passes hit start ahead end bound nodes consistent searched) passing consistent
-          target dirs is_hit walk (omega (arith, less))
-          (λ place node known opened at cheap.
-          (let no_less = searched.nearest place node known opened
-          (subst (λ (c : Cell). IsTrue (hit c)) (sym at) is_hit) in
-          omega (arith, no_less, cheap, less))))
-      | inr more ↦ more
-    ]
+    none_nearer all passes hit start ahead bound nodes passing consistent
+    (λ below less least. record {
+      consistent = consistent;
+      met = searched.met;
+      followed = searched.followed;
+      least = least;
+      beyond = λ place node known waits. elim (searched.beyond place node known waits) [
+        | inl far ↦ inl (omega (arith, far, less))
+        | inr dearer ↦ inr dearer
+      ];
+    })
+    searched.nearest (suc (walk_cost dirs)) target dirs (omega arith) is_hit walk
+
+-- so its nodes are closed at its bound
+pub closed_end : (all : Bool) (passes hit : Cell → Bool) (start : Cell) (ahead : Cell → ℕ) (end : Cell) (bound : ℕ)
+    (nodes : List Node)
+    → IsSearched all passes hit start ahead end bound nodes → IsTrue (passes start) → IsConsistent passes hit ahead
+    → IsClosed all passes hit start ahead bound nodes
+closed_end all passes hit start ahead end bound nodes searched passing consistent =
+    closed all passes hit start ahead end bound nodes consistent
+    (nearest_end all passes hit start ahead end bound nodes searched passing consistent) searched
 
 before_not_after : (a b : Cell) → IsBefore a b → IsNotAfter b a → ⊥
 before_not_after a b (inl p) (inl q) = omega (arith, p, q)
@@ -118,7 +160,7 @@ first_end all passes hit start ahead end bound nodes searched passing consistent
     let cost = distance.walk.1.1 in
     not_after_cases end target
     (λ before. least_hit all passes hit start ahead bound nodes
-    (closed all passes hit start ahead end bound nodes consistent searched) passing consistent
+    (closed_end all passes hit start ahead end bound nodes searched passing consistent) passing consistent
     target dirs is_hit distance.walk.1.0 (omega (arith, cost))
     (λ place node known opened at cheap.
     (let here = subst (λ (c : Cell). IsTrue (hit c)) (sym at) is_hit in

@@ -27,8 +27,8 @@ use Rattle.jump_search.specs.inner.Traced.{Moves}
 use Rattle.jump_search.proofs.Measuring.{run_moves, falls_along, octile_run, run_cost}
 use Rattle.jump_search.proofs.Measuring.{jumped, Walked, jumps_walk}
 use Rattle.jump_search.proofs.Stable.{chosen_stable}
-use Rattle.jump_search.proofs.Bounding.{IsClosed, closed, jump_relaxed, node_least, none_cheaper, followed_opened}
-use Rattle.jump_search.proofs.Ending.{goes_by_states, end_distance}
+use Rattle.jump_search.proofs.Bounding.{IsClosed, jump_relaxed, node_least, none_cheaper, followed_opened}
+use Rattle.jump_search.proofs.Ending.{goes_by_states, closed_end, end_distance}
 use Rattle.jump_search.proofs.LastRuns.{one_count, moves_from_same, run_from_same, begin_distance, run_enters}
 use Rattle.jump_search.proofs.LastRuns.{one_pick, HasLastRun, one_last_run, chosen_run}
 
@@ -305,7 +305,7 @@ kept_is_followed all passes hit start ahead bound nodes ended cell cost next dir
     (ap (λ (s : JumpState). s.cell) from.same) (jumps_cost rest before) last.near in
     let cheap = from.cheap in
     let relaxed = jump_relaxed all passes hit start ahead bound nodes ended before to (jumps_cost rest before) from
-    last.jump came.count (dir, (refl, last.steps))
+    last.jump came.count (dir, (refl, last.steps)) (omega (arith, near, whole, between, cheap))
     (λ some cheaper. none_cheaper passes hit start nodes ended.met cell cell refl
     (from.node.cost + octile_between before.cell cell) cost distance (omega (arith, cheap, between, whole))
     cheaper) in
@@ -480,14 +480,14 @@ traced_exact all passes hit start ahead end bound nodes searched cell cost next 
 -- one run more
 pub traced_more : (all : Bool) (passes hit : Cell → Bool) (start : Cell) (ahead : Cell → ℕ) (end : Cell) (bound : ℕ)
     (nodes : List Node)
-    → IsConsistent passes hit ahead → IsSearched all passes hit start ahead end bound nodes
+    → IsTrue (passes start) → IsConsistent passes hit ahead → IsSearched all passes hit start ahead end bound nodes
     → (cell : Cell) (cost : ℕ) (next : Option Dir) (back : List Dir)
     → IsTraced passes hit start nodes end bound cell cost next back → start ≢ cell → (dir : Dir) (run : ℕ)
     → IsPicked (IsExact nodes cell cost) next dir → HasRun nodes cell cost dir run → (from : Cell)
     → Moves dir run from cell → (less : ℕ)
     → less ≡ cost - run * step_cost dir → IsTraced passes hit start nodes end bound from less (Some dir)
     (back ++ replicate run dir)
-traced_more all passes hit start ahead end bound nodes consistent searched cell cost next back traced away dir run picked has from
+traced_more all passes hit start ahead end bound nodes passing consistent searched cell cost next back traced away dir run picked has from
     moves less is =
     let near = traced_near all passes hit start ahead end bound nodes searched cell cost next back traced in
     let begin = begin_of passes hit start nodes searched.met cell cost dir run traced.distance has in
@@ -517,7 +517,7 @@ traced_more all passes hit start ahead end bound nodes consistent searched cell 
           (IsWalk-append passes from cell end (replicate run dir) (reverse back) steps traced.walk);
       sums = omega (arith, longer, run_cost dir run, sums, begun, is);
       chosen = λ none. traced.chosen (λ states state here follows so_far.
-          step_back all passes hit start ahead bound nodes (closed all passes hit start ahead end bound nodes consistent searched)
+          step_back all passes hit start ahead bound nodes (closed_end all passes hit start ahead end bound nodes searched passing consistent)
           cell cost next dir run away
           traced.distance near picked has from steps states state here follows
           (λ earlier before begins goes_on taken. none earlier before begins goes_on
@@ -626,7 +626,7 @@ traceable_more all passes hit start ahead end bound nodes able cell cost next ba
     from moves is longer more =
     subst (λ (dirs : List Dir). IsTraced passes hit start nodes end bound from (cost - run * each) (Some dir) dirs)
     (sym more)
-    (traced_more all passes hit start ahead end bound nodes able.consistent able.searched cell cost next back traced away dir run picked
+    (traced_more all passes hit start ahead end bound nodes able.passing able.consistent able.searched cell cost next back traced away dir run picked
     has from moves (cost - run * each)
     (ap (λ (n : ℕ). cost - run * n) is))
 

@@ -1,7 +1,7 @@
 -- Following a jump: where it leads, what it costs, and that all jumps in its direction are followed by it.
-use Rattle.std.proofs.Common.{ℕ, zero, suc, ◌≡◌, ◌+◌, ◌-◌, ◌*◌, ◌<◌, ◌≤◌, Bool, IsTrue, IsFalse, List, Option, Some, min, max}
+use Rattle.std.proofs.Common.{ℕ, zero, suc, ◌≡◌, ◌+◌, ◌-◌, ◌*◌, ◌/◌, ◌<◌, ◌≤◌, Bool, false, IsTrue, IsFalse, List, Option, Some, min, max}
 use Rattle.std.proofs.Common.{inl, inr, ◌⊎◌, refl, ap, sym, subst, ◌∙◌, arith}
-use Rattle.std.proofs.lemmas.Bool.{both_ways}
+use Rattle.std.proofs.lemmas.Bool.{both_ways, cases_lt}
 use Rattle.std.proofs.lemmas.Option.{same_Some}
 use Rattle.nav_types.specs.declared.cells.Cell.{Cell}
 use Rattle.nav_types.specs.declared.cells.Size.{Size}
@@ -10,7 +10,7 @@ use Rattle.nav_types.specs.declared.directions.Dir.TheVariants.{N, E, S, W, NE, 
 use Rattle.nav_types.specs.Cells.{IsInside}
 use Rattle.nav_types.specs.Directions.{is_straight}
 use Rattle.open_heap.specs.Queue.{Queue}
-use Rattle.jump_scan.specs.Stops.{IsRun, HaltsStraight, HaltsDiagonal}
+use Rattle.jump_scan.specs.Stops.{IsRun, HaltsStraight, HaltsDiagonal, IsDiagonalStopWithin}
 use Rattle.jump_scan.specs.Successors.{IsSuccessor}
 use Rattle.jump_scan.proofs.Running.{one_stop_only}
 use Rattle.jump_search.specs.declared.nodes.Node.{Node}
@@ -18,11 +18,12 @@ use Rattle.jump_search.specs.declared.states.JumpState.{JumpState}
 use Rattle.jump_search.specs.Estimates.{IsConsistent}
 use Rattle.jump_search.specs.JumpStates.{IsStopOf, IsJump, octile_between}
 use Rattle.jump_search.specs.inner.Numbered.{HasCheaper}
-use Rattle.jump_search.specs.inner.Searched.{IsLastRun, HasOpenedParent, IsNoted}
+use Rattle.jump_search.specs.inner.Searched.{IsCostToHit, IsLastRun, HasNearer, HasOpenedParent, IsNoted}
 use Rattle.jump_search.specs.inner.Underway.{steps_over, estimate_of, IsOpenNode, IsFollowedAlong}
 use Rattle.jump_search.specs.inner.Underway.{IsFollowable, Settles, Notes, Follows}
 use Rattle.jump_search.specs.inner.Traced.{Moves}
-use Rattle.jump_search.proofs.Measuring.{run_moves, falls_along}
+use Rattle.jump_search.proofs.Measuring.{run_moves, octile_run, falls_along}
+use Rattle.jump_search.proofs.Turns.{diagonal_cost}
 use Rattle.jump_search.proofs.Dropping.{going_dropped}
 use Rattle.jump_search.proofs.Lasting.{all_later_self, all_later_through, along_later, open_later}
 
@@ -136,11 +137,11 @@ same_state a b cells arrivals =
     one ∙ ap (λ (d : Option Dir). record { cell = b.cell; arrived = d }) arrivals
 
 -- each jump in the direction leads to the landed node's state
-pub along_landed : (all : Bool) (passes hit : Cell → Bool) (nodes : List Node) (from : JumpState) (cost : ℕ) (dir : Dir) (stop : Cell)
+pub along_landed : (all : Bool) (passes hit : Cell → Bool) (start : Cell) (nodes : List Node) (from : JumpState) (cost : ℕ) (dir : Dir) (stop : Cell)
     (node : Node)
     → IsStopOf passes hit dir from.cell stop → HasLanded from cost dir stop node
-    → IsNoted all nodes node.state node.cost node.run → IsFollowedAlong all passes hit nodes from cost dir
-along_landed all passes hit nodes from cost dir stop node is landed noted = λ state run jump arrived last.
+    → IsNoted all passes hit start nodes node.state node.cost node.run → IsFollowedAlong all passes hit start nodes from cost dir
+along_landed all passes hit start nodes from cost dir stop node is landed noted = λ state run jump arrived last.
     let dir_jump : jump.dir ≡ dir = same_Some jump.dir dir (sym jump.arrived ∙ arrived) in
     let stop_jump = subst (λ (d : Dir). IsStopOf passes hit d from.cell state.cell) dir_jump jump.stop in
     let cells : state.cell ≡ stop = one_stop_of passes hit dir from.cell state.cell stop stop_jump is in
@@ -150,9 +151,9 @@ along_landed all passes hit nodes from cost dir stop node is landed noted = λ s
     ∙ ap (λ (c : Cell). steps_over from.cell c) cells ∙ sym landed.run in
     let costs : cost + octile_between from.cell state.cell ≡ node.cost =
     ap (λ (c : Cell). cost + octile_between from.cell c) cells ∙ sym landed.costs in
-    subst (λ (s : JumpState). IsNoted all nodes s (cost + octile_between from.cell state.cell) run) (sym one)
-    (subst (λ (n : ℕ). IsNoted all nodes node.state n run) (sym costs)
-    (subst (λ (n : ℕ). IsNoted all nodes node.state node.cost n) (sym steps) noted))
+    subst (λ (s : JumpState). IsNoted all passes hit start nodes s (cost + octile_between from.cell state.cell) run) (sym one)
+    (subst (λ (n : ℕ). IsNoted all passes hit start nodes node.state n run) (sym costs)
+    (subst (λ (n : ℕ). IsNoted all passes hit start nodes node.state node.cost n) (sym steps) noted))
 
 -- an estimate does not fall along a jump
 pub estimate_landed : (passes hit : Cell → Bool) (ahead : Cell → ℕ) (from : JumpState) (cost floor : ℕ) (dir : Dir)
@@ -183,86 +184,87 @@ low_cell size cell inside =
     (omega (arith, few, column), omega (arith, low, row))
 
 -- following the one jump in a direction
-follows_landed : (all : Bool) (passes hit : Cell → Bool) (ahead : Cell → ℕ) (from : JumpState) (cost : ℕ) (dir : Dir) (stop : Cell)
+follows_landed : (all : Bool) (passes hit : Cell → Bool) (start : Cell) (ahead : Cell → ℕ) (from : JumpState) (cost : ℕ) (dir : Dir) (stop : Cell)
     (node : Node)
     (old new : List Node) (before after : Queue)
     → IsSuccessor passes from.cell from.arrived dir → IsStopOf passes hit dir from.cell stop
     → HasLanded from cost dir stop node
     → octile_between from.cell stop ≤ 189812736 → IsConsistent passes hit ahead
     → Settles all ahead node old new before after
-    → Follows all passes hit ahead from cost (λ other. other ≡ dir) old new before after
-follows_landed all passes hit ahead from cost dir stop node old new before after successor is landed most consistent
+    → Follows all passes hit start ahead from cost (λ other. other ≡ dir) old new before after
+follows_landed all passes hit start ahead from cost dir stop node old new before after successor is landed most consistent
     noted =
     let relaxes = noted.1.0 in
     record {
       later = relaxes.later;
-      along = λ other same. subst (λ (d : Dir). IsFollowedAlong all passes hit new from cost d) (sym same)
-          (along_landed all passes hit new from cost dir stop node is landed (inl relaxes.relaxed));
-      going = λ start floor top going has early room.
+      along = λ other same. subst (λ (d : Dir). IsFollowedAlong all passes hit start new from cost d) (sym same)
+          (along_landed all passes hit start new from cost dir stop node is landed (inl relaxes.relaxed));
+      going = λ origin floor top going has early room.
           let costs = landed.costs in
-          going_dropped all passes hit start ahead floor top new noted.0 after noted.1.1
-          (relaxes.going all passes hit start floor top going
+          going_dropped all passes hit origin ahead floor top new noted.0 after noted.1.1
+          (relaxes.going all passes hit origin floor top going
           (estimate_landed passes hit ahead from cost floor dir stop node consistent is landed early)
           (omega (arith, costs, room, most)) (parent_landed passes hit old from cost dir stop node successor is landed has));
     }
 
 -- the one jump in a direction is left
-follows_left : (all : Bool) (passes hit : Cell → Bool) (ahead : Cell → ℕ) (from : JumpState) (cost : ℕ) (dir : Dir)
+follows_left : (all : Bool) (passes hit : Cell → Bool) (start : Cell) (ahead : Cell → ℕ) (from : JumpState) (cost : ℕ) (dir : Dir)
     (stop : Cell) (node : Node) (nodes : List Node) (queue : Queue)
     → IsStopOf passes hit dir from.cell stop → HasLanded from cost dir stop node → IsFalse all
     → HasCheaper nodes node.state.cell node.cost
-    → Follows all passes hit ahead from cost (λ other. other ≡ dir) nodes nodes queue queue
-follows_left all passes hit ahead from cost dir stop node nodes queue is landed some cheaper = record {
+    → Follows all passes hit start ahead from cost (λ other. other ≡ dir) nodes nodes queue queue
+follows_left all passes hit start ahead from cost dir stop node nodes queue is landed some cheaper = record {
   later = all_later_self nodes;
-  along = λ other same. subst (λ (d : Dir). IsFollowedAlong all passes hit nodes from cost d) (sym same)
-      (along_landed all passes hit nodes from cost dir stop node is landed (inr (some, cheaper)));
-  going = λ start floor top going has early room. going;
+  along = λ other same. subst (λ (d : Dir). IsFollowedAlong all passes hit start nodes from cost d) (sym same)
+      (along_landed all passes hit start nodes from cost dir stop node is landed (inr (inl (some, cheaper))));
+  going = λ origin floor top going has early room. going;
 }
 
 -- the one jump in a direction is noted, or left
-pub follows_noted : (all : Bool) (passes hit : Cell → Bool) (ahead : Cell → ℕ) (from : JumpState) (cost : ℕ) (dir : Dir) (stop : Cell)
+pub follows_noted : (all : Bool) (passes hit : Cell → Bool) (start : Cell) (ahead : Cell → ℕ) (from : JumpState) (cost : ℕ) (dir : Dir) (stop : Cell)
     (node : Node)
     (old new : List Node) (before after : Queue)
     → IsSuccessor passes from.cell from.arrived dir → IsStopOf passes hit dir from.cell stop
     → HasLanded from cost dir stop node
     → octile_between from.cell stop ≤ 189812736 → IsConsistent passes hit ahead → Notes all ahead node old new before after
-    → Follows all passes hit ahead from cost (λ other. other ≡ dir) old new before after
-follows_noted all passes hit ahead from cost dir stop node old new before after successor is landed most consistent notes = elim notes [
+    → Follows all passes hit start ahead from cost (λ other. other ≡ dir) old new before after
+follows_noted all passes hit start ahead from cost dir stop node old new before after successor is landed most consistent notes = elim notes [
   | inl noted ↦
-      follows_landed all passes hit ahead from cost dir stop node old new before after successor is landed most consistent noted
+      follows_landed all passes hit start ahead from cost dir stop node old new before after successor is landed most consistent noted
   | inr left ↦
-      subst (λ (ns : List Node). Follows all passes hit ahead from cost (λ other. other ≡ dir) old ns before after)
+      subst (λ (ns : List Node). Follows all passes hit start ahead from cost (λ other. other ≡ dir) old ns before after)
       (sym left.1.0)
-      (subst (λ (q : Queue). Follows all passes hit ahead from cost (λ other. other ≡ dir) old old before q) (sym left.1.1)
-      (follows_left all passes hit ahead from cost dir stop node old before is landed left.0.0 left.0.1))
+      (subst (λ (q : Queue). Follows all passes hit start ahead from cost (λ other. other ≡ dir) old old before q) (sym left.1.1)
+      (follows_left all passes hit start ahead from cost dir stop node old before is landed left.0.0 left.0.1))
 ]
 
--- there is no jump in the direction
-pub follows_none : (all : Bool) (passes hit : Cell → Bool) (ahead : Cell → ℕ) (from : JumpState) (cost : ℕ) (dir : Dir)
-    (nodes : List Node) (queue : Queue)
-    → ((stop : Cell) → IsStopOf passes hit dir from.cell stop → ⊥)
-    → Follows all passes hit ahead from cost (λ other. other ≡ dir) nodes nodes queue queue
-follows_none all passes hit ahead from cost dir nodes queue none = record {
+-- where there is a jump in the direction, a hit is nearer
+pub follows_none : (all : Bool) (passes hit : Cell → Bool) (start : Cell) (ahead : Cell → ℕ) (from : JumpState) (cost : ℕ)
+    (dir : Dir) (nodes : List Node) (queue : Queue)
+    → ((stop : Cell) → IsStopOf passes hit dir from.cell stop
+    → HasNearer passes hit start (cost + octile_between from.cell stop))
+    → Follows all passes hit start ahead from cost (λ other. other ≡ dir) nodes nodes queue queue
+follows_none all passes hit start ahead from cost dir nodes queue none = record {
   later = all_later_self nodes;
   along = λ other same state run jump arrived last.
       let dir_jump : jump.dir ≡ dir = same_Some jump.dir dir
       (sym jump.arrived ∙ arrived ∙ ap (λ (d : Dir). Some d) same) in
-      absurd (none state.cell (subst (λ (d : Dir). IsStopOf passes hit d from.cell state.cell) dir_jump jump.stop));
-  going = λ start floor top going has early room. going;
+      inr (inr (none state.cell (subst (λ (d : Dir). IsStopOf passes hit d from.cell state.cell) dir_jump jump.stop)));
+  going = λ origin floor top going has early room. going;
 }
 
 -- the direction is no successor
-pub follows_pruned : (all : Bool) (passes hit : Cell → Bool) (ahead : Cell → ℕ) (from : JumpState) (cost : ℕ) (dir : Dir)
+pub follows_pruned : (all : Bool) (passes hit : Cell → Bool) (start : Cell) (ahead : Cell → ℕ) (from : JumpState) (cost : ℕ) (dir : Dir)
     (nodes : List Node) (queue : Queue)
     → (IsSuccessor passes from.cell from.arrived dir → ⊥)
-    → Follows all passes hit ahead from cost (λ other. other ≡ dir) nodes nodes queue queue
-follows_pruned all passes hit ahead from cost dir nodes queue not = record {
+    → Follows all passes hit start ahead from cost (λ other. other ≡ dir) nodes nodes queue queue
+follows_pruned all passes hit start ahead from cost dir nodes queue not = record {
   later = all_later_self nodes;
   along = λ other same state run jump arrived last.
       let dir_jump : jump.dir ≡ dir = same_Some jump.dir dir
       (sym jump.arrived ∙ arrived ∙ ap (λ (d : Dir). Some d) same) in
       absurd (not (subst (λ (d : Dir). IsSuccessor passes from.cell from.arrived d) dir_jump jump.successor));
-  going = λ start floor top going has early room. going;
+  going = λ origin floor top going has early room. going;
 }
 
 -- a jump costs little enough
@@ -275,9 +277,9 @@ jump_most passes hit size dir from stop within free is =
     between_most from stop a.0 a.1 b.0 b.1
 
 -- a search that has followed some jumps can follow others
-pub followable_later : {all : Bool} {passes hit : Cell → Bool} {ahead : Cell → ℕ} {from : JumpState} {cost : ℕ}
+pub followable_later : {all : Bool} {passes hit : Cell → Bool} {start : Cell} {ahead : Cell → ℕ} {from : JumpState} {cost : ℕ}
     {Within : Dir → Type 0} {old new : List Node} {before after : Queue}
-    → Follows all passes hit ahead from cost Within old new before after
+    → Follows all passes hit start ahead from cost Within old new before after
     → IsFollowable all passes hit ahead from cost old before
     → IsFollowable all passes hit ahead from cost new after
 followable_later follows f = record {
@@ -293,18 +295,18 @@ followable_later follows f = record {
 }
 
 -- following jumps in some directions, and then in others
-pub follows_both : {all : Bool} {passes hit : Cell → Bool} {ahead : Cell → ℕ} {from : JumpState} {cost : ℕ}
+pub follows_both : {all : Bool} {passes hit : Cell → Bool} {start : Cell} {ahead : Cell → ℕ} {from : JumpState} {cost : ℕ}
     {One Two : Dir → Type 0} {a b c : List Node} {p q r : Queue}
-    → Follows all passes hit ahead from cost One a b p q → Follows all passes hit ahead from cost Two b c q r
-    → Follows all passes hit ahead from cost (λ dir. One dir ⊎ Two dir) a c p r
+    → Follows all passes hit start ahead from cost One a b p q → Follows all passes hit start ahead from cost Two b c q r
+    → Follows all passes hit start ahead from cost (λ dir. One dir ⊎ Two dir) a c p r
 follows_both one two = record {
   later = all_later_through _ _ _ one.later two.later;
   along = λ dir within. elim within [
-    | inl first ↦ along_later _ _ _ _ _ _ _ dir two.later (one.along dir first)
+    | inl first ↦ along_later _ _ _ _ _ _ _ _ dir two.later (one.along dir first)
     | inr last ↦ two.along dir last
   ];
-  going = λ start floor top going has early room.
-      two.going start floor top (one.going start floor top going has early room)
+  going = λ origin floor top going has early room.
+      two.going origin floor top (one.going origin floor top going has early room)
       (open_later _ _ _ _ one.later has) early room;
 }
 
@@ -319,3 +321,21 @@ each_of_eight NE = inr (inr (inr (inr (inl refl))))
 each_of_eight SE = inr (inr (inr (inr (inr (inl refl)))))
 each_of_eight SW = inr (inr (inr (inr (inr (inr (inl refl))))))
 each_of_eight NW = inr (inr (inr (inr (inr (inr (inr refl))))))
+
+-- a diagonal run that has no stop within the steps that a walk to a hit leaves has none that costs no more than the walk
+pub nearer_than_stop : (passes hit : Cell → Bool) (start : Cell) (limit cost most : ℕ) (dir : Dir) (from stop : Cell)
+    → IsCostToHit passes hit start limit → most ≡ (limit - cost) / 92682 → is_straight dir ≡ false
+    → (IsDiagonalStopWithin passes hit dir most from stop → ⊥) → IsStopOf passes hit dir from stop
+    → HasNearer passes hit start (cost + octile_between from stop)
+nearer_than_stop passes hit start limit cost most dir from stop costs steps diagonal none is = elim is [
+  | inl straight ↦ absurd (both_ways (is_straight dir) diagonal straight.0)
+  | inr end ↦
+      let count = end.1.count in
+      let whole = octile_run passes dir count from stop end.1.run in
+      let each = diagonal_cost dir diagonal in
+      let total : octile_between from stop ≡ count * 92682 = whole ∙ ap (λ (n : ℕ). count * n) each in
+      elim (cases_lt most count) [
+        | inl more ↦ (limit, (costs, omega (arith, more, steps, total)))
+        | inr within ↦ absurd (none (end.1, within))
+      ]
+]

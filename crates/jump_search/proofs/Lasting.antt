@@ -113,12 +113,15 @@ cheaper_later old new cell cost later cheaper =
       ),
     )
 
-pub noted_later : (all : Bool) (old new : List Node) (state : JumpState) (cost run : ℕ) → AreLater old new
-    → IsNoted all old state cost run
-    → IsNoted all new state cost run
-noted_later all old new state cost run later noted = elim noted [
+pub noted_later : (all : Bool) (passes hit : Cell → Bool) (start : Cell) (old new : List Node) (state : JumpState) (cost run : ℕ) → AreLater old new
+    → IsNoted all passes hit start old state cost run
+    → IsNoted all passes hit start new state cost run
+noted_later all passes hit start old new state cost run later noted = elim noted [
   | inl relaxed ↦ inl (relaxed_later old new state cost run later relaxed)
-  | inr left ↦ inr (left.0, cheaper_later old new state.cell cost later left.1)
+  | inr other ↦ elim other [
+    | inl left ↦ inr (inl (left.0, cheaper_later old new state.cell cost later left.1))
+    | inr nearer ↦ inr (inr nearer)
+  ]
 ]
 
 pub dearer_later : (old new : List Node) (a b : Node) → AreLater old new → b.state ≡ a.state → a.cost ≤ b.cost
@@ -245,22 +248,22 @@ met_later passes hit start old new met later from =
       ];
     }
 
-pub followed_later : (all : Bool) (passes hit : Cell → Bool) (old new : List Node) (a b : Node) → AreLater old new
+pub followed_later : (all : Bool) (passes hit : Cell → Bool) (start : Cell) (old new : List Node) (a b : Node) → AreLater old new
     → b.state ≡ a.state → b.cost ≡ a.cost
-    → IsFollowedFrom all passes hit old a → IsFollowedFrom all passes hit new b
-followed_later all passes hit old new a b later same cost followed = λ state run jump last.
+    → IsFollowedFrom all passes hit start old a → IsFollowedFrom all passes hit start new b
+followed_later all passes hit start old new a b later same cost followed = λ state run jump last.
     let jump_a = subst (λ (s : JumpState). IsJump passes hit s state) same jump in
     let last_a = subst (λ (s : JumpState). IsLastRun passes s.cell state run) same last in
-    let noted = noted_later all old new state (a.cost + octile_between a.state.cell state.cell) run later
+    let noted = noted_later all passes hit start old new state (a.cost + octile_between a.state.cell state.cell) run later
     (followed state run jump_a last_a) in
-    subst (λ (n : ℕ). IsNoted all new state (n + octile_between b.state.cell state.cell) run) (sym cost)
-    (subst (λ (s : JumpState). IsNoted all new state (a.cost + octile_between s.cell state.cell) run) (sym same) noted)
+    subst (λ (n : ℕ). IsNoted all passes hit start new state (n + octile_between b.state.cell state.cell) run) (sym cost)
+    (subst (λ (s : JumpState). IsNoted all passes hit start new state (a.cost + octile_between s.cell state.cell) run) (sym same) noted)
 
-pub along_later : (all : Bool) (passes hit : Cell → Bool) (old new : List Node) (from : JumpState) (cost : ℕ) (dir : Dir)
+pub along_later : (all : Bool) (passes hit : Cell → Bool) (start : Cell) (old new : List Node) (from : JumpState) (cost : ℕ) (dir : Dir)
     → AreLater old new
-    → IsFollowedAlong all passes hit old from cost dir → IsFollowedAlong all passes hit new from cost dir
-along_later all passes hit old new from cost dir later along = λ state run jump arrived last.
-    noted_later all old new state (cost + octile_between from.cell state.cell) run later
+    → IsFollowedAlong all passes hit start old from cost dir → IsFollowedAlong all passes hit start new from cost dir
+along_later all passes hit start old new from cost dir later along = λ state run jump arrived last.
+    noted_later all passes hit start old new state (cost + octile_between from.cell state.cell) run later
     (along state run jump arrived last)
 
 pub open_later : (old new : List Node) (state : JumpState) (cost : ℕ) → AreLater old new → IsOpenNode old state cost

@@ -18,7 +18,8 @@ use Rattle.jump_search.specs.declared.states.JumpState.{JumpState}
 use Rattle.jump_search.specs.Estimates.{IsConsistent}
 use Rattle.jump_search.specs.JumpStates.{octile_to, AreJumps, jumps_cost, IsPrunedCost, IsOpened}
 use Rattle.jump_search.specs.inner.Searched.{AreMet, IsSearched}
-use Rattle.jump_search.proofs.Bounding.{closed, bounded}
+use Rattle.jump_search.proofs.Bounding.{bounded}
+use Rattle.jump_search.proofs.Ending.{closed_end}
 
 -- the items that pass a test
 
@@ -94,9 +95,9 @@ opened_as nodes state has =
 -- all of them are opened states, and each opened state is one of them
 
 opened_pruned : (passes hit : Cell → Bool) (start : Cell) (rect : Rect) (end : Cell) (bound : ℕ) (nodes : List Node)
-    → IsConsistent passes hit (octile_to rect) → IsSearched true passes hit start (octile_to rect) end bound nodes → (state : JumpState) → OpenedAs nodes state
+    → IsTrue (passes start) → IsConsistent passes hit (octile_to rect) → IsSearched true passes hit start (octile_to rect) end bound nodes → (state : JumpState) → OpenedAs nodes state
     → IsOpened passes hit start rect bound state
-opened_pruned passes hit start rect end bound nodes consistent searched state has =
+opened_pruned passes hit start rect end bound nodes passing consistent searched state has =
     let node = has.node in
     let P = λ (s : JumpState). IsOpened passes hit start rect bound s in
     let reached = searched.met.reached has.place node has.known in
@@ -109,7 +110,7 @@ opened_pruned passes hit start rect end bound nodes consistent searched state ha
           | inl far ↦ omega (arith, far, near)
           | inr close ↦
               let other = bounded passes hit start (octile_to rect) bound nodes
-              (closed true passes hit start (octile_to rect) end bound nodes consistent searched) before node.state jumps close in
+              (closed_end true passes hit start (octile_to rect) end bound nodes searched passing consistent) before node.state jumps close in
               let cheap = other.cheap in
               let at = searched.met.once other.place has.place other.node node other.known has.known other.same in
               let one : Some other.node ≡ Some node = sym other.known ∙ (ap (slice_get nodes) at ∙ has.known) in
@@ -122,20 +123,20 @@ opened_pruned passes hit start rect end bound nodes consistent searched state ha
     })
 
 pub opened_number : (passes hit : Cell → Bool) (start : Cell) (rect : Rect) (end : Cell) (bound : ℕ) (nodes : List Node)
-    → IsConsistent passes hit (octile_to rect) → IsSearched true passes hit start (octile_to rect) end bound nodes
+    → IsTrue (passes start) → IsConsistent passes hit (octile_to rect) → IsSearched true passes hit start (octile_to rect) end bound nodes
     → Counts (IsOpened passes hit start rect bound) (count_by (λ (n : Node). n.opened) nodes)
-opened_number passes hit start rect end bound nodes consistent searched = (
+opened_number passes hit start rect end bound nodes passing consistent searched = (
   opened_states nodes,
   (
     record {
-      each = λ state has. opened_pruned passes hit start rect end bound nodes consistent searched state
+      each = λ state has. opened_pruned passes hit start rect end bound nodes passing consistent searched state
           (opened_as nodes state has);
       all = λ state opened.
           (let jumps = opened.pruned.jumps in
           let near = opened.near in
           let sums = jumps.1.1 in
           let found = bounded passes hit start (octile_to rect) bound nodes
-          (closed true passes hit start (octile_to rect) end bound nodes consistent searched) jumps.0 state jumps.1.0
+          (closed_end true passes hit start (octile_to rect) end bound nodes searched passing consistent) jumps.0 state jumps.1.0
           (omega (arith, near, sums)) in
           subst (λ (s : JumpState). Contains (opened_states nodes) s) found.same
           (Contains-map (λ (n : Node). n.state) (filter (λ (n : Node). n.opened) nodes) found.node

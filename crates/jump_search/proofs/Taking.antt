@@ -176,12 +176,15 @@ relaxed_opened nodes number a state cost run found relaxed =
       kept = λ e. subst (λ (n : ℕ). IsKeptRun state.arrived n run) (sym after.1.1.1.1) (relaxed.kept (sym costs ∙ e));
     }
 
-noted_opened : (all : Bool) (nodes : List Node) (number : ℕ) (a : Node) (state : JumpState) (cost run : ℕ)
+noted_opened : (all : Bool) (passes hit : Cell → Bool) (start : Cell) (nodes : List Node) (number : ℕ) (a : Node) (state : JumpState) (cost run : ℕ)
     → slice_get nodes number ≡ Some a
-    → IsNoted all nodes state cost run → IsNoted all (set nodes number (opened_node a)) state cost run
-noted_opened all nodes number a state cost run found noted = elim noted [
+    → IsNoted all passes hit start nodes state cost run → IsNoted all passes hit start (set nodes number (opened_node a)) state cost run
+noted_opened all passes hit start nodes number a state cost run found noted = elim noted [
   | inl relaxed ↦ inl (relaxed_opened nodes number a state cost run found relaxed)
-  | inr left ↦ inr (left.0, cheaper_opened nodes number a state.cell cost found left.1)
+  | inr other ↦ elim other [
+    | inl left ↦ inr (inl (left.0, cheaper_opened nodes number a state.cell cost found left.1))
+    | inr nearer ↦ inr (inr nearer)
+  ]
 ]
 
 queued_opened : (all : Bool) (ahead : Cell → ℕ) (floor : ℕ) (nodes : List Node) (before : Queue) (entry : Entry) (a : Node)
@@ -363,24 +366,24 @@ regards nodes new key a found not later =
           (next.0, (next.1.0, (still.0, (next.1.1.same, still.1))));
     }
 
-followed_opened : (all : Bool) (passes hit : Cell → Bool) (ahead : Cell → ℕ) (nodes new : List Node) (key : ℕ) (a : Node)
+followed_opened : (all : Bool) (passes hit : Cell → Bool) (start : Cell) (ahead : Cell → ℕ) (nodes new : List Node) (key : ℕ) (a : Node)
     (before after : Queue)
-    → slice_get nodes key ≡ Some a → Follows all passes hit ahead a.state a.cost (λ other. Unit {0})
+    → slice_get nodes key ≡ Some a → Follows all passes hit start ahead a.state a.cost (λ other. Unit {0})
     (set nodes key (opened_node a)) new before after
-    → ((number : ℕ) (y : Node) → slice_get nodes number ≡ Some y → IsTrue y.opened → IsFollowedFrom all passes hit nodes y)
+    → ((number : ℕ) (y : Node) → slice_get nodes number ≡ Some y → IsTrue y.opened → IsFollowedFrom all passes hit start nodes y)
     → (number : ℕ) (x : Node)
     → ((x.state ≡ a.state) × (x.cost ≡ a.cost))
     ⊎ ((y : Node) × ((slice_get nodes number ≡ Some y) × (IsTrue y.opened × ((x.state ≡ y.state) × (x.cost ≡ y.cost)))))
-    → IsFollowedFrom all passes hit new x
-followed_opened all passes hit ahead nodes new key a before after found follows followed number x regard =
+    → IsFollowedFrom all passes hit start new x
+followed_opened all passes hit start ahead nodes new key a before after found follows followed number x regard =
     λ state run jump last.
     elim regard [
       | inl is ↦
           let jump_a = subst (λ (s : JumpState). IsJump passes hit s state) is.0 jump in
           let last_a = subst (λ (s : JumpState). IsLastRun passes s.cell state run) is.0 last in
           let noted = follows.along jump_a.dir tt state run jump_a jump_a.arrived last_a in
-          subst (λ (n : ℕ). IsNoted all new state (n + octile_between x.state.cell state.cell) run) (sym is.1)
-          (subst (λ (s : JumpState). IsNoted all new state (a.cost + octile_between s.cell state.cell) run) (sym is.0)
+          subst (λ (n : ℕ). IsNoted all passes hit start new state (n + octile_between x.state.cell state.cell) run) (sym is.1)
+          (subst (λ (s : JumpState). IsNoted all passes hit start new state (a.cost + octile_between s.cell state.cell) run) (sym is.0)
           noted)
       | inr old ↦
           let y = old.0 in
@@ -389,10 +392,10 @@ followed_opened all passes hit ahead nodes new key a before after found follows 
           let last_y = subst (λ (s : JumpState). IsLastRun passes s.cell state run) same last in
           let cost = y.cost + octile_between y.state.cell state.cell in
           let one = followed number y old.1.0 old.1.1.0 state run jump_y last_y in
-          let two = noted_opened all nodes key a state cost run found one in
-          let three = noted_later all (set nodes key (opened_node a)) new state cost run follows.later two in
-          subst (λ (n : ℕ). IsNoted all new state (n + octile_between x.state.cell state.cell) run) (sym costs)
-          (subst (λ (s : JumpState). IsNoted all new state (y.cost + octile_between s.cell state.cell) run) (sym same)
+          let two = noted_opened all passes hit start nodes key a state cost run found one in
+          let three = noted_later all passes hit start (set nodes key (opened_node a)) new state cost run follows.later two in
+          subst (λ (n : ℕ). IsNoted all passes hit start new state (n + octile_between x.state.cell state.cell) run) (sym costs)
+          (subst (λ (s : JumpState). IsNoted all passes hit start new state (y.cost + octile_between s.cell state.cell) run) (sym same)
           three)
     ]
 
@@ -578,7 +581,7 @@ pub opened_underway : (all : Bool) (passes hit : Cell → Bool) (start : Cell) (
     (best result : Option Best) (entry : Entry) (a : Node)
     → IsTaken all passes hit start ahead floor nodes queue best entry
     → slice_get nodes entry.key ≡ Some a → (IsTrue (hit a.state.cell) → ahead a.state.cell ≡ 0)
-    → Follows all passes hit ahead a.state a.cost (λ other. Unit {0}) (set nodes entry.key (opened_node a)) new queue after
+    → Follows all passes hit start ahead a.state a.cost (λ other. Unit {0}) (set nodes entry.key (opened_node a)) new queue after
     → (IsTrue (hit a.state.cell) → IfSome result (λ r. IsBetter best (record { cell = a.state.cell; cost = a.cost }) r)
     × IsSome result)
     → (IsFalse (hit a.state.cell) → result ≡ best)
@@ -598,7 +601,7 @@ opened_underway all passes hit start ahead floor nodes new queue after best resu
     record {
       met = going.met;
       queued = going.queued;
-      followed = λ number x at opened. followed_opened all passes hit ahead nodes new entry.key a queue after found follows
+      followed = λ number x at opened. followed_opened all passes hit start ahead nodes new entry.key a queue after found follows
           taken.underway.followed number x
           (regard.back number x at opened);
       hits = elim (cases_Bool (hit a.state.cell)) [

@@ -1,6 +1,6 @@
 //! The nodes that a search has met, and those of them that wait.
 ghost use Rattle.std.specs.Prelude.{◌≡◌, ◌↔◌, ◌<◌, ◌≤◌, ◌⊎◌, ◌++◌, ◌∷◌, ◌+◌, ◌^◌, [], ℕ, Bool, Some, None, length, slice_get};
-ghost use Rattle.std.specs.Prelude.{slice_set, IsTrue, IsFalse, false, IfSome, IfNone, OnOk, IfOk};
+ghost use Rattle.std.specs.Prelude.{slice_set, IsTrue, IsFalse, false, IfSome, IfNone, OnOk, IfOk, ◌-◌, ◌/◌};
 ghost use Rattle.std.specs.FinMap as map;
 ghost use Rattle.nav_types.specs.declared.cells.Cell.{Cell};
 ghost use Rattle.nav_types.specs.declared.directions.Dir.{Dir};
@@ -10,7 +10,8 @@ ghost use Rattle.jump_search.specs.JumpStates.{IsStopOf, octile_between};
 ghost use Rattle.jump_search.specs.declared.nodes.Node.{Node};
 ghost use Rattle.jump_search.specs.inner.Numbered.{HasState, LacksState, IsAsCheap};
 ghost use Rattle.jump_search.specs.inner.Traced.{Moves};
-ghost use Rattle.jump_search.specs.inner.Searched.{IsKeptRun};
+ghost use Rattle.jump_search.specs.inner.Searched.{HasNearer, IsCostToHit, IsKeptRun};
+ghost use Rattle.nav_types.specs.declared.limits.TheConstants.{DIAGONAL_COST};
 ghost use Rattle.jump_search.specs.inner.Underway.{steps_over, estimate_of, IsQueued, Settles, Notes};
 ghost use Rattle.jump_search.specs.inner.Underway.{IsFollowable, Follows, Drops};
 
@@ -20,6 +21,7 @@ use crate::nodes::{Node, Nodes, Standing};
 use crate::problems::Problem;
 use crate::states::JumpState;
 use jump_scan::{Runs, successors};
+use nav_types::limits::DIAGONAL_COST;
 use nav_types::{Aim, Cell, Class, Dir, DirSet, NoMemory};
 use open_heap::OpenHeap;
 use std::alloc::Global;
@@ -91,20 +93,41 @@ fn bound_of(all: bool, cost: u64) -> u64
     if all { 0 } else { cost }
 }
 
-/// The stop of the run from the cell in the direction. None exactly where it has none.
-#[inline(always)]
-fn stop_of<R: Runs, A: Aim>(runs: &R, class: Class, from: Cell, dir: Dir, aim: &A) -> Option<Cell>
-    requires class { class < R.class_count runs.now }
-    requires start { IsTrue (R.passes runs.now class from) }
-    requires aim { A.sound aim.now (R.extent runs.now) }
-    ensures some { IfSome result (IsStopOf (R.passes runs.now class) (A.hit aim.now (R.extent runs.now)) dir from) }
-    ensures none { IfNone result ((stop : Cell)
-        → ¬ IsStopOf (R.passes runs.now class) (A.hit aim.now (R.extent runs.now)) dir from stop) }
+/// How many diagonal steps from a node of the cost a walk to a hit cell of the cost `limit` leaves.
+fn steps_within(limit: u32, cost: u64) -> u16
+    ensures { result ≡ (limit - cost) / DIAGONAL_COST }
 {
+    ((limit as u64).saturating_sub(cost) / DIAGONAL_COST) as u16
+}
+
+/// The stop of the run from the node in the direction. None where it has none, or where a hit is known to be nearer than the
+/// stop.
+#[inline(always)]
+fn stop_of<R: Runs, A: Aim>(problem: &Problem<'_, R, A>, node: &Node, dir: Dir) -> Option<Cell>
+    requires class { problem.now.class < R.class_count problem.now.runs.now }
+    requires start { IsTrue (R.passes problem.now.runs.now problem.now.class node.now.state.cell) }
+    requires aim { A.sound problem.now.aim.now (R.extent problem.now.runs.now) }
+    requires limit { IfSome problem.now.limit (IsCostToHit (R.passes problem.now.runs.now problem.now.class)
+        (A.hit problem.now.aim.now (R.extent problem.now.runs.now)) problem.now.start) }
+    ensures some { IfSome result (IsStopOf (R.passes problem.now.runs.now problem.now.class)
+        (A.hit problem.now.aim.now (R.extent problem.now.runs.now)) dir node.now.state.cell) }
+    ensures none { IfNone result ((stop : Cell) → IsStopOf (R.passes problem.now.runs.now problem.now.class)
+        (A.hit problem.now.aim.now (R.extent problem.now.runs.now)) dir node.now.state.cell stop
+        → HasNearer (R.passes problem.now.runs.now problem.now.class)
+        (A.hit problem.now.aim.now (R.extent problem.now.runs.now)) problem.now.start
+        (node.now.cost + octile_between node.now.state.cell stop)) }
+{
+    let from = node.state.cell;
     if dir.is_straight() {
-        return runs.straight(class, from, dir, aim);
+        return problem.runs.straight(problem.class, from, dir, problem.aim);
     }
-    runs.diagonal(class, from, dir, aim)
+    let Some(limit) = problem.limit else {
+        return problem.runs.diagonal(problem.class, from, dir, problem.aim);
+    };
+    let most = steps_within(limit, node.cost);
+    problem
+        .runs
+        .diagonal_within(problem.class, from, dir, problem.aim, most)
 }
 
 /// The directions in which the search goes on from the state. The cells beside its cell are read once, by a few words of
@@ -355,8 +378,9 @@ impl Front {
         }
     }
 
-    /// Follows the jump from the node in the direction, where that is one of the set and its run stops. Where the search
-    /// is not for all, a jump to a state that is dearer than a node of its cell may be left.
+    /// Follows the jump from the node in the direction, where that is one of the set and its run stops. A jump may be left
+    /// where a hit is known to be nearer, and, where the search is not for all, one to a state that is dearer than a node of
+    /// its cell.
     #[inline(always)]
     fn follow_along<R: Runs, A: Aim, E: Estimate>(
         &mut self,
@@ -372,11 +396,13 @@ impl Front {
             node.now.state.cell
             node.now.state.arrived dir }
         requires aim { A.sound problem.now.aim.now (R.extent problem.now.runs.now) }
+        requires limit { IfSome problem.now.limit (IsCostToHit (R.passes problem.now.runs.now problem.now.class)
+            (A.hit problem.now.aim.now (R.extent problem.now.runs.now)) problem.now.start) }
         requires followable { IsFollowable problem.now.all (R.passes problem.now.runs.now problem.now.class)
             (A.hit problem.now.aim.now (R.extent problem.now.runs.now)) (E.least ahead.now)
             node.now.state node.now.cost self.old.nodes self.old.waiting }
         ensures follows { OnOk result (Follows problem.now.all (R.passes problem.now.runs.now problem.now.class)
-            (A.hit problem.now.aim.now (R.extent problem.now.runs.now)) (E.least ahead.now)
+            (A.hit problem.now.aim.now (R.extent problem.now.runs.now)) problem.now.start (E.least ahead.now)
             node.now.state node.now.cost
             (λ other. other ≡ dir) self.old.nodes self.new.nodes self.old.waiting self.new.waiting) }
         ensures followable { OnOk result (IsFollowable problem.now.all (R.passes problem.now.runs.now problem.now.class)
@@ -386,13 +412,7 @@ impl Front {
         if !dirs.has(dir) {
             return Ok(());
         }
-        let Some(stop) = stop_of(
-            problem.runs,
-            problem.class,
-            node.state.cell,
-            dir,
-            problem.aim,
-        ) else {
+        let Some(stop) = stop_of(problem, node, dir) else {
             return Ok(());
         };
         let next = landed(node, dir, stop);
@@ -400,8 +420,8 @@ impl Front {
         Ok(())
     }
 
-    /// Follows each jump from the node, or leaves it, where the search is not for all and the jump leads to a state that
-    /// is dearer than a node of its cell.
+    /// Follows each jump from the node, or leaves it, where a hit is known to be nearer, or where the search is not for all
+    /// and the jump leads to a state that is dearer than a node of its cell.
     pub(crate) fn follow<R: Runs, A: Aim, E: Estimate>(
         &mut self,
         problem: &Problem<'_, R, A>,
@@ -411,11 +431,13 @@ impl Front {
         requires class { problem.now.class < R.class_count problem.now.runs.now }
         requires cell { IsTrue (R.passes problem.now.runs.now problem.now.class node.now.state.cell) }
         requires aim { A.sound problem.now.aim.now (R.extent problem.now.runs.now) }
+        requires limit { IfSome problem.now.limit (IsCostToHit (R.passes problem.now.runs.now problem.now.class)
+            (A.hit problem.now.aim.now (R.extent problem.now.runs.now)) problem.now.start) }
         requires followable { IsFollowable problem.now.all (R.passes problem.now.runs.now problem.now.class)
             (A.hit problem.now.aim.now (R.extent problem.now.runs.now)) (E.least ahead.now)
             node.now.state node.now.cost self.old.nodes self.old.waiting }
         ensures { OnOk result (Follows problem.now.all (R.passes problem.now.runs.now problem.now.class)
-            (A.hit problem.now.aim.now (R.extent problem.now.runs.now)) (E.least ahead.now)
+            (A.hit problem.now.aim.now (R.extent problem.now.runs.now)) problem.now.start (E.least ahead.now)
             node.now.state node.now.cost
             (λ other. Unit {0}) self.old.nodes self.new.nodes self.old.waiting self.new.waiting) }
     {

@@ -17,6 +17,7 @@ mod framed;
 mod front;
 mod known_successors;
 mod laws;
+mod looks;
 mod nodes;
 mod octile;
 mod pages;

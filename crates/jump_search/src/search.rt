@@ -12,6 +12,7 @@ ghost use Rattle.jump_search.specs.inner.Traced.{IsTraceable};
 use crate::estimates::{Ahead, Estimate};
 use crate::framed::Framed;
 use crate::front::Front;
+use crate::looks::looked;
 use crate::nodes::Nodes;
 use crate::problems::{Guided, Problem, Question};
 use crate::searching::{Best, searched};
@@ -126,12 +127,13 @@ fn answered<R: Runs, A: Aim, E: Estimate, L: Ledger>(
         aim: question.aim,
         rect: question.aim.bounds(question.runs.size()),
     };
-    let start = question.start;
+    let (runs, class, start) = (question.runs, question.class, question.start);
     let within = Problem {
-        runs: question.runs,
-        class: question.class,
+        runs,
+        class,
         start,
         aim: &framed,
+        limit: looked(runs, class, start, &framed, &framed.rect),
         all,
     };
     let search = searched(front, &within, ahead, ticks)?;

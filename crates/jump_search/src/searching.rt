@@ -8,6 +8,7 @@ ghost use Rattle.open_heap.specs.Queue.{IsLeast};
 ghost use Rattle.jump_search.specs.declared.nodes.Node.{Node};
 ghost use Rattle.jump_search.specs.Estimates.{IsConsistent};
 ghost use Rattle.jump_search.specs.inner.Underway.{opened_count, IsBetter, IsNotPast, IsPast, IsTaken, IsUnderway};
+ghost use Rattle.jump_search.specs.inner.Searched.{IsCostToHit};
 ghost use Rattle.jump_search.specs.inner.Underway.{IsHalted, HasEnded};
 
 use crate::estimates::Estimate;
@@ -136,19 +137,19 @@ impl Search {
         requires aim { A.sound problem.now.aim.now (R.extent problem.now.runs.now) }
         requires ahead { IsConsistent (R.passes problem.now.runs.now problem.now.class) (A.hit problem.now.aim.now
             (R.extent problem.now.runs.now)) (E.least ahead.now) }
-        requires taken { (start : Cell) × ((floor : ℕ)
-            × (IsTrue (R.passes problem.now.runs.now problem.now.class start)
-            × IsTaken problem.now.all (R.passes problem.now.runs.now problem.now.class) (A.hit problem.now.aim.now
-            (R.extent problem.now.runs.now)) start (E.least ahead.now) floor
-            front.old.nodes front.old.waiting self.old.best entry)) }
+        requires limit { IfSome problem.now.limit (IsCostToHit (R.passes problem.now.runs.now problem.now.class)
+            (A.hit problem.now.aim.now (R.extent problem.now.runs.now)) problem.now.start) }
+        requires start { IsTrue (R.passes problem.now.runs.now problem.now.class problem.now.start) }
+        requires taken { (floor : ℕ) × IsTaken problem.now.all (R.passes problem.now.runs.now problem.now.class)
+            (A.hit problem.now.aim.now (R.extent problem.now.runs.now)) problem.now.start (E.least ahead.now) floor
+            front.old.nodes front.old.waiting self.old.best entry }
         requires opened { self.old.opened ≡ opened_count front.old.nodes }
-        ensures underway { OnOk result ((start : Cell) (floor : ℕ) → IsTrue
-            (R.passes problem.now.runs.now problem.now.class start)
+        ensures underway { OnOk result ((floor : ℕ)
             → IsTaken problem.now.all (R.passes problem.now.runs.now problem.now.class) (A.hit problem.now.aim.now
-            (R.extent problem.now.runs.now)) start (E.least ahead.now) floor
+            (R.extent problem.now.runs.now)) problem.now.start (E.least ahead.now) floor
             front.old.nodes front.old.waiting self.old.best entry
             → IsUnderway problem.now.all (R.passes problem.now.runs.now problem.now.class)
-            (A.hit problem.now.aim.now (R.extent problem.now.runs.now)) start (E.least ahead.now)
+            (A.hit problem.now.aim.now (R.extent problem.now.runs.now)) problem.now.start (E.least ahead.now)
             entry.estimate
             front.new.nodes front.new.waiting self.new.best) }
         ensures opened { OnOk result (self.new.opened ≡ opened_count front.new.nodes) }
@@ -174,6 +175,7 @@ impl Search {
 /// nodes then, whatever it had before.
 ///
 /// Each node that is opened is one tick.
+#[inline(always)]
 pub(crate) fn searched<R: Runs, A: Aim, E: Estimate, L: Ledger>(
     front: &mut Front,
     problem: &Problem<'_, R, A>,
@@ -182,6 +184,8 @@ pub(crate) fn searched<R: Runs, A: Aim, E: Estimate, L: Ledger>(
 ) -> Result<Search, NoMemory>
     requires class { problem.now.class < R.class_count problem.now.runs.now }
     requires start { IsTrue (R.passes problem.now.runs.now problem.now.class problem.now.start) }
+    requires limit { IfSome problem.now.limit (IsCostToHit (R.passes problem.now.runs.now problem.now.class)
+        (A.hit problem.now.aim.now (R.extent problem.now.runs.now)) problem.now.start) }
     requires aim { A.sound problem.now.aim.now (R.extent problem.now.runs.now) }
     requires ahead { IsConsistent (R.passes problem.now.runs.now problem.now.class) (A.hit problem.now.aim.now
         (R.extent problem.now.runs.now)) (E.least ahead.now) }

@@ -4,6 +4,7 @@ use Rattle.nav_types.specs.declared.cells.Cell.{Cell}
 use Rattle.nav_types.specs.declared.directions.Dir.{Dir}
 use Rattle.nav_types.specs.Cells.{IsNotAfter}
 use Rattle.nav_types.specs.Directions.{is_straight}
+use Rattle.nav_types.specs.Walks.{IsWalk, walk_cost}
 use Rattle.jump_scan.specs.Stops.{IsRun}
 use Rattle.jump_search.specs.declared.nodes.Node.{Node}
 use Rattle.jump_search.specs.declared.states.JumpState.{JumpState}
@@ -48,10 +49,20 @@ pub record IsRelaxed (nodes : List Node) (state : JumpState) (cost run : ℕ) : 
 abbrev pub IsDearer : List Node → Node → Type 0
 IsDearer nodes node = HasCheaper nodes node.state.cell node.cost
 
--- jumps to the state at this cost and with this last run have been noted, or left, where some node of the cell costs
--- less and the search is not for all
-abbrev pub IsNoted : Bool → List Node → JumpState → ℕ → ℕ → Type 0
-IsNoted all nodes state cost run = IsRelaxed nodes state cost run ⊎ (IsFalse all × HasCheaper nodes state.cell cost)
+-- some walk from the start to a cell that is hit costs so much
+abbrev pub IsCostToHit : (Cell → Bool) → (Cell → Bool) → Cell → ℕ → Type 0
+IsCostToHit passes hit start cost = (target : Cell) × (IsTrue (hit target)
+    × ((dirs : List Dir) × (IsWalk passes start dirs target × (walk_cost dirs ≡ cost))))
+
+-- some walk from the start to a cell that is hit costs less
+abbrev pub HasNearer : (Cell → Bool) → (Cell → Bool) → Cell → ℕ → Type 0
+HasNearer passes hit start cost = (less : ℕ) × (IsCostToHit passes hit start less × (less < cost))
+
+-- Jumps to the state at this cost and with this last run have been noted, or left, where some node of the cell costs
+-- less and the search is not for all, or where a cell that is hit is nearer.
+abbrev pub IsNoted : Bool → (Cell → Bool) → (Cell → Bool) → Cell → List Node → JumpState → ℕ → ℕ → Type 0
+IsNoted all passes hit start nodes state cost run = IsRelaxed nodes state cost run
+    ⊎ ((IsFalse all × HasCheaper nodes state.cell cost) ⊎ HasNearer passes hit start cost)
 
 -- Nodes that a search has met: the start's first, each state once, each with jumps to it.
 pub record AreMet (passes hit : Cell → Bool) (start : Cell) (nodes : List Node) : Type 0 where
@@ -63,10 +74,10 @@ pub record AreMet (passes hit : Cell → Bool) (start : Cell) (nodes : List Node
       → HasOpenedParent passes hit nodes node
 
 -- each jump from the node has been followed: noted, or left
-abbrev pub IsFollowedFrom : Bool → (Cell → Bool) → (Cell → Bool) → List Node → Node → Type 0
-IsFollowedFrom all passes hit nodes node = (state : JumpState) (run : ℕ) → IsJump passes hit node.state state
+abbrev pub IsFollowedFrom : Bool → (Cell → Bool) → (Cell → Bool) → Cell → List Node → Node → Type 0
+IsFollowedFrom all passes hit start nodes node = (state : JumpState) (run : ℕ) → IsJump passes hit node.state state
     → IsLastRun passes node.state.cell state run
-    → IsNoted all nodes state (node.cost + octile_between node.state.cell state.cell) run
+    → IsNoted all passes hit start nodes state (node.cost + octile_between node.state.cell state.cell) run
 
 -- A search that has ended. Its bound is the cost of the answer: all nodes within it are opened, but for those that are
 -- dearer than another of their cell, where the search is not for all. The end is the first in cell order of the cells
@@ -75,7 +86,7 @@ pub record IsSearched (all : Bool) (passes hit : Cell → Bool) (start : Cell) (
     (nodes : List Node) : Type 0 where
   pub met : AreMet passes hit start nodes
   pub followed : (place : ℕ) (node : Node) → slice_get nodes place ≡ Some node → IsTrue node.opened
-      → IsFollowedFrom all passes hit nodes node
+      → IsFollowedFrom all passes hit start nodes node
   pub within : (place : ℕ) (node : Node) → slice_get nodes place ≡ Some node → IsTrue node.opened
       → node.cost + ahead node.state.cell ≤ bound
   pub beyond : (place : ℕ) (node : Node) → slice_get nodes place ≡ Some node → IsFalse node.opened

@@ -73,10 +73,10 @@ pub record IsOpenNode (nodes : List Node) (state : JumpState) (cost : ℕ) : Typ
   pub costs : node.cost ≡ cost
 
 -- each jump from the state, which costs so much, in the direction has been followed: noted, or left
-abbrev pub IsFollowedAlong : Bool → (Cell → Bool) → (Cell → Bool) → List Node → JumpState → ℕ → Dir → Type 0
-IsFollowedAlong all passes hit nodes from cost dir = (state : JumpState) (run : ℕ) → IsJump passes hit from state
+abbrev pub IsFollowedAlong : Bool → (Cell → Bool) → (Cell → Bool) → Cell → List Node → JumpState → ℕ → Dir → Type 0
+IsFollowedAlong all passes hit start nodes from cost dir = (state : JumpState) (run : ℕ) → IsJump passes hit from state
     → state.arrived ≡ Some dir
-    → IsLastRun passes from.cell state run → IsNoted all nodes state (cost + octile_between from.cell state.cell) run
+    → IsLastRun passes from.cell state run → IsNoted all passes hit start nodes state (cost + octile_between from.cell state.cell) run
 
 -- Noting a jump that leads to a node: its state has a node that is as cheap and whose last run is kept beside this one.
 pub record Relaxes (ahead : Cell → ℕ) (node : Node) (old new : List Node) (before after : Queue) : Type 0 where
@@ -127,10 +127,10 @@ KeepsGoing all passes hit ahead state cost old new before after = (start : Cell)
     → IsGoing all passes hit start ahead floor most new after
 
 -- Following the jumps from a state in the directions that are within the set.
-pub record Follows (all : Bool) (passes hit : Cell → Bool) (ahead : Cell → ℕ) (state : JumpState) (cost : ℕ)
+pub record Follows (all : Bool) (passes hit : Cell → Bool) (start : Cell) (ahead : Cell → ℕ) (state : JumpState) (cost : ℕ)
     (Within : Dir → Type 0) (old new : List Node) (before after : Queue) : Type 0 where
   pub later : AreLater old new
-  pub along : (dir : Dir) → Within dir → IsFollowedAlong all passes hit new state cost dir
+  pub along : (dir : Dir) → Within dir → IsFollowedAlong all passes hit start new state cost dir
   pub going : KeepsGoing all passes hit ahead state cost old new before after
 
 -- the best hit among the opened nodes: nearest, and of equal ones first in cell order
@@ -159,7 +159,7 @@ pub record IsUnderway (all : Bool) (passes hit : Cell → Bool) (start : Cell) (
   pub met : AreMet passes hit start nodes
   pub queued : IsQueued all ahead floor nodes queue
   pub followed : (number : ℕ) (node : Node) → slice_get nodes number ≡ Some node → IsTrue node.opened
-      → IsFollowedFrom all passes hit nodes node
+      → IsFollowedFrom all passes hit start nodes node
   pub hits : IsBestSoFar hit nodes floor best
   pub costs : (number : ℕ) (node : Node) → slice_get nodes number ≡ Some node
       → node.cost ≤ 189812736 * opened_count nodes
@@ -199,7 +199,7 @@ pub record IsHalted (all : Bool) (passes hit : Cell → Bool) (start : Cell) (ah
     (nodes : List Node) : Type 0 where
   pub met : AreMet passes hit start nodes
   pub followed : (number : ℕ) (node : Node) → slice_get nodes number ≡ Some node → IsTrue node.opened
-      → IsFollowedFrom all passes hit nodes node
+      → IsFollowedFrom all passes hit start nodes node
   pub within : (number : ℕ) (node : Node) → slice_get nodes number ≡ Some node → IsTrue node.opened
       → estimate_of ahead node ≤ floor
   pub beyond : (number : ℕ) (node : Node) → slice_get nodes number ≡ Some node → IsFalse node.opened
@@ -212,7 +212,7 @@ pub record IsHalted (all : Bool) (passes hit : Cell → Bool) (start : Cell) (ah
 pub record IsExhausted (all : Bool) (passes hit : Cell → Bool) (start : Cell) (nodes : List Node) : Type 0 where
   pub met : AreMet passes hit start nodes
   pub followed : (number : ℕ) (node : Node) → slice_get nodes number ≡ Some node → IsTrue node.opened
-      → IsFollowedFrom all passes hit nodes node
+      → IsFollowedFrom all passes hit start nodes node
   pub beyond : (number : ℕ) (node : Node) → slice_get nodes number ≡ Some node → IsFalse node.opened → IsFalse all
       × IsDearer nodes node
   pub missed : NoneHit hit nodes

@@ -35,15 +35,9 @@ take-requires-clause-taken g c =
       near =
           some.near;
     } in (
-      c.args.problem.now.start,
-      (
-        known.0,
-        (
-          c.requires.start,
-          subst (λ (ns : List Node). IsTaken c.args.problem.now.all passes hit c.args.problem.now.start ahead known.0 ns next.waiting
-              search.best entry) (sym step.nodes) taken,
-        ),
-      ),
+      known.0,
+      subst (λ (ns : List Node). IsTaken c.args.problem.now.all passes hit c.args.problem.now.start ahead known.0 ns next.waiting
+          search.best entry) (sym step.nodes) taken,
     )
 
 pub search-smaller : goal.search-smaller
@@ -83,7 +77,7 @@ search-preserved g c =
     let went = c.in_ok-take.ensures in
     let before = c.search.invariant.ticks in let ticked = went.ticks in
     record {
-      underway = (entry.estimate, went.underway c.args.problem.now.start known.0 c.requires.start taken_next);
+      underway = (entry.estimate, went.underway known.0 taken_next);
       opened = went.opened;
       ticks = omega (arith, before, ticked);
     }

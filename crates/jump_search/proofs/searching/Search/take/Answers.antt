@@ -12,8 +12,8 @@ at-requires g c =
     let hit = g.A.Aim.hit c.args.problem.now.aim.now (g.R.View.extent c.args.problem.now.runs.now) in
     let front = c.args.front.now in
     let t = c.requires.taken in
-    let has = next_node c.args.problem.now.all passes hit t.0 (g.E.Estimate.least c.args.ahead.now) t.1.0 front.nodes front.waiting c.args.self.now.best
-    c.args.entry t.1.1.1 in
+    let has = next_node c.args.problem.now.all passes hit c.args.problem.now.start (g.E.Estimate.least c.args.ahead.now) t.0 front.nodes front.waiting c.args.self.now.best
+    c.args.entry t.1 in
     slice_get_within front.nodes c.args.entry.key has.0 has.1.known
 
 pub follow-requires-clause-cell : goal.follow-requires-clause-cell
@@ -22,7 +22,7 @@ follow-requires-clause-cell g c =
     let hit = g.A.Aim.hit c.args.problem.now.aim.now (g.R.View.extent c.args.problem.now.runs.now) in
     let front = c.args.front.now in
     let t = c.requires.taken in
-    node_free passes hit t.0 front.nodes c.args.entry.key c.at.result.now t.1.1.0 t.1.1.1.underway.met c.at.ensures
+    node_free passes hit c.args.problem.now.start front.nodes c.args.entry.key c.at.result.now c.requires.start t.1.underway.met c.at.ensures
 
 pub follow-requires-clause-followable : goal.follow-requires-clause-followable
 follow-requires-clause-followable g c =
@@ -33,8 +33,8 @@ follow-requires-clause-followable g c =
     let t = c.requires.taken in
     subst (λ (ns : List Node). IsFollowable c.args.problem.now.all passes hit (g.E.Estimate.least c.args.ahead.now) a.state a.cost ns front.waiting)
     (sym c.put.ensures)
-    (followable_opened c.args.problem.now.all passes hit t.0 (g.E.Estimate.least c.args.ahead.now) t.1.0 front.nodes front.waiting c.args.self.now.best
-    c.args.entry a t.1.1.1 c.requires.ahead c.at.ensures)
+    (followable_opened c.args.problem.now.all passes hit c.args.problem.now.start (g.E.Estimate.least c.args.ahead.now) t.0 front.nodes front.waiting c.args.self.now.best
+    c.args.entry a t.1 c.requires.ahead c.at.ensures)
 
 pub best_with-self-requires-clause-inside : goal.best_with-self-requires-clause-inside
 best_with-self-requires-clause-inside g c =
@@ -43,10 +43,10 @@ best_with-self-requires-clause-inside g c =
     let front = c.args.front.now in
     let t = c.requires.taken in
     g.met.R.View.within c.args.problem.now.runs.now c.args.problem.now.class c.at.result.now.state.cell
-    (node_free passes hit t.0 front.nodes c.args.entry.key c.at.result.now t.1.1.0 t.1.1.1.underway.met c.at.ensures)
+    (node_free passes hit c.args.problem.now.start front.nodes c.args.entry.key c.at.result.now c.requires.start t.1.underway.met c.at.ensures)
 
 pub returns-clause-underway : goal.returns-clause-underway
-returns-clause-underway g c = λ start floor free taken.
+returns-clause-underway g c = λ floor taken.
     let passes = g.R.View.passes c.args.problem.now.runs.now c.args.problem.now.class in
     let size = g.R.View.extent c.args.problem.now.runs.now in
     let hit = g.A.Aim.hit c.args.problem.now.aim.now size in
@@ -54,8 +54,9 @@ returns-clause-underway g c = λ start floor free taken.
     let front = c.args.front.now in
     let a = c.at.result.now in
     let new = c.follow.new.self in
-    let met_free = node_free passes hit start front.nodes c.args.entry.key a free taken.underway.met c.at.ensures in
-    let follows = subst (λ (ns : List Node). Follows c.args.problem.now.all passes hit ahead a.state a.cost (λ other. Unit {0}) ns new.nodes
+    let start = c.args.problem.now.start in
+    let met_free = node_free passes hit start front.nodes c.args.entry.key a c.requires.start taken.underway.met c.at.ensures in
+    let follows = subst (λ (ns : List Node). Follows c.args.problem.now.all passes hit start ahead a.state a.cost (λ other. Unit {0}) ns new.nodes
     front.waiting new.waiting) c.put.ensures c.in_ok-follow.ensures in
     opened_underway c.args.problem.now.all passes hit start ahead floor front.nodes new.nodes front.waiting new.waiting
     c.args.self.now.best c.best_with-self.result c.args.entry a taken c.at.ensures
@@ -69,8 +70,8 @@ returns-clause-opened g c =
     let front = c.args.front.now in
     let a = c.at.result.now in
     let t = c.requires.taken in
-    let has = next_node c.args.problem.now.all passes hit t.0 (g.E.Estimate.least c.args.ahead.now) t.1.0 front.nodes front.waiting c.args.self.now.best
-    c.args.entry t.1.1.1 in
+    let has = next_node c.args.problem.now.all passes hit c.args.problem.now.start (g.E.Estimate.least c.args.ahead.now) t.0 front.nodes front.waiting c.args.self.now.best
+    c.args.entry t.1 in
     let is = one_item front.nodes c.args.entry.key has.0 a has.1.known c.at.ensures in
     let not = subst (λ (n : Node). IsFalse n.opened) is has.1.unopened in
     let same = c.in_ok-follow.ensures.later.opened ∙ ap opened_count c.put.ensures in
