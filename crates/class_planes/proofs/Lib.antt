@@ -1,5 +1,6 @@
 mod BitLemmas
 mod CellLemmas
+mod ColumnLemmas
 mod LineLemmas
 mod TurnLemmas
 mod UpdateLemmas

@@ -4,18 +4,17 @@ use Rattle.std.specs.Int.{bit_at}
 use Rattle.std.proofs.lemmas.Bool.{cases_lt, cases_eq, true≢false, false_from_ne_true, le-ltb, ltb-true}
 use Rattle.std.proofs.lemmas.Nat.{mul-le}
 use Rattle.std.proofs.lemmas.Nat.Bits.{bit_at-zero, bit_at_cat_low}
-use Rattle.std.proofs.lemmas.List.{get_or_past, length-take, length-replicate, get_or-set_same, get_or-set_other, get_or_append_left, get_or-append_right, get_or-take, get_or-drop, length-take-le, length-append, length-drop}
+use Rattle.std.proofs.lemmas.List.{get_or_past, length-take, length-replicate, get_or-set_same, get_or-set_other, get_or_append_left, get_or-append_right, get_or-take, get_or-drop, length-take-le, length-drop}
 use Rattle.std.specs.Prelude.{slice_range}
 use Rattle.nav_types.specs.declared.cells.Rect.{Rect}
 use Rattle.nav_types.specs.Cells.{cell_at}
 use Rattle.nav_types.proofs.Bits.{bit_at-shr}
 use Rattle.lane_rows.specs.Rows.{one_if}
-use Rattle.class_planes.specs.Planes.{AreFreeBits, IsOutside}
-use Rattle.class_planes.specs.inner.Lines.{LineTable, RowTable, IsBand, AreLines, AreLinesBut, AreColumnsBefore, HasNextLine, line_at, line_in, patched, free_at, free_cell}
+use Rattle.class_planes.specs.Planes.{IsOutside}
+use Rattle.class_planes.specs.inner.Lines.{LineTable, RowTable, IsBand, AreLines, AreColumnsBefore, line_at, line_in, patched, free_at, free_cell}
 use Rattle.class_planes.specs.inner.Runs.{bit_in}
 use Rattle.class_planes.proofs.BitLemmas.{zero_at}
-use Rattle.class_planes.proofs.LineLemmas.{band_more}
-use Rattle.class_planes.proofs.PlaneLemmas.{line_free, both_parts}
+use Rattle.class_planes.proofs.PlaneLemmas.{both_parts}
 
 -- 16 bits of a word that is moved down
 pub quarter_bit : (word s k : ℕ) → k < 16 → bit_at (word / 2 ^ s % 65536) k ≡ bit_at word (s + k)
@@ -109,39 +108,6 @@ patched_elsewhere old part from w within out = ⊎_elim
     (cases_lt w (from + length part)))
     (cases_lt w from)
 
-length-patched : (old part : List ℕ) (from : ℕ) → from + length part ≤ length old
-    → length (patched old from part) ≡ length old
-length-patched old part from within =
-    let rest : List ℕ = drop (from + length part) old in
-    let front : length (take from old) ≡ from = length-take-le from old (omega arith) in
-    omega (
-      arith,
-      length-append (take from old) (part ++ rest),
-      length-append part rest,
-      length-drop (from + length part) old,
-    )
-
--- the line that is appended
-pub next_line : (old numbers part before after : List ℕ) (k from : ℕ) → length part ≡ length numbers / 64
-    → from + length numbers / 64 ≤ length old → after ≡ before ++ patched old from part
-    → ((w m : ℕ) → m < 64 → bit_at (get_or part w 0) m ≡ bit_at (get_or numbers (64 * w + m) 0) k)
-    → HasNextLine old numbers k from before after
-next_line old numbers part before after k from long within is plane =
-    let fits : from + length part ≤ length old = omega arith in
-    record {
-      line = patched old from part;
-      appended = is;
-      long = length-patched old part from fits;
-      read = λ i low high.
-          let below : i / 64 < from + length part = omega arith in
-          let there : 64 * (i / 64 - from) + i % 64 ≡ i - 64 * from = omega arith in
-          ap (λ word. bit_at word (i % 64)) (patched_here old part from (i / 64) fits low below)
-          ∙ plane (i / 64 - from) (i % 64) (omega arith)
-          ∙ ap (λ p. bit_at (get_or numbers p 0) k) there;
-      kept = λ i out. ap (λ word. bit_at word (i % 64)) (patched_elsewhere old part from (i / 64) fits
-          (λ low high. out low (omega (arith, high, long))));
-    }
-
 -- how long a line is
 pub line_long : (free : ℕ → ℕ → Bool) (count words n : ℕ) (table : LineTable) → AreLines free count words table
     → n / 32 < count → length (line_at table n) ≡ words
@@ -155,47 +121,6 @@ line_long free count words n table are below =
     subst (λ (w : ℕ). length (line_in w band m) ≡ words) (sym are.wide)
     (length-take-le (m * words + words - m * words) (drop (m * words) band)
     (omega (arith, length-drop (m * words) band)) ∙ one)
-
--- a band with one column more
-pub columns_more : (free : ℕ → ℕ → Bool) (band half k from to count words : ℕ) (table : LineTable)
-    (numbers before after : List ℕ)
-    → IsBand free (32 * band) words (16 * half + k) before
-    → AreLinesBut free band from to count words table → band < count → half < 2 → k < 16 → from < to
-    → length numbers ≡ 64 * (to - from)
-    → ((j : ℕ) → j < length numbers
-    → bit_at (get_or numbers j 0) k ≡ one_if (free (16 * (2 * band + half) + k) (64 * from + j)))
-    → HasNextLine (line_at table (32 * band + 16 * half + k)) numbers k from before after
-    → IsBand free (32 * band) words (16 * half + (k + 1)) after
-columns_more free band half k from to count words table numbers before after is but known low small some long read next =
-    let n : ℕ = 32 * band + 16 * half + k in
-    let column : 16 * (2 * band + half) + k ≡ n = omega arith in
-    let line : n ≡ 32 * band + (16 * half + k) = omega arith in
-    let more : 16 * half + k + 1 ≡ 16 * half + (k + 1) = omega arith in
-    let in_table : n / 32 < count = omega arith in
-    let in_band : n / 32 ≡ band = omega arith in
-    let most : from + length numbers / 64 ≡ to = omega arith in
-    let wide : length (line_at table n) ≡ words = line_long but.earlier count words n table but.lines in_table in
-    let right : AreFreeBits (free n) next.line = λ j. ⊎_elim
-    (λ (below : j / 64 < from).
-    next.kept j (λ a b. omega (arith, a, below))
-    ∙ line_free but.earlier count words n table but.lines in_table j
-    ∙ ap one_if (but.same n j in_band (λ a b. omega (arith, a, below))))
-    (λ (at_least : from ≤ j / 64). ⊎_elim
-    (λ (within : j / 64 < to).
-    let there : 64 * from + (j - 64 * from) ≡ j = omega arith in
-    next.read j at_least (omega arith)
-    ∙ read (j - 64 * from) (omega arith)
-    ∙ ap₂ (λ i p. one_if (free i p)) column there)
-    (λ (above : to ≤ j / 64).
-    next.kept j (λ a b. omega (arith, b, above, most))
-    ∙ line_free but.earlier count words n table but.lines in_table j
-    ∙ ap one_if (but.same n j in_band (λ a b. omega (arith, b, above))))
-    (cases_lt (j / 64) to))
-    (cases_lt (j / 64) from) in
-    subst (λ m. IsBand free (32 * band) words m after) more
-    (subst (IsBand free (32 * band) words (16 * half + k + 1)) (sym next.appended)
-    (band_more free (32 * band) words (16 * half + k) before next.line is (next.long ∙ wide)
-    (subst (λ m. AreFreeBits (free m) next.line) line right)))
 
 -- a band whose places are the same
 pub band_same : (earlier free : ℕ → ℕ → Bool) (band words : ℕ) (words_of : List ℕ)

@@ -1,12 +1,13 @@
 //! The columns of a map, made from its rows.
-ghost use Rattle.std.specs.Prelude.{ℕ, ◌≡◌, ◌<◌, ◌≤◌, ◌/◌, ◌+◌, ◌-◌, ◌*◌, ◌++◌, false, All, length, slice_index, IfOk, OnOk};
+ghost use Rattle.std.specs.Prelude.{ℕ, ◌≡◌, ◌<◌, ◌≤◌, ◌/◌, ◌%◌, ◌+◌, ◌*◌, false, All, length, slice_index, IfOk, OnOk};
 ghost use Rattle.std.specs.Int.{bit_at};
 ghost use Rattle.nav_types.specs.Cells.{IsInRect, IsRectInside, cell_at};
 ghost use Rattle.lane_rows.specs.Rows.{one_if};
 ghost use Rattle.class_planes.specs.Planes.{IsOutside};
-ghost use Rattle.class_planes.specs.inner.Lines.{IsBand, AreLines, AreLinesBut, AreRows, AreColumns, AreColumnsBefore, HasNextLine, patched, free_cell};
+ghost use Rattle.class_planes.specs.inner.Lines.{IsBand, AreLines, AreLinesBut, AreRows, AreColumns, AreColumnsBefore, free_cell};
+ghost use Rattle.class_planes.specs.inner.Reading.{IsColumnBit, band_bit};
 
-use crate::lines::{BAND, Lines};
+use crate::lines::{BAND, Lines, copied};
 use lane_rows::plane_words;
 use nav_types::{NoMemory, Rect, Size};
 use std::alloc::Global;
@@ -160,7 +161,6 @@ fn column_band(
     band: u16,
 ) -> Result<Vec<u64>, NoMemory>
     requires rows { AreRows (record { size = map.now.size; rows = map.now.rows.now }) }
-    requires span { old.now.stale.from < old.now.stale.to }
     requires within { old.now.stale.to ≤ map.now.size.h / 64 + 1 }
     requires before { AreLinesBut (λ i j. free_cell (record { size = map.now.size; rows = map.now.rows.now })
         (cell_at i j)) band
@@ -171,69 +171,68 @@ fn column_band(
         (map.now.size.h / 64 + 1) 32
         words.items) }
 {
-    let mut words = Vec::with_capacity(alloc, usize::from(BAND) * old.lines.words())?;
-    push_columns(alloc, map, old, band, 0, &mut words)?;
-    push_columns(alloc, map, old, band, 1, &mut words)?;
+    let mut words = copied(alloc, old.lines.band(band))?;
+    write_columns(map, old.stale, band, &mut words);
     Ok(words)
 }
 
-/// Appends the first or the second 16 columns of a band.
-fn push_columns(
-    alloc: Global,
-    map: &MapRows<'_>,
-    old: &OldColumns<'_>,
-    band: u16,
-    half: u16,
-    words: &mut Vec<u64>,
-) -> Result<(), NoMemory>
+/// Writes the words of the span into the columns of a band. The other words stay.
+fn write_columns(map: &MapRows<'_>, span: Span, band: u16, words: &mut [u64])
     requires rows { AreRows (record { size = map.now.size; rows = map.now.rows.now }) }
-    requires span { old.now.stale.from < old.now.stale.to }
-    requires within { old.now.stale.to ≤ map.now.size.h / 64 + 1 }
-    requires before { AreLinesBut (λ i j. free_cell (record { size = map.now.size; rows = map.now.rows.now })
-        (cell_at i j)) band
-        old.now.stale.from old.now.stale.to (map.now.size.w / 32 + 1) (map.now.size.h / 64 + 1) old.now.lines.now }
+    requires within { span.to ≤ map.now.size.h / 64 + 1 }
     requires band { band < map.now.size.w / 32 + 1 }
-    requires half { half < 2 }
-    requires words { IsBand (λ i j. free_cell (record { size = map.now.size; rows = map.now.rows.now })
-        (cell_at i j)) (32 * band)
-        (map.now.size.h / 64 + 1) (16 * half) words.old.items }
-    ensures { OnOk result (IsBand (λ i j. free_cell (record { size = map.now.size; rows = map.now.rows.now })
-        (cell_at i j)) (32 * band)
-        (map.now.size.h / 64 + 1) (16 * half + 16) words.new.items) }
+    requires words { length words.old ≡ 32 * (map.now.size.h / 64 + 1) }
+    ensures stays { length words.new ≡ length words.old }
+    ensures set { (m j : ℕ) → m < 32 → span.from ≤ j / 64 → j / 64 < span.to
+        → IsColumnBit (record { size = map.now.size; rows = map.now.rows.now }) band words.new m j }
+    ensures kept { (m j : ℕ) → m < 32 → j / 64 < map.now.size.h / 64 + 1
+        → IsColumnBit (record { size = map.now.size; rows = map.now.rows.now }) band words.old m j
+        → IsColumnBit (record { size = map.now.size; rows = map.now.rows.now }) band words.new m j }
 {
-    let span = old.stale;
-    let numbers = numbers_of(alloc, map.rows, map.size, 2 * band + half, span)?;
-    let mut part = vec![in alloc; 0; usize::from(span.to - span.from)]?;
-    for k in 0..GROUP {
-        let line = old.lines.line(BAND * band + 16 * half + u16::from(k));
-        push_column(line, span.from, &numbers, k, &mut part, words)?;
+    for w in span.from..span.to {
+        write_group(map, band, 0, w, words);
+        write_group(map, band, 1, w, words);
     }
-    Ok(())
 }
 
-/// The numbers of 16 columns in the rows of the span: bit k of number j is that of the cell
-/// (16 * group + k, 64 * span.from + j).
-fn numbers_of(
-    alloc: Global,
-    rows: &Lines,
-    size: Size,
-    group: u16,
-    span: Span,
-) -> Result<Vec<u16>, NoMemory>
-    requires rows { AreRows (record { size = size; rows = rows.now }) }
-    requires group { group / 4 < size.w / 64 + 1 }
-    requires span { span.from < span.to }
-    requires within { span.to ≤ 64 }
-    ensures long { IfOk result (λ numbers. length numbers.items ≡ 64 * (span.to - span.from)) }
-    ensures bits { IfOk result (λ numbers. (j k : ℕ) → j < length numbers.items → k < 16
-        → bit_at (slice_index numbers.items j) k
-        ≡ one_if (free_cell (record { size = size; rows = rows.now }) (cell_at (16 * group + k)
-        (64 * span.from + j)))) }
+/// Writes word `w` of the first or the second 16 columns of a band. The other words stay.
+fn write_group(map: &MapRows<'_>, band: u16, half: u16, w: u16, words: &mut [u64])
+    requires rows { AreRows (record { size = map.now.size; rows = map.now.rows.now }) }
+    requires band { band < map.now.size.w / 32 + 1 }
+    requires half { half < 2 }
+    requires word { w < map.now.size.h / 64 + 1 }
+    requires words { length words.old ≡ 32 * (map.now.size.h / 64 + 1) }
+    ensures stays { length words.new ≡ length words.old }
+    ensures set { (m j : ℕ) → 16 * half ≤ m → m < 16 * half + 16 → j / 64 ≡ w
+        → IsColumnBit (record { size = map.now.size; rows = map.now.rows.now }) band words.new m j }
+    ensures kept { (m j : ℕ) → m < 32 → j / 64 < map.now.size.h / 64 + 1
+        → IsColumnBit (record { size = map.now.size; rows = map.now.rows.now }) band words.old m j
+        → IsColumnBit (record { size = map.now.size; rows = map.now.rows.now }) band words.new m j }
 {
-    let count = usize::from(span.to - span.from);
-    let mut numbers = vec![in alloc; 0; 64 * count]?;
-    read_columns(rows, size, group, 64 * span.from, &mut numbers);
-    Ok(numbers)
+    let mut numbers = [0; 64];
+    read_columns(map.rows, map.size, 2 * band + half, 64 * w, &mut numbers);
+    write_word(&numbers, map.size.h, half, w, words);
+}
+
+/// Writes bits 0 to 15 of the numbers as word `w` of the first or the second 16 lines of a band.
+fn write_word(numbers: &[u16], height: u16, half: u16, w: u16, words: &mut [u64])
+    requires numbers { length numbers.now ≡ 64 }
+    requires height { height ≤ 4096 }
+    requires half { half < 2 }
+    requires word { w < height / 64 + 1 }
+    requires words { length words.old ≡ 32 * (height / 64 + 1) }
+    ensures stays { length words.new ≡ length words.old }
+    ensures set { (k j : ℕ) → k < 16 → j / 64 ≡ w
+        → band_bit (height / 64 + 1) words.new (16 * half + k) j ≡ bit_at (slice_index numbers.now (j % 64)) k }
+    ensures others { (m j : ℕ) → m < 32 → j / 64 < height / 64 + 1
+        → (16 * half ≤ m → m < 16 * half + 16 → j / 64 ≡ w → ⊥)
+        → band_bit (height / 64 + 1) words.new m j ≡ band_bit (height / 64 + 1) words.old m j }
+{
+    let wide = usize::from(height) / 64 + 1;
+    for k in 0..GROUP {
+        let place = usize::from(16 * half + u16::from(k)) * wide + usize::from(w);
+        plane_words(numbers, k, &mut words[place..place + 1]);
+    }
 }
 
 /// Reads 16 columns from row `first` on: bit k of number j is set where the cell (16 * group + k, first + j) is free.
@@ -262,41 +261,4 @@ fn number_at(rows: &Lines, size: Size, group: u16, j: u16) -> u16
     } else {
         0
     }
-}
-
-/// Appends a column: the bits k of the numbers from word `from` on, and elsewhere the bits of the old one. `part` has
-/// room for the words of those bits.
-fn push_column(
-    old: &[u64],
-    from: u16,
-    numbers: &[u16],
-    k: u8,
-    part: &mut [u64],
-    words: &mut Vec<u64>,
-) -> Result<(), NoMemory>
-    requires bit { k < 16 }
-    requires whole { length numbers.now ≡ 64 * (length numbers.now / 64) }
-    requires within { from + length numbers.now / 64 ≤ length old.now }
-    requires room { length part.old ≡ length numbers.now / 64 }
-    ensures stays { length part.new ≡ length part.old }
-    ensures line { OnOk result (HasNextLine old.now numbers.now k from words.old.items words.new.items) }
-{
-    plane_words(numbers, k, part);
-    push_patched(old, usize::from(from), part, words)
-}
-
-/// Appends the line with some of its words replaced.
-fn push_patched(
-    old: &[u64],
-    from: usize,
-    part: &[u64],
-    words: &mut Vec<u64>,
-) -> Result<(), NoMemory>
-    requires { from + length part.now ≤ length old.now }
-    ensures { OnOk result (words.new.items ≡ words.old.items ++ patched old.now from part.now) }
-{
-    words.extend_from_slice(&old[..from])?;
-    words.extend_from_slice(part)?;
-    words.extend_from_slice(&old[from + part.len()..])?;
-    Ok(())
 }

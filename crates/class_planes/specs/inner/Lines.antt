@@ -1,5 +1,5 @@
 -- Lines of bits in bands of 32 lines.
-use Rattle.std.specs.Prelude.{ℕ, Bool, ◌≡◌, ◌<◌, ◌≤◌, ◌+◌, ◌-◌, ◌*◌, ◌/◌, ◌%◌, ◌==◌, ◌&&◌, nat_lt, map, take, drop, ◌++◌, [], List, length, slice_index, slice_range, slice_index_or}
+use Rattle.std.specs.Prelude.{ℕ, Bool, ◌≡◌, ◌<◌, ◌≤◌, ◌+◌, ◌*◌, ◌/◌, ◌%◌, ◌==◌, ◌&&◌, nat_lt, map, take, drop, ◌++◌, [], List, length, slice_index, slice_range, slice_index_or}
 use Rattle.std.specs.Int.{bit_at}
 use Rattle.nav_types.specs.declared.cells.Cell.{Cell}
 use Rattle.nav_types.specs.declared.cells.Rect.{Rect}
@@ -49,17 +49,6 @@ pub record AreLinesBut (free : ℕ → ℕ → Bool) (band from to count words :
 -- the words of a line, with others in place of some from `from` on
 abbrev pub patched : List ℕ → ℕ → List ℕ → List ℕ
 patched old from part = take from old ++ (part ++ drop (from + length part) old)
-
--- after some words stands a line more: bit k of each of these numbers from word `from` on, and elsewhere the bits of the
--- old line
-pub record HasNextLine (old numbers : List ℕ) (k from : ℕ) (before after : List ℕ) : Type 0 where
-  pub line : List ℕ
-  pub appended : after ≡ before ++ line
-  pub long : length line ≡ length old
-  pub read : (i : ℕ) → from ≤ i / 64 → i / 64 < from + length numbers / 64
-      → bit_at (slice_index line (i / 64)) (i % 64) ≡ bit_at (slice_index numbers (i - 64 * from)) k
-  pub kept : (i : ℕ) → (from ≤ i / 64 → i / 64 < from + length numbers / 64 → ⊥)
-      → bit_at (slice_index line (i / 64)) (i % 64) ≡ bit_at (slice_index old (i / 64)) (i % 64)
 
 -- whether place i of line n is passable
 abbrev pub free_at : LineTable → ℕ → ℕ → Bool

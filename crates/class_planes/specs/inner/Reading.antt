@@ -6,7 +6,8 @@ use Rattle.nav_types.specs.declared.cells.Rect.{Rect}
 use Rattle.nav_types.specs.declared.cells.Size.{Size}
 use Rattle.nav_types.specs.Cells.{IsInRect, cell_at}
 use Rattle.nav_types.specs.Rows.{bit_of}
-use Rattle.class_planes.specs.inner.Lines.{line_in}
+use Rattle.lane_rows.specs.Rows.{one_if}
+use Rattle.class_planes.specs.inner.Lines.{RowTable, free_cell, line_in}
 
 -- the numbers of the cells of a rectangle, row by row
 pub record ReadCells : Type 0 where
@@ -47,3 +48,8 @@ IsUnread reads cell = All (λ read. IsInRect read.rect cell → ⊥) reads
 -- bit i of line m of a band
 abbrev pub band_bit : ℕ → List ℕ → ℕ → ℕ → ℕ
 band_bit words band m i = bit_at (slice_index band (m * words + i / 64)) (i % 64)
+
+-- bit j of column m of a band of columns is that of its cell
+abbrev pub IsColumnBit : RowTable → ℕ → List ℕ → ℕ → ℕ → Type 0
+IsColumnBit table band words m j =
+    band_bit (table.size.h / 64 + 1) words m j ≡ one_if (free_cell table (cell_at (32 * band + m) j))
