@@ -1,13 +1,15 @@
 -- Words that are written into a band of columns.
-use Rattle.std.proofs.Common.{◌≡◌, ◌≢◌, ℕ, ◌+◌, ◌-◌, ◌*◌, ◌/◌, ◌%◌, ◌<◌, ◌≤◌, Bool, List, length, get_or, sym, ap, ap₂, ◌∙◌, ⊎_elim, arith}
+use Rattle.std.proofs.Common.{◌≡◌, ◌≢◌, ℕ, ◌+◌, ◌-◌, ◌*◌, ◌/◌, ◌%◌, ◌<◌, ◌≤◌, List, length, get_or, sym, ap, ap₂, ◌∙◌, subst, ⊎_elim, arith}
 use Rattle.std.specs.Int.{bit_at}
 use Rattle.std.proofs.lemmas.Bool.{cases_lt, cases_eq}
 use Rattle.std.proofs.lemmas.Nat.{mul-le}
-use Rattle.nav_types.specs.Cells.{cell_at}
+use Rattle.nav_types.specs.declared.cells.Rect.{Rect}
+use Rattle.nav_types.specs.Cells.{IsInRect, cell_at}
 use Rattle.lane_rows.specs.Rows.{one_if}
 use Rattle.class_planes.specs.inner.Lines.{RowTable, IsBand, free_cell, patched}
 use Rattle.class_planes.specs.inner.Reading.{IsColumnBit, band_bit}
-use Rattle.class_planes.proofs.ReadLemmas.{band_right, bit_of_band}
+use Rattle.class_planes.proofs.ReadLemmas.{band_right}
+use Rattle.class_planes.proofs.UpdateLemmas.{in_rect_or_not}
 use Rattle.class_planes.proofs.TurnLemmas.{past_rows, patched_here, patched_elsewhere}
 
 -- the place of a word in a band
@@ -51,13 +53,15 @@ put_elsewhere wide k w m j band out one fits small within other =
     (cases_lt m k)))
 
 -- the word is written into one of 16 lines more
-pub word_set : (wide half w k : ℕ) (numbers before now out : List ℕ) → length out ≡ 1
+pub word_set : (wide half w from k : ℕ) (numbers before now out : List ℕ) → length out ≡ 1
     → (16 * half + k) * wide + w + 1 ≤ length before → w < wide
     → now ≡ patched before ((16 * half + k) * wide + w) out
     → ((v b : ℕ) → b < 64 → bit_at (get_or out v 0) b ≡ bit_at (get_or numbers (64 * v + b) 0) k)
-    → ((q j : ℕ) → q < k → j / 64 ≡ w → band_bit wide before (16 * half + q) j ≡ bit_at (get_or numbers (j % 64) 0) q)
-    → (q j : ℕ) → q < k + 1 → j / 64 ≡ w → band_bit wide now (16 * half + q) j ≡ bit_at (get_or numbers (j % 64) 0) q
-word_set wide half w k numbers before now out one fits small is bits old q j below word =
+    → ((q j : ℕ) → from ≤ q → q < k → j / 64 ≡ w
+    → band_bit wide before (16 * half + q) j ≡ bit_at (get_or numbers (j % 64) 0) q)
+    → (q j : ℕ) → from ≤ q → q < k + 1 → j / 64 ≡ w
+    → band_bit wide now (16 * half + q) j ≡ bit_at (get_or numbers (j % 64) 0) q
+word_set wide half w from k numbers before now out one fits small is bits old q j least below word =
     ap (λ xs. band_bit wide xs (16 * half + q) j) is
     ∙ ⊎_elim
     (λ (same : q ≡ k).
@@ -69,47 +73,30 @@ word_set wide half w k numbers before now out one fits small is bits old q j bel
     (λ (other : q ≢ k).
     put_elsewhere wide (16 * half + k) w (16 * half + q) j before out one fits small (omega (arith, word, small))
     (λ line same. other (omega (arith, line)))
-    ∙ old q j (omega (arith, below, other)) word)
+    ∙ old q j least (omega (arith, below, other)) word)
     (cases_eq q k)
 
 -- and the other bits stay as they were at first
-pub word_others : (wide half w k : ℕ) (first before now out : List ℕ) → length out ≡ 1
+pub word_others : (wide half w from k : ℕ) (first before now out : List ℕ) → length out ≡ 1
     → (16 * half + k) * wide + w + 1 ≤ length before → w < wide
     → now ≡ patched before ((16 * half + k) * wide + w) out
-    → ((m j : ℕ) → m < 32 → j / 64 < wide → (16 * half ≤ m → m < 16 * half + k → j / 64 ≡ w → ⊥)
+    → ((m j : ℕ) → m < 32 → j / 64 < wide → (16 * half + from ≤ m → m < 16 * half + k → j / 64 ≡ w → ⊥)
     → band_bit wide before m j ≡ band_bit wide first m j)
-    → (m j : ℕ) → m < 32 → j / 64 < wide → (16 * half ≤ m → m < 16 * half + (k + 1) → j / 64 ≡ w → ⊥)
-    → band_bit wide now m j ≡ band_bit wide first m j
-word_others wide half w k first before now out one fits small is old m j line within other =
+    → (m j : ℕ) → m < 32 → j / 64 < wide → (16 * half + from ≤ m → m < 16 * half + (k + 1) → j / 64 ≡ w → ⊥)
+    → from ≤ k → band_bit wide now m j ≡ band_bit wide first m j
+word_others wide half w from k first before now out one fits small is old m j line within other least =
     ap (λ xs. band_bit wide xs m j) is
     ∙ put_elsewhere wide (16 * half + k) w m j before out one fits small within
-    (λ same word. other (omega (arith, same)) (omega (arith, same)) word)
+    (λ same word. other (omega (arith, same, least)) (omega (arith, same)) word)
     ∙ old m j line within (λ a b word. other a (omega (arith, b)) word)
 
--- the words of a span are written into a band whose other words were right
-pub columns_right : (table : RowTable) (earlier : ℕ → ℕ → Bool) (band from to : ℕ) (was start new : List ℕ) → start ≡ was
-    → IsBand earlier (32 * band) (table.size.h / 64 + 1) 32 was → length new ≡ 32 * (table.size.h / 64 + 1)
-    → ((n i : ℕ) → n / 32 ≡ band → (from ≤ i / 64 → i / 64 < to → ⊥) → earlier n i ≡ free_cell table (cell_at n i))
-    → ((m j : ℕ) → m < 32 → from ≤ j / 64 → j / 64 < to → IsColumnBit table band new m j)
-    → ((m j : ℕ) → m < 32 → j / 64 < table.size.h / 64 + 1 → IsColumnBit table band start m j
-    → IsColumnBit table band new m j)
+-- a band whose bits are right
+pub columns_right : (table : RowTable) (band : ℕ) (new : List ℕ) → length new ≡ 32 * (table.size.h / 64 + 1)
+    → ((m j : ℕ) → m < 32 → j / 64 < table.size.h / 64 + 1 → IsColumnBit table band new m j)
     → IsBand (λ i j. free_cell table (cell_at i j)) (32 * band) (table.size.h / 64 + 1) 32 new
-columns_right table earlier band from to was start new begins is long same set kept =
-    let words : ℕ = table.size.h / 64 + 1 in
-    let old : (m j : ℕ) → m < 32 → j / 64 < words → (from ≤ j / 64 → j / 64 < to → ⊥) → IsColumnBit table band new m j =
-    λ m j small within out. kept m j small within
-    (ap (λ xs. band_bit words xs m j) begins
-    ∙ bit_of_band earlier (32 * band) words m j was is small within
-    ∙ ap one_if (same (32 * band + m) j (omega (arith, small)) out)) in
-    band_right (λ i j. free_cell table (cell_at i j)) (32 * band) words new long
-    (λ n i past. past_rows table n i (omega (arith, past)))
-    (λ m j small within. ⊎_elim
-    (λ (below : j / 64 < from). old m j small within (λ a b. omega (arith, a, below)))
-    (λ (least : from ≤ j / 64). ⊎_elim
-    (λ (inside : j / 64 < to). set m j small least inside)
-    (λ (above : to ≤ j / 64). old m j small within (λ a b. omega (arith, b, above)))
-    (cases_lt (j / 64) to))
-    (cases_lt (j / 64) from))
+columns_right table band new long bits =
+    band_right (λ i j. free_cell table (cell_at i j)) (32 * band) (table.size.h / 64 + 1) new long
+    (λ n i past. past_rows table n i (omega (arith, past))) bits
 
 -- the bits that the numbers give to 16 columns
 pub group_bit : (table : RowTable) (band half w m j k : ℕ) (numbers words : List ℕ) → m ≡ 16 * half + k → j / 64 ≡ w
@@ -125,16 +112,38 @@ group_bit table band half w m j k numbers words line word written read =
     ∙ read
     ∙ ap₂ (λ i p. one_if (free_cell table (cell_at i p))) column row
 
--- the line is one of the 16 and the word is that one, or not
-pub in_group_or_not : {P : Type 0} (half w m v : ℕ) → (16 * half ≤ m → m < 16 * half + 16 → v ≡ w → P)
-    → ((16 * half ≤ m → m < 16 * half + 16 → v ≡ w → ⊥) → P) → P
-in_group_or_not half w m v here out = ⊎_elim
-    (λ (before : m < 16 * half). out (λ low high word. omega (arith, before, low)))
-    (λ (low : 16 * half ≤ m). ⊎_elim
-    (λ (high : m < 16 * half + 16). ⊎_elim
+-- the line is one of those between and the word is that one, or not
+pub in_group_or_not : {P : Type 0} (from to w m v : ℕ) → (from ≤ m → m < to → v ≡ w → P)
+    → ((from ≤ m → m < to → v ≡ w → ⊥) → P) → P
+in_group_or_not from to w m v here out = ⊎_elim
+    (λ (before : m < from). out (λ low high word. omega (arith, before, low)))
+    (λ (low : from ≤ m). ⊎_elim
+    (λ (high : m < to). ⊎_elim
     (λ (word : v ≡ w). here low high word)
     (λ (other : v ≢ w). out (λ a b word. other word))
     (cases_eq v w))
-    (λ (after : 16 * half + 16 ≤ m). out (λ a high word. omega (arith, after, high)))
-    (cases_lt m (16 * half + 16)))
-    (cases_lt m (16 * half))
+    (λ (after : to ≤ m). out (λ a high word. omega (arith, after, high)))
+    (cases_lt m to))
+    (cases_lt m from)
+
+-- the bits of a band that are right where none of the rectangles from place `from` on holds the cell
+abbrev pub AreColumnsBut : RowTable → ℕ → List Rect → ℕ → List ℕ → Type 0
+AreColumnsBut table band rects from words = (m j : ℕ) → m < 32 → j / 64 < table.size.h / 64 + 1
+    → ((k : ℕ) (d : Rect) → from ≤ k → k < length rects → IsInRect (get_or rects k d) (cell_at (32 * band + m) j) → ⊥)
+    → IsColumnBit table band words m j
+
+-- one rectangle more is written
+pub columns_but_more : (table : RowTable) (band : ℕ) (rects : List Rect) (from : ℕ) (rect : Rect) (old new : List ℕ)
+    → ((d : Rect) → get_or rects from d ≡ rect) → AreColumnsBut table band rects from old
+    → ((m j : ℕ) → m < 32 → IsInRect rect (cell_at (32 * band + m) j) → IsColumnBit table band new m j)
+    → ((m j : ℕ) → m < 32 → j / 64 < table.size.h / 64 + 1 → IsColumnBit table band old m j
+    → IsColumnBit table band new m j)
+    → AreColumnsBut table band rects (from + 1) new
+columns_but_more table band rects from rect old new is right set kept m j small within out =
+    in_rect_or_not {P = IsColumnBit table band new m j} rect (cell_at (32 * band + m) j)
+    (λ here. set m j small here)
+    (λ not_here. kept m j small within (right m j small within (λ k d least below inside. ⊎_elim
+    (λ (same : k ≡ from). not_here (subst (λ (r : Rect). IsInRect r (cell_at (32 * band + m) j))
+    (ap (λ p. get_or rects p d) same ∙ is d) inside))
+    (λ (later : k ≢ from). out k d (omega (arith, least, later)) below inside)
+    (cases_eq k from))))

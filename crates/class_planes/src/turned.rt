@@ -1,10 +1,10 @@
 //! The columns of a map, made from its rows.
-ghost use Rattle.std.specs.Prelude.{ℕ, ◌≡◌, ◌<◌, ◌≤◌, ◌/◌, ◌%◌, ◌+◌, ◌*◌, false, All, length, slice_index, IfOk, OnOk};
+ghost use Rattle.std.specs.Prelude.{ℕ, ◌≡◌, ◌<◌, ◌≤◌, ◌/◌, ◌%◌, ◌+◌, ◌*◌, false, All, length, slice_index, IfOk, IsFalse, OnOk};
 ghost use Rattle.std.specs.Int.{bit_at};
 ghost use Rattle.nav_types.specs.Cells.{IsInRect, IsRectInside, cell_at};
 ghost use Rattle.lane_rows.specs.Rows.{one_if};
 ghost use Rattle.class_planes.specs.Planes.{IsOutside};
-ghost use Rattle.class_planes.specs.inner.Lines.{IsBand, AreLines, AreLinesBut, AreRows, AreColumns, AreColumnsBefore, free_cell};
+ghost use Rattle.class_planes.specs.inner.Lines.{IsBand, AreLines, AreRows, AreColumns, AreColumnsBefore, free_cell};
 ghost use Rattle.class_planes.specs.inner.Reading.{IsColumnBit, band_bit};
 
 use crate::lines::{BAND, Lines, copied};
@@ -13,9 +13,9 @@ use nav_types::{NoMemory, Rect, Size};
 use std::alloc::Global;
 
 /// How many columns are read at once: one for each bit of a number.
-const GROUP: u8 = 16;
+const GROUP: u16 = 16;
 
-/// The words of a line from one up to and without another.
+/// Some of 16 columns, from one up to and without another.
 #[derive(Clone, Copy)]
 struct Span {
     from: u16,
@@ -27,13 +27,6 @@ struct Span {
 struct MapRows<'a> {
     rows: &'a Lines,
     size: Size,
-}
-
-/// The columns of an earlier map, which are right but for the words of a span.
-#[derive(Drop)]
-struct OldColumns<'a> {
-    lines: &'a Lines,
-    stale: Span,
 }
 
 /// The columns of the map whose rows these are, as lines of bits.
@@ -102,108 +95,126 @@ fn push_band(
         (cell_at i j)) (band + 1)
         (map.now.size.h / 64 + 1) lines.new) }
 {
-    let span = words_met(rects, map.size, BAND * band);
-    if span.from >= span.to {
+    if !is_met(rects, BAND * band) {
         return lines.share(before, band);
     }
-    let old = OldColumns {
-        lines: before,
-        stale: span,
-    };
-    let words = column_band(alloc, map, &old, band)?;
+    let words = column_band(alloc, map, before, rects, band)?;
     lines.push(alloc, words)
 }
 
-/// The words in which the rectangles meet the 32 columns from `first` on.
-fn words_met(rects: &[Rect], size: Size, first: u16) -> Span
-    requires inside { All (IsRectInside size) rects.now }
+/// Whether a rectangle may meet one of the 32 columns from `first` on.
+fn is_met(rects: &[Rect], first: u16) -> bool
     requires low { first ≤ 4096 }
-    ensures within { result.to ≤ size.h / 64 + 1 }
-    ensures outside { (i j : ℕ) → first ≤ i → i < first + 32
-        → (result.from ≤ j / 64 → j / 64 < result.to → ⊥) → IsOutside rects.now (cell_at i j) }
+    ensures { IsFalse result → (i j : ℕ) → first ≤ i → i < first + 32 → IsOutside rects.now (cell_at i j) }
 {
-    let mut span = Span {
-        from: size.h / 64 + 1,
-        to: 0,
-    };
-    for rect in rects {
-        span = widened(span, size, *rect, first);
-    }
-    span
-}
-
-/// The span with the words in which the rectangle meets the 32 columns from `first` on.
-fn widened(span: Span, size: Size, rect: Rect, first: u16) -> Span
-    requires inside { IsRectInside size rect }
-    requires within { span.to ≤ size.h / 64 + 1 }
-    requires low { first ≤ 4096 }
-    ensures within { result.to ≤ size.h / 64 + 1 }
-    ensures from { result.from ≤ span.from }
-    ensures to { span.to ≤ result.to }
-    ensures met { (i j : ℕ) → first ≤ i → i < first + 32 → IsInRect rect (cell_at i j)
-        → (result.from ≤ j / 64) × (j / 64 < result.to) }
-{
-    if rect.i0 < first + BAND && first <= rect.i1 {
-        Span {
-            from: span.from.min(rect.j0 / 64),
-            to: span.to.max(rect.j1 / 64 + 1),
-        }
-    } else {
-        span
-    }
+    rects
+        .iter()
+        .any(|rect| rect.i0 < first + BAND && first <= rect.i1)
 }
 
 /// The words of a band of columns.
 fn column_band(
     alloc: Global,
     map: &MapRows<'_>,
-    old: &OldColumns<'_>,
+    before: &Lines,
+    rects: &[Rect],
     band: u16,
 ) -> Result<Vec<u64>, NoMemory>
     requires rows { AreRows (record { size = map.now.size; rows = map.now.rows.now }) }
-    requires within { old.now.stale.to ≤ map.now.size.h / 64 + 1 }
-    requires before { AreLinesBut (λ i j. free_cell (record { size = map.now.size; rows = map.now.rows.now })
-        (cell_at i j)) band
-        old.now.stale.from old.now.stale.to (map.now.size.w / 32 + 1) (map.now.size.h / 64 + 1) old.now.lines.now }
+    requires inside { All (IsRectInside map.now.size) rects.now }
+    requires before { AreColumnsBefore (record { size = map.now.size; rows = map.now.rows.now }) rects.now before.now }
     requires band { band < map.now.size.w / 32 + 1 }
     ensures { IfOk result (λ words. IsBand
         (λ i j. free_cell (record { size = map.now.size; rows = map.now.rows.now }) (cell_at i j)) (32 * band)
         (map.now.size.h / 64 + 1) 32
         words.items) }
 {
-    let mut words = copied(alloc, old.lines.band(band))?;
-    write_columns(map, old.stale, band, &mut words);
+    let mut words = copied(alloc, before.band(band))?;
+    write_rects(map, rects, band, &mut words);
     Ok(words)
 }
 
-/// Writes the words of the span into the columns of a band. The other words stay.
-fn write_columns(map: &MapRows<'_>, span: Span, band: u16, words: &mut [u64])
+/// Writes the rectangles into the columns of a band. The other bits are right already.
+fn write_rects(map: &MapRows<'_>, rects: &[Rect], band: u16, words: &mut [u64])
     requires rows { AreRows (record { size = map.now.size; rows = map.now.rows.now }) }
-    requires within { span.to ≤ map.now.size.h / 64 + 1 }
+    requires inside { All (IsRectInside map.now.size) rects.now }
+    requires band { band < map.now.size.w / 32 + 1 }
+    requires words { length words.old ≡ 32 * (map.now.size.h / 64 + 1) }
+    requires before { (m j : ℕ) → m < 32 → j / 64 < map.now.size.h / 64 + 1 → IsOutside rects.now (cell_at (32 * band + m) j)
+        → IsColumnBit (record { size = map.now.size; rows = map.now.rows.now }) band words.old m j }
+    ensures stays { length words.new ≡ length words.old }
+    ensures bits { (m j : ℕ) → m < 32 → j / 64 < map.now.size.h / 64 + 1
+        → IsColumnBit (record { size = map.now.size; rows = map.now.rows.now }) band words.new m j }
+{
+    for rect in rects {
+        write_rect(map, *rect, band, words);
+    }
+}
+
+/// Writes the words of a rectangle into those columns of a band that it meets, and keeps the other bits right.
+fn write_rect(map: &MapRows<'_>, rect: Rect, band: u16, words: &mut [u64])
+    requires rows { AreRows (record { size = map.now.size; rows = map.now.rows.now }) }
+    requires inside { IsRectInside map.now.size rect }
     requires band { band < map.now.size.w / 32 + 1 }
     requires words { length words.old ≡ 32 * (map.now.size.h / 64 + 1) }
     ensures stays { length words.new ≡ length words.old }
-    ensures set { (m j : ℕ) → m < 32 → span.from ≤ j / 64 → j / 64 < span.to
+    ensures set { (m j : ℕ) → m < 32 → IsInRect rect (cell_at (32 * band + m) j)
         → IsColumnBit (record { size = map.now.size; rows = map.now.rows.now }) band words.new m j }
     ensures kept { (m j : ℕ) → m < 32 → j / 64 < map.now.size.h / 64 + 1
         → IsColumnBit (record { size = map.now.size; rows = map.now.rows.now }) band words.old m j
         → IsColumnBit (record { size = map.now.size; rows = map.now.rows.now }) band words.new m j }
 {
-    for w in span.from..span.to {
-        write_group(map, band, 0, w, words);
-        write_group(map, band, 1, w, words);
+    write_half(map, rect, band, 0, words);
+    write_half(map, rect, band, 1, words);
+}
+
+/// Writes the words of a rectangle into those of the first or the second 16 columns of a band that it meets, and keeps
+/// the other bits right.
+fn write_half(map: &MapRows<'_>, rect: Rect, band: u16, half: u16, words: &mut [u64])
+    requires rows { AreRows (record { size = map.now.size; rows = map.now.rows.now }) }
+    requires inside { IsRectInside map.now.size rect }
+    requires band { band < map.now.size.w / 32 + 1 }
+    requires half { half < 2 }
+    requires words { length words.old ≡ 32 * (map.now.size.h / 64 + 1) }
+    ensures stays { length words.new ≡ length words.old }
+    ensures set { (m j : ℕ) → 16 * half ≤ m → m < 16 * half + 16 → IsInRect rect (cell_at (32 * band + m) j)
+        → IsColumnBit (record { size = map.now.size; rows = map.now.rows.now }) band words.new m j }
+    ensures kept { (m j : ℕ) → m < 32 → j / 64 < map.now.size.h / 64 + 1
+        → IsColumnBit (record { size = map.now.size; rows = map.now.rows.now }) band words.old m j
+        → IsColumnBit (record { size = map.now.size; rows = map.now.rows.now }) band words.new m j }
+{
+    let span = columns_met(rect, BAND * band + GROUP * half);
+    if span.from >= span.to {
+        return;
+    }
+    for w in rect.j0 / 64..rect.j1 / 64 + 1 {
+        write_group(map, band, half, span, w, words);
     }
 }
 
-/// Writes word `w` of the first or the second 16 columns of a band. The other words stay.
-fn write_group(map: &MapRows<'_>, band: u16, half: u16, w: u16, words: &mut [u64])
+/// The columns of the rectangle among the 16 from `first` on.
+fn columns_met(rect: Rect, first: u16) -> Span
+    requires low { first ≤ 4112 }
+    requires east { rect.i1 ≤ 4096 }
+    ensures within { result.to ≤ 16 }
+    ensures met { (k : ℕ) → k < 16 → rect.i0 ≤ first + k → first + k ≤ rect.i1 → (result.from ≤ k) × (k < result.to) }
+{
+    Span {
+        from: rect.i0.saturating_sub(first),
+        to: (rect.i1 + 1).saturating_sub(first).min(GROUP),
+    }
+}
+
+/// Writes word `w` of some of the first or the second 16 columns of a band, and keeps the other bits right.
+fn write_group(map: &MapRows<'_>, band: u16, half: u16, span: Span, w: u16, words: &mut [u64])
     requires rows { AreRows (record { size = map.now.size; rows = map.now.rows.now }) }
     requires band { band < map.now.size.w / 32 + 1 }
     requires half { half < 2 }
+    requires span { span.to ≤ 16 }
     requires word { w < map.now.size.h / 64 + 1 }
     requires words { length words.old ≡ 32 * (map.now.size.h / 64 + 1) }
     ensures stays { length words.new ≡ length words.old }
-    ensures set { (m j : ℕ) → 16 * half ≤ m → m < 16 * half + 16 → j / 64 ≡ w
+    ensures set { (m j : ℕ) → 16 * half + span.from ≤ m → m < 16 * half + span.to → j / 64 ≡ w
         → IsColumnBit (record { size = map.now.size; rows = map.now.rows.now }) band words.new m j }
     ensures kept { (m j : ℕ) → m < 32 → j / 64 < map.now.size.h / 64 + 1
         → IsColumnBit (record { size = map.now.size; rows = map.now.rows.now }) band words.old m j
@@ -211,27 +222,28 @@ fn write_group(map: &MapRows<'_>, band: u16, half: u16, w: u16, words: &mut [u64
 {
     let mut numbers = [0; 64];
     read_columns(map.rows, map.size, 2 * band + half, 64 * w, &mut numbers);
-    write_word(&numbers, map.size.h, half, w, words);
+    write_word(&numbers, map.size.h, half, span, w, words);
 }
 
-/// Writes bits 0 to 15 of the numbers as word `w` of the first or the second 16 lines of a band.
-fn write_word(numbers: &[u16], height: u16, half: u16, w: u16, words: &mut [u64])
+/// Writes some of the bits 0 to 15 of the numbers as word `w` of the first or the second 16 lines of a band.
+fn write_word(numbers: &[u16], height: u16, half: u16, span: Span, w: u16, words: &mut [u64])
     requires numbers { length numbers.now ≡ 64 }
     requires height { height ≤ 4096 }
     requires half { half < 2 }
+    requires span { span.to ≤ 16 }
     requires word { w < height / 64 + 1 }
     requires words { length words.old ≡ 32 * (height / 64 + 1) }
     ensures stays { length words.new ≡ length words.old }
-    ensures set { (k j : ℕ) → k < 16 → j / 64 ≡ w
+    ensures set { (k j : ℕ) → span.from ≤ k → k < span.to → j / 64 ≡ w
         → band_bit (height / 64 + 1) words.new (16 * half + k) j ≡ bit_at (slice_index numbers.now (j % 64)) k }
     ensures others { (m j : ℕ) → m < 32 → j / 64 < height / 64 + 1
-        → (16 * half ≤ m → m < 16 * half + 16 → j / 64 ≡ w → ⊥)
+        → (16 * half + span.from ≤ m → m < 16 * half + span.to → j / 64 ≡ w → ⊥)
         → band_bit (height / 64 + 1) words.new m j ≡ band_bit (height / 64 + 1) words.old m j }
 {
     let wide = usize::from(height) / 64 + 1;
-    for k in 0..GROUP {
-        let place = usize::from(16 * half + u16::from(k)) * wide + usize::from(w);
-        plane_words(numbers, k, &mut words[place..place + 1]);
+    for k in span.from..span.to {
+        let place = usize::from(GROUP * half + k) * wide + usize::from(w);
+        plane_words(numbers, k as u8, &mut words[place..place + 1]);
     }
 }
 

@@ -1,5 +1,5 @@
 -- Lines of bits in bands of 32 lines.
-use Rattle.std.specs.Prelude.{ℕ, Bool, ◌≡◌, ◌<◌, ◌≤◌, ◌+◌, ◌*◌, ◌/◌, ◌%◌, ◌==◌, ◌&&◌, nat_lt, map, take, drop, ◌++◌, [], List, length, slice_index, slice_range, slice_index_or}
+use Rattle.std.specs.Prelude.{ℕ, Bool, ◌≡◌, ◌<◌, ◌+◌, ◌*◌, ◌/◌, ◌%◌, ◌==◌, ◌&&◌, nat_lt, map, take, drop, ◌++◌, [], List, length, slice_index, slice_range, slice_index_or}
 use Rattle.std.specs.Int.{bit_at}
 use Rattle.nav_types.specs.declared.cells.Cell.{Cell}
 use Rattle.nav_types.specs.declared.cells.Rect.{Rect}
@@ -39,12 +39,6 @@ pub record AreLinesBefore (free : ℕ → ℕ → Bool) (Kept : Cell → Type 0)
   pub earlier : ℕ → ℕ → Bool
   pub lines : AreLines earlier count words table
   pub same : (n i : ℕ) → Kept (cell_at i n) → earlier n i ≡ free n i
-
--- the lines before some places changed: in this band all of those lie in the words from `from` up to and without `to`
-pub record AreLinesBut (free : ℕ → ℕ → Bool) (band from to count words : ℕ) (table : LineTable) : Type 0 where
-  pub earlier : ℕ → ℕ → Bool
-  pub lines : AreLines earlier count words table
-  pub same : (n i : ℕ) → n / 32 ≡ band → (from ≤ i / 64 → i / 64 < to → ⊥) → earlier n i ≡ free n i
 
 -- the words of a line, with others in place of some from `from` on
 abbrev pub patched : List ℕ → ℕ → List ℕ → List ℕ

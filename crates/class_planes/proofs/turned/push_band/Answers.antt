@@ -6,8 +6,8 @@ use Rattle.class_planes.proofs.TurnLemmas.{band_same}
 use Rattle.class_planes.proofs.UpdateLemmas.{both_ok}
 use Rattle.class_planes.proofs.turned.push_band.Goals as goal
 
-pub returns-then-span : goal.returns-then-span
-returns-then-span c =
+pub returns-then-not-is_met : goal.returns-then-not-is_met
+returns-then-not-is_met c =
     let table : RowTable = record { size = c.args.map.now.size; rows = c.args.map.now.rows.now } in
     let free : ℕ → ℕ → Bool = λ i j. free_cell table (cell_at i j) in
     let words : ℕ = c.args.map.now.size.h / 64 + 1 in
@@ -17,7 +17,7 @@ returns-then-span c =
     lines_more free c.args.band words c.args.lines.now c.share.new.self band c.requires.lines same more
     (band_same before.earlier free c.args.band words band (before.lines.each c.args.band c.requires.band)
     (λ n i in_band. before.same (cell_at n i)
-    (c.words_met-span.ensures.outside n i (omega arith) (omega arith) (λ a b. omega (arith, a, b, c.if-span.true))))))
+    (c.is_met.ensures c.if-not-is_met.true n i (omega arith) (omega arith)))))
 
 pub returns : goal.returns
 returns c =
@@ -27,13 +27,3 @@ returns c =
     both_ok c.push.result c.push.ensures.words c.push.ensures.bands (λ same more.
     lines_more free c.args.band words c.args.lines.now c.push.new.self c.in_ok-words.words.items c.requires.lines same more
     c.in_ok-words.ensures)
-
-pub column_band-requires-clause-before : goal.column_band-requires-clause-before
-column_band-requires-clause-before c =
-    let before = c.requires.before in
-    record {
-      earlier = before.earlier;
-      lines = before.lines;
-      same = λ n i in_band out.
-          before.same (cell_at n i) (c.words_met-span.ensures.outside n i (omega arith) (omega arith) out);
-    }
