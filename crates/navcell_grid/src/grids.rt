@@ -44,10 +44,8 @@ impl Grid {
     pub(crate) fn copy(&self, alloc: Global) -> Result<Grid, NoMemory>
         ensures { IfOk result (λ grid. grid ≡ self.now) }
     {
-        let mut cells = Vec::with_capacity(alloc, self.cells.len())?;
-        cells.extend_from_slice(&self.cells)?;
         Ok(Grid {
-            cells,
+            cells: copied(alloc, &self.cells)?,
             size: self.size,
         })
     }
@@ -263,4 +261,21 @@ fn write_places(cells: &mut [u16], from: usize, numbers: &[u16])
     ensures outside { (k : ℕ) → (k < from) ⊎ (from + length numbers.now ≤ k) → slice_index cells.new k ≡ slice_index cells.old k }
 {
     cells[from..from + numbers.len()].copy_from_slice(numbers);
+}
+
+/// How many numbers are copied at once.
+const PIECE: usize = 1024;
+
+/// A copy of the numbers. It is made piece by piece, since a long piece costs more for each number.
+fn copied(alloc: Global, numbers: &[u16]) -> Result<Vec<u16>, NoMemory>
+    ensures { IfOk result (λ copy. copy.items ≡ numbers.now) }
+{
+    let mut copy = Vec::with_capacity(alloc, numbers.len())?;
+    let mut rest = numbers;
+    while !rest.is_empty() {
+        let (piece, others) = rest.split_at(rest.len().min(PIECE));
+        copy.extend_from_slice(piece)?;
+        rest = others;
+    }
+    Ok(copy)
 }
