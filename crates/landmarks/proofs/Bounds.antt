@@ -76,6 +76,13 @@ legal_before passes later dir a b fewer step = record {
   ahead = fewer _ step.ahead;
 }
 
+pub gentle_where_fewer_pass : (tables : Tables) (passes later : Cell → Bool) → AreGentle passes tables
+    → ((cell : Cell) → IsTrue (later cell) → IsTrue (passes cell)) → AreGentle later tables
+gentle_where_fewer_pass tables passes later gentle fewer = record {
+  steps = λ dir from to table below step. gentle.steps dir from to table below (legal_before passes later dir from to fewer step);
+  few = gentle.few;
+}
+
 pub costs_falls : (g h m cost : ℕ) → g ≤ h + m → UNIT_COST * m ≤ cost → UNIT_COST * g ≤ cost + UNIT_COST * h
 costs_falls g h m cost less units = omega arith
 

@@ -13,6 +13,12 @@ pub fn bound_of_one_cell()
     ensures { (tables : Tables) (cell : Cell) → landmark_bound tables cell cell ≡ 0 }
 {}
 
+/// A law: tables that are gentle on a map are so on each in which no more cells are passable.
+pub fn gentle_where_fewer_pass()
+    ensures { (tables : Tables) (passes later : Cell → Bool) → AreGentle passes tables
+        → ((cell : Cell) → IsTrue (later cell) → IsTrue (passes cell)) → AreGentle later tables }
+{}
+
 /// A law: along a legal step the bound to any cell falls by at most what the step costs, on the map for which the tables are
 /// gentle and on each in which no more cells are passable.
 pub fn bound_falls()

@@ -27,8 +27,8 @@ mod tables;
 mod units;
 
 pub use laws::{
-    bound_falls, bound_is_small, bound_of_one_cell, bound_of_walk, span_bound_falls,
-    span_bound_of_spanned, span_of_spans, widened_spans,
+    bound_falls, bound_is_small, bound_of_one_cell, bound_of_walk, gentle_where_fewer_pass,
+    span_bound_falls, span_bound_of_spanned, span_of_spans, widened_spans,
 };
 pub use spans::Span;
 pub use tables::Landmarks;

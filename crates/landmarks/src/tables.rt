@@ -76,6 +76,17 @@ impl Landmarks {
         })
     }
 
+    /// The same tables once more, to which others may be added.
+    pub fn copy(&self, alloc: Global) -> Result<Landmarks, NoMemory>
+        ensures { IfOk result (λ made. made ≡ self.now) }
+    {
+        Ok(Landmarks {
+            numbers: Vec::from_slice(alloc, self.numbers.as_slice())?,
+            made: self.made,
+            size: self.size,
+        })
+    }
+
     /// How many tables are made, at most [`MAX_TABLES`].
     pub fn made(&self) -> usize
         ensures value { result ≡ self.now.made }
