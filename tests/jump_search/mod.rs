@@ -1,5 +1,6 @@
 //! The jump searches over small maps that are drawn as text, and over a wide open one.
 
+use crate::fixtures::aims::Targets;
 use crate::fixtures::counted::Counted;
 use crate::fixtures::maps::{block, drawn, drawn_for};
 use crate::fixtures::rows::GridRows;
@@ -7,7 +8,10 @@ use crate::fixtures::searches::{Search, is_fit, is_found, search_of};
 use crate::fixtures::texts::fields_of;
 use class_planes::{PlaneRuns, Planes};
 use jump_scan::CellRuns;
-use jump_search::{Estimate, Guided, JumpSearch, Pool, Question, jump_search, jump_search_with};
+use jump_search::{
+    Ahead, Estimate, Guided, JumpSearch, Marked, Pool, Question, jump_search, jump_search_with,
+};
+use landmarks::{Landmarks, MAX_TABLES};
 use nav_types::{Aim, Cell, Class, Dir, NoMemory, Size, Ticks, View, step};
 use navcell_grid::Grid;
 use std::alloc::Global;
@@ -198,9 +202,32 @@ fn asked_runs<Q: JumpSearch>(
     is_found(search, &found).then_some(runs.runs())
 }
 
-/// How many runs the search of a line of `TABLE` asks for, by octile and by exact distances. None where one of them does
-/// not answer as the line says, or what the second counts is not what the first does.
-fn asked_by_estimates(alloc: Global, pool: &mut Pool, line: &str) -> Option<[u32; 2]> {
+/// All tables of landmarks of class 0 of a map, begun near a cell.
+fn tables_of(alloc: Global, map: &Grid, near: Cell) -> Option<Landmarks> {
+    let mut tables = Landmarks::none(alloc, map.size()).ok()?;
+    for _ in 0..MAX_TABLES {
+        tables.add(alloc, map, Class::new(0), near).ok()?;
+    }
+    Some(tables)
+}
+
+/// What tables of landmarks tell of the way to some cells.
+fn marked<'a>(tables: &'a Landmarks, aim: &Targets) -> Option<Marked<'a>> {
+    let (first, others) = aim.cells.as_slice().split_first()?;
+    let mut span = tables.span_of(*first);
+    for cell in others {
+        span = tables.widened(&span, *cell);
+    }
+    Some(Marked {
+        rect: aim.rect,
+        tables,
+        span,
+    })
+}
+
+/// How many runs the search of a line of `TABLE` asks for, by octile and by exact distances, and by tables of landmarks.
+/// None where one of them does not answer as the line says, or what it counts is not what the first does.
+fn asked_by_estimates(alloc: Global, pool: &mut Pool, line: &str) -> Option<[u32; 3]> {
     let [map, start, targets, end, cost, points, opened] = fields_of(line);
     let opened: u64 = opened.parse().ok()?;
     let search = search_of(alloc, [start, targets, end, cost, points])?;
@@ -218,25 +245,38 @@ fn asked_by_estimates(alloc: Global, pool: &mut Pool, line: &str) -> Option<[u32
         aim,
     };
     let plain = asked_runs(alloc, pool, &runs, &question, &search)?;
+    if pool.opened() > opened {
+        return None;
+    }
+    let tables = tables_of(alloc, &map, start)?;
+    let ahead = &Ahead::Past(marked(&tables, aim)?);
+    let guided = Guided { question, ahead };
+    let past = asked_runs(alloc, pool, &runs, &guided, &search)?;
+    if pool.opened() > opened {
+        return None;
+    }
     let ahead = &Exact::of(&map, class, aim);
+    let question = guided.question;
     let guided = Guided { question, ahead };
     let fewer = asked_runs(alloc, pool, &runs, &guided, &search)?;
     let traced = guided.trace(pool, alloc).ok()?;
-    (is_found(&search, &traced.found) && traced.opened == opened).then_some([plain, fewer])
+    (is_found(&search, &traced.found) && traced.opened == opened).then_some([plain, fewer, past])
 }
 
 #[test]
-fn answers_by_exact_distances_are_the_same_for_fewer_runs(rt: HostRuntime) -> Result<(), Fail> {
+fn answers_by_estimates_that_know_walls_are_the_same_for_fewer_runs(
+    rt: HostRuntime,
+) -> Result<(), Fail> {
     let mut pool = Pool::new(rt.alloc())?;
-    let mut asked = [0, 0];
+    let mut asked = [0, 0, 0];
     for line in TABLE.lines() {
         let runs = asked_by_estimates(rt.alloc(), &mut pool, line);
         assert!(rt; runs.is_some(), "{line}");
-        if let Some([plain, fewer]) = runs {
-            asked = [asked[0] + plain, asked[1] + fewer];
+        if let Some([plain, fewer, past]) = runs {
+            asked = [asked[0] + plain, asked[1] + fewer, asked[2] + past];
         }
     }
-    assert!(rt; asked[1] < asked[0], "{asked:?}");
+    assert!(rt; asked[1] < asked[0] && asked[2] < asked[0], "{asked:?}");
     Ok(())
 }
 

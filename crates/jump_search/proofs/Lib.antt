@@ -16,6 +16,7 @@ pub mod Answering
 pub mod OneNumber
 pub mod Framing
 pub mod WaysOut
+pub mod PastWalls
 pub mod Halting
 pub mod Keeping
 pub mod Landing

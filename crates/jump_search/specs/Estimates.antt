@@ -1,5 +1,5 @@
 -- What a search takes a cell to be away from the cells that it looks for.
-use Rattle.std.specs.Prelude.{ℕ, Bool, ◌≡◌, ◌+◌, ◌-◌, ◌*◌, ◌≤◌, IsTrue, min}
+use Rattle.std.specs.Prelude.{ℕ, Bool, ◌≡◌, ◌+◌, ◌-◌, ◌*◌, ◌≤◌, IsTrue, max, min}
 use Rattle.nav_types.specs.declared.limits.TheConstants.{STRAIGHT_COST}
 use Rattle.nav_types.specs.declared.cells.Cell.{Cell}
 use Rattle.nav_types.specs.declared.cells.Rect.{Rect}
@@ -8,8 +8,10 @@ use Rattle.nav_types.specs.declared.directions.Dir.{Dir}
 use Rattle.nav_types.specs.Directions.{step_cost}
 use Rattle.nav_types.specs.Frames.{IsFrame}
 use Rattle.nav_types.specs.Walks.{Step}
+use Rattle.landmarks.specs.Spans.{span_bound}
 use Rattle.jump_search.specs.declared.estimates.Ahead.{Ahead}
-use Rattle.jump_search.specs.declared.estimates.Ahead.TheVariants.{Octile, Leaving}
+use Rattle.jump_search.specs.declared.estimates.Ahead.TheVariants.{Octile, Leaving, Past}
+use Rattle.jump_search.specs.declared.estimates.Marked.{Marked}
 use Rattle.jump_search.specs.JumpStates.{octile_to}
 
 -- The estimate is consistent: 0 at a passable cell that is hit, and along a legal step it falls by no more than the step
@@ -34,7 +36,12 @@ steps_out rect cell =
 abbrev pub cost_out : Rect → Cell → ℕ
 cost_out rect cell = STRAIGHT_COST * steps_out rect cell
 
--- what is ahead of a cell: the octile distance to a rectangle, or the way out of it
+-- the octile distance to the rectangle, or the bound that tables of landmarks give, whichever is greater
+abbrev pub cost_past : Marked → Cell → ℕ
+cost_past marked cell = max (octile_to marked.rect cell) (span_bound marked.tables.now marked.span cell)
+
+-- what is ahead of a cell: the octile distance to a rectangle, the way out of one, or what tables tell
 abbrev pub least_ahead : Ahead → Cell → ℕ
 least_ahead (Octile rect) = octile_to rect
 least_ahead (Leaving rect) = cost_out rect
+least_ahead (Past marked) = cost_past marked

@@ -1,8 +1,9 @@
 //! Estimates of what is ahead of a cell.
 ghost use Rattle.std.specs.Prelude.{◌≡◌, ◌+◌, ◌-◌, ◌^◌, ◌<◌, ◌≤◌, min};
-ghost use Rattle.jump_search.specs.Estimates.{cost_out};
+ghost use Rattle.jump_search.specs.Estimates.{cost_out, cost_past};
 
 use crate::octile::octile_to;
+use landmarks::{Landmarks, Span};
 use nav_types::limits::STRAIGHT_COST;
 use nav_types::{Cell, Rect};
 
@@ -22,16 +23,26 @@ pub trait Estimate {
         ensures most { result < 2 ^ 40 };
 }
 
-/// The estimates by which searches for a target go. They are one type, so that one search goes by either.
+/// What tables of landmarks tell of the way to the cells of a span, which lie in a rectangle.
 #[derive(Drop)]
-pub enum Ahead {
+pub struct Marked<'a> {
+    pub rect: Rect,
+    pub tables: &'a Landmarks,
+    pub span: Span,
+}
+
+/// The estimates by which searches for a target go. They are one type, so that one search goes by any of them.
+#[derive(Drop)]
+pub enum Ahead<'a> {
     /// The octile distance to the rectangle of an aim.
     Octile(Rect),
     /// The way out of a rectangle in which no cell is looked for.
     Leaving(Rect),
+    /// The octile distance, or the bound that tables of landmarks give where that is greater.
+    Past(Marked<'a>),
 }
 
-impl Estimate for Ahead {
+impl<'a> Estimate for Ahead<'a> {
     ghost use Rattle.jump_search.specs.Estimates.{least_ahead};
 
     ghost least = { least_ahead };
@@ -41,8 +52,20 @@ impl Estimate for Ahead {
         match self {
             Ahead::Octile(rect) => octile_to(rect, cell),
             Ahead::Leaving(rect) => cost_out(rect, cell),
+            Ahead::Past(marked) => cost_past(marked, cell),
         }
     }
+}
+
+/// The octile distance to the rectangle, or the bound by the tables where that is greater. It is a call, so that an octile
+/// estimate has the room of a search's innermost loop for itself.
+#[inline(never)]
+fn cost_past(marked: &Marked<'_>, cell: Cell) -> u64
+    ensures value { result ≡ cost_past marked.now cell }
+    ensures most { result < 2 ^ 40 }
+{
+    let octile = octile_to(&marked.rect, cell);
+    octile.max(marked.tables.at_least_to(cell, &marked.span))
 }
 
 /// How few steps lead from a place out of a part of one side of a map.

@@ -27,7 +27,7 @@ mod searching;
 mod states;
 mod tracing;
 
-pub use estimates::{Ahead, Estimate};
+pub use estimates::{Ahead, Estimate, Marked};
 pub use laws::{one_opened_number, one_pruned_cost};
 pub use problems::{Guided, Question};
 pub use search::{JumpSearch, Pool, Traced, jump_search, jump_search_with};

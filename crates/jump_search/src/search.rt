@@ -32,6 +32,7 @@ const SMALL: usize = 262_144;
 #[derive(Drop)]
 pub struct Pool {
     front: Front,
+    opened: u64,
 }
 
 impl Pool {
@@ -39,7 +40,14 @@ impl Pool {
     pub fn new(alloc: Global) -> Result<Pool, NoMemory> {
         Ok(Pool {
             front: Front::new(alloc)?,
+            opened: 0,
         })
+    }
+
+    /// How many jump states the last find in the pool opened, which no answer depends on; 0 where its start was hit. A trace,
+    /// and a find in which memory ran out, leave it as it is.
+    pub fn opened(&self) -> u64 {
+        self.opened
     }
 
     /// Whether the room that the pool keeps is for 2^18 jump states at most, some 16 MB with all that goes with them. Where
@@ -313,9 +321,11 @@ impl<'q, R: Runs, A: Aim> JumpSearch for Question<'q, R, A> {
         ticks: &mut Ticks<L>,
     ) -> Result<Found, NoMemory> {
         if let Some(found) = found_at_start(alloc, self) {
+            pool.opened = 0;
             return Ok(found);
         }
         let traced = by_octile(&mut pool.front, alloc, self, false, ticks)?;
+        pool.opened = traced.opened;
         Ok(traced.found)
     }
 
@@ -325,9 +335,11 @@ impl<'q, R: Runs, A: Aim> JumpSearch for Question<'q, R, A> {
 
     fn find(&self, pool: &mut Pool, alloc: Global) -> Result<Found, NoMemory> {
         if let Some(found) = found_at_start(alloc, self) {
+            pool.opened = 0;
             return Ok(found);
         }
         let traced = uncounted::<R, A, Brand>(&mut pool.front, alloc, self, false, Blank::new(1))?;
+        pool.opened = traced.opened;
         Ok(traced.found)
     }
 }
@@ -371,9 +383,11 @@ impl<'q, R: Runs, A: Aim, E: Estimate> JumpSearch for Guided<'q, R, A, E> {
     ) -> Result<Found, NoMemory> {
         let Guided { question, ahead } = self;
         if let Some(found) = found_at_start(alloc, question) {
+            pool.opened = 0;
             return Ok(found);
         }
         let traced = answered(&mut pool.front, alloc, question, *ahead, false, ticks)?;
+        pool.opened = traced.opened;
         Ok(traced.found)
     }
 
@@ -383,9 +397,11 @@ impl<'q, R: Runs, A: Aim, E: Estimate> JumpSearch for Guided<'q, R, A, E> {
 
     fn find(&self, pool: &mut Pool, alloc: Global) -> Result<Found, NoMemory> {
         if let Some(found) = found_at_start(alloc, &self.question) {
+            pool.opened = 0;
             return Ok(found);
         }
         let traced = uncounted_by::<R, A, E, Brand>(&mut pool.front, alloc, self, Blank::new(1))?;
+        pool.opened = traced.opened;
         Ok(traced.found)
     }
 }
