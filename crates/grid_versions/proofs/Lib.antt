@@ -21,3 +21,4 @@ pub mod PlanePartLemmas
 pub mod RowLemmas
 pub mod PlaneLines
 pub mod DirtyLemmas
+pub mod GuidingLemmas

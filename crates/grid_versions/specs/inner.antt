@@ -9,6 +9,7 @@ pub mod Marking
 pub mod Reaching
 pub mod Reachers
 pub mod Parts
+pub mod Guiding
 pub mod Changing
 pub mod SameNumbers
 pub mod Marks

@@ -8,11 +8,13 @@
 //!                     \-> regions --> edges --> areas        --> what can be reached
 //! ```
 //!
-//! A [`Version`] is one pointer, and threads share it. [`Version::next`] paints anew one rectangle in each chunk that an
+//! A [`Version`] is two pointers, and threads share it. [`Version::next`] paints anew one rectangle in each chunk that an
 //! edit reaches, compares, and makes those parts anew whose cells changed. Everything that a version tells is that of a
-//! version built from scratch out of what stands. Paths are searched above, in `turn_core`.
+//! version built from scratch out of what stands, but for the tables of landmarks that its classes have earned: these are
+//! of the map where nothing stands, and no answer depends on them. Paths are searched above, in `turn_core`.
 #![tactic(auto)]
 
+mod accounts;
 mod base_grids;
 mod changed_parts;
 mod chunk_bits;
@@ -21,6 +23,7 @@ mod class_tables;
 mod class_views;
 mod dirty_parts;
 mod ground;
+mod guides;
 mod laws;
 mod layers;
 mod next_cells;

@@ -1,15 +1,18 @@
 //! Versions of a map.
-ghost use Rattle.std.specs.Prelude.{ℕ, ◌≡◌, ◌↔◌, ◌+◌, ◌*◌, ◌<◌, ◌≤◌, [], None, length, slice_index_or, IfOk, OnOk, IsSome, IsTrue};
+ghost use Rattle.std.specs.Prelude.{ℕ, ◌≡◌, ◌↔◌, ◌+◌, ◌*◌, ◌<◌, ◌≤◌, [], None, length, slice_index_or, IfOk, IfSome, OnOk, IsSome, IsTrue};
 ghost use Rattle.std.specs.Arc.{arc_value};
 ghost use Rattle.nav_types.specs.Cells.{IsInside, chunk_of};
 ghost use Rattle.nav_types.specs.Regions.{HasRegion, HasTallies, HasRelabelled};
 ghost use Rattle.class_planes.specs.Planes.{AreOf, is_passable};
+ghost use Rattle.landmarks.specs.Landmarks.{AreGentle};
 ghost use Rattle.obstruction_store.specs.Standing.{AllFit};
 ghost use Rattle.grid_versions.specs.Chunks.{chunk_count, chunk_place};
+ghost use Rattle.grid_versions.specs.inner.Guiding.{AreAllGuides};
 ghost use Rattle.grid_versions.specs.inner.Tables.{AreTables};
 
 use crate::class_views::ClassView;
 use crate::dirty_parts::DirtyParts;
+use crate::guides::Guides;
 use crate::layers::Layers;
 use crate::painted_map::PaintedMap;
 use crate::planes::plane_of;
@@ -17,6 +20,7 @@ use crate::sites::Site;
 use crate::standing_edits::{Changes, Edited, edited_copy};
 use crate::tables::ClassTables;
 use class_planes::{ClassPlane, Planes};
+use landmarks::Landmarks;
 use nav_types::{Areas, Axis, Cell, Class, FreeCells, NoMemory, Rows, Size, Ticks, View};
 use obstruction_store::Store;
 use posts::{EditReplies, Edits, MapSpec, Tallies};
@@ -29,10 +33,12 @@ use std::sync::ledger::{Blank, Ledger};
 /// A map with the obstructions that stand on it: which cells are passable for each class, and the regions, region
 /// edges and areas. Contracts see the map and the standing obstructions (`MapState`).
 ///
-/// A version never changes, and threads may share it.
+/// A version never changes, and threads may share it. What searches on it have opened is noted beside it, and by that the
+/// next version may have tables of landmarks that this one lacks; no answer depends on them.
 #[derive(Drop)]
 pub struct Version {
     parts: Arc<VersionParts, Global>,
+    guides: Arc<Guides, Global>,
 }
 
 /// What a version keeps: the map and the standing obstructions, the cells of each chunk, and the planes and the tables of
@@ -90,7 +96,11 @@ impl Model for Version {
 
     ghost coded = { state_code map_row.coded (fin_map.code coded_ℕ obstruction_row.coded) };
 
+    ghost use Rattle.grid_versions.specs.inner.Guiding.{AreAllGuides};
+
     ghost view = { λ v. arc_value v.parts };
+
+    ghost invariant = { λ v. AreAllGuides (arc_value v.parts).map (arc_value v.guides) };
 }
 
 impl Version {
@@ -121,8 +131,10 @@ impl Version {
             shapes: standing,
             layers,
         };
+        let guides = Guides::none(alloc, map.classes().count())?;
         Ok(Version {
             parts: Arc::new(alloc, parts)?,
+            guides: Arc::new(alloc, guides)?,
         })
     }
 
@@ -269,6 +281,7 @@ impl Version {
         };
         let version = Version {
             parts: Arc::new(alloc, next)?,
+            guides: self.next_guides(alloc)?,
         };
         Ok((version, relabelled))
     }
@@ -279,6 +292,7 @@ impl Version {
     {
         Ok(Version {
             parts: Arc::try_clone(&self.parts)?,
+            guides: Arc::try_clone(&self.guides)?,
         })
     }
 
@@ -288,11 +302,62 @@ impl Version {
         ensures replies { IfOk result (λ next. next.replies ≡ []) }
         ensures relabelled { IfOk result (λ next. next.relabelled ≡ 0) }
     {
+        let version = Version {
+            parts: Arc::try_clone(&self.parts)?,
+            guides: self.next_guides(alloc)?,
+        };
         Ok(Next {
-            version: self.share()?,
+            version,
             replies: EditReplies::new(alloc),
             relabelled: 0,
         })
+    }
+
+    /// What searches on the next version go by: what those on this one do, and tables that a class has earned by these.
+    /// Where there is no memory for more it stays.
+    fn next_guides(&self, alloc: Global) -> Result<Arc<Guides, Global>, NoMemory>
+        ensures { IfOk result (λ guides. AreAllGuides self.now.map (arc_value guides)) }
+    {
+        let map = self.map();
+        if let Some(class) = self.guides.richest(map.size(), map.classes().count()) {
+            if let Ok(guides) = self.grown_guides(alloc, class) {
+                return Ok(guides);
+            }
+        }
+        Ok(Arc::try_clone(&self.guides)?)
+    }
+
+    /// What searches on this version go by, with all tables that a class has earned.
+    fn grown_guides(&self, alloc: Global, class: Class) -> Result<Arc<Guides, Global>, NoMemory>
+        requires { class < length self.now.map.classes }
+        ensures { IfOk result (λ guides. AreAllGuides self.now.map (arc_value guides)) }
+    {
+        let parts = self.kept();
+        let nothing = Store::new(alloc)?;
+        let site = Site {
+            map: &parts.map,
+            shapes: &nothing,
+        };
+        let bare = PaintedMap::new(&site, &parts.layers.ground.base);
+        Ok(Arc::new(alloc, self.guides.grown(alloc, &bare, class)?)?)
+    }
+
+    /// Tables of landmarks of a class of the map, if its searches have earned some. They are of the map's size, and gentle
+    /// for the cells that are passable in this version.
+    pub fn landmarks(&self, class: Class) -> Option<&Landmarks>
+        requires { class < length self.now.map.classes }
+        ensures size { IfSome result (λ tables. tables.now.size ≡ self.now.map.size) }
+        ensures gentle { IfSome result (λ tables. AreGentle (passes_of self.now class) tables.now) }
+    {
+        self.guides.tables(class)
+    }
+
+    /// Notes a search of a class of the map that went from a cell and opened so many jump states. By what searches have
+    /// opened, the next version may have more tables of landmarks. Nothing else depends on it.
+    pub fn note_search(&self, class: Class, start: Cell, opened: u64)
+        requires { class < length self.now.map.classes }
+    {
+        self.guides.note(class, start, opened);
     }
 
     /// The region of a cell for a class: its chunk by the place in the order chunk row, chunk column, and its number

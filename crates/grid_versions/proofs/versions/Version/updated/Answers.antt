@@ -77,6 +77,14 @@ returns-in_err-new-clause-most g c =
     most_here (map_state c.deref-map.result.now c.deref-before.result.now) c.args.self.now c.deref-now.result.now c.args.shapes
     c.args.ticks.now c.updated.new.ticks same now_is c.updated.ensures.most
 
+pub returns-in_err-next_guides-clause-most : goal.returns-in_err-next_guides-clause-most
+returns-in_err-next_guides-clause-most g c =
+    let same = read_here c.args.self.now (arc_value c.parts.inside.map) c.deref-map.result.now (arc_value c.parts.inside.shapes)
+    c.deref-before.result.now (c.parts.view_is ∙ c.kept-parts.ensures) c.deref-map.ensures c.deref-before.ensures in
+    let now_is : c.deref-now.result.now ≡ c.args.shapes = c.deref-now.ensures ∙ c.in_ok-standing.ensures.ok in
+    most_here (map_state c.deref-map.result.now c.deref-before.result.now) c.args.self.now c.deref-now.result.now c.args.shapes
+    c.args.ticks.now c.updated.new.ticks same now_is c.updated.ensures.most
+
 pub returns-clause-most : goal.returns-clause-most
 returns-clause-most g c =
     let same = read_here c.args.self.now (arc_value c.parts.inside.map) c.deref-map.result.now (arc_value c.parts.inside.shapes)

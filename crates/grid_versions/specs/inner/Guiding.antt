@@ -1,0 +1,21 @@
+-- Tables of landmarks that serve all versions of a map.
+use Rattle.std.specs.Prelude.{ℕ, ◌≡◌, List, Option, None, Some, length, slice_get, ⊤}
+use Rattle.std.specs.FinMap as fin_map
+use Rattle.landmarks.specs.Landmarks.{Tables, AreGentle}
+use Rattle.posts.specs.Maps.{Map}
+use Rattle.grid_versions.specs.Passing.{passable_at}
+
+-- the tables are of the map's size, and gentle for class k where nothing stands
+pub record AreGuides (map : Map) (k : ℕ) (tables : Tables) : Type 0 where
+  pub size : tables.size ≡ map.size
+  pub gentle : AreGentle (passable_at map fin_map.empty k) tables
+
+-- there are none, or they are such
+abbrev pub MayGuide : Map → ℕ → Option Tables → Type 0
+MayGuide map k None = ⊤
+MayGuide map k (Some tables) = AreGuides map k tables
+
+-- each class has its own, if any
+pub record AreAllGuides (map : Map) (all : List (Option Tables)) : Type 0 where
+  pub each : length all ≡ length map.classes
+  pub are : (k : ℕ) (tables : Option Tables) → slice_get all k ≡ Some tables → MayGuide map k tables
