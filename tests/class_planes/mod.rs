@@ -4,7 +4,7 @@
 use crate::fixtures::figures::goal_of;
 use crate::fixtures::maps::holds;
 use crate::fixtures::versions::{after, version_of};
-use crate::fixtures::views::stop_of;
+use crate::fixtures::views::{stop_of, stop_within};
 use class_planes::{ChangedPart, ClassPlane, PlaneRuns, Planes};
 use goal_shapes::{Goal, check};
 use grid_versions::Version;
@@ -118,6 +118,11 @@ fn unlike_from(version: &Version, planes: &Planes, from: Cell, goal: &Goal) -> O
     for dir in Dir::ALL {
         if stop_of(&by_words, class, from, dir, goal)
             != stop_of(&by_cells, class, from, dir, goal)
+        {
+            return Some(dir);
+        }
+        if stop_within(&by_words, class, from, dir, goal, 5)
+            != stop_within(&by_cells, class, from, dir, goal, 5)
         {
             return Some(dir);
         }

@@ -452,3 +452,26 @@ fn passes_the_second_gate(alloc: Global) -> Option<bool> {
 fn cells_512_apart_are_two(rt: HostRuntime) {
     assert!(rt; passes_the_second_gate(rt.alloc()) == Some(true));
 }
+
+/// How many diagonal runs that no number of steps ends a find of ten steps asks for on an open map of 1024 by 1024. None
+/// where it does not answer as it should.
+fn endless_runs(alloc: Global) -> Option<u32> {
+    let end = "510,503";
+    let search = search_of(alloc, ["500,500", end, end, "736798", "503,503 510,503"])?;
+    let map = Grid::new(alloc, Size::new(1024, 1024)?).ok()?;
+    let runs = Counted::new(&map);
+    let question = Question {
+        runs: &runs,
+        class: Class::new(0),
+        start: search.start,
+        aim: &search.targets,
+    };
+    let mut pool = Pool::new(alloc).ok()?;
+    asked_runs(alloc, &mut pool, &runs, &question, &search)?;
+    Some(runs.endless())
+}
+
+#[test]
+fn a_short_path_on_open_ground_scans_no_run_to_the_border(rt: HostRuntime) {
+    assert!(rt; endless_runs(rt.alloc()) == Some(0));
+}
