@@ -3,7 +3,7 @@ mod CellLemmas
 mod ColumnLemmas
 mod LineLemmas
 mod TurnLemmas
-mod UpdateLemmas
+pub mod UpdateLemmas
 pub mod PlaneLemmas
 mod WordLemmas
 mod FarLemmas
@@ -15,6 +15,7 @@ mod FillLemmas
 mod StopLineLemmas
 mod StopWordLemmas
 mod StopBandLemmas
+mod SpanLemmas
 mod StopChangeLemmas
 mod StepLemmas
 mod StopTableLemmas

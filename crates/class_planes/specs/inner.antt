@@ -4,3 +4,4 @@ pub mod Changes
 pub mod Reading
 pub mod StopLines
 pub mod Tracks
+pub mod Spans

@@ -10,6 +10,7 @@
 //! and the runs that a search asks, and [`Planes`] has one plane for each class.
 #![tactic(auto)]
 
+mod band_spans;
 mod beside_cells;
 mod changed_parts;
 mod class_plane;

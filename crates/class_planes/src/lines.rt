@@ -1,7 +1,7 @@
 //! Lines of bits in bands that several tables may share.
-ghost use Rattle.std.specs.Prelude.{ℕ, ◌≡◌, ◌<◌, ◌≤◌, ◌+◌, ◌*◌, ◌/◌, ◌%◌, ◌-◌, ◌++◌, ◌∷◌, ◌↔◌, [], length, slice_index_or, IfOk, OnOk, IsTrue};
+ghost use Rattle.std.specs.Prelude.{ℕ, Bool, ◌≡◌, ◌<◌, ◌≤◌, ◌+◌, ◌*◌, ◌/◌, ◌%◌, ◌-◌, ◌++◌, ◌∷◌, ◌↔◌, [], length, slice_index_or, IfOk, OnOk, IsTrue};
 ghost use Rattle.std.specs.Int.{bit_at};
-ghost use Rattle.class_planes.specs.inner.Lines.{line_at, line_in, free_at};
+ghost use Rattle.class_planes.specs.inner.Lines.{AreLines, IsBand, line_at, line_in, free_at};
 ghost use Rattle.class_planes.specs.inner.Runs.{bit_in};
 
 use crate::word_scans::{Lanes, is_set};
@@ -137,6 +137,20 @@ impl Lines {
     {
         quarter(self.line(n)[usize::from(group) / 4], group % 4)
     }
+}
+
+/// Appends the bands of other lines from one up to and without another, which both hold from then on.
+pub fn share_bands(from: &Lines, start: u16, end: u16, lines: &mut Lines) -> Result<(), NoMemory>
+    requires order { start ≤ end }
+    requires within { end ≤ length from.now.bands }
+    ensures { OnOk result ((free : ℕ → ℕ → Bool) (words : ℕ) → AreLines free start words lines.old
+        → ((b : ℕ) → start ≤ b → b < end → IsBand free (32 * b) words 32 (slice_index_or from.now.bands b []))
+        → AreLines free end words lines.new) }
+{
+    for b in start..end {
+        lines.share(from, b)?;
+    }
+    Ok(())
 }
 
 /// Whether the line is neither the first nor the last of its band.

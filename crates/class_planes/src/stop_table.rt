@@ -1,7 +1,8 @@
 //! The stops of the runs up and down the lines of a map, in bands that several tables may share.
-ghost use Rattle.std.specs.Prelude.{false, ◌≡◌, ◌<◌, ◌≤◌, ◌*◌, ◌/◌, ◌%◌, ◌==◌, [], length, slice_index_or, IfOk, OnOk};
-ghost use Rattle.class_planes.specs.inner.Lines.{AreLines, free_at, line_in};
-ghost use Rattle.class_planes.specs.inner.StopLines.{no_bands, stops_along, with_band};
+ghost use Rattle.std.specs.Prelude.{ℕ, ⊤, false, ◌≡◌, ◌<◌, ◌≤◌, ◌*◌, ◌/◌, ◌%◌, ◌==◌, [], length, slice_index_or, IfOk, OnOk};
+ghost use Rattle.nav_types.specs.declared.straights.Way.TheVariants as Way;
+ghost use Rattle.class_planes.specs.inner.Lines.{LineTable, AreLines, free_at, line_in};
+ghost use Rattle.class_planes.specs.inner.StopLines.{AreBandStops, AreStopsWhere, no_bands, stops_along, with_band};
 ghost use Rattle.class_planes.specs.inner.Runs.{bit_in};
 
 use crate::lines::BAND;
@@ -118,6 +119,31 @@ impl StopTable {
     {
         is_set_in(self.band(way, n / BAND), self.words, n % BAND, i)
     }
+}
+
+/// Appends the bands of another table from one up to and without another, which both hold from then on.
+pub fn share_stops(
+    from: &StopTable,
+    start: u16,
+    end: u16,
+    stops: &mut StopTable,
+) -> Result<(), NoMemory>
+    requires order { start ≤ end }
+    requires within { end ≤ length from.now.up.bands }
+    ensures up { OnOk result ((lines : LineTable) (count : ℕ) → AreStopsWhere (λ n i. ⊤) Way.Up lines count start stops.old.up
+        → ((b : ℕ) → start ≤ b → b < end
+        → AreBandStops (λ n i. ⊤) Way.Up lines count (32 * b) (slice_index_or from.now.up.bands b []))
+        → AreStopsWhere (λ n i. ⊤) Way.Up lines count end stops.new.up) }
+    ensures down { OnOk result ((lines : LineTable) (count : ℕ)
+        → AreStopsWhere (λ n i. ⊤) Way.Down lines count start stops.old.down
+        → ((b : ℕ) → start ≤ b → b < end
+        → AreBandStops (λ n i. ⊤) Way.Down lines count (32 * b) (slice_index_or from.now.down.bands b []))
+        → AreStopsWhere (λ n i. ⊤) Way.Down lines count end stops.new.down) }
+{
+    for b in start..end {
+        stops.share(from, b)?;
+    }
+    Ok(())
 }
 
 /// Whether the bit of place `i` of line `k` of a band is set.

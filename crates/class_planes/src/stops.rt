@@ -3,13 +3,14 @@ ghost use Rattle.std.specs.Prelude.{ℕ, ⊤, ◌≡◌, ◌<◌, ◌≤◌, ◌
 ghost use Rattle.nav_types.specs.declared.straights.Way.TheVariants as Way;
 ghost use Rattle.class_planes.specs.inner.StopLines.{IsBandStop, IsStopBit, AreAlike, AreMapLines, AreSameOutside, AreBandStops, AreStopsWhere, AreStops, AreStopsBefore, IsFarFrom, IsInTouchedWord, IsRectOf, lanes_of, line_before, turned_rect};
 
+use crate::band_spans::bands_about;
 use crate::joined_rects::joined;
 use crate::lines::{BAND, Lines, copied, is_inner};
-use crate::stop_table::{StopTable, blank_stops};
+use crate::stop_table::{StopTable, blank_stops, share_stops};
 use crate::stop_words::{renew_down, renew_up};
 use crate::tight_rects::tight_rects;
 use crate::word_scans::Lanes;
-use nav_types::{NoMemory, Rect, Way};
+use nav_types::{Axis, NoMemory, Rect, Way};
 use std::alloc::Global;
 
 /// The first `count` of the lines: those of a map.
@@ -76,10 +77,13 @@ fn renewed_stops(
     ensures down { IfOk result (λ stops. AreStops Way.Down map.now.count map.now.lines.now stops.down) }
 {
     let bands = map.count / BAND + 1;
+    let near = bands_about(rects, Axis::Row, bands);
     let mut stops = StopTable::with_capacity(alloc, usize::from(bands), map.lines.words())?;
-    for band in 0..bands {
+    share_stops(before, 0, near.from, &mut stops)?;
+    for band in near.from..near.to {
         push_band(alloc, map, before, rects, band, &mut stops)?;
     }
+    share_stops(before, near.to, bands, &mut stops)?;
     Ok(stops)
 }
 

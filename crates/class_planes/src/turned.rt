@@ -7,9 +7,10 @@ ghost use Rattle.class_planes.specs.Planes.{IsOutside};
 ghost use Rattle.class_planes.specs.inner.Lines.{IsBand, AreLines, AreRows, AreColumns, AreColumnsBefore, free_cell};
 ghost use Rattle.class_planes.specs.inner.Reading.{IsColumnBit, band_bit};
 
-use crate::lines::{BAND, Lines, copied};
+use crate::band_spans::bands_about;
+use crate::lines::{BAND, Lines, copied, share_bands};
 use lane_rows::plane_words;
-use nav_types::{NoMemory, Rect, Size};
+use nav_types::{Axis, NoMemory, Rect, Size};
 use std::alloc::Global;
 
 /// How many columns are read at once: one for each bit of a number.
@@ -68,10 +69,13 @@ pub fn updated_columns(
 {
     let map = MapRows { rows, size };
     let count = size.w / BAND + 1;
+    let met = bands_about(rects, Axis::Column, count);
     let mut lines = Lines::with_capacity(alloc, usize::from(count), before.words())?;
-    for band in 0..count {
+    share_bands(before, 0, met.from, &mut lines)?;
+    for band in met.from..met.to {
         push_band(alloc, &map, before, rects, band, &mut lines)?;
     }
+    share_bands(before, met.to, count, &mut lines)?;
     Ok(lines)
 }
 

@@ -7,10 +7,11 @@ ghost use Rattle.class_planes.specs.Planes.{IsOutside};
 ghost use Rattle.class_planes.specs.inner.Lines.{IsBand, AreLines, AreLinesBefore};
 ghost use Rattle.class_planes.specs.inner.Reading.{AreRead, AreWhole, IsOfWords, IsUnread, band_bit, numbers_in};
 
-use crate::lines::{BAND, Lines, copied};
+use crate::band_spans::bands_about;
+use crate::lines::{BAND, Lines, copied, share_bands};
 use crate::read_cells::ReadRect;
 use crate::rows::free_words;
-use nav_types::{Class, NoMemory, Rect, Rows};
+use nav_types::{Axis, Class, NoMemory, Rect, Rows};
 use std::alloc::Global;
 
 /// The rows of an earlier map, as lines of bits, with what may differ from them now: the rectangles, and no more than what
@@ -48,10 +49,13 @@ pub fn updated_lines<V: Rows>(
         reads,
     };
     let count = view.size().h / BAND + 1;
+    let met = bands_about(rects, Axis::Row, count);
     let mut lines = Lines::with_capacity(alloc, usize::from(count), before.words())?;
-    for band in 0..count {
+    share_bands(before, 0, met.from, &mut lines)?;
+    for band in met.from..met.to {
         push_band(alloc, view, class, &old, band, &mut lines)?;
     }
+    share_bands(before, met.to, count, &mut lines)?;
     Ok(lines)
 }
 
