@@ -9,7 +9,7 @@ import unittest
 from places import PROGRAM, TOP, needs_program, read
 
 BENCH = ["bench/beside_0ad.py", "bench/broken", "bench/hostile", "bench/load", "bench/measure.py", "bench/refused", "bench/times.py"]
-MAKERS = [f"tools/{it}.py" for it in ("crates", "decisions", "definitions", "format_tests", "gate_minutes", "layers", "library_module", "library_targets", "packages", "reading_list", "search_pictures", "speed_plots", "test_index", "theorems", "unproved_tests")]
+MAKERS = [f"tools/{it}.py" for it in ("crates", "decisions", "definitions", "format_tests", "forms", "gate_minutes", "layers", "library_module", "library_targets", "packages", "reading_list", "search_pictures", "speed_plots", "test_index", "theorems", "unproved_tests")]
 OTHERS = ["digests.py", "from_0ad.py", "from_movingai.py", "from_picture.py", "replays.py", "test_lines.py", "unproved_build.py", "view.py"]
 TOOLS = [f"tools/{it}" for it in OTHERS] + ["examples/check.py", "examples/client.py", "examples/two_callers.py", "examples/python/skirmish.py"]
 # commands that write, each with its words
