@@ -17,6 +17,10 @@ import check  # noqa: E402
 SECONDS = 30  # a run that takes longer hangs
 MOST_CELLS = 20_000  # of larger maps only the status and the bad line are predicted
 CALLER = re.compile(rb'\{"caller":([0-9]+),')
+UNREAD = b"the line must be one JSON value, "
+BROKEN = (b"and ends inside a string", b"and ends inside an array or an object",
+          b"with brackets that match, keys in quotes with a colon, and numbers as 0, -1.5 or 2e3")
+MISTAKE = re.compile(rb"byte ([1-9][0-9]*): ([ -~]+)")
 ALL_CELLS = check.Cells
 
 
@@ -89,10 +93,36 @@ def is_text(line):
         return False
 
 
+def stopped_at(line):
+    """How many bytes of a line in UTF-8 Python's reader of JSON passes before it stops. None where it reads the line."""
+    text = line.decode("utf-8")
+    try:
+        json.loads(text)
+    except json.JSONDecodeError as why:
+        return len(text[: why.pos].encode("utf-8"))
+    except (ValueError, RecursionError):
+        pass
+    return None
+
+
+def broken_is_right(line, said):
+    """Whether this may be said of a line that is no JSON value, is not blank, has no byte order mark and is not too deep: no
+    mistake is named before the place at which another reader stops."""
+    mistake = MISTAKE.fullmatch(said)
+    try:
+        line.decode("utf-8")
+    except UnicodeDecodeError as why:
+        return said == b"byte %d: the line must be in UTF-8" % (why.start + 1)
+    if not mistake:
+        return said.startswith(UNREAD) and said[len(UNREAD) :] in BROKEN
+    place, stopped = int(mistake[1]), stopped_at(line)
+    return place <= len(line) and (stopped is None or stopped < place)
+
+
 def cause_is_right(script, text, said):
     """Whether this is the one line that is said of a script whose text ends with a bad line."""
     number = int(text.split()[-1])
-    found = re.fullmatch(rb"pathserve: line %d is bad: (the [ -~]+|an add [ -~]+)\n" % number, said)
+    found = re.fullmatch(rb"pathserve: line %d is bad: (the [ -~]+|an add [ -~]+|byte [ -~]+)\n" % number, said)
     if not found:
         return False
     lines = script.split(b"\n")
@@ -100,16 +130,18 @@ def cause_is_right(script, text, said):
         wanted = b"the script must not end inside a turn: its end line is missing"
         return found[1] == (wanted if number > 1 else b"the script must begin with a map line, and has no line")
     line = lines[number - 1]
-    unread, too_deep = b"the line must be one JSON value", b"the line must not have arrays and objects more than 8 deep"
+    too_deep = b"the line must not have arrays and objects more than 8 deep"
     try:
         check.value_of(line)
     except check.BadLine:
         if not line.strip(b" \t\r"):
-            return found[1] == unread + b", and is blank"
+            return found[1] == UNREAD + b"and is blank"
         if line.startswith(b"\xef\xbb\xbf"):
-            return found[1] == unread + b", and begins with a byte order mark"
-        return found[1] == (too_deep if is_text(line) and check.is_deep(line) else unread + b" in UTF-8")
-    return not found[1].startswith((unread, too_deep))
+            return found[1] == UNREAD + b"and begins with a byte order mark"
+        if is_text(line) and check.is_deep(line):
+            return found[1] == too_deep
+        return broken_is_right(line, found[1])
+    return not found[1].startswith((UNREAD, too_deep, b"byte "))
 
 
 def served_wrong(read_script, out):

@@ -1,9 +1,9 @@
 //! The causes of bad lines, as values and as text.
 
-use super::{MAP_1, MAP_2, MAP_3, read_behind};
+use super::{MAP_1, MAP_2, MAP_3, read_behind, read_script};
 use class_config::ClassName;
 use nav_types::Size;
-use script_text::{Cause, GoalKey, Key, Wanted};
+use script_text::{Cause, GoalKey, Key, Mistake, Wanted};
 use std::alloc::Global;
 use std::process::Abort;
 use std::test::*;
@@ -66,8 +66,8 @@ fn a_script_without_its_map_line_has_a_cause(rt: HostRuntime) {
 const THIRD_LINES: [Row; 18] = [
     (
         "{\"caller\":0,\n",
-        Cause::NotJson,
-        "the line must be one JSON value in UTF-8",
+        Cause::EndsInValue,
+        "the line must be one JSON value, and ends inside an array or an object",
     ),
     (
         "{\"caller\":0,\"end\":1}\n",
@@ -101,8 +101,8 @@ const THIRD_LINES: [Row; 18] = [
     ),
     (
         "[[[[[[[[\n",
-        Cause::NotJson,
-        "the line must be one JSON value in UTF-8",
+        Cause::EndsInValue,
+        "the line must be one JSON value, and ends inside an array or an object",
     ),
     (
         "[[[[[[[[]]]]]]],[[[[[[[\"[{\\\"[{\\\\\"]]]]]]]]\n",
@@ -177,6 +177,218 @@ const THIRD_LINES: [Row; 18] = [
 #[test]
 fn lines_of_version_3_have_causes(rt: HostRuntime) {
     have_causes(&rt, rt.alloc(), MAP_3, &THIRD_LINES);
+}
+
+/// A byte of a line that is no JSON value, by its place, and what is wrong with it.
+type Slip = (&'static str, u64, Mistake, &'static str);
+
+/// A line for each mistake, and for some of them a second.
+const SLIPS: [Slip; 22] = [
+    (
+        "{\"end\":1} // done\n",
+        11,
+        Mistake::Comment,
+        "byte 11: JSON has no comments",
+    ),
+    (
+        "{\"end\":1# done\n",
+        9,
+        Mistake::Comment,
+        "byte 9: JSON has no comments",
+    ),
+    (
+        "{'end':1}\n",
+        2,
+        Mistake::SingleQuote,
+        "byte 2: JSON has strings in double quotes only",
+    ),
+    (
+        "{\"end\":NaN}\n",
+        8,
+        Mistake::NoNumber,
+        "byte 8: JSON has no NaN and no Infinity",
+    ),
+    (
+        "{\"end\":-Infinity}\n",
+        9,
+        Mistake::NoNumber,
+        "byte 9: JSON has no NaN and no Infinity",
+    ),
+    (
+        "{\"end\": +1}\n",
+        9,
+        Mistake::NumberStart,
+        "byte 9: a number must begin with a digit or a minus sign",
+    ),
+    (
+        "{\"end\":.5}\n",
+        8,
+        Mistake::NumberStart,
+        "byte 8: a number must begin with a digit or a minus sign",
+    ),
+    (
+        "{end:1}\n",
+        2,
+        Mistake::BareWord,
+        "byte 2: only true, false, null and numbers stand without quotes",
+    ),
+    (
+        "{\"end\":0x1}\n",
+        9,
+        Mistake::BareWord,
+        "byte 9: only true, false, null and numbers stand without quotes",
+    ),
+    (
+        "{\"e\u{1}nd\":1}\n",
+        4,
+        Mistake::Control,
+        "byte 4: a control character must be written as \\u and four digits, in a string",
+    ),
+    (
+        "{\u{0}\"end\":1}\n",
+        2,
+        Mistake::Control,
+        "byte 2: a control character must be written as \\u and four digits, in a string",
+    ),
+    (
+        "{\"e\\nd\\x\":1}\n",
+        8,
+        Mistake::Escape,
+        "byte 8: a backslash in a string must stand before one of \" \\ / b f n r t u",
+    ),
+    (
+        "{\"end\":1,}\n",
+        10,
+        Mistake::TrailingComma,
+        "byte 10: no comma may stand before a closing bracket",
+    ),
+    (
+        "[1,2, ]\n",
+        7,
+        Mistake::TrailingComma,
+        "byte 7: no comma may stand before a closing bracket",
+    ),
+    (
+        "{\"caller\":0 \"end\":1}\n",
+        13,
+        Mistake::MissingComma,
+        "byte 13: a comma or a colon is missing before this",
+    ),
+    (
+        "{\"end\" 1}\n",
+        8,
+        Mistake::MissingComma,
+        "byte 8: a comma or a colon is missing before this",
+    ),
+    (
+        "{1:2}\n",
+        3,
+        Mistake::StrayColon,
+        "byte 3: a colon must stand behind a key in double quotes",
+    ),
+    (
+        "{\"end\":}\n",
+        8,
+        Mistake::NoValue,
+        "byte 8: a value must stand here",
+    ),
+    (
+        "[1,,2]\n",
+        4,
+        Mistake::NoValue,
+        "byte 4: a value must stand here",
+    ),
+    (
+        "]\n",
+        1,
+        Mistake::NoValue,
+        "byte 1: a value must stand here",
+    ),
+    (
+        "{\"end\":1}{\"end\":2}\n",
+        10,
+        Mistake::BehindValue,
+        "byte 10: a line has one value, and this stands behind it",
+    ),
+    (
+        "{\"end\":1}\r{\"end\":2}\r",
+        11,
+        Mistake::BehindValue,
+        "byte 11: a line has one value, and this stands behind it",
+    ),
+];
+
+#[test]
+fn mistakes_are_told_by_their_place(rt: HostRuntime) {
+    for (line, place, mistake, text) in &SLIPS {
+        let cause = Cause::NoJsonAt {
+            place: *place,
+            mistake: *mistake,
+        };
+        assert!(rt; has_cause(rt.alloc(), MAP_3, line, &cause), "{line}");
+        assert!(rt; says(rt.alloc(), &cause, text), "{line}");
+    }
+}
+
+/// Lines 1 that are not in UTF-8, and the place of the first byte that is not.
+const NO_TEXTS: [(&[u8], u64); 4] = [
+    (b"{\"caller\":0,\"path\":\"caf\xe9\"}", 24),
+    (b"\xff\xfe{\x00", 1),
+    (b"\x1f\x8b\x08", 2),
+    (b"{\"\xc3\xa9\":\"\xc3", 8),
+];
+
+#[test]
+fn lines_that_are_no_text_are_told_by_their_place(rt: HostRuntime) {
+    for (line, place) in &NO_TEXTS {
+        let cause = Cause::NotUtf8 { place: *place };
+        let told = match read_script(rt.alloc(), line, 7, &[]) {
+            Ok(outcome) => outcome.cause == Some(cause),
+            Err(_) => false,
+        };
+        assert!(rt; told, "{place}");
+    }
+    let cause = Cause::NotUtf8 { place: 24 };
+    assert!(rt; says(rt.alloc(), &cause, "byte 24: the line must be in UTF-8"));
+}
+
+/// Lines without a mistake at a byte that are no JSON values.
+const ENDINGS: [Row; 6] = [
+    (
+        "{\"caller\":0,\"path\":\"a\n",
+        Cause::EndsInString,
+        "the line must be one JSON value, and ends inside a string",
+    ),
+    (
+        "\"a\\\n",
+        Cause::EndsInString,
+        "the line must be one JSON value, and ends inside a string",
+    ),
+    (
+        "{\"caller\":0,\"remove\":1\n",
+        Cause::EndsInValue,
+        "the line must be one JSON value, and ends inside an array or an object",
+    ),
+    (
+        "{\"end\":1]\n",
+        Cause::NotJson,
+        "the line must be one JSON value, with brackets that match, keys in quotes with a colon, and numbers as 0, -1.5 or 2e3",
+    ),
+    (
+        "{\"end\":01}\n",
+        Cause::NotJson,
+        "the line must be one JSON value, with brackets that match, keys in quotes with a colon, and numbers as 0, -1.5 or 2e3",
+    ),
+    (
+        "{\"end\":1e400}\n",
+        Cause::NotJson,
+        "the line must be one JSON value, with brackets that match, keys in quotes with a colon, and numbers as 0, -1.5 or 2e3",
+    ),
+];
+
+#[test]
+fn lines_that_end_too_early_are_told_so(rt: HostRuntime) {
+    have_causes(&rt, rt.alloc(), MAP_3, &ENDINGS);
 }
 
 #[test]

@@ -1,5 +1,5 @@
 -- A line of white space is no value, and neither is one that nests too deep.
-use Rattle.std.proofs.Common.{◌≡◌, ◌↔◌, ℕ, ◌&&◌, ◌||◌, ◌==◌, List, [], ◌∷◌, Bool, true, false, not, cond, Option, Some, None, option_and_then, refl, ap, sym, ◌∙◌}
+use Rattle.std.proofs.Common.{◌≡◌, ◌↔◌, ℕ, ◌&&◌, ◌||◌, ◌==◌, List, [], ◌∷◌, Bool, true, false, not, cond, Option, Some, None, option_and_then, refl, ap, sym, subst, ◌∙◌}
 use Rattle.std.specs.Prelude.{IsTrue, IsFalse}
 use Rattle.std.specs.List.{list_all}
 use Rattle.std.specs.Str.{IsUtf8, is_utf8}
@@ -11,10 +11,13 @@ use Rattle.json.specs.Json as json
 use Rattle.serde_json.specs.Data.{Data}
 use Rattle.serde_json.specs.Read.{read, of_json}
 use Rattle.script_text.specs.declared.parts.Part.{Part}
-use Rattle.script_text.specs.declared.causes.Cause.TheVariants.{BlankLine, ByteOrderMark, TooDeep, NotJson}
+use Rattle.script_text.specs.declared.causes.Cause.{Cause}
+use Rattle.script_text.specs.declared.causes.Cause.TheVariants.{BlankLine, ByteOrderMark, TooDeep, NotUtf8, NoJsonAt, EndsInString, EndsInValue, NotJson}
 use Rattle.script_text.specs.Nesting.{is_shallow}
 use Rattle.script_text.specs.Script.{reading_of}
-use Rattle.script_text.specs.Causes.{is_white, is_blank, has_mark, is_too_deep, reading_cause, cause}
+use Rattle.script_text.specs.Causes.{is_white, is_blank, has_mark, is_too_deep, text_cause, reading_cause, cause}
+use Rattle.script_text.specs.Mistakes.{broken_cause, at_start}
+use Rattle.script_text.proofs.BrokenLines.{IsBroken, broken-is, text-causes}
 use Rattle.script_text.proofs.ReadWalk.{reading_of-deep}
 use Rattle.script_text.proofs.ShallowTexts.{blank_shallow}
 use Rattle.script_text.proofs.TrueCauses.{true_causes}
@@ -50,37 +53,46 @@ unread line blank = by_text (is_utf8 line && is_shallow line)
     by_text true = read-blank line blank
     by_text false = refl
 
+-- a broken line is told neither to be blank nor to nest too deep
+broken-blank : (found : Cause) → IsBroken found → found ≡ BlankLine → ⊥
+broken-blank found broken e = subst IsBroken e broken
+
+broken-deep : (found : Cause) → IsBroken found → found ≡ TooDeep → ⊥
+broken-deep found broken e = subst IsBroken e broken
+
+text-blank : (line : List ℕ) → text_cause line ≡ BlankLine → ⊥
+text-blank line = text-causes (λ found. found ≡ BlankLine → ⊥) line (λ deep e. absurd (cc)) (λ shallow text. broken-blank (broken_cause line) (broken-is at_start 0 line)) (λ no_text e. absurd (cc))
+
+text-deep : (line : List ℕ) → text_cause line ≡ TooDeep → is_too_deep line ≡ true
+text-deep line = text-causes (λ found. found ≡ TooDeep → is_too_deep line ≡ true) line (λ deep e. deep) (λ shallow text e. absurd (broken-deep (broken_cause line) (broken-is at_start 0 line) e)) (λ no_text e. absurd (cc))
+
+deep-first : (deep : Bool) (other : Cause) → deep ≡ true → cond deep TooDeep other ≡ TooDeep
+deep-first true other e = refl
+deep-first false other e = absurd (cc)
+
 pub blank_lines : (part : Part) (turn : ℕ) (line : List ℕ) → (cause part turn line ≡ Some BlankLine) ↔ IsTrue (is_blank line)
 blank_lines part turn line = (λ e. told (reading_of line) e, λ blank. ap (reading_cause part turn line) (unread line blank) ∙ first (is_blank line) blank)
   where
-    first : (b : Bool) → b ≡ true → Some (cond b BlankLine (cond (has_mark line) ByteOrderMark (cond (is_too_deep line) TooDeep NotJson))) ≡ Some BlankLine
+    first : (b : Bool) → b ≡ true → Some (cond b BlankLine (cond (has_mark line) ByteOrderMark (text_cause line))) ≡ Some BlankLine
     first true e = refl
     first false e = absurd (cc)
 
-    by_tests : (blank mark deep : Bool) → Some (cond blank BlankLine (cond mark ByteOrderMark (cond deep TooDeep NotJson))) ≡ Some BlankLine → blank ≡ true
-    by_tests true mark deep e = refl
-    by_tests false true deep e = absurd (cc)
-    by_tests false false true e = absurd (cc)
-    by_tests false false false e = absurd (cc)
+    by_tests : (blank mark : Bool) (text : Cause) → (text ≡ BlankLine → ⊥) → Some (cond blank BlankLine (cond mark ByteOrderMark text)) ≡ Some BlankLine → blank ≡ true
+    by_tests true mark text other e = refl
+    by_tests false true text other e = absurd (cc)
+    by_tests false false text other e = absurd (other (some-inside e))
+      where
+        some-inside : Some text ≡ Some BlankLine → text ≡ BlankLine
+        some-inside h = cc
 
     told : (reading : Option Data) → reading_cause part turn line reading ≡ Some BlankLine → is_blank line ≡ true
-    told None e = by_tests (is_blank line) (has_mark line) (is_too_deep line) e
+    told None e = by_tests (is_blank line) (has_mark line) (text_cause line) (text-blank line) e
     told (Some d) e = absurd (true_causes part turn d BlankLine e)
 
 -- ---- lines that nest too deep
 
-pub too_deep-text : (line : List ℕ) (shallow : Bool) → IsUtf8 line → shallow ≡ is_shallow line → not shallow ≡ is_too_deep line
-too_deep-text line shallow text e = ap not e ∙ sym (ap (λ b. b && not (is_shallow line)) (is_utf8-from_IsUtf8 line text))
-
-pub too_deep-none : (line : List ℕ) → (IsUtf8 line → ⊥) → false ≡ is_too_deep line
-too_deep-none line no_text = by_text (is_utf8 line) refl
-  where
-    by_text : (b : Bool) → is_utf8 line ≡ b → false ≡ (b && not (is_shallow line))
-    by_text true e = absurd (no_text (IsUtf8-from_is_utf8 line e))
-    by_text false e = refl
-
 pub deep_lines : (part : Part) (turn : ℕ) (line : List ℕ) → (cause part turn line ≡ Some TooDeep) ↔ (IsTrue (is_too_deep line) × IsFalse (has_mark line))
-deep_lines part turn line = (λ e. told (reading_of line) e, λ deep. ap (reading_cause part turn line) (sym (none deep.0)) ∙ third (is_blank line) (has_mark line) (is_too_deep line) (some deep.0) deep.1 deep.0)
+deep_lines part turn line = (λ e. told (reading_of line) e, λ deep. ap (reading_cause part turn line) (sym (none deep.0)) ∙ third (is_blank line) (has_mark line) (text_cause line) (some deep.0) deep.1 (deep-first (is_too_deep line) _ deep.0))
   where
     shallow : is_too_deep line ≡ true → is_shallow line ≡ false
     shallow deep = is_false (is_shallow line) (and_parts (is_utf8 line) (not (is_shallow line)) deep).1
@@ -100,19 +112,20 @@ deep_lines part turn line = (λ e. told (reading_of line) e, λ deep. ap (readin
         by_blank true blank = absurd (false≢true (sym (shallow deep) ∙ blank_shallow line blank))
         by_blank false blank = refl
 
-    third : (blank mark deep : Bool) → blank ≡ false → mark ≡ false → deep ≡ true
-        → Some (cond blank BlankLine (cond mark ByteOrderMark (cond deep TooDeep NotJson))) ≡ Some TooDeep
-    third true mark deep e f g = absurd (cc)
-    third false true deep e f g = absurd (cc)
-    third false false true e f g = refl
-    third false false false e f g = absurd (cc)
+    third : (blank mark : Bool) (text : Cause) → blank ≡ false → mark ≡ false → text ≡ TooDeep → Some (cond blank BlankLine (cond mark ByteOrderMark text)) ≡ Some TooDeep
+    third true mark text e f g = absurd (cc)
+    third false true text e f g = absurd (cc)
+    third false false text e f g = ap Some g
 
-    by_tests : (blank mark deep : Bool) → Some (cond blank BlankLine (cond mark ByteOrderMark (cond deep TooDeep NotJson))) ≡ Some TooDeep → (deep ≡ true) × (mark ≡ false)
-    by_tests true mark deep e = absurd (cc)
-    by_tests false true deep e = absurd (cc)
-    by_tests false false true e = (refl, refl)
-    by_tests false false false e = absurd (cc)
+    by_tests : (blank mark : Bool) (text : Cause) → (text ≡ TooDeep → is_too_deep line ≡ true) → Some (cond blank BlankLine (cond mark ByteOrderMark text)) ≡ Some TooDeep
+        → (is_too_deep line ≡ true) × (mark ≡ false)
+    by_tests true mark text is e = absurd (cc)
+    by_tests false true text is e = absurd (cc)
+    by_tests false false text is e = (is (some-inside e), refl)
+      where
+        some-inside : Some text ≡ Some TooDeep → text ≡ TooDeep
+        some-inside h = cc
 
     told : (reading : Option Data) → reading_cause part turn line reading ≡ Some TooDeep → (is_too_deep line ≡ true) × (has_mark line ≡ false)
-    told None e = by_tests (is_blank line) (has_mark line) (is_too_deep line) e
+    told None e = by_tests (is_blank line) (has_mark line) (text_cause line) (text-deep line) e
     told (Some d) e = absurd (true_causes part turn d TooDeep e)

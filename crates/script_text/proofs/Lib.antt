@@ -33,4 +33,6 @@ pub mod CauseLemmas
 pub mod HeldCauses
 pub mod StopCauses
 pub mod TrueCauses
+pub mod BrokenLines
+pub mod TrueBytes
 pub mod BlankLines

@@ -1,7 +1,9 @@
 -- What a cause says.
 use Rattle.std.specs.Prelude.{ℕ, List, ◌++◌, codes, decimal}
 use Rattle.script_text.specs.declared.causes.Cause.{Cause}
-use Rattle.script_text.specs.declared.causes.Cause.TheVariants.{BlankLine, ByteOrderMark, TooDeep, NotJson, UnknownKey, MissingKey, NoSuchForm, WrongValue, WrongRectangle, MissingMask, LaterVersion, NotHere, EndsInsideTurn, NoLine}
+use Rattle.script_text.specs.declared.causes.Cause.TheVariants.{BlankLine, ByteOrderMark, TooDeep, NotUtf8, NoJsonAt, EndsInString, EndsInValue, NotJson, UnknownKey, MissingKey, NoSuchForm, WrongValue, WrongRectangle, MissingMask, LaterVersion, NotHere, EndsInsideTurn, NoLine}
+use Rattle.script_text.specs.declared.causes.mistakes.Mistake.{Mistake}
+use Rattle.script_text.specs.declared.causes.mistakes.Mistake.TheVariants.{Comment, SingleQuote, NoNumber, NumberStart, BareWord, Control, Escape, TrailingComma, MissingComma, StrayColon, NoValue, BehindValue}
 use Rattle.script_text.specs.declared.causes.keys.Wanted.{Wanted}
 use Rattle.script_text.specs.declared.causes.keys.Wanted.TheVariants.{Whole, Caller, Turn, Sides, Classes, Rectangles, ClassName, TwoDecimals, ThreeDecimals, SixDecimals, NumberAndDecimal, Goal}
 use Rattle.script_text.specs.Causes.{key_text}
@@ -23,12 +25,31 @@ wanted_text SixDecimals = codes "an array of six decimals in quotes with at most
 wanted_text NumberAndDecimal = codes "an array of an obstruction number from 0 to 4294967295 and a decimal in quotes"
 wanted_text (Goal version) = codes "an object with exactly one key: " ++ goal_keys_text
 
+-- what is wrong with a byte
+abbrev pub mistake_text : Mistake → List ℕ
+mistake_text Comment = codes "JSON has no comments"
+mistake_text SingleQuote = codes "JSON has strings in double quotes only"
+mistake_text NoNumber = codes "JSON has no NaN and no Infinity"
+mistake_text NumberStart = codes "a number must begin with a digit or a minus sign"
+mistake_text BareWord = codes "only true, false, null and numbers stand without quotes"
+mistake_text Control = codes "a control character must be written as \\u and four digits, in a string"
+mistake_text Escape = codes "a backslash in a string must stand before one of \" \\ / b f n r t u"
+mistake_text TrailingComma = codes "no comma may stand before a closing bracket"
+mistake_text MissingComma = codes "a comma or a colon is missing before this"
+mistake_text StrayColon = codes "a colon must stand behind a key in double quotes"
+mistake_text NoValue = codes "a value must stand here"
+mistake_text BehindValue = codes "a line has one value, and this stands behind it"
+
 -- what is to change in a line
 abbrev pub cause_text : Cause → List ℕ
 cause_text BlankLine = codes "the line must be one JSON value, and is blank"
 cause_text ByteOrderMark = codes "the line must be one JSON value, and begins with a byte order mark"
 cause_text TooDeep = codes "the line must not have arrays and objects more than 8 deep"
-cause_text NotJson = codes "the line must be one JSON value in UTF-8"
+cause_text (NotUtf8 place) = codes "byte " ++ decimal place ++ codes ": the line must be in UTF-8"
+cause_text (NoJsonAt place mistake) = codes "byte " ++ decimal place ++ codes ": " ++ mistake_text mistake
+cause_text EndsInString = codes "the line must be one JSON value, and ends inside a string"
+cause_text EndsInValue = codes "the line must be one JSON value, and ends inside an array or an object"
+cause_text NotJson = codes "the line must be one JSON value, with brackets that match, keys in quotes with a colon, and numbers as 0, -1.5 or 2e3"
 cause_text (UnknownKey name) = codes "the line must have the keys of one form, and no form has the key \"" ++ name ++ codes "\""
 cause_text (MissingKey key) = codes "the line must have the key \"" ++ key_text key ++ codes "\" too"
 cause_text NoSuchForm = codes "the line must be an object with exactly the keys of one form"

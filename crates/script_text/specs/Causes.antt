@@ -2,6 +2,7 @@
 use Rattle.std.specs.Prelude.{ℕ, ◌≡◌, ◌⊎◌, ◌+◌, ◌&&◌, ◌||◌, ◌==◌, List, [], ◌∷◌, ◌++◌, length, All, nat_le, nat_lt, nat_eq, Bool, true, false, not, if◌then◌else◌, Option, Some, None, is_some, IsSome, option_and_then, bytes_eq, codes}
 use Rattle.std.specs.List.{list_all, list_any, find, starts_with}
 use Rattle.std.specs.Str.{is_utf8}
+use Rattle.std.specs.Str.Lossy.{utf8_valid_len}
 use Rattle.serde_json.specs.Data.{Data}
 use Rattle.serde_json.specs.Find.{get, as_object}
 use Rattle.nav_types.specs.declared.cells.Rect.{Rect}
@@ -10,7 +11,7 @@ use Rattle.class_config.specs.Forms.{has_keys, is_class_name, keys_of}
 use Rattle.class_config.specs.Classes.{classes_of}
 use Rattle.posts.specs.declared.posts.Post.{Post}
 use Rattle.script_text.specs.declared.causes.Cause.{Cause}
-use Rattle.script_text.specs.declared.causes.Cause.TheVariants.{BlankLine, ByteOrderMark, TooDeep, NotJson, UnknownKey, MissingKey, NoSuchForm, WrongValue, WrongRectangle, MissingMask, LaterVersion, NotHere, EndsInsideTurn, NoLine}
+use Rattle.script_text.specs.declared.causes.Cause.TheVariants.{BlankLine, ByteOrderMark, TooDeep, NotUtf8, UnknownKey, MissingKey, NoSuchForm, WrongValue, WrongRectangle, MissingMask, LaterVersion, NotHere, EndsInsideTurn, NoLine}
 use Rattle.script_text.specs.declared.causes.keys.Key.{Key}
 use Rattle.script_text.specs.declared.causes.keys.Key.TheVariants as key
 use Rattle.script_text.specs.declared.causes.keys.Wanted.{Wanted}
@@ -26,6 +27,7 @@ use Rattle.script_text.specs.Forms.{each, entry_of, add_keys}
 use Rattle.script_text.specs.Goals.{goal_key_text, grown_of, goal_of, wrong_goal}
 use Rattle.script_text.specs.Grammar.{IsEntry}
 use Rattle.script_text.specs.Nesting.{is_shallow}
+use Rattle.script_text.specs.Mistakes.{broken_cause}
 use Rattle.input_lines.specs.Lines.{full_lines, tail_of, first_line}
 use Rattle.script_text.specs.Script.{Place, Ends, at_place, stuck_by, is_empty, reading_of, accept}
 
@@ -268,9 +270,12 @@ has_mark line = starts_with nat_eq line (239 ∷ 187 ∷ 191 ∷ [])
 abbrev pub is_too_deep : List ℕ → Bool
 is_too_deep line = is_utf8 line && not (is_shallow line)
 
--- why a line that has no reading has none
+-- why a line that has no reading has none: of one that is not in UTF-8 the first byte behind its longest front that is
+abbrev pub text_cause : List ℕ → Cause
+text_cause line = if is_too_deep line then TooDeep else (if is_utf8 line then broken_cause line else NotUtf8 (utf8_valid_len line + 1))
+
 abbrev pub unread_cause : List ℕ → Cause
-unread_cause line = if is_blank line then BlankLine else (if has_mark line then ByteOrderMark else (if is_too_deep line then TooDeep else NotJson))
+unread_cause line = if is_blank line then BlankLine else (if has_mark line then ByteOrderMark else text_cause line)
 
 abbrev pub reading_cause : Part → ℕ → List ℕ → Option Data → Option Cause
 reading_cause part turn line None = Some (unread_cause line)

@@ -10,8 +10,10 @@ pub mod Reader
 pub mod Pushed
 pub mod Led
 pub mod Items
+pub mod Mistakes
 pub mod ReadsBack
 pub mod Script
+pub mod TrueBytes
 pub mod TrueCauses
 pub mod Values
 pub mod inner

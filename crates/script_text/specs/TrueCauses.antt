@@ -3,7 +3,7 @@ use Rattle.std.specs.Prelude.{◌≡◌, ◌≢◌, ◌⊎◌, ℕ, ⊤, Option,
 use Rattle.serde_json.specs.Data.{Data}
 use Rattle.serde_json.specs.Find.{get}
 use Rattle.script_text.specs.declared.causes.Cause.{Cause}
-use Rattle.script_text.specs.declared.causes.Cause.TheVariants.{BlankLine, ByteOrderMark, TooDeep, NotJson, UnknownKey, MissingKey, NoSuchForm, WrongValue, WrongRectangle, MissingMask, LaterVersion, NotHere, EndsInsideTurn, NoLine}
+use Rattle.script_text.specs.declared.causes.Cause.TheVariants.{BlankLine, ByteOrderMark, TooDeep, NotUtf8, NoJsonAt, EndsInString, EndsInValue, NotJson, UnknownKey, MissingKey, NoSuchForm, WrongValue, WrongRectangle, MissingMask, LaterVersion, NotHere, EndsInsideTurn, NoLine}
 use Rattle.script_text.specs.declared.causes.keys.Key.{Key}
 use Rattle.script_text.specs.Forms.{add_keys}
 use Rattle.script_text.specs.Grammar.{IsObject}
@@ -50,6 +50,10 @@ abbrev pub IsTrueOf : Data → Cause → Type 0
 IsTrueOf d BlankLine = ⊥
 IsTrueOf d ByteOrderMark = ⊥
 IsTrueOf d TooDeep = ⊥
+IsTrueOf d (NotUtf8 place) = ⊥
+IsTrueOf d (NoJsonAt place mistake) = ⊥
+IsTrueOf d EndsInString = ⊥
+IsTrueOf d EndsInValue = ⊥
 IsTrueOf d NotJson = ⊥
 IsTrueOf d (UnknownKey name) = HasNoForm d × (((value : Data) × (get name d ≡ Some value)) × All (λ (key : Key). name ≢ key_text key) line_keys)
 IsTrueOf d (MissingKey key) = HasNoForm d × (get (key_text key) d ≡ None)

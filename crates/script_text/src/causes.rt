@@ -5,6 +5,7 @@ ghost use Rattle.script_text.specs.Causes as why;
 
 mod keys;
 mod line_forms;
+mod mistakes;
 mod strange_keys;
 pub(crate) mod wrong_values;
 
@@ -14,6 +15,8 @@ use crate::progress::read_line;
 use class_config::ClassName;
 pub use keys::{Key, Wanted};
 use line_forms::{Form, first_version, form_of};
+pub use mistakes::Mistake;
+use mistakes::broken_cause;
 use nav_types::{NoMemory, Size};
 use serde_json::Value;
 use std::alloc::Global;
@@ -33,7 +36,16 @@ pub enum Cause {
     ByteOrderMark,
     /// The arrays and objects of the line, which is in UTF-8, nest deeper than those of a line may.
     TooDeep,
-    /// The line is no JSON value in UTF-8 for another reason.
+    /// The line is not in UTF-8, and the byte at this place, from 1, is the first that no character of UTF-8 begins with or
+    /// has there.
+    NotUtf8 { place: u64 },
+    /// The line is in UTF-8 and no JSON value, and the byte at this place, from 1, is the first that is a mistake.
+    NoJsonAt { place: u64, mistake: Mistake },
+    /// The line is in UTF-8 and no JSON value, no byte of it is a mistake, and it ends inside a string.
+    EndsInString,
+    /// The same, and it ends inside an array or an object.
+    EndsInValue,
+    /// The line is in UTF-8 and no JSON value for another reason.
     NotJson,
     /// The keys are those of no form, in any version, and no form has this one.
     UnknownKey { key: ClassName },
@@ -73,7 +85,17 @@ impl fmt::Display for Cause {
             Cause::TooDeep => f.write_str(
                 "the line must not have arrays and objects more than 8 deep",
             ),
-            Cause::NotJson => f.write_str("the line must be one JSON value in UTF-8"),
+            Cause::NotUtf8 { place } => write!(f, "byte {place}: the line must be in UTF-8"),
+            Cause::NoJsonAt { place, mistake } => write!(f, "byte {place}: {mistake}"),
+            Cause::EndsInString => f.write_str(
+                "the line must be one JSON value, and ends inside a string",
+            ),
+            Cause::EndsInValue => f.write_str(
+                "the line must be one JSON value, and ends inside an array or an object",
+            ),
+            Cause::NotJson => f.write_str(
+                "the line must be one JSON value, with brackets that match, keys in quotes with a colon, and numbers as 0, -1.5 or 2e3",
+            ),
             Cause::UnknownKey { key } => {
                 let name = text_of(&key);
                 write!(
@@ -147,20 +169,26 @@ fn unread_cause(line: &[u8]) -> Cause
         Cause::BlankLine
     } else if line.starts_with(&BYTE_ORDER_MARK) {
         Cause::ByteOrderMark
-    } else if is_too_deep(line) {
-        Cause::TooDeep
     } else {
-        Cause::NotJson
+        text_cause(line)
     }
 }
 
-/// Whether the line is in UTF-8, and its arrays and objects nest too deep.
-fn is_too_deep(line: &[u8]) -> bool
-    ensures { result ≡ why.is_too_deep line.now }
+/// The cause of a line that has no reading, is not blank and has no byte order mark.
+fn text_cause(line: &[u8]) -> Cause
+    ensures { result ≡ why.text_cause line.now }
 {
     match str::from_utf8(line) {
-        Ok(_) => !is_shallow(line),
-        Err(_) => false,
+        Ok(_) => {
+            if is_shallow(line) {
+                broken_cause(line)
+            } else {
+                Cause::TooDeep
+            }
+        }
+        Err(fault) => Cause::NotUtf8 {
+            place: fault.valid_up_to() as u64 + 1,
+        },
     }
 }
 
@@ -172,7 +200,7 @@ fn is_blank(line: &[u8]) -> bool
 }
 
 /// Whether the byte is white space of JSON.
-fn is_white(byte: u8) -> bool
+pub(crate) fn is_white(byte: u8) -> bool
     ensures { result ≡ why.is_white byte }
 {
     byte == b' ' || byte == b'\t' || byte == b'\n' || byte == b'\r'

@@ -1,6 +1,6 @@
 //! Laws: the forms of lines are the grammar, no value is a line of two forms, each bad line and no other has a cause,
 //! and canonical scripts read back.
-ghost use Rattle.std.specs.Prelude.{◌≡◌, ◌↔◌, ◌+◌, ℕ, IsFalse, IsSome, IsTrue, List, Some};
+ghost use Rattle.std.specs.Prelude.{◌≡◌, ◌↔◌, ◌+◌, ℕ, IsFalse, IsSome, IsTrue, List, None, Some};
 ghost use Rattle.nav_types.specs.declared.cells.Rect.{Rect};
 ghost use Rattle.nav_types.specs.declared.cells.Size.{Size};
 ghost use Rattle.serde_json.specs.Data.{Data};
@@ -12,6 +12,7 @@ ghost use Rattle.script_text.specs.Grammar.{Line, IsLine, IsMapLine, IsBaseLine,
 ghost use Rattle.script_text.specs.Script.{Place, bad, bad_line, finish, placed, reading_of, stuck};
 ghost use Rattle.script_text.specs.declared.causes.Cause.{Cause};
 ghost use Rattle.script_text.specs.declared.causes.Cause.TheVariants.{BlankLine, TooDeep, WrongValue};
+ghost use Rattle.script_text.specs.TrueBytes.{IsTrueOfBytes};
 ghost use Rattle.script_text.specs.TrueCauses.{HasNoForm, IsStrange, IsTrueOf};
 ghost use Rattle.script_text.specs.declared.causes.keys.Key.{Key};
 ghost use Rattle.script_text.specs.declared.causes.keys.Wanted.{Wanted};
@@ -80,6 +81,13 @@ pub fn blank_lines()
 pub fn deep_lines()
     ensures { (part : Part) (turn : ℕ) (line : List ℕ) → (cause part turn line ≡ Some TooDeep)
         ↔ (IsTrue (is_too_deep line) × IsFalse (has_mark line)) }
+{}
+
+/// A law: what the cause of a line without a reading says of its bytes is true of them. A byte that it names is what it is
+/// told to be, and no byte before it is a mistake; a line that is not in UTF-8 is so up to the place that is named.
+pub fn unread_lines()
+    ensures { (part : Part) (turn : ℕ) (line : List ℕ) (found : Cause) → reading_of line ≡ None → cause part turn line ≡ Some found
+        → IsTrueOfBytes line found }
 {}
 
 /// A law: the end of an input has a cause exactly where the input may not end there.

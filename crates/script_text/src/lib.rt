@@ -25,7 +25,7 @@ mod reader;
 mod versions;
 
 pub use canon::{write_journal, write_map};
-pub use causes::{Cause, Key, Wanted};
+pub use causes::{Cause, Key, Mistake, Wanted};
 pub use faults::ScriptFault;
 pub use forms::CallerPost;
 pub use goals::GoalKey;
@@ -33,7 +33,7 @@ pub use input_lines::READ_SIZE;
 pub use items::ScriptItem;
 pub use laws::{
     base_lines, blank_lines, canonical_reads_back, deep_lines, end_causes, end_lines, line_causes,
-    map_lines, one_line, post_lines, strange_lines, true_causes, wrong_values,
+    map_lines, one_line, post_lines, strange_lines, true_causes, unread_lines, wrong_values,
 };
 pub use pushed::PushedScript;
 pub use reader::ScriptReader;

@@ -193,14 +193,14 @@ fn is_shallow_by_bytes(line: &[u8]) -> bool
 }
 
 /// Whether the byte opens an array or an object, where it stands in no string.
-fn opens(byte: u8) -> bool
+pub(crate) fn opens(byte: u8) -> bool
     ensures { result ≡ nest.opens byte }
 {
     byte == b'[' || byte == b'{'
 }
 
 /// Whether it closes one there.
-fn closes(byte: u8) -> bool
+pub(crate) fn closes(byte: u8) -> bool
     ensures { result ≡ nest.closes byte }
 {
     byte == b']' || byte == b'}'

@@ -1,0 +1,77 @@
+-- What a cause says of the bytes of a line that has no reading.
+use Rattle.std.specs.Prelude.{ℕ, ◌≡◌, ◌+◌, ◌<◌, ◌==◌, ◌||◌, ⊤, List, [], ◌∷◌, ◌++◌, length, IsTrue, IsFalse, Option, None}
+use Rattle.std.specs.Str.{IsValidUpTo}
+use Rattle.json.specs.Word.{is_space}
+use Rattle.script_text.specs.declared.causes.Cause.{Cause}
+use Rattle.script_text.specs.declared.causes.Cause.TheVariants.{BlankLine, ByteOrderMark, TooDeep, NotUtf8, NoJsonAt, EndsInString, EndsInValue, NotJson}
+use Rattle.script_text.specs.declared.causes.mistakes.Look.{Look}
+use Rattle.script_text.specs.declared.causes.mistakes.Standing.{Standing}
+use Rattle.script_text.specs.declared.causes.mistakes.Standing.TheVariants.{Outside, InWord, InString, BehindBackslash}
+use Rattle.script_text.specs.declared.causes.mistakes.Mistake.{Mistake}
+use Rattle.script_text.specs.declared.causes.mistakes.Mistake.TheVariants.{Comment, SingleQuote, NoNumber, NumberStart, BareWord, Control, Escape, TrailingComma, MissingComma, StrayColon, NoValue, BehindValue}
+use Rattle.script_text.specs.Nesting.{closes}
+use Rattle.script_text.specs.Causes.{is_blank, has_mark, is_too_deep}
+use Rattle.script_text.specs.Mistakes.{at_start, behind, look_along, mistake_at, begins_value, ends_value, is_control, is_escape}
+
+-- none of these bytes is a mistake behind what was seen before it
+abbrev pub HasNoMistake : Look → List ℕ → Type 0
+HasNoMistake look [] = ⊤
+HasNoMistake look (byte ∷ bytes) = (mistake_at look byte ≡ None) × HasNoMistake (behind look byte) bytes
+
+-- no string goes on
+abbrev pub IsOutside : Standing → Type 0
+IsOutside Outside = ⊤
+IsOutside InWord = ⊤
+IsOutside InString = ⊥
+IsOutside BehindBackslash = ⊥
+
+-- What a mistake says of a byte, behind what was seen of the bytes before it: the slash or number sign of a comment, the
+-- single quote, the letter N or I, the plus sign or point stand outside strings. So do the brackets, commas, colons and
+-- values: `last` is the last byte before them that is no white space, and `depth` the number of arrays and objects that
+-- are open.
+abbrev pub Says : Mistake → Look → ℕ → Type 0
+Says Comment look byte = IsOutside look.standing × IsTrue (byte == 47 || byte == 35)
+Says SingleQuote look byte = IsOutside look.standing × (byte ≡ 39)
+Says NoNumber look byte = IsOutside look.standing × IsTrue (byte == 78 || byte == 73)
+Says NumberStart look byte = IsOutside look.standing × IsTrue (byte == 43 || byte == 46)
+Says BareWord look byte = IsOutside look.standing × IsFalse (begins_value byte) × IsFalse (closes byte) × IsFalse (is_space byte)
+Says Control look byte = IsTrue (is_control byte)
+Says Escape look byte = (look.standing ≡ BehindBackslash) × IsFalse (is_escape byte)
+Says TrailingComma look byte = IsOutside look.standing × IsTrue (closes byte) × (look.last ≡ 44)
+Says MissingComma look byte = IsOutside look.standing × IsTrue (begins_value byte) × IsTrue (ends_value look.last) × (0 < look.depth)
+Says StrayColon look byte = IsOutside look.standing × (byte ≡ 58) × IsFalse (look.last == 34)
+Says NoValue look byte = IsOutside look.standing × IsFalse (begins_value byte) × IsFalse (ends_value look.last)
+Says BehindValue look byte = IsOutside look.standing × IsFalse (is_space byte) × IsTrue (ends_value look.last) × (look.depth ≡ 0)
+
+-- The byte of this place, from 1, is what the mistake says, and no byte before it is a mistake.
+pub record HasMistake (line : List ℕ) (place : ℕ) (mistake : Mistake) : Type 0 where
+  pub before : List ℕ
+  pub byte : ℕ
+  pub after : List ℕ
+  pub parts : line ≡ before ++ byte ∷ after
+  pub placed : place ≡ length before + 1
+  pub none_before : HasNoMistake at_start before
+  pub wrong : Says mistake (look_along before) byte
+
+-- the bytes before this place, from 1, are the longest front of the line that is UTF-8
+abbrev pub IsTextUpTo : List ℕ → ℕ → Type 0
+IsTextUpTo line place = (n : ℕ) × (place ≡ n + 1) × IsValidUpTo line n
+
+-- a line without a mistake leaves a string open
+abbrev pub IsInString : Standing → Type 0
+IsInString Outside = ⊥
+IsInString InWord = ⊥
+IsInString InString = ⊤
+IsInString BehindBackslash = ⊤
+
+-- what the cause of a line without a reading says of its bytes
+abbrev pub IsTrueOfBytes : List ℕ → Cause → Type 0
+IsTrueOfBytes line BlankLine = IsTrue (is_blank line)
+IsTrueOfBytes line ByteOrderMark = IsTrue (has_mark line)
+IsTrueOfBytes line TooDeep = IsTrue (is_too_deep line)
+IsTrueOfBytes line (NotUtf8 place) = IsTextUpTo line place
+IsTrueOfBytes line (NoJsonAt place mistake) = HasMistake line place mistake
+IsTrueOfBytes line EndsInString = HasNoMistake at_start line × IsInString (look_along line).standing
+IsTrueOfBytes line EndsInValue = HasNoMistake at_start line × (0 < (look_along line).depth)
+IsTrueOfBytes line NotJson = HasNoMistake at_start line
+IsTrueOfBytes line found = ⊥
