@@ -15,7 +15,7 @@ import tempfile
 import turns
 from commands import Unreadable, bytes_of, opened
 
-WORDS = ("replay", "profile", "flow", "smooth")
+WORDS = ("replay", *turns.NOTES.values())
 WHOLE = (0, 3, 7)  # the statuses that a script alone decides
 AGREES, DIFFERS, FAILED, CUT, OTHER, STORED, THERE = "agree", "differ", "failed", "cut short", "not compared", "stored", "there already"
 
