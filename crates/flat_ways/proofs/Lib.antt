@@ -1,0 +1,3 @@
+mod Headings
+mod LegWalks
+mod Telling
