@@ -1,11 +1,12 @@
--- The replies and the waypoints of a turn, one item more.
-use Rattle.std.proofs.Common.{◌≡◌, ℕ, suc, ◌+◌, ◌-◌, ◌<◌, List, [], ◌∷◌, ◌++◌, length, take, get_or, ap, sym, ◌∙◌, append_assoc, arith, min}
+-- The replies and the waypoints of a turn or to posts, one item more.
+use Rattle.std.proofs.Common.{◌≡◌, ℕ, suc, ◌+◌, ◌-◌, ◌<◌, List, [], ◌∷◌, ◌++◌, length, take, get_or, ap, sym, ◌∙◌, append_assoc, arith, min, refl}
 use Rattle.std.specs.Prelude.{◌^◌, sum_by}
 use Rattle.std.proofs.lemmas.List.{take_more, append-nil, length-take-le}
 use Rattle.std.proofs.lemmas.List.Sums.{sum_by_push, sum_by-cons}
 use Rattle.posts.specs.declared.replies.Reply.{Reply}
+use Rattle.flat_posts.specs.declared.posted.FlatPost.{FlatPost}
 use Rattle.flat_posts.specs.declared.replied.FlatReply.{FlatReply}
-use Rattle.flat_posts.specs.Replies.{in_bits, flat_reply, waypoint_count, caller_replies, replies_from}
+use Rattle.flat_posts.specs.Replies.{in_bits, flat_reply, waypoint_count, caller_replies, replies_from, replies_at, replies_to}
 
 -- so many more in 64 bits
 pub in_bits-more : (count all more : ℕ) → count ≡ in_bits 64 all → min (count + more) (2 ^ 64 - 1) ≡ in_bits 64 (all + more)
@@ -73,3 +74,46 @@ replies_from-more xs i x lt is =
     let next_list : take i xs ++ x ∷ [] ≡ take (i + 1) xs = ap (λ (y : List Reply). take i xs ++ y ∷ []) is ∙ sym (take_more xs i x lt) in
     ap (λ k. replies_from 0 0 (take i xs) ++ caller_replies k 0 sum x) n ∙ ap (λ k. replies_from 0 0 (take i xs) ++ caller_replies (0 + length (take i xs)) 0 k x) b
     ∙ sym (replies_from-push 0 0 (take i xs) x) ∙ ap (λ l. replies_from 0 0 l) next_list
+
+-- ---- replies to posts one after another
+
+replies_at-push : (place before : ℕ) (flats : List FlatPost) (flat : FlatPost) (xs : List Reply) (x : Reply) → length xs < length flats
+    → replies_at place before flats (xs ++ x ∷ [])
+    ≡ replies_at place before flats xs ++ flat_reply (get_or flats (length xs) flat).caller (place + length xs) (in_bits 64 (before + sum_by waypoint_count xs)) x ∷ []
+replies_at-push place before [] flat xs x lt = let empty : ⊥ = omega (arith, lt) in absurd empty
+replies_at-push place before (f ∷ flats) flat [] x lt =
+    let p : place ≡ place + 0 = omega arith in let b : before ≡ before + 0 = omega arith in
+    none flats ∙ ap (λ n. flat_reply f.caller n (in_bits 64 before) x ∷ []) p ∙ ap (λ n. flat_reply f.caller (place + 0) (in_bits 64 n) x ∷ []) b
+  where
+    none : (rest : List FlatPost) → replies_at place before (f ∷ rest) (x ∷ []) ≡ flat_reply f.caller place (in_bits 64 before) x ∷ []
+    none [] = refl
+    none (g ∷ rest) = refl
+replies_at-push place before (f ∷ flats) flat (y ∷ ys) x lt =
+    let p : place + 1 + length ys ≡ place + suc (length ys) = omega arith in
+    let s = sum_by-cons waypoint_count y ys in
+    let b : before + waypoint_count y + sum_by waypoint_count ys ≡ before + sum_by waypoint_count (y ∷ ys) = omega (arith, s) in
+    let head = flat_reply f.caller place (in_bits 64 before) y in
+    let rest = replies_at (place + 1) (before + waypoint_count y) flats ys in
+    let caller = (get_or flats (length ys) flat).caller in
+    ap (λ l. head ∷ l) (replies_at-push (place + 1) (before + waypoint_count y) flats flat ys x (omega (arith, lt))
+    ∙ ap (λ n. rest ++ flat_reply caller n (in_bits 64 (before + waypoint_count y + sum_by waypoint_count ys)) x ∷ []) p
+    ∙ ap (λ n. rest ++ flat_reply caller (place + suc (length ys)) (in_bits 64 n) x ∷ []) b)
+
+pub replies_to-none : (flats : List FlatPost) → replies_to flats [] ≡ []
+replies_to-none [] = refl
+replies_to-none (flat ∷ flats) = refl
+
+pub replies_to-more : (flats : List FlatPost) (flat : FlatPost) (first : ℕ) (xs : List Reply) (i : ℕ) (x : Reply) (r : FlatReply) → length xs ≡ length flats → i < length xs
+    → x ≡ get_or xs i x → first ≡ in_bits 64 (sum_by waypoint_count (take i xs)) → r ≡ flat_reply (get_or flats i flat).caller i first x
+    → replies_to flats (take i xs) ++ r ∷ [] ≡ replies_to flats (take (i + 1) xs)
+replies_to-more flats flat first xs i x r same lt is told made =
+    let some = replies_to flats (take i xs) in
+    let sum = sum_by waypoint_count (take i xs) in
+    let n : i ≡ length (take i xs) = let e = length-take-le i xs (omega (arith, lt)) in omega (arith, e) in
+    let m : i ≡ 0 + i = omega arith in
+    let z : sum ≡ 0 + sum = omega arith in
+    let one : r ≡ flat_reply (get_or flats (length (take i xs)) flat).caller (0 + length (take i xs)) (in_bits 64 (0 + sum)) x =
+    made ∙ ap (λ k. flat_reply (get_or flats i flat).caller i k x) told ∙ ap (λ k. flat_reply (get_or flats i flat).caller i (in_bits 64 k) x) z
+    ∙ ap (λ k. flat_reply (get_or flats i flat).caller k (in_bits 64 (0 + sum)) x) m ∙ ap (λ k. flat_reply (get_or flats k flat).caller (0 + k) (in_bits 64 (0 + sum)) x) n in
+    let next_list : take i xs ++ x ∷ [] ≡ take (i + 1) xs = ap (λ (y : Reply). take i xs ++ y ∷ []) is ∙ sym (take_more xs i x lt) in
+    ap (λ y. some ++ y ∷ []) one ∙ sym (replies_at-push 0 0 flats flat (take i xs) x (omega (arith, n, lt, same))) ∙ ap (λ l. replies_to flats l) next_list

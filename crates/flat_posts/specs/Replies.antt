@@ -1,4 +1,4 @@
--- The flat form of each reply, by its kind, and the flat replies of a turn.
+-- The flat form of each reply, by its kind, and the flat replies of a turn or to posts one after another.
 use Rattle.std.specs.Prelude.{ℕ, ◌+◌, ◌-◌, ◌^◌, List, [], ◌∷◌, ◌++◌, length, map, min, flat_map, sum_by, if◌then◌else◌}
 use Rattle.posts.specs.declared.edits.EditReply.{EditReply}
 use Rattle.posts.specs.declared.edits.EditReply.TheVariants.{Added, Removed, Moved, Refused}
@@ -13,6 +13,7 @@ use Rattle.posts.specs.declared.replies.Reply.TheVariants.{Edit as Edited, Answe
 use Rattle.posts.specs.declared.replies.TurnReplies.{TurnReplies}
 use Rattle.nav_types.specs.declared.cells.Cell.{Cell}
 use Rattle.flat_posts.specs.declared.cells.FlatCell.{FlatCell}
+use Rattle.flat_posts.specs.declared.posted.FlatPost.{FlatPost}
 use Rattle.flat_posts.specs.declared.refusals.TheConstants.{BAD_SHAPE, DUPLICATE_ID, STORE_FULL, UNKNOWN_ID, UNKNOWN_CLASS, START_OUTSIDE, GOAL_OUTSIDE}
 use Rattle.flat_posts.specs.declared.replied.FlatReply.{FlatReply}
 use Rattle.flat_posts.specs.declared.reply_kinds.TheConstants.{ADDED, REMOVED, MOVED, REFUSED, NOWHERE, AT_GOAL, NEAR_GOAL, IN_REGION}
@@ -148,3 +149,16 @@ flat_turn turn ended = record {
   relabelled = ended.relabelled;
   zero = 0;
 }
+
+-- ---- the replies to posts that are answered one after another
+
+-- the replies to posts, each with the caller and the place of its post, from a place on, where so many waypoints come before
+abbrev pub replies_at : ℕ → ℕ → List FlatPost → List Reply → List FlatReply
+replies_at place before [] replies = []
+replies_at place before (flat ∷ flats) [] = []
+replies_at place before (flat ∷ flats) (reply ∷ replies) =
+    flat_reply flat.caller place (in_bits 64 before) reply ∷ replies_at (place + 1) (before + waypoint_count reply) flats replies
+
+-- the flat replies to posts, one for each in their order
+abbrev pub replies_to : List FlatPost → List Reply → List FlatReply
+replies_to flats replies = replies_at 0 0 flats replies

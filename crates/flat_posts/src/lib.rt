@@ -5,6 +5,7 @@
 //!    FlatPost  <--of, read-->  a caller and its Post
 //!    FlatPost, FlatPost, ..  --read_posts, turn_of-->  TurnPosts
 //!    TurnReplies  --of, write_replies, write_waypoints-->  FlatTurn, FlatReply, FlatCell
+//!    Reply, Reply, ..  --write_replies_to, write_waypoints_of-->  FlatReply, FlatCell
 //! ```
 //!
 //! Which kind a post, a goal or a reply is of stands in a number, whose names are in [`post_kinds`], [`goal_kinds`],
@@ -37,4 +38,4 @@ pub use maps::{FlatMap, MapFault};
 pub use posted::{FlatFault, FlatPost};
 pub use replied::FlatReply;
 pub use turn_posts::{CallerPosts, PostsFault, read_posts, turn_of};
-pub use turns::{FlatTurn, write_replies, write_waypoints};
+pub use turns::{FlatTurn, write_replies, write_replies_to, write_waypoints, write_waypoints_of};

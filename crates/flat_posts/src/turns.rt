@@ -2,13 +2,14 @@
 ghost use Rattle.std.specs.Prelude.{◌≡◌, ◌+◌, ◌++◌, ℕ, List, length, sum_by};
 ghost use Rattle.posts.specs.declared.replies.Reply.{Reply};
 ghost use Rattle.flat_posts.specs.Pages.{IsPage};
-ghost use Rattle.flat_posts.specs.Replies.{caller_replies, in_bits, reply_waypoints, turn_replies, turn_waypoints, waypoint_count, waypoints_of};
+ghost use Rattle.flat_posts.specs.Replies.{caller_replies, in_bits, replies_to, reply_waypoints, turn_replies, turn_waypoints, waypoint_count, waypoints_of};
 ghost use Rattle.flat_posts.specs.declared.cells.FlatCell.{FlatCell};
 ghost use Rattle.flat_posts.specs.declared.replied.FlatReply.{FlatReply};
 ghost use Rattle.flat_posts.specs.inner.Filling.{IsFilling};
 
 use crate::cells::FlatCell;
 use crate::pages::Filling;
+use crate::posted::FlatPost;
 use crate::replied::FlatReply;
 use nav_types::Cell;
 use posts::{Answer, Replies, Reply, TurnReplies};
@@ -141,6 +142,25 @@ fn take_replies(
     }
 }
 
+/// Writes the flat replies to posts, one for each in their order (`replies_to`), to the head of the buffer, and gives how many:
+/// as many as there are and as it holds.
+pub fn write_replies_to(posts: &[FlatPost], replies: &[Reply], buffer: &mut [FlatReply]) -> usize
+    requires { length replies.now ≡ length posts.now }
+    ensures { IsPage 0 (replies_to posts.now replies.now) buffer.old buffer.new result }
+{
+    let mut filling = Filling { ahead: 0, count: 0 };
+    let mut first = 0;
+    for (place, reply) in replies.iter().enumerate() {
+        let post = posts[place];
+        filling.take_reply(
+            buffer,
+            FlatReply::of(usize::from(post.caller), place, first, reply),
+        );
+        first = with(first, waypoints_in(reply).len());
+    }
+    filling.count
+}
+
 /// Writes the waypoints of a turn from the place `first` on, those of each path together and in the order of the replies, to
 /// the head of the buffer (`IsPage`), and gives how many: as many as there are and as it holds.
 ///
@@ -155,6 +175,16 @@ pub fn write_waypoints(ended: &TurnReplies, first: u64, buffer: &mut [FlatCell])
     for replies in ended.replies.as_slice() {
         take_waypoints(&mut filling, buffer, replies.as_slice());
     }
+    filling.count
+}
+
+/// Writes the waypoints of replies, those of each path together and in their order, to the head of the buffer (`IsPage`), and
+/// gives how many: as many as there are and as it holds.
+pub fn write_waypoints_of(replies: &[Reply], buffer: &mut [FlatCell]) -> usize
+    ensures { IsPage 0 (waypoints_of replies.now) buffer.old buffer.new result }
+{
+    let mut filling = Filling { ahead: 0, count: 0 };
+    take_waypoints(&mut filling, buffer, replies);
     filling.count
 }
 
