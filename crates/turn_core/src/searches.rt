@@ -1,13 +1,17 @@
 //! Searches on a version.
-ghost use Rattle.std.specs.Prelude.{◌≡◌, IfOk, IfSome};
+ghost use Rattle.std.specs.Prelude.{◌≡◌, IfOk, IfSome, IfNone};
+ghost use Rattle.nav_types.specs.declared.cells.Cell.{Cell};
+ghost use Rattle.goal_reach.specs.Targets.{hit_by, framed_by};
+ghost use Rattle.jump_search.specs.Estimates.{IsEstimate, least_ahead};
+ghost use Rattle.grid_versions.specs.Versions.{passes_of};
 ghost use Rattle.turn_core.specs.Solving.{is_near};
-ghost use Rattle.turn_core.specs.inner.Searching.{CanFind, IsFoundTo, IsRoomFor, path_by};
+ghost use Rattle.turn_core.specs.inner.Searching.{CanFind, IsFoundTo, IsMarkedFor, IsOnlyCell, IsRoomFor, path_by};
 
 use class_planes::PlaneRuns;
 use goal_reach::{Target, room_in};
 use grid_versions::Version;
-use jump_search::{Ahead, Guided, JumpSearch, Pool, Question};
-use nav_types::{Cell, Class, NoMemory, Rect, View};
+use jump_search::{Ahead, Guided, JumpSearch, Marked, Pool, Question};
+use nav_types::{Aim, Cell, Class, NoMemory, Rect, View};
 use posts::{Note, PathAnswer};
 use std::alloc::Global;
 use walks::Found;
@@ -29,21 +33,59 @@ pub(crate) struct Search<'a> {
 }
 
 impl<'a> Search<'a> {
-    /// The chosen walk, by the room of the pool. Where the goal leaves room about the start, the search goes by the way out
-    /// of it.
+    /// The chosen walk, by the room of the pool. What the search has opened is noted in the version.
     pub(crate) fn find(&self, alloc: Global, pool: &mut Pool) -> Result<Found, NoMemory>
+        requires { CanFind self.now.version.now self.now.class self.now.start self.now.target.now }
+        ensures { IfOk result (IsFoundTo self.now.version.now self.now.class self.now.start self.now.target.now) }
+    {
+        let found = self.found(alloc, pool)?;
+        self.version
+            .note_search(self.class, self.start, pool.opened());
+        Ok(found)
+    }
+
+    /// The chosen walk, by what the search knows of the way.
+    fn found(&self, alloc: Global, pool: &mut Pool) -> Result<Found, NoMemory>
         requires { CanFind self.now.version.now self.now.class self.now.start self.now.target.now }
         ensures { IfOk result (IsFoundTo self.now.version.now self.now.class self.now.start self.now.target.now) }
     {
         let runs = self.runs();
         let question = self.question(&runs);
-        match self.room() {
-            Some(rect) => {
-                let ahead = &Ahead::Leaving(rect);
+        match self.ahead() {
+            Some(way) => {
+                let ahead = &way;
                 Guided { question, ahead }.find(pool, alloc)
             }
             None => question.find(pool, alloc),
         }
+    }
+
+    /// What the search goes by where it knows more than octile distances: the way out of the room that the goal leaves about
+    /// the start, or tables of landmarks.
+    fn ahead(&self) -> Option<Ahead<'a>>
+        requires { CanFind self.now.version.now self.now.class self.now.start self.now.target.now }
+        ensures { IfSome result (λ ahead. IsEstimate (passes_of self.now.version.now self.now.class) (hit_by self.now.target.now)
+            (framed_by self.now.target.now) self.now.version.now.map.size (least_ahead ahead)) }
+    {
+        if let Some(rect) = self.room() {
+            return Some(Ahead::Leaving(rect));
+        }
+        let marked = self.marked()?;
+        Some(Ahead::Past(marked))
+    }
+
+    /// What the version's tables of landmarks tell of the way to the target. None where the class has no tables, and where
+    /// the target's rectangle has more cells than one.
+    fn marked(&self) -> Option<Marked<'a>>
+        requires { CanFind self.now.version.now self.now.class self.now.start self.now.target.now }
+        ensures { IfSome result (IsMarkedFor (passes_of self.now.version.now self.now.class) self.now.version.now.map.size
+            self.now.target.now) }
+    {
+        let tables = self.version.landmarks(self.class)?;
+        let rect = self.target.bounds(self.version.size());
+        let cell = only_cell(&rect)?;
+        let span = tables.span_of(cell);
+        Some(Marked { rect, tables, span })
     }
 
     /// A rectangle about the start in which the target has no cell, where it is a goal that is turned inside out.
@@ -103,6 +145,18 @@ impl<'a> Search<'a> {
             start: self.start,
             aim: self.target,
         }
+    }
+}
+
+/// The cell of a rectangle that has no other.
+fn only_cell(rect: &Rect) -> Option<Cell>
+    ensures some { IfSome result (IsOnlyCell rect.now) }
+    ensures none { IfNone result ((cell : Cell) → IsOnlyCell rect.now cell → ⊥) }
+{
+    if rect.i0 == rect.i1 && rect.j0 == rect.j1 {
+        Some(Cell::new(rect.i0, rect.j0))
+    } else {
+        None
     }
 }
 

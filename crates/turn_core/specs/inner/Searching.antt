@@ -1,15 +1,20 @@
 -- What a search on a version asks for and gives.
-use Rattle.std.specs.Prelude.{ℕ, ◌≡◌, ◌<◌, Option, Some, None, length, IsTrue, ⊤}
+use Rattle.std.specs.Prelude.{ℕ, Bool, ◌≡◌, ◌<◌, Option, Some, None, length, IsTrue, ⊤}
 use Rattle.nav_types.specs.declared.cells.Cell.{Cell}
 use Rattle.nav_types.specs.declared.cells.Rect.{Rect}
+use Rattle.nav_types.specs.declared.cells.Size.{Size}
+use Rattle.nav_types.specs.Frames.{IsFrame}
 use Rattle.nav_types.specs.Regions.{HasArea}
 use Rattle.nav_types.specs.Walks.{CanReach}
 use Rattle.goal_reach.specs.declared.targets.Target.{Target}
 use Rattle.goal_reach.specs.declared.targets.Target.TheVariants.{Goal as GoalTarget, Near}
 use Rattle.goal_reach.specs.Rooms.{IsRoomIn}
-use Rattle.goal_reach.specs.Targets.{hit_by, IsSoundTarget}
+use Rattle.goal_reach.specs.Targets.{hit_by, framed_by, IsSoundTarget}
 use Rattle.walks.specs.Chosen.{IsAnswer}
 use Rattle.walks.specs.declared.found_walk.Found.{Found}
+use Rattle.landmarks.specs.Landmarks.{AreGentle}
+use Rattle.landmarks.specs.Spans.{IsSpanned}
+use Rattle.jump_search.specs.declared.estimates.Marked.{Marked}
 use Rattle.flow_field.specs.Flows.{IsFieldOf, HasSummary}
 use Rattle.posts.specs.declared.notes.Report.{Report}
 use Rattle.posts.specs.declared.replies.PathAnswer.{PathAnswer}
@@ -35,6 +40,20 @@ IsFoundTo state class start target found =
 abbrev pub IsRoomFor : Target → Rect → Type 0
 IsRoomFor (GoalTarget goal) rect = IsRoomIn goal rect
 IsRoomFor (Near cell) rect = ⊥
+
+-- the rectangle has this cell and no other
+pub record IsOnlyCell (rect : Rect) (cell : Cell) : Type 0 where
+  pub west : rect.i0 ≡ cell.i
+  pub east : rect.i1 ≡ cell.i
+  pub south : rect.j0 ≡ cell.j
+  pub north : rect.j1 ≡ cell.j
+
+-- The rectangle is the target's, the tables are gentle, and the span spans the passable cells that the target hits.
+pub record IsMarkedFor (passes : Cell → Bool) (size : Size) (target : Target) (marked : Marked) : Type 0 where
+  pub frame : IsFrame (framed_by target) size marked.rect
+  pub gentle : AreGentle passes marked.tables.now
+  pub spanned : (cell : Cell) → IsTrue (passes cell) → IsTrue (hit_by target cell)
+      → IsSpanned marked.tables.now marked.span cell
 
 -- the path of a walk that was found
 abbrev pub path_by : Cell → Target → Found → PathAnswer
