@@ -1,6 +1,6 @@
 //! Small maps, and one of the largest size.
 
-use crate::fixtures::versions::{after, version_of};
+use crate::fixtures::versions::{after, drawn_for, version_of};
 use crate::fixtures::views::shared;
 use fixed_point::Fixed;
 use grid_versions::{Edit, EditReply, Edits, Next, Refusal, Version};
@@ -398,4 +398,70 @@ fn rows_have_a_bit_for_each_class(rt: HostRuntime) {
     assert!(rt; row_is(&version, 0, [0, 2, 2, 0, 0, 0]));
     assert!(rt; row_is(&version, 1, [0, 2, 2, 0, 0, 0]));
     assert!(rt; row_is(&version, 2, [0, 0, 0, 0, 3, 0]));
+}
+
+/// How many tables of landmarks a class has. 0 where the map lacks the class.
+fn tables_of(version: &Version, class: u8) -> usize {
+    if class >= version.classes() {
+        return 0;
+    }
+    match version.landmarks(Class::new(class)) {
+        Some(tables) => tables.made(),
+        None => 0,
+    }
+}
+
+/// What the tables of class 0 say of the way between two cells of its column 0. None where it has no tables.
+fn bound_in(version: &Version, [from, to]: [u16; 2]) -> Option<u64> {
+    if version.classes() < 1 {
+        return None;
+    }
+    let tables = version.landmarks(Class::new(0))?;
+    Some(tables.at_least(Cell::new(0, from), Cell::new(0, to)))
+}
+
+/// Notes a search of class 0 from the cell (0, 0) that opened so many jump states, and makes the edits.
+fn searched(version: &Version, alloc: Global, opened: u64, edits: &str) -> Option<Version> {
+    if version.classes() < 1 {
+        return None;
+    }
+    version.note_search(Class::new(0), Cell::new(0, 0), opened);
+    let next = after(version, alloc, edits)?;
+    Some(next.version)
+}
+
+/// A corridor that winds through 8 by 5 cells.
+const SNAKE: &str = "......../#######./......../.#######/........";
+
+// How many jump states searches open before the edits, and how many tables there are after these. A table on the snake
+// costs 23 jump states: a third of its cells, with a border of one cell. A class has at most eight.
+const EARNINGS: [(u64, &str, usize); 6] = [
+    (22, "", 0),
+    (1, "", 1),
+    (22, "", 1),
+    (24, "add 1 65535 unit 98304 32768 16384", 3),
+    (1_000_000, "remove 1", 8),
+    (1_000_000, "", 8),
+];
+
+#[test]
+fn searches_earn_tables_of_landmarks(rt: HostRuntime) {
+    let Some(mut version) = drawn_for(rt.alloc(), SNAKE, (2, 3)) else {
+        panic!(rt; "no map");
+    };
+    for (opened, edits, wanted) in EARNINGS {
+        let Some(next) = searched(shared(&version), rt.alloc(), opened, edits) else {
+            panic!(rt; "no version");
+        };
+        version = next;
+        assert!(rt;
+            tables_of(&version, 0) == wanted && tables_of(&version, 1) == 0,
+            "with {opened} and {edits}"
+        );
+    }
+    // 18 straight steps along the corridor, each of twelve units.
+    assert!(rt;
+        bound_in(&version, [0, 4]) == Some(18 * 12 * 5_451),
+        "the way round"
+    );
 }
