@@ -196,3 +196,23 @@ fn the_bound_to_two_cells_knows_walls(rt: HostRuntime) {
         );
     }
 }
+
+/// How many tables there are, and the bound east of a wall without a door: of a table of the west, and of its copy that got
+/// one of the east too.
+fn copied(alloc: Global) -> Option<[(usize, u64); 2]> {
+    let map = drawn(alloc, "....#....")?;
+    let west = tables_of(alloc, &map, Cell::new(1, 0), 1)?;
+    let mut both = west.copy(alloc).ok()?;
+    let (from, to) = (Cell::new(8, 0), Cell::new(5, 0));
+    both.add(alloc, &map, Class::new(0), to).ok()?;
+    Some([
+        (west.made(), west.at_least(from, to)),
+        (both.made(), both.at_least(from, to)),
+    ])
+}
+
+#[test]
+fn a_copy_gets_tables_of_its_own(rt: HostRuntime) {
+    let bounds = copied(rt.alloc());
+    assert!(rt; bounds == Some([(1, 0), (2, 3 * 12 * 5_451)]), "{bounds:?}");
+}
