@@ -169,33 +169,40 @@ fn whole_chunks_have_their_regions(rt: HostRuntime) {
     }
 }
 
-// The rows of a chunk, the number of a row that changes, what it changes to, and the region numbers that are then in the
-// order of cells: where a row comes to have more runs of passable cells, where it comes to have fewer, and where all that
+/// The rows of a chunk, the number of a row that changes, what it changes to, the region numbers that are then in the order
+/// of cells, and whether the first cells of the regions are those of before.
+type Change = (&'static str, u16, &'static str, &'static str, bool);
+
+// Where a row comes to have more runs of passable cells, where it comes to have fewer, and where all that
 // changes are the first row or the last.
-const CHANGES: [(&str, u16, &str, &str); 4] = [
+const CHANGES: [Change; 4] = [
     (
         "..#../#####/.#.#./.....",
         1,
         "#.#.#",
         "1 1 0 2 2 0 1 0 2 0 3 0 3 0 3 3 3 3 3 3",
+        true,
     ),
     (
         "..#../#.#.#/.#.#./.....",
         1,
         "#####",
         "1 1 0 2 2 0 0 0 0 0 3 0 3 0 3 3 3 3 3 3",
+        true,
     ),
     (
         "..#../#.#.#/.#.#./.....",
         0,
         "#####",
         "0 0 0 0 0 0 1 0 2 0 3 0 3 0 3 3 3 3 3 3",
+        false,
     ),
     (
         "..#../#.#.#/.#.#./.....",
         3,
         "##.##",
         "1 1 0 2 2 0 1 0 2 0 3 0 4 0 5 0 0 4 0 0",
+        false,
     ),
 ];
 
@@ -231,20 +238,17 @@ fn changed_row<L: Ledger>(
     )
 }
 
-/// Whether the regions of a chunk have these numbers once a row has changed. None where there is no map, or no memory.
-fn has_changed(alloc: Global, rows: &str, row: u16, changed: &str, numbers: &str) -> Option<bool> {
+/// Whether a change of a chunk's row makes of its regions what it says. None where there is no map, or no memory.
+fn has_changed(alloc: Global, (rows, row, changed, numbers, same): Change) -> Option<bool> {
     let map = drawn(alloc, rows)?;
     let before = labelled(alloc, &map, FIRST)?;
     let labels = changed_row::<Brand>(alloc, &before, row, changed, Blank::new(1)).ok()?;
-    Some(are_numbers(&labels, numbers))
+    Some(are_numbers(&labels, numbers) && labels.has_firsts_of(&before) == same)
 }
 
 #[test]
 fn a_changed_row_changes_the_regions(rt: HostRuntime) {
-    for (rows, row, changed, numbers) in CHANGES {
-        assert!(rt;
-            has_changed(rt.alloc(), rows, row, changed, numbers) == Some(true),
-            "row {row} of {rows}"
-        );
+    for change in CHANGES {
+        assert!(rt; has_changed(rt.alloc(), change) == Some(true), "row {} of {}", change.1, change.0);
     }
 }

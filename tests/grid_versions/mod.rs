@@ -99,7 +99,7 @@ struct Turn {
     places: &'static [([u16; 2], (u32, u16, u32))],
 }
 
-const TURNS: [Turn; 10] = [
+const TURNS: [Turn; 11] = [
     // of two obstructions over a cell, one is removed
     Turn {
         sides: [3, 1],
@@ -163,7 +163,22 @@ const TURNS: [Turn; 10] = [
             ([193, 0], (2, 1, 2)),
         ],
     },
-    // the same in a column
+    // one over the last cell of the second chunk, so that its edge to the third one goes although its region stays
+    Turn {
+        sides: [300, 1],
+        classes: (1, "0"),
+        first: "",
+        then: "add 1 1 unit 12550144 32768 16384",
+        replies: &[EditReply::Added(1)],
+        numbers: [1, 4, 2, 2],
+        counts: (299, 1),
+        places: &[
+            ([190, 0], (1, 1, 1)),
+            ([191, 0], (1, 0, 0)),
+            ([192, 0], (2, 1, 2)),
+        ],
+    },
+    // one over the first cell of the third chunk of a column
     Turn {
         sides: [1, 300],
         classes: (1, "0"),

@@ -154,6 +154,7 @@ fn stretch_in_row(spans: &RowSpans, regions: &[u16], row: u16, column: u8) -> (u
 }
 
 impl Labels {
+    ghost use Rattle.std.specs.Prelude.{◌↔◌};
     ghost use Rattle.nav_types.specs.Numbering.{number_of};
 
     /// The chunk that the labels are of.
@@ -218,6 +219,13 @@ impl Labels {
         ensures most { result ≤ CHUNK_CELLS }
     {
         self.firsts.len() as u16
+    }
+
+    /// Whether the first cells of the regions are those of the other labels' regions.
+    pub fn has_firsts_of(&self, other: &Labels) -> bool
+        ensures { IsTrue result ↔ (self.now.firsts ≡ other.now.firsts) }
+    {
+        self.firsts.as_slice() == other.firsts.as_slice()
     }
 
     /// The first cell of a region, in the order of cells. Regions are numbered from 1 to the count.

@@ -1,5 +1,5 @@
 -- The passable cells of a chunk as bits.
-use Rattle.std.proofs.Common.{ℕ, zero, suc, ◌≡◌, ◌<◌, ◌≤◌, ◌+◌, ◌-◌, ◌*◌, ◌/◌, ◌%◌, ◌^◌, ◌==◌, Bool, true, false, min, List, get_or, refl, ap, ◌∙◌, inl, inr, arith}
+use Rattle.std.proofs.Common.{ℕ, zero, suc, ◌≡◌, ◌<◌, ◌≤◌, ◌+◌, ◌-◌, ◌*◌, ◌/◌, ◌%◌, ◌^◌, ◌==◌, Bool, true, false, min, List, get_or, refl, ap, sym, ◌∙◌, inl, inr, arith}
 use Rattle.std.specs.Prelude.{bit_and}
 use Rattle.std.specs.Int.{bit_at}
 use Rattle.std.proofs.lemmas.Bool.{cases_lt}
@@ -44,3 +44,13 @@ two_words words from low high both k half low_is high_is small joined few =
 pub flag_bit : (flag : Bool) → (one_if flag == 1) ≡ flag
 flag_bit true = refl
 flag_bit false = refl
+
+-- a number that another leaves as it is has no bit that the other has not
+least_left : (b c : ℕ) → c < 2 → b ≡ 1 → min b c ≡ b → c ≡ 1
+least_left b zero low one same = absurd (omega arith)
+least_left b (suc zero) low one same = refl
+least_left b (suc (suc c)) low one same = absurd (omega arith)
+
+pub bit_held : (some all k : ℕ) → bit_and some all ≡ some → bit_at some k ≡ 1 → bit_at all k ≡ 1
+bit_held some all k same set =
+    least_left (bit_at some k) (bit_at all k) (bit_at-lt all k) set (sym (bit_at_and some all k) ∙ ap (λ n. bit_at n k) same)

@@ -42,7 +42,7 @@ laid_out passes size labels of =
     (λ chunk one. (one.chunk ≡ chunk) × (one.cells.rect ≡ chunk_rect size chunk)) labels
     (λ chunk one own. (own.of_chunk, own.extent)) of
 
-lies_beyond : (side : Side) (chunk : Chunk) → LiesOn side chunk (neighbour_on side chunk)
+pub lies_beyond : (side : Side) (chunk : Chunk) → LiesOn side chunk (neighbour_on side chunk)
 lies_beyond East chunk = (refl, refl)
 lies_beyond North chunk = (refl, refl)
 

@@ -43,7 +43,7 @@ same_in before now chunk agree = λ i cell.
     agree cell (same_chunk (chunk_of cell) chunk (eqb-true (cell.i / 96) chunk.ci place.0) (eqb-true (cell.j / 96) chunk.cj place.1))) i
 
 -- a region's number looks at the cells that pass in the chunk
-same_region_number : (before now : Cell → Bool) (chunk : Chunk) (cell : Cell) (number : ℕ) → passes_in before chunk ≡ passes_in now chunk
+pub same_region_number : (before now : Cell → Bool) (chunk : Chunk) (cell : Cell) (number : ℕ) → passes_in before chunk ≡ passes_in now chunk
     → HasRegion before chunk cell number → HasRegion now chunk cell number
 same_region_number before now chunk cell number same has =
     subst (λ (P : Cell → Bool). HasNumber P (JoinedStraight P) IsBefore cell number) same has

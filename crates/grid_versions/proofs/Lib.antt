@@ -22,3 +22,4 @@ pub mod RowLemmas
 pub mod PlaneLines
 pub mod DirtyLemmas
 pub mod GuidingLemmas
+pub mod KeptLemmas

@@ -15,3 +15,4 @@ pub mod SameNumbers
 pub mod Marks
 pub mod ReachedParts
 pub mod PassingLaws
+pub mod Keeping

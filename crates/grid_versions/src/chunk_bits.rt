@@ -8,6 +8,7 @@ ghost use Rattle.nav_types.specs.Rects.{IsPartOf, chunk_rect};
 ghost use Rattle.chunk_regions.specs.Labelling.{AreBitsOf, AreRowBits, AgreeElsewhere};
 ghost use Rattle.class_planes.specs.Planes.{is_passable};
 ghost use Rattle.grid_versions.specs.inner.ChunkLists.{IsChunkInside};
+ghost use Rattle.grid_versions.specs.inner.Keeping.{StillPass, ChangesOneWay};
 
 use chunk_regions::ChunkBits;
 use class_planes::ClassPlane;
@@ -124,6 +125,56 @@ fn same_words(old: &[u64], new: &[u64], from: u16) -> bool
     let near = word_at(old, at) == word_at(new, at);
     let far = word_at(old, at + 1) == word_at(new, at + 1);
     near & far
+}
+
+/// Whether the one word has each bit of the other.
+fn has_bits(all: u64, some: u64) -> bool
+    ensures { IsTrue result → (k : ℕ) → bit_at some k ≡ 1 → bit_at all k ≡ 1 }
+{
+    some & all == some
+}
+
+/// Whether the one line has each bit of the other line among the words that hold as many places from one on as a chunk
+/// has columns. The first place lies in the first half of its word.
+fn holds_words(all: &[u64], some: &[u64], from: u16) -> bool
+    requires half { from % 64 ≤ 32 }
+    ensures { IsTrue result → (k : ℕ) → k < CHUNK_SIDE
+        → bit_at (slice_index some.now ((from + k) / 64)) ((from + k) % 64) ≡ 1
+        → bit_at (slice_index all.now ((from + k) / 64)) ((from + k) % 64) ≡ 1 }
+{
+    let at = usize::from(from) / 64;
+    let near = has_bits(word_at(all, at), word_at(some, at));
+    let far = has_bits(word_at(all, at + 1), word_at(some, at + 1));
+    near & far
+}
+
+/// Whether each cell of a chunk's part that is passable by the plane of before still is. It says so only where it is.
+fn still_pass(before: &ClassPlane, plane: &ClassPlane, chunk: Chunk, part: Rect) -> bool
+    requires size { before.now.size ≡ plane.now.size }
+    requires inside { IsChunkInside plane.now.size chunk }
+    requires part { IsPartOf (chunk_rect plane.now.size chunk) part }
+    ensures { IsTrue result → StillPass (is_passable before.now) (is_passable plane.now) part }
+{
+    let rect = Rect::of_chunk(plane.size(), chunk);
+    for j in part.j0..part.j1 + 1 {
+        if !holds_words(plane.row_words(j), before.row_words(j), rect.i0) {
+            return false;
+        }
+    }
+    true
+}
+
+/// Whether the cells of a chunk's part have only become passable, or only impassable. It says so only where it is.
+pub fn changes_one_way(before: &ClassPlane, plane: &ClassPlane, chunk: Chunk, part: Rect) -> bool
+    requires size { before.now.size ≡ plane.now.size }
+    requires inside { IsChunkInside plane.now.size chunk }
+    requires part { IsPartOf (chunk_rect plane.now.size chunk) part }
+    ensures { IsTrue result → ChangesOneWay (is_passable before.now) (is_passable plane.now) part }
+{
+    if still_pass(before, plane, chunk, part) {
+        return true;
+    }
+    still_pass(plane, before, chunk, part)
 }
 
 /// The passable cells of a chunk's rows by the plane of a class, as bits.

@@ -13,6 +13,7 @@ ghost use Rattle.grid_versions.specs.inner.Tables.{region_total, edge_total};
 
 mod areas;
 mod borders;
+mod kept_numbers;
 mod labelling;
 mod sums;
 
@@ -99,10 +100,15 @@ impl ClassTables {
     {
         let size = plane.size();
         let (labels, counts) = labelling::next_labels(alloc, plane, &self.labels, changed, ticks)?;
+        let kept = kept_numbers::kept_parts(alloc, plane, &self.labels, &labels, changed)?;
+        let made = borders::Relabelled {
+            labels: &labels,
+            kept: kept.as_slice(),
+        };
         let (east, to_east) = borders::next_edges(
             alloc,
             size,
-            &labels,
+            &made,
             &self.east,
             changed,
             Side::East,
@@ -110,7 +116,7 @@ impl ClassTables {
         let (north, to_north) = borders::next_edges(
             alloc,
             size,
-            &labels,
+            &made,
             &self.north,
             changed,
             Side::North,

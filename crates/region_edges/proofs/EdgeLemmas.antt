@@ -135,7 +135,7 @@ edge_from_meeting side here there next passes size own other near far meets =
     }
 
 -- a straight step into the chunk on that side goes one column east, or one row north
-abbrev GoesOn : Side → Cell → Cell → Type 0
+abbrev pub GoesOn : Side → Cell → Cell → Type 0
 GoesOn East from to = (to.i ≡ from.i + 1) × (to.j ≡ from.j)
 GoesOn North from to = (to.i ≡ from.i) × (to.j ≡ from.j + 1)
 
@@ -161,7 +161,7 @@ goes_north SE from to straight leads column row = absurd (cc)
 goes_north SW from to straight leads column row = absurd (cc)
 goes_north NW from to straight leads column row = absurd (cc)
 
-goes_on : (passes : Cell → Bool) (side : Side) (here there : Chunk) (from to : Cell) → LiesOn side here there → LiesIn passes here from
+pub goes_on : (passes : Cell → Bool) (side : Side) (here there : Chunk) (from to : Cell) → LiesOn side here there → LiesIn passes here from
     → LiesIn passes there to → IsBeside from to → GoesOn side from to
 goes_on passes East here there from to lies a b beside =
     let ac = a.column in let ar = a.row in let bc = b.column in let br = b.row in let lc = lies.0 in let lr = lies.1 in

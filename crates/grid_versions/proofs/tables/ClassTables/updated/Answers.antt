@@ -1,6 +1,8 @@
 use Rattle.std.proofs.Common.{ℕ, List, ◌≡◌, Bool, length, refl, sym, ap, ◌∙◌, subst}
+use Rattle.std.specs.Prelude.{All}
 use Rattle.std.specs.Arc.{arc_value}
 use Rattle.std.proofs.lemmas.List.{length-map}
+use Rattle.std.proofs.lemmas.List.Elements.{All-same}
 use Rattle.std.proofs.lemmas.Result.{IfOk-weaker}
 use Rattle.nav_types.specs.declared.cells.Cell.{Cell}
 use Rattle.nav_types.specs.declared.cells.Size.{Size}
@@ -11,6 +13,8 @@ use Rattle.class_planes.specs.Planes.{is_passable}
 use Rattle.grid_versions.specs.Chunks.{chunk_count}
 use Rattle.grid_versions.specs.inner.Tables.{Tables, AreTables, AreAllLabels, AreAllEdges, label_counts, region_counts}
 use Rattle.grid_versions.specs.inner.Building.{AreSides, IsLaidOut}
+use Rattle.grid_versions.specs.declared.dirty_parts.DirtyPart.{DirtyPart}
+use Rattle.grid_versions.specs.inner.Keeping.{IsKeptPart}
 use Rattle.grid_versions.specs.inner.Changing.{AreChanges}
 use Rattle.grid_versions.proofs.BuildLemmas.{laid_out}
 use Rattle.grid_versions.proofs.ChangeLemmas.{areas_stay}
@@ -24,10 +28,15 @@ module _ (old now : Cell → Bool) (size extent : Size) (class : ℕ) (bits : Li
 
   -- the labels and edges after the change
   module _ (labels : List Labelling) (east north : List (List (ℕ × ℕ))) (labelled : AreAllLabels now extent labels)
-      (to_east : (old now : Cell → Bool) → AreChanges old now size class bits → AreAllLabels now size labels → AreAllEdges East old size before.east → AreAllEdges East now size east)
-      (to_north : (old now : Cell → Bool) → AreChanges old now size class bits → AreAllLabels now size labels → AreAllEdges North old size before.north → AreAllEdges North now size north) where
+      (parts items : List DirtyPart) (listed : parts ≡ items) (items_kept : All (IsKeptPart old now extent) items)
+      (to_east : (old now : Cell → Bool) → AreChanges old now size class bits → All (IsKeptPart old now size) parts → AreAllLabels now size labels → AreAllEdges East old size before.east → AreAllEdges East now size east)
+      (to_north : (old now : Cell → Bool) → AreChanges old now size class bits → All (IsKeptPart old now size) parts → AreAllLabels now size labels → AreAllEdges North old size before.north → AreAllEdges North now size north) where
     changes_here : AreChanges old now size class bits
     changes_here = subst (λ (s : Size). AreChanges old now s class bits) (sym same) changed
+
+    parts_here : All (IsKeptPart old now size) parts
+    parts_here = subst (λ (s : Size). All (IsKeptPart old now s) parts) (sym same)
+        (All-same (IsKeptPart old now extent) parts items listed items_kept)
 
     tables_here : AreTables old size before
     tables_here = subst (λ (s : Size). AreTables old s before) (sym same) were
@@ -38,8 +47,8 @@ module _ (old now : Cell → Bool) (size extent : Size) (class : ℕ) (bits : Li
         record {
           inside = changes_here.now_inside;
           labels_are = here;
-          east_are = to_east old now changes_here here tables_here.east_are;
-          north_are = to_north old now changes_here here tables_here.north_are;
+          east_are = to_east old now changes_here parts_here here tables_here.east_are;
+          north_are = to_north old now changes_here parts_here here tables_here.north_are;
         }
 
     -- where nothing joins otherwise, the areas are those of before
@@ -117,7 +126,7 @@ returns-then-to_north-clause-tables g c =
     let old = is_passable c.args.changed.now.before.now in
     let changed = c.requires.before.1 in
     let were = subst (λ (t : Tables). AreTables old extent t) (sym c.self.view_is) c.requires.before.0 in
-    let kept = kept_here old passes c.size-size.result extent c.args.changed.now.class c.args.changed.now.bits.now before c.size-size.ensures were changed c.in_ok-labels.labels c.in_ok-east.east c.in_ok-north.north c.in_ok-labels.ensures.labels c.in_ok-east.ensures.edges c.in_ok-north.ensures.edges
+    let kept = kept_here old passes c.size-size.result extent c.args.changed.now.class c.args.changed.now.bits.now before c.size-size.ensures were changed c.in_ok-labels.labels c.in_ok-east.east c.in_ok-north.north c.in_ok-labels.ensures.labels c.as_slice.result.now c.in_ok-kept.kept.items c.as_slice.ensures.value c.in_ok-kept.ensures c.in_ok-east.ensures.edges c.in_ok-north.ensures.edges
     (c.in_ok-labels.ensures.counts c.if-counts.true) (c.in_ok-east.ensures.stay c.if-to_east.true) (c.in_ok-north.ensures.stay c.if-to_north.true) in
     let here : AreTables passes extent (record { labels = c.in_ok-labels.labels; east = c.in_ok-east.east; north = c.in_ok-north.north; areas = c.args.self.now.areas }) =
     subst (λ (t : Tables). AreTables passes extent (record { labels = c.in_ok-labels.labels; east = c.in_ok-east.east; north = c.in_ok-north.north; areas = t.areas }))
@@ -134,7 +143,7 @@ joined-requires g c =
     let changed = c.requires.before.1 in
     let were = subst (λ (t : Tables). AreTables old extent t) (sym c.self.view_is) c.requires.before.0 in (
       passes,
-      sides_here old passes c.size-size.result extent c.args.changed.now.class c.args.changed.now.bits.now before c.size-size.ensures were changed c.in_ok-labels.labels c.in_ok-east.east c.in_ok-north.north c.in_ok-labels.ensures.labels c.in_ok-east.ensures.edges c.in_ok-north.ensures.edges,
+      sides_here old passes c.size-size.result extent c.args.changed.now.class c.args.changed.now.bits.now before c.size-size.ensures were changed c.in_ok-labels.labels c.in_ok-east.east c.in_ok-north.north c.in_ok-labels.ensures.labels c.as_slice.result.now c.in_ok-kept.kept.items c.as_slice.ensures.value c.in_ok-kept.ensures c.in_ok-east.ensures.edges c.in_ok-north.ensures.edges,
     )
 
 pub returns-clause-tables : goal.returns-clause-tables
@@ -149,5 +158,10 @@ returns-clause-tables g c =
     IfOk-weaker c.joined.result _ _
     (λ tables made.
     subst (λ (s : Size). AreTables passes s tables) c.size-size.ensures
-    (made passes (sides_here old passes c.size-size.result extent c.args.changed.now.class c.args.changed.now.bits.now before c.size-size.ensures were changed c.in_ok-labels.labels c.in_ok-east.east c.in_ok-north.north c.in_ok-labels.ensures.labels c.in_ok-east.ensures.edges c.in_ok-north.ensures.edges)))
+    (made passes (sides_here old passes c.size-size.result extent c.args.changed.now.class c.args.changed.now.bits.now before c.size-size.ensures were changed c.in_ok-labels.labels c.in_ok-east.east c.in_ok-north.north c.in_ok-labels.ensures.labels c.as_slice.result.now c.in_ok-kept.kept.items c.as_slice.ensures.value c.in_ok-kept.ensures c.in_ok-east.ensures.edges c.in_ok-north.ensures.edges)))
     c.joined.ensures
+
+pub kept_parts-requires-clause-were : goal.kept_parts-requires-clause-were
+kept_parts-requires-clause-were g c =
+    subst (λ (all : List Labelling). AreAllLabels (is_passable c.args.changed.now.before.now) c.args.plane.now.size all)
+    (sym (ap (λ (t : Tables). t.labels) c.self.view_is)) c.requires.before.0.labels_are

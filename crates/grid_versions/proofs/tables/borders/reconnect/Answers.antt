@@ -36,7 +36,7 @@ edges_past old now size side from to all long agree order so_far =
 pub places-init : goal.places-init
 places-init c = record {
   each = c.requires.each;
-  remade = λ old now changes labels were.
+  remade = λ old now changes kept labels were.
       edges_past old now c.args.size c.args.side 0 c.next_touched-place.result c.args.all.now c.requires.each
       (λ place low high within. c.next_touched-place.ensures.none place low high within old now changes) (omega arith)
       (record { done = λ k item less at. absurd (omega arith); left = λ k item from at. were.are k item at });
@@ -59,8 +59,8 @@ places-preserved c =
     let long : length after ≡ chunk_count size = ap (λ (xs : List (List (ℕ × ℕ))). length xs) made.set ∙ length-set all place made.item ∙ each in
     record {
       each = long;
-      remade = λ old now changes labels were.
-          let so_far = here.remade old now changes labels were in
+      remade = λ old now changes kept labels were.
+          let so_far = here.remade old now changes kept labels were in
           edges_past old now size side (place + 1) next after long
           (λ at low high inside. c.next_touched-place-in-places.ensures.none at low high inside old now changes) c.next_touched-place-in-places.ensures.from
           (remade_more
@@ -70,7 +70,7 @@ places-preserved c =
           (record {
             item = made.item;
             set = made.set;
-            is = made.is old now changes labels (λ was at. so_far.left place was (omega arith) at);
+            is = made.is old now changes kept labels (λ was at. so_far.left place was (omega arith) at);
           }));
       stay = λ both.
           let parts = and_parts c.places.stay c.in_ok-stays.stays both in
@@ -78,7 +78,7 @@ places-preserved c =
     }
 
 pub returns-clause-edges : goal.returns-clause-edges
-returns-clause-edges c = λ old now changes labels were.
+returns-clause-edges c = λ old now changes kept labels were.
     let size = c.args.size in
     let side = c.args.side in
     let here = c.places.invariant in
@@ -86,7 +86,7 @@ returns-clause-edges c = λ old now changes labels were.
     all_remade size (chunk_count size) c.places.place
     (λ (chunk : Chunk) (edges : List (ℕ × ℕ)). AreEdges now chunk (neighbour_on side chunk) edges)
     (λ (k : ℕ) (edges : List (ℕ × ℕ)). AreEdges old (chunk_numbered size k) (neighbour_on side (chunk_numbered size k)) edges)
-    c.places.all here.each (omega (arith, none, c.count-count.ensures.value)) (here.remade old now changes labels were)
+    c.places.all here.each (omega (arith, none, c.count-count.ensures.value)) (here.remade old now changes kept labels were)
 
 pub returns-clause-stay : goal.returns-clause-stay
 returns-clause-stay c = c.places.invariant.stay

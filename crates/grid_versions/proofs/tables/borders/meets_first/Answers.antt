@@ -1,0 +1,25 @@
+use Rattle.std.proofs.Common.{◌≡◌, ◌%◌, subst, arith}
+use Rattle.std.proofs.lemmas.Bool.{eqb-false}
+use Rattle.region_edges.specs.declared.neighbours.Side.{Side}
+use Rattle.grid_versions.specs.inner.Keeping.{IsFirstOn}
+use Rattle.grid_versions.proofs.tables.borders.meets_first.Goals as goal
+
+pub returns-in-East : goal.returns-in-East
+returns-in-East c = λ apart size chunk within cell first inside.
+    let here : cell.i % 96 ≡ 0 = subst (λ (side : Side). IsFirstOn side cell) c.in-East.is first in
+    let other = eqb-false (c.args.part.i0 % 96) 0 apart in
+    let low = within.first.west in
+    let high = within.last.east in
+    let from = inside.west in
+    let to = inside.east in
+    other (omega arith)
+
+pub returns-in-North : goal.returns-in-North
+returns-in-North c = λ apart size chunk within cell first inside.
+    let here : cell.j % 96 ≡ 0 = subst (λ (side : Side). IsFirstOn side cell) c.in-North.is first in
+    let other = eqb-false (c.args.part.j0 % 96) 0 apart in
+    let low = within.first.south in
+    let high = within.last.north in
+    let from = inside.south in
+    let to = inside.north in
+    other (omega arith)
