@@ -19,9 +19,34 @@ pub fn run_in_row(shape: &Shape, clearance: Fixed, rect: Rect, j: u16) -> Option
     ensures within { IfSome result (λ run. (rect.i0 ≤ run.0) × (run.0 ≤ run.1) × (run.1 ≤ rect.i1)) }
     ensures none { IfNone result ((i : ℕ) → rect.i0 ≤ i → i ≤ rect.i1 → IsFalse (blocked shape.now clearance (cell_at i j))) }
 {
+    if is_full(shape, clearance, rect, j) {
+        return Some((rect.i0, rect.i1));
+    }
     let (west, east) = window(shape, clearance, rect, j)?;
     let first = first_blocked(shape, clearance, west, east, j)?;
     Some((first, last_blocked(shape, clearance, first, east, j)))
+}
+
+/// Whether the shape blocks each column of the rectangle in row `j`, which the first and the last one tell. It says so of
+/// squares along the axes of the map alone, whose rows mostly are blocked as a whole.
+fn is_full(shape: &Shape, clearance: Fixed, rect: Rect, j: u16) -> bool
+    requires { HasUnitVector shape.now }
+    ensures { IsTrue result → (i : ℕ) → rect.i0 ≤ i → i ≤ rect.i1 → IsTrue (blocked shape.now clearance (cell_at i j)) }
+{
+    match shape {
+        Shape::Unit { .. } => has_both_ends(shape, clearance, rect, j),
+        Shape::Square(_) => false,
+    }
+}
+
+/// Whether the shape blocks the first and the last column of the rectangle in row `j`.
+fn has_both_ends(shape: &Shape, clearance: Fixed, rect: Rect, j: u16) -> bool
+    requires { HasUnitVector shape.now }
+    ensures first { IsTrue result → IsTrue (blocked shape.now clearance (cell_at rect.i0 j)) }
+    ensures last { IsTrue result → IsTrue (blocked shape.now clearance (cell_at rect.i1 j)) }
+{
+    let first = blocks(shape, clearance, Cell::new(rect.i0, j));
+    first && blocks(shape, clearance, Cell::new(rect.i1, j))
 }
 
 /// The first column from `start` to `end` that the shape blocks in row `j`. None exactly where there is none.
