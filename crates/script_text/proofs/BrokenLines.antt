@@ -1,19 +1,17 @@
 -- What is told of a line that is no JSON value, by its bytes, is true of them.
-use Rattle.std.proofs.Common.{◌≡◌, ◌≢◌, ℕ, zero, suc, ◌+◌, ◌<◌, ◌≤◌, ◌&&◌, ◌||◌, ◌==◌, List, [], ◌∷◌, ◌++◌, Bool, true, false, not, cond, Option, Some, None, refl, ap, sym, subst, ◌∙◌, inl, inr, arith, nat_lt}
+use Rattle.std.proofs.Common.{◌≡◌, ℕ, ◌+◌, ◌&&◌, List, [], ◌∷◌, Bool, true, false, not, cond, Option, Some, None, refl, ap, sym, ◌∙◌, nat_lt}
 use Rattle.std.specs.Bool.{⊤}
 use Rattle.std.specs.Str.{IsUtf8, is_utf8}
-use Rattle.std.specs.Str.Lossy.{valid_len_up_to, utf8_valid_len}
-use Rattle.std.proofs.lemmas.Bool.{false≢true, and_parts, ltb-false}
-use Rattle.std.proofs.lemmas.List.{take_all}
+use Rattle.std.specs.Str.Lossy.{utf8_valid_len}
 use Rattle.std.proofs.lemmas.Str.{IsUtf8-from_is_utf8, is_utf8-from_IsUtf8}
 use Rattle.script_text.specs.declared.causes.Cause.{Cause}
-use Rattle.script_text.specs.declared.causes.Cause.TheVariants.{BlankLine, ByteOrderMark, TooDeep, NotUtf8, NoJsonAt, EndsInString, EndsInValue, NotJson}
+use Rattle.script_text.specs.declared.causes.Cause.TheVariants.{TooDeep, NotUtf8, NoJsonAt, EndsInString, EndsInValue, NotJson}
 use Rattle.script_text.specs.declared.causes.mistakes.Look.{Look}
 use Rattle.script_text.specs.declared.causes.mistakes.Standing.{Standing}
 use Rattle.script_text.specs.declared.causes.mistakes.Standing.TheVariants.{Outside, InWord, InString, BehindBackslash}
 use Rattle.script_text.specs.declared.causes.mistakes.Mistake.{Mistake}
 use Rattle.script_text.specs.Nesting.{is_shallow}
-use Rattle.script_text.specs.Mistakes.{at_start, look_from, behind, mistake_at, ending_by, ending, told_at, broken_from, broken_cause}
+use Rattle.script_text.specs.Mistakes.{behind, mistake_at, ending_by, ending, told_at, broken_from, broken_cause}
 use Rattle.script_text.specs.Causes.{is_too_deep, text_cause}
 
 -- ---- the code

@@ -1,17 +1,15 @@
 -- What a cause says of the bytes of a line without a reading is true of them.
-use Rattle.std.proofs.Common.{◌≡◌, ◌≢◌, ℕ, zero, suc, ◌+◌, ◌<◌, ◌≤◌, ◌&&◌, ◌||◌, ◌==◌, List, [], ◌∷◌, ◌++◌, length, take, Bool, true, false, not, cond, Option, Some, None, refl, ap, sym, subst, ◌∙◌, inl, inr, arith, nat_lt}
-use Rattle.std.specs.Prelude.{IsTrue, IsFalse}
+use Rattle.std.proofs.Common.{◌≡◌, ◌≢◌, ℕ, zero, suc, ◌+◌, ◌<◌, ◌≤◌, ◌&&◌, ◌||◌, ◌==◌, List, [], ◌∷◌, ◌++◌, length, take, Bool, true, false, not, cond, Option, Some, None, refl, ap, sym, subst, ◌∙◌, arith, nat_lt}
 use Rattle.std.specs.Str.{IsUtf8, is_utf8, IsValidUpTo}
 use Rattle.std.specs.Str.Lossy.{valid_len_up_to, utf8_valid_len}
-use Rattle.std.proofs.lemmas.Bool.{false≢true, ltb-true, ltb-false, eqb-false}
+use Rattle.std.proofs.lemmas.Bool.{false≢true, ltb-true, ltb-false}
 use Rattle.std.proofs.lemmas.Bool.Decides.{Decides-eqb}
 use Rattle.std.proofs.lemmas.List.{take_all}
 use Rattle.std.proofs.lemmas.Str.{IsUtf8-from_is_utf8, is_utf8-from_IsUtf8, utf8_valid_len_le}
 use Rattle.json.specs.Word.{is_space}
-use Rattle.serde_json.specs.Data.{Data}
 use Rattle.script_text.specs.declared.parts.Part.{Part}
 use Rattle.script_text.specs.declared.causes.Cause.{Cause}
-use Rattle.script_text.specs.declared.causes.Cause.TheVariants.{BlankLine, ByteOrderMark, TooDeep, NotUtf8, NoJsonAt, EndsInString, EndsInValue, NotJson}
+use Rattle.script_text.specs.declared.causes.Cause.TheVariants.{BlankLine, ByteOrderMark, NoJsonAt, EndsInString, EndsInValue, NotJson}
 use Rattle.script_text.specs.declared.causes.mistakes.Look.{Look}
 use Rattle.script_text.specs.declared.causes.mistakes.Standing.{Standing}
 use Rattle.script_text.specs.declared.causes.mistakes.Standing.TheVariants.{Outside, InWord, InString, BehindBackslash}
@@ -19,9 +17,9 @@ use Rattle.script_text.specs.declared.causes.mistakes.Mistake.{Mistake}
 use Rattle.script_text.specs.declared.causes.mistakes.Mistake.TheVariants.{Comment, SingleQuote, NoNumber, NumberStart, BareWord, Control, Escape, TrailingComma, MissingComma, StrayColon, NoValue, BehindValue}
 use Rattle.script_text.specs.Nesting.{closes}
 use Rattle.script_text.specs.Script.{reading_of}
-use Rattle.script_text.specs.Causes.{is_blank, has_mark, is_too_deep, text_cause, unread_cause, reading_cause, cause}
-use Rattle.script_text.specs.Mistakes.{at_start, behind, look_from, look_along, mistake_by, mistake_at, mistake_outside, comma_mistake, colon_mistake, closing_mistake, value_mistake, strange_byte, where_true, begins_value, ends_value, is_control, is_escape, is_of_word, ending_by, told_at, broken_from, broken_cause}
-use Rattle.script_text.specs.TrueBytes.{HasNoMistake, IsOutside, Says, HasMistake, IsTextUpTo, IsInString, IsTrueOfBytes}
+use Rattle.script_text.specs.Causes.{is_blank, has_mark, text_cause, unread_cause, reading_cause, cause}
+use Rattle.script_text.specs.Mistakes.{at_start, behind, look_from, mistake_by, mistake_at, mistake_outside, comma_mistake, colon_mistake, closing_mistake, value_mistake, strange_byte, begins_value, ends_value, is_control, is_escape, is_of_word, ending_by, told_at, broken_from, broken_cause}
+use Rattle.script_text.specs.TrueBytes.{HasNoMistake, IsOutside, Says, IsInString, IsTrueOfBytes}
 use Rattle.script_text.proofs.BrokenLines.{text-causes}
 
 -- ---- one byte

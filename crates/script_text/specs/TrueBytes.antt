@@ -1,5 +1,5 @@
 -- What a cause says of the bytes of a line that has no reading.
-use Rattle.std.specs.Prelude.{ℕ, ◌≡◌, ◌+◌, ◌<◌, ◌==◌, ◌||◌, ⊤, List, [], ◌∷◌, ◌++◌, length, IsTrue, IsFalse, Option, None}
+use Rattle.std.specs.Prelude.{ℕ, ◌≡◌, ◌+◌, ◌<◌, ◌==◌, ◌||◌, ⊤, List, [], ◌∷◌, ◌++◌, length, IsTrue, IsFalse, None}
 use Rattle.std.specs.Str.{IsValidUpTo}
 use Rattle.json.specs.Word.{is_space}
 use Rattle.script_text.specs.declared.causes.Cause.{Cause}

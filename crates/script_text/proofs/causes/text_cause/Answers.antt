@@ -1,4 +1,4 @@
-use Rattle.std.proofs.Common.{sym, ◌∙◌}
+use Rattle.std.proofs.Common.{◌∙◌}
 use Rattle.script_text.proofs.BrokenLines.{broken-text, deep-text, no-text}
 use Rattle.script_text.proofs.causes.text_cause.Goals as goal
 
