@@ -1,5 +1,5 @@
 -- What of a chunk's regions and edges stays although cells of the chunk have changed.
-use Rattle.std.proofs.Common.{ℕ, ◌≡◌, ◌+◌, ◌*◌, ◌/◌, ◌%◌, ◌<◌, ◌≤◌, ◌==◌, ◌&&◌, Bool, true, false, List, [], ◌∷◌, IsTrue, IsFalse, Some, refl, inl, inr, ap, sym, subst, ◌∙◌, arith}
+use Rattle.std.proofs.Common.{ℕ, ◌≡◌, ◌*◌, ◌/◌, ◌==◌, ◌&&◌, Bool, List, [], ◌∷◌, IsTrue, IsFalse, inl, inr, ap, sym, subst, ◌∙◌, arith}
 use Rattle.std.specs.List.{All, Contains, slice_get}
 use Rattle.std.proofs.lemmas.Bool.{cases_lt, and_parts, and_from, false_from_ne_true}
 use Rattle.nav_types.specs.declared.cells.Cell.{Cell}
@@ -8,13 +8,13 @@ use Rattle.nav_types.specs.declared.cells.Rect.{Rect}
 use Rattle.nav_types.specs.declared.cells.Size.{Size}
 use Rattle.nav_types.specs.declared.directions.Dir.{Dir}
 use Rattle.nav_types.specs.Cells.{cell_at, chunk_of, IsBefore, IsInRect}
-use Rattle.nav_types.specs.Rects.{IsPartOf, chunk_rect}
+use Rattle.nav_types.specs.Rects.{chunk_rect}
 use Rattle.nav_types.specs.Regions.{passes_in, JoinedStraight, InOneRegion, HasRegion, IsEdge}
 use Rattle.nav_types.specs.Walks.{IsWalk}
 use Rattle.nav_types.specs.Numbering.{number_of}
 use Rattle.nav_types.proofs.CellOrder.{IsBefore-asym}
 use Rattle.nav_types.proofs.FirstCells.{AreFirsts-unique}
-use Rattle.nav_types.proofs.Regions.{LiesIn, lies_in, one_region}
+use Rattle.nav_types.proofs.Regions.{lies_in, one_region}
 use Rattle.chunk_regions.specs.Labelling.{Labelling, AreLabels}
 use Rattle.chunk_regions.proofs.LabelLemmas.{in_rect}
 use Rattle.region_edges.specs.declared.neighbours.Side.{Side}

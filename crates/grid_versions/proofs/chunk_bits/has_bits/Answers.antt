@@ -1,4 +1,3 @@
-use Rattle.std.proofs.Common.{◌==◌}
 use Rattle.std.specs.Prelude.{bit_and}
 use Rattle.std.proofs.lemmas.Bool.{eqb-true}
 use Rattle.grid_versions.proofs.BitLemmas.{bit_held}

@@ -1,6 +1,5 @@
-use Rattle.std.proofs.Common.{ℕ, ◌+◌, ap, length, sym, subst, ◌∙◌, arith}
+use Rattle.std.proofs.Common.{ℕ, ◌+◌, ap, length, arith}
 use Rattle.std.proofs.lemmas.Bool.{not-true}
-use Rattle.nav_types.specs.declared.cells.Rect.{Rect}
 use Rattle.grid_versions.specs.inner.ChunkLists.{chunk_numbered, neighbour_on}
 use Rattle.grid_versions.specs.inner.Keeping.{IsFirstOn}
 use Rattle.grid_versions.specs.declared.dirty_parts.DirtyPart.{DirtyPart}

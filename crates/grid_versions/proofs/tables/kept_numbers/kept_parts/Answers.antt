@@ -1,7 +1,5 @@
-use Rattle.std.proofs.Common.{ℕ, List, ◌≡◌, ◌∷◌, ◌++◌, [], sym, subst}
-use Rattle.std.specs.Prelude.{All}
+use Rattle.std.proofs.Common.{List, ◌≡◌, ◌∷◌, ◌++◌, []}
 use Rattle.std.proofs.lemmas.List.Elements.{All-nil, All-push, All-same}
-use Rattle.nav_types.specs.declared.cells.Cell.{Cell}
 use Rattle.class_planes.specs.Planes.{is_passable}
 use Rattle.grid_versions.specs.declared.dirty_parts.DirtyPart.{DirtyPart}
 use Rattle.grid_versions.specs.inner.Keeping.{IsKeptPart}
