@@ -10,7 +10,7 @@ use Rattle.landmarks.specs.Landmarks.{AreGentle}
 use Rattle.landmarks.specs.Spans.{IsSpanned, span_bound}
 use Rattle.landmarks.proofs.Spanning.{span_bound_falls, span_bound_of_spanned}
 use Rattle.jump_search.specs.declared.estimates.Marked.{Marked}
-use Rattle.jump_search.specs.Estimates.{IsConsistent, IsEstimate, cost_past}
+use Rattle.jump_search.specs.Estimates.{IsEstimate, cost_past}
 use Rattle.jump_search.specs.JumpStates.{octile_to}
 use Rattle.jump_search.proofs.Framing.{octile_estimate}
 
