@@ -1,7 +1,8 @@
 //! A service whose turns are staged beside each other.
 
-use crate::fixtures::turns::{answers_to, map_of, path_asked, point, stays, unit};
+use crate::fixtures::turns::{map_of, path_asked, point, stays, unit};
 use grid_versions::{Edit, EditReply, Version};
+use io_edges::{Gate, OpenGate};
 use nav_types::{Cell, Cost, NoMemory};
 use path_service::{Caller, Closed, Driver, EndedCallers, start_service};
 use std::alloc::Global;
@@ -10,7 +11,7 @@ use std::sync::atomic::{AtomicBool, AtomicU64, Ordering};
 use std::test::*;
 use std::thread;
 use std::thread::Threads;
-use turn_core::{Answer, Answers, Jobs, Post, Reply, RunBy, Runner};
+use turn_core::{Answer, Answerer, Jobs, NotedAnswers, OneThread, Post, Reply, Report};
 
 /// Whether it is the first reply, with a path to the last navcell.
 fn is_whole_path(collected: Option<(u64, Reply)>) -> bool {
@@ -29,6 +30,16 @@ struct Held {
     gave_up: AtomicBool,
 }
 
+impl Gate for Held {
+    fn pass(&self, _job: u64) {}
+
+    fn staged(&self, posts: u64) {
+        self.posts.fetch_add(posts, Ordering::SeqCst);
+    }
+
+    fn begun(&self, _caller: u8) {}
+}
+
 /// Waits until a post was staged, or for so long that one must have been.
 fn hold(held: &Held) {
     for _ in 0..2_000_000_000u64 {
@@ -40,16 +51,41 @@ fn hold(held: &Held) {
     held.gave_up.store(true, Ordering::SeqCst);
 }
 
-/// Starts and delivers the staged turn by the runner, and gives how many posts were staged beside it.
-fn run_staged<W: Runner + Sync, R: Threads + Wait + Sync>(
+/// One who answers a turn once a post was staged beside it.
+#[derive(Drop)]
+struct Waiting<'a> {
+    held: &'a Held,
+    thread: OneThread,
+}
+
+impl<'a> Answerer for Waiting<'a> {
+    ghost use Rattle.std.specs.Prelude.{⊤};
+
+    ghost takes = { λ waiting count. ⊤ };
+
+    fn noted_answers(
+        &mut self,
+        alloc: Global,
+        version: &Version,
+        jobs: &Jobs,
+        report: Report,
+    ) -> Result<NotedAnswers, NoMemory> {
+        hold(self.held);
+        self.thread.noted_answers(alloc, version, jobs, report)
+    }
+}
+
+/// Starts and delivers the staged turn, and gives how many posts were staged beside it.
+fn run_staged<A: Answerer + Send, G: Gate, R: Threads + Wait + Sync>(
     rt: &R,
     driver: &mut Driver,
-    runner: &W,
+    answerer: &mut A,
+    gate: &G,
 ) -> Option<u64> {
     if driver.failed() || driver.staged().is_none() || driver.running().is_some() {
         return None;
     }
-    let Ok(count) = driver.start(rt, runner) else {
+    let Ok(count) = driver.start(rt, answerer, gate) else {
         return None;
     };
     if driver.deliver(rt).is_ok() {
@@ -71,23 +107,15 @@ fn stage_first<R: Threads + Wait + Sync>(rt: &R, driver: &mut Driver) -> Option<
 /// posts were staged beside each.
 fn run_both<R: Threads + Wait + Sync>(
     rt: &R,
-    alloc: Global,
     driver: &mut Driver,
     held: &Held,
 ) -> Option<(u64, u64)> {
-    let run = |version: &Version, jobs: &Jobs| -> Result<Answers, NoMemory> {
-        hold(held);
-        answers_to(alloc, version, jobs)
+    let mut waiting = Waiting {
+        held,
+        thread: OneThread::new(),
     };
-    let staged = |posts: u64| {
-        held.posts.fetch_add(posts, Ordering::SeqCst);
-    };
-    let runner = RunBy {
-        run: &run,
-        staged: &staged,
-    };
-    let first = run_staged(rt, driver, &runner)?;
-    let second = run_staged(rt, driver, &runner)?;
+    let first = run_staged(rt, driver, &mut waiting, held)?;
+    let second = run_staged(rt, driver, &mut waiting, held)?;
     Some((first, second))
 }
 
@@ -107,7 +135,7 @@ fn a_turn_is_staged_beside_one_that_runs(rt: HostRuntime) -> Result<(), Fail> {
     assert!(rt; first.post(&rt, Post::Ask(path)).ok() == Some(0));
     assert!(rt; stage_first(&rt, &mut driver) == Some(1));
     assert!(rt; second.post(&rt, Post::Edit(unit(1, 3))).ok() == Some(0));
-    assert!(rt; run_both(&rt, alloc, &mut driver, &held) == Some((1, 0)));
+    assert!(rt; run_both(&rt, &mut driver, &held) == Some((1, 0)));
     assert!(rt; !held.gave_up.load(Ordering::SeqCst));
     assert!(rt; is_whole_path(first.collect(&rt)));
     assert!(rt; first.collect(&rt).is_none());
@@ -139,16 +167,16 @@ fn is_removal(posted: Option<(u64, Post)>) -> bool {
     matches!(posted, Some((1, Post::Edit(Edit::Remove { id: 1 }))))
 }
 
-/// Starts the staged turn by the runner and stages what was posted since, then delivers the first of the two turns. Gives
-/// how many posts were staged beside it and then.
-fn start_and_stage<W: Runner + Sync, R: Threads + Wait + Sync>(
+/// Starts the staged turn and stages what was posted since, then delivers the first of the two turns. Gives how many posts
+/// were staged beside it and then.
+fn start_and_stage<R: Threads + Wait + Sync>(
     rt: &R,
     driver: &mut Driver,
     caller: &mut Caller,
     post: Post,
-    runner: &W,
+    thread: &mut OneThread,
 ) -> Option<(u64, u64)> {
-    let beside = driver.start(rt, runner).ok()?;
+    let beside = driver.start(rt, thread, &OpenGate).ok()?;
     caller.post(rt, post).ok()?;
     let then = driver.stage(rt).ok()?;
     driver.deliver(rt).ok()?;
@@ -158,35 +186,19 @@ fn start_and_stage<W: Runner + Sync, R: Threads + Wait + Sync>(
 /// Runs the staged turn and another with this post, which is staged while the first one runs.
 fn run_two<R: Threads + Wait + Sync>(
     rt: &R,
-    alloc: Global,
     driver: &mut Driver,
     caller: &mut Caller,
     post: Post,
 ) -> Option<(u64, u64)> {
-    let run = |version: &Version, jobs: &Jobs| -> Result<Answers, NoMemory> {
-        answers_to(alloc, version, jobs)
-    };
-    let staged = |_posts: u64| {};
-    let runner = RunBy {
-        run: &run,
-        staged: &staged,
-    };
-    let counts = start_and_stage(rt, driver, caller, post, &runner)?;
-    run_staged(rt, driver, &runner)?;
+    let mut thread = OneThread::new();
+    let counts = start_and_stage(rt, driver, caller, post, &mut thread)?;
+    run_staged(rt, driver, &mut thread, &OpenGate)?;
     Some(counts)
 }
 
 /// Runs the staged turn.
-fn run_one<R: Threads + Wait + Sync>(rt: &R, alloc: Global, driver: &mut Driver) -> Option<u64> {
-    let run = |version: &Version, jobs: &Jobs| -> Result<Answers, NoMemory> {
-        answers_to(alloc, version, jobs)
-    };
-    let staged = |_posts: u64| {};
-    let runner = RunBy {
-        run: &run,
-        staged: &staged,
-    };
-    run_staged(rt, driver, &runner)
+fn run_one<R: Threads + Wait + Sync>(rt: &R, driver: &mut Driver) -> Option<u64> {
+    run_staged(rt, driver, &mut OneThread::new(), &OpenGate)
 }
 
 #[test]
@@ -199,7 +211,7 @@ fn a_turn_that_is_staged_later_stands_on_the_one_that_runs(rt: HostRuntime) -> R
     assert!(rt; caller.post(&rt, Post::Edit(unit(1, 3))).ok() == Some(0));
     assert!(rt; stage_first(&rt, &mut driver) == Some(1));
     let path = path_asked("default", 1, point(5)).expect(&rt, "the path");
-    let counts = run_two(&rt, alloc, &mut driver, &mut caller, Post::Ask(path));
+    let counts = run_two(&rt, &mut driver, &mut caller, Post::Ask(path));
     assert!(rt; counts == Some((0, 1)));
     assert!(rt; is_added(caller.collect(&rt)));
     assert!(rt; is_short_path(caller.collect(&rt), 1));
@@ -255,7 +267,7 @@ fn a_closed_service_keeps_what_was_not_taken(rt: HostRuntime) -> Result<(), Fail
     }
     assert!(rt; second.post(&rt, Post::Edit(unit(1, 3))).ok() == Some(0));
     assert!(rt; stage_first(&rt, &mut driver) == Some(3));
-    assert!(rt; run_one(&rt, alloc, &mut driver) == Some(0));
+    assert!(rt; run_one(&rt, &mut driver) == Some(0));
     assert!(rt; is_short_path(first.collect(&rt), 0));
     assert!(rt; second.post(&rt, Post::Edit(Edit::Remove { id: 1 })).ok() == Some(1));
     let ended = both_ended(alloc, first, second)?;

@@ -4,7 +4,7 @@ use crate::fixtures::turns::{path_asked, point, row_version};
 use grid_versions::{Refusal, Version};
 use io_edges::{Gate, OpenGate};
 use nav_types::NoMemory;
-use path_workers::{Rooms, Workers, run_turn};
+use path_workers::{Rooms, Workers};
 use posts::push_some;
 use std::alloc::Global;
 use std::sync::atomic::{AtomicBool, AtomicU64, Ordering};
@@ -74,8 +74,10 @@ fn solve_seven<R: Threads + Sync>(
     if workers < 1 || workers > 64 || jobs.len() > 7 {
         return false;
     }
-    match run_turn(rt, alloc, version, jobs, workers, &OpenGate) {
-        Ok(answers) => are_told(&answers, &SEVEN),
+    let mut rooms = Rooms::new(alloc);
+    let workers = Workers::new(workers, &OpenGate);
+    match workers.run_noted(rt, alloc, version, jobs, Report::Answers, &mut rooms) {
+        Ok(noted) => are_told(&noted.answers, &SEVEN),
         Err(NoMemory) => false,
     }
 }
@@ -132,10 +134,11 @@ fn rooms_are_used_again(rt: HostRuntime) {
     let mut rooms = Rooms::new(alloc);
     for count in [2, 3, 1] {
         let workers = Workers::new(count, &OpenGate);
-        let Ok(answers) = workers.run(&rt, alloc, &version, &jobs, &mut rooms) else {
+        let report = Report::Answers;
+        let Ok(noted) = workers.run_noted(&rt, alloc, &version, &jobs, report, &mut rooms) else {
             panic!(rt; "the answers")
         };
-        assert!(rt; are_told(&answers, &SEVEN));
+        assert!(rt; are_told(&noted.answers, &SEVEN));
     }
 }
 
@@ -144,7 +147,6 @@ fn rooms_are_used_again(rt: HostRuntime) {
 struct HoldingGate {
     passes: AtomicU64,
     numbers: AtomicU64,
-    posts: AtomicU64,
     gave_up: AtomicBool,
 }
 
@@ -165,9 +167,7 @@ impl Gate for HoldingGate {
         self.gave_up.store(true, Ordering::SeqCst);
     }
 
-    fn staged(&self, posts: u64) {
-        self.posts.store(posts, Ordering::SeqCst);
-    }
+    fn staged(&self, _posts: u64) {}
 
     fn begun(&self, _caller: u8) {}
 }
@@ -185,9 +185,9 @@ fn two_solve_four<R: Threads + Sync>(rt: &R, alloc: Global, gate: &HoldingGate) 
         return false;
     }
     let workers = Workers::new(2, gate);
-    workers.staged(4);
-    match workers.run(rt, alloc, &version, &jobs, &mut Rooms::new(alloc)) {
-        Ok(answers) => are_told(&answers, &rows),
+    let report = Report::Answers;
+    match workers.run_noted(rt, alloc, &version, &jobs, report, &mut Rooms::new(alloc)) {
+        Ok(noted) => are_told(&noted.answers, &rows),
         Err(NoMemory) => false,
     }
 }
@@ -197,11 +197,9 @@ fn two_workers_run_beside_each_other(rt: HostRuntime) {
     let gate = HoldingGate {
         passes: AtomicU64::new(0),
         numbers: AtomicU64::new(0),
-        posts: AtomicU64::new(0),
         gave_up: AtomicBool::new(false),
     };
     assert!(rt; two_solve_four(&rt, rt.alloc(), &gate));
-    assert!(rt; gate.posts.load(Ordering::SeqCst) == 4);
     assert!(rt; gate.numbers.load(Ordering::SeqCst) == 0x0101_0101);
     assert!(rt; !gate.gave_up.load(Ordering::SeqCst));
 }

@@ -1,5 +1,5 @@
 //! Drivers.
-ghost use Rattle.std.specs.Prelude.{◌≡◌, ◌<◌, [], false, true, All, IfOk, IfErr, IfSome, IsSome, IsTrue, None, OnOk, OnErr, length, map, replicate, vec_capacity, vec_len, ◌↔◌, List};
+ghost use Rattle.std.specs.Prelude.{◌≡◌, ◌<◌, ◌^◌, ℕ, [], false, true, All, IfOk, IfErr, IfSome, IsSome, IsTrue, None, OnOk, OnErr, length, map, replicate, vec_capacity, vec_len, ◌↔◌, List};
 ghost use Rattle.posts.specs.declared.replies.Reply.{Reply as AReply};
 ghost use Rattle.posts.specs.Callers.{list_of};
 ghost use Rattle.turn_core.specs.Words.{bare};
@@ -16,8 +16,9 @@ use crate::callers::EndedCallers;
 use crate::closing::{Closed, close_all};
 use crate::intakes::{Intake, next_turn};
 use crate::ports::{Port, send_all};
-use crate::runs::{AnsweredRun, Beside, RunAndNext, both, run_beside, version_for_next};
+use crate::runs::{AnsweredRun, Beside, Incoming, RunAndNext, both, run_beside, version_for_next};
 use grid_versions::{MapSpec, Version};
+use io_edges::Gate;
 use nav_types::{NoMemory, Sequence};
 use request_lanes::Notice;
 use std::alloc::Global;
@@ -25,7 +26,7 @@ use std::marker::Model;
 use std::mem;
 use std::sync::Wait;
 use std::thread::Threads;
-use turn_core::{Post, Posts, ReadyTurn, Reply, Runner, TurnPosts, TurnReplies};
+use turn_core::{Answerer, Post, Posts, ReadyTurn, Reply, TurnPosts, TurnReplies};
 
 /// The driver of a service: it stages what the callers posted as turns, runs them and delivers the replies. Contracts see
 /// the state of the turn machine as far as the driver knows it, and what went over the lanes (`DriverState`).
@@ -37,7 +38,7 @@ use turn_core::{Post, Posts, ReadyTurn, Reply, Runner, TurnPosts, TurnReplies};
 ///     driver.stage(rt)?;
 /// }
 /// if driver.staged().is_some() {
-///     driver.start(rt, &runner)?;
+///     driver.start(rt, &mut answerer, gate)?;
 ///     driver.deliver(rt)?;
 /// }
 /// ```
@@ -187,17 +188,18 @@ impl Driver {
         count
     }
 
-    /// Starts the staged turn, which then runs: the runner answers its requests, and beside that, perhaps on another
-    /// thread, the next turn is staged as `stage` does it, and the runner is told of its posts. It answers the number of
-    /// these. It may wait for callers.
+    /// Starts the staged turn, which then runs: the answerer answers its requests, perhaps on another thread, and beside
+    /// that the next turn is staged as `stage` does it, and the gate is told of its posts. It answers the number of these.
+    /// It may wait for callers.
     ///
     /// Where there is no memory for the answers or for the next turn, the driver has failed.
-    pub fn start<W: Runner + Sync, R: Threads + Wait + Sync>(
+    pub fn start<A: Answerer + Send, G: Gate, R: Threads + Wait + Sync>(
         &mut self,
         rt: &R,
-        runner: &W,
+        answerer: &mut A,
+        gate: &G,
     ) -> Result<u64, NoMemory>
-        requires ready { W.ready runner.now }
+        requires takes { (count : ℕ) → count < 2 ^ 32 → A.takes answerer.old count }
         requires staged { IsSome self.old.machine.staged }
         requires none_runs { self.old.machine.running ≡ None }
         requires sound { self.old.failed ≡ false }
@@ -205,13 +207,15 @@ impl Driver {
         ensures rest { OnOk result (self.new ≡ with_machine self.old self.new.machine) }
         ensures refused { OnErr result (HasBrokenOff self.old.told self.old.machine self.new.machine) }
         ensures failed { OnErr result (self.new ≡ record self.old { machine = self.new.machine; failed = true }) }
+        ensures takes { (count : ℕ) → A.takes answerer.old count → A.takes answerer.new count }
     {
         let Some(ready) = self.staged.take() else {
             unreachable!();
         };
         let ports = mem::replace(&mut self.ports, Vec::new(self.alloc));
         let hands = mem::replace(&mut self.hands, Vec::new(self.alloc));
-        let Beside { answers, intake } = run_beside(rt, self.alloc, runner, &ready, ports, hands);
+        let incoming = Incoming { ports, hands, gate };
+        let Beside { answers, intake } = run_beside(rt, self.alloc, answerer, &ready, incoming);
         let Intake {
             ports,
             hands,

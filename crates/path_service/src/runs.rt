@@ -1,6 +1,5 @@
 //! The running turn.
-ghost use Rattle.std.specs.Prelude.{◌≡◌, ◌≤◌, ◌^◌, ◌<◌, All, IfOk, Ok, length};
-ghost use denote.Param.Send.{IsSync};
+ghost use Rattle.std.specs.Prelude.{◌≡◌, ◌≤◌, ℕ, All, IfOk, Ok, length};
 ghost use Rattle.nav_types.specs.declared.limits.TheConstants.{MAX_STAGED_POSTS as MOST};
 ghost use Rattle.posts.specs.Posts.{jobs, post_count};
 ghost use Rattle.grid_versions.specs.Versions.{map_state};
@@ -13,12 +12,16 @@ ghost use Rattle.path_service.specs.inner.Running.{version_for_next, HoldsRun};
 use crate::intakes::{Intake, next_turn};
 use crate::ports::Port;
 use grid_versions::Version;
+use io_edges::Gate;
 use nav_types::NoMemory;
 use std::alloc::Global;
+use std::mem;
 use std::snapshot::Snapshot;
 use std::sync::Wait;
-use std::thread::{Threads, join};
-use turn_core::{AnsweredTurn, Answers, Posts, ReadyTurn, Runner, TurnPosts, TurnReplies};
+use std::thread::{Threads, join_mut};
+use turn_core::{
+    AnsweredTurn, Answerer, Answers, Posts, ReadyTurn, Report, TurnPosts, TurnReplies,
+};
 
 /// A running turn whose jobs are answered: its posts, the replies to them and the version after it.
 #[derive(Drop)]
@@ -77,53 +80,74 @@ pub(crate) fn version_for_next<'a>(
     }
 }
 
-/// Runs the jobs of a turn on its version, and beside them takes in the next turn, which stands on it. The runner is then
-/// told of the posts of the next turn.
-pub(crate) fn run_beside<W: Runner + Sync, R: Threads + Wait + Sync>(
+/// What is taken in beside a turn that runs: the ports of the callers, what is in hand, and the gate that is told of it.
+#[derive(Drop)]
+pub(crate) struct Incoming<'a, G> {
+    pub ports: Vec<Port>,
+    pub hands: Vec<Posts>,
+    pub gate: &'a G,
+}
+
+/// Has someone answer the jobs of a turn on its version, and beside that takes in the next turn, which stands on it. The
+/// gate is then told of the posts of the next turn.
+pub(crate) fn run_beside<A: Answerer + Send, G: Gate, R: Threads + Wait + Sync>(
     rt: &R,
     alloc: Global,
-    runner: &W,
+    answerer: &mut A,
     ready: &ReadyTurn,
-    ports: Vec<Port>,
-    hands: Vec<Posts>,
+    incoming: Incoming<'_, G>,
 ) -> Beside
-    requires ready { W.ready runner.now }
-    requires jobs { length (jobs ready.now.turn) < 2 ^ 32 }
-    requires wide { length hands.items ≡ length ports.items }
-    requires room { All IsInRoom ports.items }
-    requires few { post_count hands.items ≤ MOST }
+    requires takes { A.takes answerer.old (length (jobs ready.now.turn)) }
+    requires wide { length incoming.hands.items ≡ length incoming.ports.items }
+    requires room { All IsInRoom incoming.ports.items }
+    requires few { post_count incoming.hands.items ≤ MOST }
     ensures answers { IfOk result.answers
         (AreAnswersTo ready.now.map (after_edits_of ready.now) (jobs ready.now.turn)) }
-    ensures intake { HasTakenIn ready.now.map (after_edits_of ready.now) ports.items hands.items result.intake }
+    ensures intake { HasTakenIn ready.now.map (after_edits_of ready.now) incoming.entry.ports.items
+        incoming.entry.hands.items result.intake }
+    ensures takes { (count : ℕ) → A.takes answerer.old count → A.takes answerer.new count }
 {
+    let Incoming {
+        mut ports,
+        mut hands,
+        gate,
+    } = incoming;
     let version = ready.version();
     let asked = ready.jobs();
-    let (answers, intake) = join(
+    let (answers, intake) = join_mut(
         rt,
-        move || -> Result<Answers, NoMemory>
-            requires { W.ready runner.now × (length asked.now < 2 ^ 32) }
-            ensures { IfOk result
+        &mut || -> Result<Answers, NoMemory>
+            requires { A.takes answerer.now (length asked.now) }
+            ensures answers { IfOk result
                 (AreAnswersTo version.entry.now.map version.entry.now.standing asked.entry.now) }
-        { runner.run(alloc, version, asked) },
-        move || -> Intake
-            requires { IsSync R.row × W.ready runner.now × (length hands.items ≡ length ports.items)
-                × All IsInRoom ports.items × (post_count hands.items ≤ MOST) }
-            ensures { HasTakenIn version.entry.now.map version.entry.now.standing ports.items hands.items result }
-        { take_in(rt, alloc, runner, version, ports, hands) },
+            ensures takes { (count : ℕ) → A.takes answerer.entry.now count → A.takes answerer.exit.now count }
+        {
+            let noted = answerer.noted_answers(alloc, version, asked, Report::Answers)?;
+            Ok(noted.answers)
+        },
+        &mut || -> Intake
+            requires { (length hands.items ≡ length ports.items) × All IsInRoom ports.items
+                × (post_count hands.items ≤ MOST) }
+            ensures { HasTakenIn version.entry.now.map version.entry.now.standing ports.entry.items
+                hands.entry.items result }
+        {
+            let ports = mem::replace(&mut ports, Vec::new(alloc));
+            let hands = mem::replace(&mut hands, Vec::new(alloc));
+            take_in(rt, alloc, gate, version, ports, hands)
+        },
     );
     Beside { answers, intake }
 }
 
-/// Takes in the next turn on a version, and tells the runner of its posts.
-fn take_in<W: Runner, R: Wait>(
+/// Takes in the next turn on a version, and tells the gate of its posts.
+fn take_in<G: Gate, R: Wait>(
     rt: &R,
     alloc: Global,
-    runner: &W,
+    gate: &G,
     version: &Version,
     ports: Vec<Port>,
     hands: Vec<Posts>,
 ) -> Intake
-    requires ready { W.ready runner.now }
     requires wide { length hands.items ≡ length ports.items }
     requires room { All IsInRoom ports.items }
     requires few { post_count hands.items ≤ MOST }
@@ -131,7 +155,7 @@ fn take_in<W: Runner, R: Wait>(
 {
     let intake = next_turn(rt, alloc, version, ports, hands);
     if let Ok(count) = &intake.count {
-        runner.staged(*count);
+        gate.staged(*count);
     }
     intake
 }

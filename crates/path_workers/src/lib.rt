@@ -19,4 +19,4 @@ mod turns;
 
 pub use rooms::Rooms;
 pub use sharing::{LEAST_WORK, WORK_OF_A_WORKER, worth_workers};
-pub use turns::{Workers, run_turn};
+pub use turns::Workers;

@@ -17,30 +17,7 @@ use nav_types::limits::MAX_WORKERS;
 use std::alloc::Global;
 use std::marker::Model;
 use std::thread::Threads;
-use turn_core::{Answers, Jobs, NotedAnswers, Report};
-
-/// The answers to the jobs on a version, each in the place of its job (`AreAnswersTo`), whatever the gate, the number
-/// of workers and the order in which they come to their jobs. There are fewer than 2^32 jobs. It refuses for want of
-/// memory alone.
-///
-/// The workers, 1 to 64, draw the jobs one by one from a claim board, and each passes the gate once before it solves a
-/// job. There are no more threads than jobs, and none for a single job. Where no thread can be started, the caller's
-/// own does its work.
-pub fn run_turn<R: Threads + Sync, G: Gate + Sync>(
-    rt: &R,
-    alloc: Global,
-    version: &Version,
-    jobs: &Jobs,
-    workers: u8,
-    gate: &G,
-) -> Result<Answers, NoMemory>
-    requires some { 1 ≤ workers }
-    requires most { workers ≤ MAX_WORKERS }
-    requires few { length jobs.now < 2 ^ 32 }
-    ensures { IfOk result (AreAnswersTo version.now.map version.now.standing jobs.now) }
-{
-    Workers::new(workers, gate).run(rt, alloc, version, jobs, &mut Rooms::new(alloc))
-}
+use turn_core::{Jobs, NotedAnswers, Report};
 
 /// So many workers, 1 to 64, who pass a gate. Contracts see their number.
 #[derive(Drop)]
@@ -70,24 +47,14 @@ impl<'a, G: Gate + Sync> Workers<'a, G> {
         Workers { count, gate }
     }
 
-    /// The answers to the jobs on a version, each in the place of its job, as [`run_turn`] gives them.
-    pub fn run<R: Threads + Sync>(
-        &self,
-        rt: &R,
-        alloc: Global,
-        version: &Version,
-        jobs: &Jobs,
-        rooms: &mut Rooms,
-    ) -> Result<Answers, NoMemory>
-        requires { length jobs.now < 2 ^ 32 }
-        ensures { IfOk result (AreAnswersTo version.now.map version.now.standing jobs.now) }
-    {
-        let noted = self.run_noted(rt, alloc, version, jobs, Report::Answers, rooms)?;
-        Ok(noted.answers)
-    }
-
-    /// The answers that [`Workers::run`] gives, with what the report tells of each (`AreNotes`). It refuses for want of
-    /// memory alone. The workers search in the rooms, which have theirs at the end.
+    /// The answers to the jobs on a version, each in the place of its job (`AreAnswersTo`), with what the report tells of
+    /// each (`AreNotes`), whatever the gate, the number of workers, the order in which they come to their jobs, and the
+    /// rooms in which they search, which have theirs at the end. There are fewer than 2^32 jobs. It refuses for want of
+    /// memory alone.
+    ///
+    /// The workers draw the jobs one by one from a claim board, and each passes the gate once before it solves a job. There
+    /// are no more threads than jobs, and none for a single job. Where no thread can be started, the caller's own does its
+    /// work.
     pub fn run_noted<R: Threads + Sync>(
         &self,
         rt: &R,
@@ -135,8 +102,24 @@ impl<'a, G: Gate + Sync> Workers<'a, G> {
         }
     }
 
-    /// Tells the gate that a turn with so many posts is staged.
-    pub fn staged(&self, posts: u64) {
-        self.gate.staged(posts);
+    /// The answers that [`Workers::run_noted`] gives, by as many of the workers as the jobs are worth, with the rooms in
+    /// which they searched.
+    pub fn answer_in<R: Threads + Sync>(
+        &self,
+        rt: &R,
+        alloc: Global,
+        rooms: Rooms,
+        version: &Version,
+        jobs: &Jobs,
+        report: Report,
+    ) -> (Rooms, Result<NotedAnswers, NoMemory>)
+        requires { length jobs.now < 2 ^ 32 }
+        ensures answers { IfOk result.1 (λ noted. AreAnswersTo version.now.map version.now.standing jobs.now noted.answers) }
+        ensures notes { IfOk result.1 (λ noted. AreNotes version.now.map version.now.standing report jobs.now noted.notes) }
+    {
+        let mut rooms = rooms;
+        let few = self.sized_for(version, jobs, report);
+        let noted = few.run_noted(rt, alloc, version, jobs, report, &mut rooms);
+        (rooms, noted)
     }
 }

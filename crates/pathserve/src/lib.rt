@@ -23,7 +23,6 @@ mod sessions;
 mod status;
 mod summing;
 mod teams;
-mod turn_answers;
 mod works;
 mod writing;
 mod wrong_words;

@@ -69,12 +69,7 @@ pub fn run_replay<R: Threads + Sync, S: Source, K: Sink, G: Gate + Sync>(
             requires { IsSync R.row × IsSync G.row × (length jobs.now < 2 ^ 32) }
             ensures { IfOk result.1 (λ noted. AreAnswersTo version.now.map version.now.standing jobs.now noted.answers
                 × AreNotes version.now.map version.now.standing report jobs.now noted.notes) }
-        {
-            let mut rooms = rooms;
-            let few = workers.sized_for(version, jobs, report);
-            let noted = few.run_noted(rt, alloc, version, jobs, report, &mut rooms);
-            (rooms, noted)
-        },
+        { workers.answer_in(rt, alloc, rooms, version, jobs, report) },
     };
     replay_by(alloc, &mut team, report, source, sink, why)
 }

@@ -1,8 +1,10 @@
 //! Sessions: callers that post by themselves, and a driver that makes turns out of what has come and has them answered.
 ghost use Rattle.std.specs.Prelude.{ℕ, ◌≡◌, ◌<◌, ◌≤◌, ◌^◌, All, IfOk, OnOk, length, map};
+ghost use denote.Param.Send.{IsSync};
 ghost use Rattle.nav_types.specs.declared.limits.TheConstants.{MAX_WORKERS};
 ghost use Rattle.posts.specs.Callers.{list_of, of_caller};
 ghost use Rattle.posts.specs.Posts.{post_count};
+ghost use Rattle.turn_core.specs.Notes.{AreNotes};
 ghost use Rattle.turn_core.specs.Solving.{AreAnswersTo};
 ghost use Rattle.turn_core.specs.Turns.{replies_in, IsOneThread};
 ghost use Rattle.path_service.specs.Callers.{AreNumbered, caller_id, ended_id};
@@ -11,18 +13,19 @@ ghost use Rattle.pathserve.specs.Serving.{IsJournalOf, all_taken, collected_by, 
 ghost use Rattle.pathserve.specs.inner.Sessions.{HasServed, IsAtStart, IsDriven};
 ghost use Rattle.pathserve.specs.inner.Works.{HasPostedNone};
 
+use crate::teams::Team;
 use crate::works::{Session, begin_all, end_all, join_all};
 use grid_versions::{MapSpec, Version};
 use io_edges::Gate;
 use nav_types::NoMemory;
 use path_service::{Callers, Closed, Driver, EndedCallers, start_service};
-use path_workers::{run_turn, worth_workers};
+use path_workers::{Rooms, Workers};
 use std::alloc::Global;
 use std::sync::Wait;
 use std::sync::atomic::{AtomicBool, Ordering};
 use std::thread;
 use std::thread::{Scope, Threads};
-use turn_core::{Answers, Jobs, Report, RunBy, Runner, TurnPosts, count_posts};
+use turn_core::{Answerer, Jobs, NotedAnswers, Report, TurnPosts, count_posts};
 
 /// A service all of whose callers have ended.
 #[derive(Drop)]
@@ -177,34 +180,38 @@ fn drive<R: Threads + Wait + Sync, G: Gate + Sync>(
     requires few { session.now.workers ≤ MAX_WORKERS }
     ensures { OnOk result (HasServed driver.old driver.new posts) }
 {
-    let rt = session.rt;
-    let alloc = session.alloc;
-    let workers = session.workers;
-    let gate = session.gate;
-    let run = |version: &Version, jobs: &Jobs| -> Result<Answers, NoMemory>
-        requires { (1 ≤ workers) × (workers ≤ MAX_WORKERS) × (length jobs.now < 2 ^ 32) }
-        ensures { IfOk result (AreAnswersTo version.now.map version.now.standing jobs.now) }
-    {
-        let workers = worth_workers(version, jobs, Report::Answers, workers);
-        run_turn(rt, alloc, version, jobs, workers, gate)
+    let Session {
+        rt,
+        alloc,
+        workers,
+        gate,
+        short,
+    } = *session;
+    let workers = Workers::new(workers, gate);
+    let mut team = Team {
+        rooms: Rooms::new(alloc),
+        run: move |alloc: Global, rooms: Rooms, version: &Version, jobs: &Jobs, report: Report| -> (
+            Rooms,
+            Result<NotedAnswers, NoMemory>,
+        )
+            requires { IsSync R.row × IsSync G.row × (length jobs.now < 2 ^ 32) }
+            ensures { IfOk result.1 (λ noted. AreAnswersTo version.now.map version.now.standing jobs.now noted.answers
+                × AreNotes version.now.map version.now.standing report jobs.now noted.notes) }
+        { workers.answer_in(rt, alloc, rooms, version, jobs, report) },
     };
-    let staged = |posts: u64| gate.staged(posts);
-    let runner = RunBy {
-        run: &run,
-        staged: &staged,
-    };
-    make_turns(rt, driver, posts, &runner, session.short)
+    make_turns(rt, driver, posts, &mut team, gate, short)
 }
 
-/// Stages, starts and delivers turns by a runner, until so many posts have their replies.
-fn make_turns<W: Runner + Sync, R: Threads + Wait + Sync>(
+/// Stages, starts and delivers turns that someone answers, until so many posts have their replies.
+fn make_turns<A: Answerer + Send, R: Threads + Wait + Sync, G: Gate>(
     rt: &R,
     driver: &mut Driver,
     posts: u64,
-    runner: &W,
+    answerer: &mut A,
+    gate: &G,
     short: &AtomicBool,
 ) -> Result<(), NoMemory>
-    requires ready { W.ready runner.now }
+    requires takes { (count : ℕ) → count < 2 ^ 32 → A.takes answerer.old count }
     requires begins { IsAtStart driver.old }
     requires count { posts < 2 ^ 32 }
     ensures { OnOk result (HasServed driver.old driver.new posts) }
@@ -223,7 +230,7 @@ fn make_turns<W: Runner + Sync, R: Threads + Wait + Sync>(
             next = driver.stage(rt)?;
         } else {
             delivered += next;
-            next = driver.start(rt, runner)?;
+            next = driver.start(rt, answerer, gate)?;
             driver.deliver(rt)?;
         }
     }

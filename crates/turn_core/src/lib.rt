@@ -6,8 +6,8 @@
 //! ```
 //!
 //! A [`Solver`] answers one request after another and keeps its search's memory and its last flow field; what it answers
-//! does not depend on what it answered before. A [`OneThread`] answers turn after turn: the sequential specification, as a
-//! program. `path_service` says how turns are staged, run and delivered beside each other.
+//! does not depend on what it answered before. An [`Answerer`] answers the jobs of turn after turn, on one thread
+//! ([`OneThread`]: the sequential specification, as a program) or on many. `path_service` says how turns are staged, run and delivered beside each other.
 #![tactic(auto)]
 
 mod answerers;
@@ -21,13 +21,12 @@ mod ready_turns;
 mod reply_lists;
 mod reports;
 pub mod request_laws;
-mod runners;
 mod same_targets;
 mod searches;
 mod solving;
 mod turn_versions;
 
-pub use answerers::{Answerer, NotedAnswers};
+pub use answerers::{Answerer, NotedAnswers, NotedTurn, noted_turn};
 pub use journals::{answer_turn, one_thread};
 pub use jump_search::Pool;
 pub use named_goals::goal_of;
@@ -39,6 +38,5 @@ pub use posts::{
 };
 pub use ready_turns::{AnsweredTurn, ReadyTurn};
 pub use reports::REPORTS;
-pub use runners::{RunBy, Runner};
 pub use solving::{Solver, flow_of, solve, solve_noted};
 pub use turn_versions::bare_version;

@@ -18,19 +18,20 @@ loop-posts-init g c =
       has = subst (λ (told : List TurnReplies). HasAnswered c.args.map.now [] c.in_ok-version.version told) (sym all.items)
           (none_answered c.args.map.now c.in_ok-version.version c.in_ok-version.ensures.map c.in_ok-version.ensures.standing);
       count = ap length all.items;
+      takes = c.requires.takes;
       room = omega (arith, all.capacity, c.len.ensures);
     }
 
-pub replies_to_turn-requires : goal.replies_to_turn-requires
-replies_to_turn-requires g c =
+pub noted_turn-requires : goal.noted_turn-requires
+noted_turn-requires g c =
     let whole = c.into_items-posts-items.ensures in
     let items : into_iter_items c.into_iter-posts-iterator.result ≡ c.into_items-posts-items.result.items = search rules in
     let count : into_iter_len c.into_iter-posts-iterator.result ≡ length c.into_items-posts-items.result.items = search rules in
     let road = YieldsList-from_vec {s = c.into_iter-posts-iterator.result} c.args.journal (items ∙ whole) (count ∙ ap length whole) in
     let next = YieldsList-turn road c.loop-posts.yielded c.loop-posts.posts-iterator c.loop-posts.yielded_by c.next.result c.next.new.self c.in-Some.posts c.in-Some.is c.next.ensures.steps in
     let few : length (jobs c.in-Some.posts) < 2 ^ 32 =
-    one_of_all (λ turn. length (jobs turn) < 2 ^ 32) c.args.journal (length c.loop-posts.yielded) c.in-Some.posts next.0 next.1 c.requires in
-    (c.type_bounds.sync-R, (c.type_bounds.sync-G, omega (arith, few)))
+    one_of_all (λ turn. length (jobs turn) < 2 ^ 32) c.args.journal (length c.loop-posts.yielded) c.in-Some.posts next.0 next.1 c.requires.few in
+    record { takes = c.loop-posts.invariant.takes (length (jobs c.in-Some.posts)) few }
 
 pub push_reserved-requires : goal.push_reserved-requires
 push_reserved-requires g c =
@@ -57,6 +58,7 @@ loop-posts-preserved g c =
           c.loop-posts.all.items c.push_reserved.new.self.items told next.0 next.1 before.has c.in_ok-replies.ensures.map
           c.in_ok-replies.ensures.standing c.in_ok-replies.ensures.told pushed.items;
       count = omega (arith, before.count, ap length pushed.items, length-append c.loop-posts.all.items (told ∷ []), length-append c.loop-posts.yielded (c.in-Some.posts ∷ []));
+      takes = λ n fits. c.noted_turn.ensures.takes n (before.takes n fits);
       room = omega (arith, before.room, pushed.capacity);
     }
 

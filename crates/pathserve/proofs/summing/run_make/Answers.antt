@@ -15,16 +15,16 @@ returns-in-Ok-clause-sink g c = record {
   fault = λ is. absurd (done_no_write is);
 }
 
-pub returns-in-Err-clause-told : goal.returns-in-Err-clause-told
-returns-in-Err-clause-told g c =
+pub returns-clause-told : goal.returns-clause-told
+returns-clause-told g c =
     rw c.status_of.ensures (made_told c.args.seed _ _ c.summary.result (Err c.in-Err.refusal) c.summary.ensures c.in-Err.ensures.written)
 
-pub returns-in-Err-clause-status : goal.returns-in-Err-clause-status
-returns-in-Err-clause-status g c =
+pub returns-clause-status : goal.returns-clause-status
+returns-clause-status g c =
     rw c.status_of.ensures (made_status (Err c.in-Err.refusal) _ _ c.in-Err.ensures.fault)
 
-pub returns-in-Err-clause-sink : goal.returns-in-Err-clause-sink
-returns-in-Err-clause-sink g c =
+pub returns-clause-sink : goal.returns-clause-sink
+returns-clause-sink g c =
     let Refused : WriteRefusal → Result (Unit {0}) WriteRefusal = λ refused. Err refused in
     record {
       taken = text_taken _ _ c.summary.result (Err c.in-Err.refusal) c.in-Err.ensures.written;

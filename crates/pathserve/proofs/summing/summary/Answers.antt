@@ -2,9 +2,8 @@ use Rattle.made_match.proofs.SmallJournals.{journal_jobs_few}
 use Rattle.pathserve.proofs.FewReplies.{replies_summed}
 use Rattle.pathserve.proofs.summing.summary.Goals as goal
 
-pub all_replies-requires : goal.all_replies-requires
-all_replies-requires g c =
-    (c.type_bounds.sync-R, (c.type_bounds.sync-G, rw c.in_ok-map.ensures.journal (journal_jobs_few c.args.seed)))
+pub all_replies-requires-clause-few : goal.all_replies-requires-clause-few
+all_replies-requires-clause-few g c = rw c.in_ok-map.ensures.journal (journal_jobs_few c.args.seed)
 
 pub summary_text-requires-clause-few : goal.summary_text-requires-clause-few
 summary_text-requires-clause-few g c =

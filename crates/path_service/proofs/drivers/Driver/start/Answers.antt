@@ -26,7 +26,7 @@ run_beside-answers-requires g c =
     let wide : length c.replace-hands.result.items ≡ length c.replace-ports.result.items = ap length hands ∙ wide_hands a c.self.invariant ∙ sym (ap length ports) in
     let room : All IsInRoom c.replace-ports.result.items = subst (All IsInRoom) (sym ports) c.self.invariant.room in
     let held : post_count c.replace-hands.result.items ≤ MAX_STAGED_POSTS = subst (λ (h : List (List Post)). post_count h ≤ MAX_STAGED_POSTS) (sym hands) c.self.invariant.few in
-    (c.type_bounds.sync-W, (c.type_bounds.sync-R, (c.requires.ready, (asked, (wide, (room, held))))))
+    (c.type_bounds.send-A, (c.type_bounds.sync-R, (c.requires.takes (length (jobs ready.turn)) asked, (wide, (room, held)))))
 
 pub invariant_of-self : goal.invariant_of-self
 invariant_of-self g c =
@@ -54,6 +54,7 @@ returns g c =
       rest = started_rest a _ ready c.new-3.result intake c.self.view_is begins c.new-3.ensures.posts c.new-3.ensures.holds;
       refused = tt;
       failed = tt;
+      takes = c.run_beside-answers.ensures.takes;
     }
 
 pub returns-in_default-both : goal.returns-in_default-both
@@ -66,4 +67,5 @@ returns-in_default-both g c =
       rest = tt;
       refused = has_broken_off a _ ready c.into_parts-posts.result.0 intake c.self.view_is begins c.into_parts-posts.ensures.posts;
       failed = broken_rest a _ ready c.into_parts-posts.result.0 intake c.self.view_is begins c.into_parts-posts.ensures.posts;
+      takes = c.run_beside-answers.ensures.takes;
     }
