@@ -1,6 +1,6 @@
 //! Replies of every kind with their lines, the text of a turn, and summaries.
 
-use answer_text::{noted_text, summary_text, turn_text, write_reply};
+use answer_text::{push_noted_text, summary_text, turn_text, write_reply};
 use nav_types::{Bytes, Cell, Cost, NoMemory};
 use posts::{
     AllReplies, Answer, CallerReplies, EditReply, Note, PathAnswer, Refusal, RegionAnswer, Replies,
@@ -232,13 +232,27 @@ fn each_path_has_its_line(rt: HostRuntime) {
     }
 }
 
+/// Whether the text of a turn with its notes is this, behind what stands there before it.
+fn is_pushed(
+    alloc: Global,
+    turn: u64,
+    replies: &TurnReplies,
+    notes: &[Note],
+    text: &str,
+) -> Result<bool, NoMemory> {
+    let mut pushed = Bytes::new(alloc);
+    pushed.extend(b"before")?;
+    push_noted_text(alloc, &mut pushed, turn, replies, notes)?;
+    Ok(pushed.as_slice().strip_prefix(b"before") == Some(text.as_bytes()))
+}
+
 /// Whether the texts of the first turn are those above.
 fn is_first_written(alloc: Global) -> Result<bool, NoMemory> {
     let turn = first_turn(alloc)?;
     let notes = [Note::Opened(5), Note::Opened(7)];
     Ok(
         is_text(turn_text(alloc, 1, &turn), FIRST)
-            && is_text(noted_text(alloc, 1, &turn, &notes), FIRST_PROFILE),
+            && is_pushed(alloc, 1, &turn, &notes, FIRST_PROFILE)?,
     )
 }
 
@@ -248,7 +262,7 @@ fn is_second_written(alloc: Global) -> Result<bool, NoMemory> {
     let notes = [Note::Nothing, Note::Nothing, Note::Opened(12)];
     Ok(
         is_text(turn_text(alloc, 2, &turn), SECOND)
-            && is_text(noted_text(alloc, 2, &turn, &notes), SECOND_PROFILE),
+            && is_pushed(alloc, 2, &turn, &notes, SECOND_PROFILE)?,
     )
 }
 

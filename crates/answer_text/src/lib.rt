@@ -19,6 +19,6 @@ mod turns;
 
 pub use laws::{notes_of_nothing, waypoint_is_canonical};
 pub use lines::{bad_line_text, write_reply};
-pub use noted::noted_text;
+pub use noted::push_noted_text;
 pub use summary::summary_text;
 pub use turns::turn_text;

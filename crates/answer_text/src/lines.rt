@@ -42,7 +42,8 @@ pub(crate) fn write_turn_line(
     tallies: Tallies,
     relabelled: u32,
 ) -> Result<(), NoMemory>
-    ensures { OnOk result (text.new ≡ text.old ++ turn_line turn tallies relabelled) }
+    ensures ok { OnOk result (text.new ≡ text.old ++ turn_line turn tallies relabelled) }
+    ensures err { OnErr result (GrewFrom text.old text.new) }
 {
     write_after(text, b"turn ", turn)?;
     write_after(text, b" regions ", tallies.regions)?;

@@ -6,23 +6,20 @@ use Rattle.posts.specs.declared.posts.Post.{Post}
 use Rattle.posts.specs.Maps.{Map}
 use Rattle.script_text.specs.Canon.{HaveLines, canon_journal}
 use Rattle.script_text.specs.ReadsBack.{canon_turns}
-use Rattle.turn_core.specs.ReadyTurns.{Ready, after_edits_of}
 use Rattle.turn_core.specs.Turns.{after_turn, standing}
 use Rattle.turn_core.specs.Words.{Standing, bare}
 use Rattle.turn_core.proofs.Threads.{standing_more}
 
-pub one_more : (m : Map) (s : Standing) (journal : List (List (List Post))) (posts item : List (List Post)) (ready : Ready) (now : Map) (stands : Standing)
+pub one_more : (m : Map) (s : Standing) (journal : List (List (List Post))) (posts item : List (List Post)) (now : Map) (stands : Standing)
     (pushed : List (List (List Post))) → s ≡ standing m bare journal → All (HaveLines m.version) journal → HaveLines m.version posts
     → All (λ turn. length turn ≡ m.callers) journal → length posts ≡ m.callers
-    → ready ≡ record { map = m; before = s; turn = posts } → now ≡ ready.map → stands ≡ after_edits_of ready → item ≡ ready.turn → pushed ≡ journal ++ item ∷ []
+    → now ≡ m → stands ≡ after_turn m s posts → item ≡ posts → pushed ≡ journal ++ item ∷ []
     → (stands ≡ standing now bare pushed) × All (HaveLines now.version) pushed × All (λ turn. length turn ≡ now.callers) pushed
-one_more m s journal posts item ready now stands pushed before lines line lists list is map after turn push =
+one_more m s journal posts item now stands pushed before lines line lists list on after last push =
     let Lists : Map → List (List Post) → Type 0 = λ x t. length t ≡ x.callers in
-    let on : now ≡ m = map ∙ ap (λ (r : Ready). r.map) is in
-    let last : item ≡ posts = turn ∙ ap (λ (r : Ready). r.turn) is in
     let all : pushed ≡ journal ++ posts ∷ [] = push ∙ ap (λ (p : List (List Post)). journal ++ p ∷ []) last in
     let here : stands ≡ standing m bare (journal ++ posts ∷ []) =
-    after ∙ (ap after_edits_of is ∙ (ap (λ (t : Standing). after_turn m t posts) before ∙ sym (standing_more m bare journal posts))) in
+    after ∙ (ap (λ (t : Standing). after_turn m t posts) before ∙ sym (standing_more m bare journal posts)) in
     let more : All (HaveLines m.version) (journal ++ posts ∷ []) =
     All-append (HaveLines m.version) journal (posts ∷ []) lines (All-cons (HaveLines m.version) posts [] line (All-nil (HaveLines m.version))) in
     let counts : All (Lists m) (journal ++ posts ∷ []) =

@@ -7,13 +7,13 @@ ghost use Rattle.script_text.specs.declared.items.ScriptItem.TheVariants.{Turn};
 ghost use Rattle.match_play.specs.Grounds.{AddsBase, Becomes, FitsBase, FitsItem, FitsTurn, TakesItem, Tells, said_of, turns_in};
 
 use crate::states::Ground;
-use crate::turn_texts::{TurnText, text_of_turn};
 use crate::views::view_of;
+use answer_text::push_noted_text;
 use nav_types::{Bytes, NoMemory};
 use posts::{BaseRects, Report, TurnPosts};
 use script_text::ScriptItem;
 use std::alloc::Global;
-use turn_core::Answerer;
+use turn_core::{Answerer, NotedTurn, noted_turn};
 
 /// Plays an item of a script: takes what it says of the map, or tells the text of its turn behind what waits (`Says`),
 /// whoever answers it. It refuses for want of memory alone, hands the item back, and what is told and said stays.
@@ -90,10 +90,13 @@ fn play_turn<A: Answerer>(
         Err(NoMemory) => return Err((NoMemory, posts)),
     };
     let turn = turns_in(ground) + 1;
-    let TurnText { text, after, posts } = text_of_turn(
-        alloc, answerer, report, &version, turn, posts,
-    )?;
-    match waiting.extend(text.as_slice()) {
+    let NotedTurn {
+        posts,
+        replies,
+        notes,
+        after,
+    } = noted_turn(alloc, answerer, &version, posts, report)?;
+    match push_noted_text(alloc, waiting, turn, &replies, notes.as_slice()) {
         Ok(()) => {
             *ground = Ground::Turns(after, turn);
             Ok(())

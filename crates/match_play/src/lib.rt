@@ -16,7 +16,6 @@ mod grounds;
 mod matches;
 mod posted;
 mod states;
-mod turn_texts;
 mod views;
 
 pub use faults::MatchFault;
@@ -25,4 +24,3 @@ pub use matches::Match;
 pub use posted::{EndedTurn, PostedMatch};
 pub use posts::Report;
 pub use states::Ground;
-pub use turn_texts::{TurnText, text_of_ready};

@@ -13,7 +13,7 @@ use posts::{Journal, MapSpec, Notes, Report, TurnPosts, TurnReplies};
 use script_text::{write_journal, write_map};
 use std::alloc::Global;
 use std::marker::Model;
-use turn_core::{AnsweredTurn, Answerer, NotedAnswers, OneThread, ReadyTurn, bare_version};
+use turn_core::{NotedTurn, OneThread, bare_version, noted_turn};
 
 /// What a turn is answered: the replies to its posts with the turn's numbers, and the notes of its requests.
 #[derive(Drop)]
@@ -84,19 +84,15 @@ impl PostedMatch {
         ensures err { OnErr result (self.new.journal ≡ self.old.journal) }
         ensures posts { IfErr result (λ refused. refused.1 ≡ posts) }
     {
-        let ready = ReadyTurn::new(alloc, &self.version, posts)?;
-        match self
-            .thread
-            .noted_answers(alloc, ready.version(), ready.jobs(), report)
-        {
-            Ok(NotedAnswers { answers, notes }) => {
-                let (posts, AnsweredTurn { replies, after }) = ready.answered(answers);
-                self.journal.push(posts)?;
-                self.version = after;
-                Ok(EndedTurn { replies, notes })
-            }
-            Err(NoMemory) => Err((NoMemory, ready.into_parts().0)),
-        }
+        let NotedTurn {
+            posts,
+            replies,
+            notes,
+            after,
+        } = noted_turn(alloc, &mut self.thread, &self.version, posts, report)?;
+        self.journal.push(posts)?;
+        self.version = after;
+        Ok(EndedTurn { replies, notes })
     }
 
     /// The version after the turns that have ended.
