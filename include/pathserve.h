@@ -8,6 +8,7 @@
  *     by text       pathserve_open       feed, finish          waiting, take
  *     by structs    pathserve_open_map   post_all, end_turn    replies, waypoints, journal
  *     to look       pathserve_view_of    passable, region, area, row, nearest, standing_at, find
+ *     to find much  pathserve_finder_open   find_with, find_all
  *
  * WHAT YOU PROMISE, for each call. The library's functions are proved to be safe and to give the statuses and the results
  * that are said here. Tested, and not proved, is what is said of memory (that NO_MEMORY comes only where there was none, that
@@ -17,9 +18,9 @@
  *   1. A pointer to a struct is not NULL, is aligned, and points to one that may be written, unless it points to `const`.
  *      Nobody else uses it until the call returns, and the pointers of one call point to things apart.
  *   2. A pointer with a length or a count points to so many items. With 0 it may be NULL.
- *   3. A handle (pathserve_match, pathserve_view) is all zero before it is first opened. From then on the library alone
- *      writes it. An open handle may be moved between calls: copied, where the old one is not used again, not even to be
- *      closed. It has no second copy that is used: one of a handle that was closed dangles.
+ *   3. A handle (pathserve_match, pathserve_view, pathserve_finder) is all zero before it is first opened. From then on the
+ *      library alone writes it. An open handle may be moved between calls: copied, where the old one is not used again, not
+ *      even to be closed. It has no second copy that is used: one of a handle that was closed dangles.
  *   4. Each handle serves one call at a time. It may pass to another thread where a lock, the start or the join of a thread
  *      or a sequentially consistent atomic orders that. Different handles may be used by different threads at once.
  *   5. PATHSERVE_STACK bytes of stack are left. No call comes from a signal handler or from the child of a fork.
@@ -68,7 +69,8 @@ enum {
     PATHSERVE_SIZE_POST = 6,  /* 48 */
     PATHSERVE_SIZE_TURN = 7,  /* 56 */
     PATHSERVE_SIZE_REPLY = 8, /* 56 */
-    PATHSERVE_SIZE_CELL = 9   /* 4 */
+    PATHSERVE_SIZE_CELL = 9,  /* 4 */
+    PATHSERVE_SIZE_FINDER = 10 /* 16 */
 };
 
 /* ---- statuses: those below 16 are exit statuses of the program `pathserve` (docs/FORMAT.md, "Words and statuses") ---- */
@@ -97,6 +99,7 @@ enum {
 
 typedef struct pathserve_match { uint64_t live; void *at; } pathserve_match; /* a match */
 typedef struct pathserve_view { uint64_t live; void *at; } pathserve_view;   /* what stands, to be looked at beside a match */
+typedef struct pathserve_finder { uint64_t live; void *at; } pathserve_finder; /* the memory of searches, for finds by views */
 
 /* Closes a match of either kind and frees all that it has; its views stay open, and may be closed later. A closed match
  * stays closed: closing twice is no harm. */
@@ -325,6 +328,32 @@ uint32_t pathserve_standing_at(pathserve_view *view, uint32_t id, pathserve_post
 pathserve_status pathserve_find(pathserve_view *view, const pathserve_post *post, pathserve_reply *reply,
                                 pathserve_cell *waypoints, size_t count);
 
+/* ---- finders: pathserve_find makes the memory of its search in each call. A finder keeps it from call to call ---- */
+
+/* Opens a closed finder. It belongs to no match and no map, and serves views of any: a thread that finds paths keeps one. It
+ * keeps what its searches took, some 16 MB at most, until it is closed. DONE, OPEN, NO_MEMORY. */
+pathserve_status pathserve_finder_open(pathserve_finder *finder);
+
+/* Closes a finder, before or after the views that it served. A closed one stays closed. */
+void pathserve_finder_close(pathserve_finder *finder);
+
+/* What pathserve_find does: the same statuses and the same answers, whatever the finder served before.
+ * DONE, BAD_VALUE, NO_MEMORY. CLOSED: the finder or the view is. OTHER: one of them is a handle of another kind. With DONE
+ * alone something is written. */
+pathserve_status pathserve_find_with(pathserve_finder *finder, pathserve_view *view, const pathserve_post *post,
+                                     pathserve_reply *reply, pathserve_cell *waypoints, size_t count);
+
+/* The same for many posts of the kinds PATHSERVE_PATH and PATHSERVE_REGION, each answered as by itself. Writes a reply to each
+ * post, in the order of the posts, and the waypoints of all paths behind one another: of both the first, as many as the buffer
+ * holds, so let `reply_count` be `post_count`. Of a reply `post` is the place of its post from 0, and `first_waypoint` the
+ * place of the path's first waypoint among all. The last path's `first_waypoint` and `waypoints` together are how many there
+ * are: where the buffer held fewer, ask for that path again.
+ * DONE. BAD_VALUE: one of the posts is one that pathserve_find refuses so. NO_MEMORY, CLOSED, OTHER as above. With DONE alone
+ * something is written. */
+pathserve_status pathserve_find_all(pathserve_finder *finder, pathserve_view *view, const pathserve_post *posts,
+                                    size_t post_count, pathserve_reply *replies, size_t reply_count,
+                                    pathserve_cell *waypoints, size_t waypoint_count);
+
 /* ======== memory of your own ========
  *
  * The library takes its memory by three functions, which heap.o of the archive defines by malloc, realloc and free. A program
@@ -359,5 +388,6 @@ PATHSERVE_HAS_SIZE(pathserve_post, 48);
 PATHSERVE_HAS_SIZE(pathserve_turn, 56);
 PATHSERVE_HAS_SIZE(pathserve_reply, 56);
 PATHSERVE_HAS_SIZE(pathserve_cell, 4);
+PATHSERVE_HAS_SIZE(pathserve_finder, 16);
 
 #endif

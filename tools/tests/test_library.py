@@ -5,6 +5,8 @@ The release is the folder that PATHSERVE_RELEASE names, or out/release, which `.
 out/release-unproved, which `./release --unproved` makes in minutes.
 """
 import concurrent.futures
+import ctypes
+import dataclasses
 import glob
 import json
 import os
@@ -101,7 +103,7 @@ class Header(unittest.TestCase):
     def test_each_size_is_what_the_library_says(self):
         with open(HEADER, encoding="utf-8") as file:
             sizes = re.findall(r"PATHSERVE_SIZE_(\w+) = (\d+),? +/\* (\d+) \*/", file.read())
-        self.assertEqual([int(number) for _, number, _ in sizes], list(range(1, 10)))
+        self.assertEqual([int(number) for _, number, _ in sizes], list(range(1, len(sizes) + 1)))
         lines = "".join(
             f"    if (pathserve_size_of({number}) != {size} || sizeof(pathserve_{name.lower()}) != {size}) return {number};\n"
             for name, number, size in sizes
@@ -423,6 +425,11 @@ def stand_after(standing, posts, replies):
     return standing
 
 
+def as_view_of(match, native):
+    """The handle of a match, where a view's is wanted."""
+    return ctypes.cast(ctypes.pointer(match._handle), native.VIEW)
+
+
 @needs_release
 class Python(unittest.TestCase):
     def setUp(self):
@@ -505,6 +512,57 @@ class Python(unittest.TestCase):
                             elif reply.why in (None, self.api.Refusal.START_OUTSIDE):
                                 self.assertIsNone(start)
         self.assertGreater(starts, 100)
+
+    def test_a_finder_answers_as_a_view_whatever_it_served_before(self):
+        paths = 0
+        with self.api.Finder() as finder:
+            for posted, _ in self.said(100):
+                with posted.open() as match:
+                    for posts in posted.turns:
+                        match.post(posts)
+                        match.end_turn()
+                        asked = [it for it in posts if it.kind in (5, 6)]
+                        with match.view() as view:
+                            one_by_one = [view.find(it) for it in asked]
+                            self.assertEqual([finder.find(view, it) for it in asked], one_by_one)
+                            placed = [dataclasses.replace(it, post=place) for place, it in enumerate(one_by_one)]
+                            self.assertEqual(finder.find_all(view, asked), placed)
+                        paths += sum(1 for it in one_by_one if it.path)
+        self.assertGreater(paths, 100)
+
+    def test_a_finder_refuses_as_a_view_and_writes_nothing_then(self):
+        api, native = self.api, self.api.finders.native
+        library, classes = api.load(), [api.PassabilityClass("walker", api.fixed(0.5))]
+        good = api.path(0, 0, api.fixed(1.5), api.fixed(1.5), api.Goal.point(api.fixed(5.5), api.fixed(1.5)))
+        with api.PostedMatch(12, 8, 1, classes) as match, match.view() as view, api.Finder() as finder:
+            for bad in (api.remove(0, 1), good._replace(class_number=1), good._replace(mask=1), good._replace(caller=1)):
+                posts, replies = (native.PostStruct * 2)(good.struct(), bad.struct()), (native.ReplyStruct * 2)()
+                cells = (native.CellStruct * 8)()
+                status = library.pathserve_find_all(finder._handle, view._handle, posts, 2, replies, 2, cells, 8)
+                self.assertEqual(status, api.Status.BAD_VALUE, bad)
+                self.assertEqual((bytes(replies), bytes(cells)), (bytes(112), bytes(32)))
+                with self.assertRaises(api.Failed) as raised:
+                    finder.find(view, bad)
+                self.assertEqual(raised.exception.status, api.Status.BAD_VALUE, bad)
+            posts, reply = (native.PostStruct * 2)(good.struct(), good.struct()), native.ReplyStruct()
+            # buffers that hold less are filled as far as they go
+            cells = (native.CellStruct * 2)()
+            self.assertEqual(library.pathserve_find_all(finder._handle, view._handle, posts, 2, reply, 1, cells, 1), api.Status.DONE)
+            self.assertEqual((reply.post, reply.waypoints > 0, bytes(cells)[4:]), (0, True, bytes(4)))
+            self.assertEqual(library.pathserve_finder_open(finder._handle), api.Status.OPEN)
+            as_view = ctypes.cast(ctypes.pointer(finder._handle), native.VIEW)
+            as_finder = ctypes.cast(ctypes.pointer(view._handle), native.FINDER)
+            calls = [
+                (as_finder, view._handle, api.Status.OTHER), (finder._handle, as_view_of(match, native), api.Status.OTHER),
+                (native.FinderHandle(), view._handle, api.Status.CLOSED), (finder._handle, native.ViewHandle(), api.Status.CLOSED),
+            ]
+            for by, seen, status in calls:
+                self.assertEqual(library.pathserve_find_with(by, seen, posts, reply, cells, 2), status)
+                self.assertEqual(library.pathserve_find_all(by, seen, posts, 2, reply, 1, cells, 2), status)
+            other = native.ViewHandle()
+            self.assertEqual(library.pathserve_view_again(as_view, other), api.Status.NO_MAP)
+            self.assertEqual(library.pathserve_passable(as_view, 0, 0, 0), 0)
+            self.assertEqual(finder.find(view, good).kind, api.Kind.AT_GOAL)
 
     def further(self, match, turns):
         """What these turns are told, without their numbers."""

@@ -18,7 +18,7 @@ use Rattle.flat_posts.specs.declared.turns.FlatTurn.{FlatTurn}
 use Rattle.flat_posts.specs.Maps.{IsMapOf}
 use Rattle.flat_posts.specs.Replies.{flat_turn}
 use Rattle.pathserve_c.specs.declared.states.State.{State}
-use Rattle.pathserve_c.specs.declared.states.State.TheVariants.{Text, Structs, View}
+use Rattle.pathserve_c.specs.declared.states.State.TheVariants.{Text, Structs, View, Finder}
 use Rattle.pathserve_c.specs.declared.statuses.TheConstants.{DONE, NO_MEMORY, CLOSED, OPEN, NO_MAP, BAD_VALUE, SMALL}
 use Rattle.pathserve_c.specs.Statuses.{refusal, status_of, status_of_posts}
 use Rattle.pathserve_c.specs.Structs.{StructState, Ends, IsNew, PostsAs, script_of, standing_in}
@@ -43,6 +43,7 @@ abbrev pub IsUnreadText : Report → State → Type 0
 IsUnreadText report (Text text) = IsUnread report text
 IsUnreadText report (View version) = ⊥
 IsUnreadText report (Structs structs) = ⊥
+IsUnreadText report (Finder finder) = ⊥
 
 -- a match was opened for this report, if there is such
 abbrev pub IsOpenedFor : Option Report → Option State → ℕ → Type 0
@@ -60,6 +61,8 @@ IsFed None new piece left status = IsRefused (refusal None) None new status × (
 IsFed (Some (View version)) new piece left status = IsRefused (refusal (Some (View version))) (Some (View version)) new status × (left ≡ piece)
 IsFed (Some (Structs structs)) new piece left status =
     IsRefused (refusal (Some (Structs structs))) (Some (Structs structs)) new status × (left ≡ piece)
+IsFed (Some (Finder finder)) new piece left status =
+    IsRefused (refusal (Some (Finder finder))) (Some (Finder finder)) new status × (left ≡ piece)
 IsFed (Some (Text old)) new piece left status = (made : TextState) × ((answer : Result (Unit {0}) MatchFault)
     × ((new ≡ Some (Text made)) × ((status ≡ status_of answer) × Feeds old made piece left answer)))
 
@@ -68,6 +71,7 @@ abbrev pub IsFinished : Option State → Option State → ℕ → Type 0
 IsFinished None new status = IsRefused (refusal None) None new status
 IsFinished (Some (View version)) new status = IsRefused (refusal (Some (View version))) (Some (View version)) new status
 IsFinished (Some (Structs structs)) new status = IsRefused (refusal (Some (Structs structs))) (Some (Structs structs)) new status
+IsFinished (Some (Finder finder)) new status = IsRefused (refusal (Some (Finder finder))) (Some (Finder finder)) new status
 IsFinished (Some (Text old)) new status = (made : TextState) × ((answer : Result (Unit {0}) MatchFault)
     × ((new ≡ Some (Text made)) × ((status ≡ status_of answer) × Finishes old made answer)))
 
@@ -76,6 +80,7 @@ abbrev pub IsTaken : Option State → Option State → ℕ → Type 0
 IsTaken None new count = new ≡ None
 IsTaken (Some (View version)) new count = new ≡ Some (View version)
 IsTaken (Some (Structs structs)) new count = new ≡ Some (Structs structs)
+IsTaken (Some (Finder finder)) new count = new ≡ Some (Finder finder)
 IsTaken (Some (Text old)) new count = (made : TextState) × ((new ≡ Some (Text made)) × Takes old made count)
 
 -- what a match tells on, as a version of the map; none where the map has not come
@@ -87,6 +92,7 @@ abbrev pub version_in : State → Option MapState
 version_in (Text text) = version_said (said_of text.game.ground)
 version_in (Structs structs) = Some (map_state structs.game.map (standing_in structs.game))
 version_in (View version) = Some version
+version_in (Finder finder) = None
 
 -- a closed view was opened of a version, where there is one
 abbrev pub IsShown : Option MapState → Option State → ℕ → Type 0
@@ -105,6 +111,7 @@ IsViewed (Some from) None new status = IsShown (version_in from) new status
 abbrev pub IsNewOn : Map → State → Type 0
 IsNewOn map (Text text) = ⊥
 IsNewOn map (View version) = ⊥
+IsNewOn map (Finder finder) = ⊥
 IsNewOn map (Structs structs) = IsNew map structs
 
 -- a closed handle was opened for a match on the map that the numbers are; else they are none, or there was no memory
@@ -122,6 +129,7 @@ abbrev pub IsPosted : Option State → Option State → List FlatPost → ℕ �
 IsPosted None new flats status = IsRefused (refusal None) None new status
 IsPosted (Some (Text text)) new flats status = IsRefused (refusal (Some (Text text))) (Some (Text text)) new status
 IsPosted (Some (View version)) new flats status = IsRefused (refusal (Some (View version))) (Some (View version)) new status
+IsPosted (Some (Finder finder)) new flats status = IsRefused (refusal (Some (Finder finder))) (Some (Finder finder)) new status
 IsPosted (Some (Structs old)) new flats status = (made : StructState) × ((answer : Result (Unit {0}) PostFault)
     × ((new ≡ Some (Structs made)) × ((status ≡ status_of_posts answer) × PostsAs old made flats answer)))
 
@@ -146,6 +154,7 @@ abbrev pub IsEnded : Option State → Option State → (before after : FlatTurn)
 IsEnded None new before after status = IsRefusedUntold None new before after status
 IsEnded (Some (Text text)) new before after status = IsRefusedUntold (Some (Text text)) new before after status
 IsEnded (Some (View version)) new before after status = IsRefusedUntold (Some (View version)) new before after status
+IsEnded (Some (Finder finder)) new before after status = IsRefusedUntold (Some (Finder finder)) new before after status
 IsEnded (Some (Structs old)) new before after status = (made : StructState)
     × ((new ≡ Some (Structs made)) × (HasEnded old made after status ⊎ IsUnended old made before after status))
 
@@ -169,5 +178,6 @@ abbrev pub IsWritten : Option State → (before after : List ℕ) → (old new :
 IsWritten None before after old new status = IsRefusedUnwritten None before after old new status
 IsWritten (Some (Text text)) before after old new status = IsRefusedUnwritten (Some (Text text)) before after old new status
 IsWritten (Some (View version)) before after old new status = IsRefusedUnwritten (Some (View version)) before after old new status
+IsWritten (Some (Finder finder)) before after old new status = IsRefusedUnwritten (Some (Finder finder)) before after old new status
 IsWritten (Some (Structs structs)) before after old new status =
     IsScript structs.game before after old new status

@@ -15,7 +15,7 @@ use Rattle.flat_posts.specs.Replies.{flat_reply, turn_waypoints}
 use Rattle.pathserve_c.specs.declared.statuses.PostFault.{PostFault}
 use Rattle.pathserve_c.specs.declared.statuses.PostFault.TheVariants as fault
 use Rattle.pathserve_c.specs.declared.states.State.{State}
-use Rattle.pathserve_c.specs.declared.states.State.TheVariants.{Text, Structs, View}
+use Rattle.pathserve_c.specs.declared.states.State.TheVariants.{Text, Structs, View, Finder}
 use Rattle.pathserve_c.specs.Statuses.{refusal, status_of_posts}
 
 -- The post is a request of a caller of the map, and the reply tells its answer on what stands. The first waypoints of a path
@@ -48,5 +48,7 @@ IsFound (Some (Text text)) post old new before after status =
     (status ≡ refusal (Some (Text text))) × IsUnwritten old new before after
 IsFound (Some (Structs structs)) post old new before after status =
     (status ≡ refusal (Some (Structs structs))) × IsUnwritten old new before after
+IsFound (Some (Finder finder)) post old new before after status =
+    (status ≡ refusal (Some (Finder finder))) × IsUnwritten old new before after
 IsFound (Some (View version)) post old new before after status = (answer : Result (Unit {0}) PostFault)
     × ((status ≡ status_of_posts answer) × FindsAs version post old new before after answer)

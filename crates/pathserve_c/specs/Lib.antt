@@ -1,4 +1,6 @@
+pub mod Answered
 pub mod Calls
+pub mod Finders
 pub mod Finds
 pub mod Handles
 pub mod Questions

@@ -13,7 +13,7 @@ use Rattle.flat_posts.specs.declared.posted.FlatPost.{FlatPost}
 use Rattle.flat_posts.specs.Cells.{flat_cell}
 use Rattle.flat_posts.specs.Posts.{IsPost}
 use Rattle.pathserve_c.specs.declared.states.State.{State}
-use Rattle.pathserve_c.specs.declared.states.State.TheVariants.{Text, Structs, View}
+use Rattle.pathserve_c.specs.declared.states.State.TheVariants.{Text, Structs, View, Finder}
 
 -- The point (x, z) lies on the map, and a path of class k from there starts in the cell.
 pub record StartsAt (version : MapState) (k : ℕ) (x z : ℤ) (cell : Cell) : Type 0 where
@@ -45,4 +45,5 @@ abbrev pub IsSaid : {A : Type 0} → (MapState → A → Type 0) → Option Stat
 IsSaid Is None old new said = IsUnsaid old new said
 IsSaid Is (Some (Text text)) old new said = IsUnsaid old new said
 IsSaid Is (Some (Structs structs)) old new said = IsUnsaid old new said
+IsSaid Is (Some (Finder finder)) old new said = IsUnsaid old new said
 IsSaid Is (Some (View version)) old new said = SaysAs (Is version) old new said

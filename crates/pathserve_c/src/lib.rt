@@ -8,6 +8,8 @@
 //! call takes the state out, works on it, and puts it back. Nothing here starts threads, and no state is global.
 #![tactic(auto)]
 
+mod finder_calls;
+mod finders;
 mod finds;
 mod handles;
 mod held;
@@ -22,6 +24,10 @@ mod texts;
 mod versions;
 mod views;
 
+pub use finder_calls::{
+    pathserve_find_all, pathserve_find_with, pathserve_finder_close, pathserve_finder_open,
+};
+pub use finders::Finder;
 pub use finds::pathserve_find;
 pub use handles::{Handle, handles_may_cross};
 pub use held::Held;

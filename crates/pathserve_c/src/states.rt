@@ -1,4 +1,5 @@
 //! What a handle holds.
+use crate::finders::Finder;
 use crate::struct_matches::StructMatch;
 use crate::text_matches::TextMatch;
 use grid_versions::Version;
@@ -12,4 +13,6 @@ pub enum State {
     Structs(StructMatch),
     /// What stands, to be looked at beside a match.
     View(Version),
+    /// Who answers requests by views.
+    Finder(Finder),
 }

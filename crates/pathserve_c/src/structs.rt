@@ -94,7 +94,7 @@ pub extern "C" fn pathserve_replies(
     };
     let count = match &*state {
         State::Structs(structs) => write_replies(structs.told(), first, replies),
-        State::Text(_) | State::View(_) => 0,
+        State::Text(_) | State::View(_) | State::Finder(_) => 0,
     };
     game.put(state);
     count
@@ -118,7 +118,7 @@ pub extern "C" fn pathserve_waypoints(
     };
     let count = match &*state {
         State::Structs(structs) => write_waypoints(structs.told(), first, waypoints),
-        State::Text(_) | State::View(_) => 0,
+        State::Text(_) | State::View(_) | State::Finder(_) => 0,
     };
     game.put(state);
     count
@@ -151,7 +151,7 @@ fn post_to(alloc: Global, state: &mut State, posts: &[FlatPost]) -> u32
 {
     match state {
         State::Structs(structs) => status_of_posts(structs.post_all(alloc, posts)),
-        State::Text(_) | State::View(_) => OTHER,
+        State::Text(_) | State::View(_) | State::Finder(_) => OTHER,
     }
 }
 
@@ -161,7 +161,7 @@ fn end_turn_of(alloc: Global, state: &mut State, turn: &mut FlatTurn) -> u32
 {
     match state {
         State::Structs(structs) => end_turn(alloc, structs, turn),
-        State::Text(_) | State::View(_) => OTHER,
+        State::Text(_) | State::View(_) | State::Finder(_) => OTHER,
     }
 }
 
@@ -184,7 +184,7 @@ fn write_journal_of(alloc: Global, state: &State, buffer: &mut [u8], whole: &mut
 {
     match state {
         State::Structs(structs) => write_journal(alloc, structs, buffer, whole),
-        State::Text(_) | State::View(_) => OTHER,
+        State::Text(_) | State::View(_) | State::Finder(_) => OTHER,
     }
 }
 

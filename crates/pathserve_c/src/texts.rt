@@ -76,7 +76,7 @@ pub extern "C" fn pathserve_finish(alloc: Global, game: &mut Handle) -> u32
     };
     let status = match &mut *state {
         State::Text(text) => status_of(text.finish(alloc)),
-        State::Structs(_) | State::View(_) => OTHER,
+        State::Structs(_) | State::View(_) | State::Finder(_) => OTHER,
     };
     game.put(state);
     status
@@ -95,7 +95,7 @@ pub extern "C" fn pathserve_waiting(alloc: Global, game: &mut Handle) -> usize
     };
     let count = match &*state {
         State::Text(text) => text.count_waiting(),
-        State::Structs(_) | State::View(_) => 0,
+        State::Structs(_) | State::View(_) | State::Finder(_) => 0,
     };
     game.put(state);
     count
@@ -116,7 +116,7 @@ pub extern "C" fn pathserve_take(alloc: Global, game: &mut Handle, buffer: &mut 
     };
     let count = match &mut *state {
         State::Text(text) => text.take(buffer),
-        State::Structs(_) | State::View(_) => 0,
+        State::Structs(_) | State::View(_) | State::Finder(_) => 0,
     };
     game.put(state);
     count
@@ -128,7 +128,7 @@ fn feed_state(alloc: Global, state: &mut State, bytes: &mut &[u8]) -> u32
 {
     match state {
         State::Text(text) => status_of(text.feed(alloc, bytes)),
-        State::Structs(_) | State::View(_) => OTHER,
+        State::Structs(_) | State::View(_) | State::Finder(_) => OTHER,
     }
 }
 

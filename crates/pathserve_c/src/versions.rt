@@ -36,7 +36,7 @@ pub extern "C" fn pathserve_size_of(which: u32) -> usize
     ensures { result ≡ size_named which }
 {
     match which {
-        1 | 2 => size_of::<Handle>(),
+        1 | 2 | 10 => size_of::<Handle>(),
         3 => size_of::<FlatMap>(),
         4 => size_of::<FlatClass>(),
         5 => size_of::<FlatRect>(),

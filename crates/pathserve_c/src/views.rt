@@ -71,7 +71,7 @@ pub extern "C" fn pathserve_passable(
     };
     let passable = match &*state {
         State::View(version) => passable(version, class_number, i, j),
-        State::Text(_) | State::Structs(_) => 0,
+        State::Text(_) | State::Structs(_) | State::Finder(_) => 0,
     };
     view.put(state);
     passable
@@ -96,7 +96,7 @@ pub extern "C" fn pathserve_region(
     };
     let region = match &*state {
         State::View(version) => region(version, class_number, i, j),
-        State::Text(_) | State::Structs(_) => 0,
+        State::Text(_) | State::Structs(_) | State::Finder(_) => 0,
     };
     view.put(state);
     region
@@ -121,7 +121,7 @@ pub extern "C" fn pathserve_area(
     };
     let area = match &*state {
         State::View(version) => area(version, class_number, i, j),
-        State::Text(_) | State::Structs(_) => 0,
+        State::Text(_) | State::Structs(_) | State::Finder(_) => 0,
     };
     view.put(state);
     area
@@ -149,7 +149,7 @@ pub extern "C" fn pathserve_row(
     };
     let count = match &*state {
         State::View(version) => row(version, class_number, j, words),
-        State::Text(_) | State::Structs(_) => 0,
+        State::Text(_) | State::Structs(_) | State::Finder(_) => 0,
     };
     view.put(state);
     count
@@ -196,6 +196,7 @@ fn version_in(alloc: Global, state: &State) -> Result<Option<Version>, NoMemory>
             Ok(version) => Ok(Some(version)),
             Err(NoMemory) => Err(NoMemory),
         },
+        State::Finder(_) => Ok(None),
     }
 }
 

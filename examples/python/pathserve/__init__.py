@@ -1,4 +1,4 @@
-"""The library libpathserve for Python: matches by text and by posts, and views. Python 3.8 or later, nothing to install.
+"""The library libpathserve for Python: matches by text and by posts, views, and finders. Python 3.8 or later, nothing to install.
 
     with TextMatch() as match:
         match.feed(script)
@@ -9,6 +9,7 @@ The library is the file that the variable PATHSERVE_LIBRARY names, or the one be
 A number that a field of the library does not hold is refused by ValueError. Any thread may use a match or a view: the calls of
 one wait for one another, and those of distinct ones do not.
 """
+from .finders import Finder
 from .matches import PostedMatch, TextMatch, Turn
 from .native import BadLine, Failed, OutOfMemory, Status, load
 from .posts import (
@@ -33,7 +34,7 @@ from .posts import (
 from .views import View
 
 __all__ = [
-    "NAVCELL", "BadLine", "Failed", "Goal", "Kind", "OutOfMemory", "PassabilityClass", "Path", "Post", "PostedMatch", "Rect",
+    "NAVCELL", "BadLine", "Failed", "Finder", "Goal", "Kind", "OutOfMemory", "PassabilityClass", "Path", "Post", "PostedMatch", "Rect",
     "Refusal", "Region", "Reply", "Status", "TextMatch", "Turn", "View", "add_square", "add_unit", "fixed", "load", "move",
     "path", "region", "remove",
 ]

@@ -52,6 +52,10 @@ class ViewHandle(ctypes.Structure):
     _fields_ = [("live", c_uint64), ("at", c_void_p)]
 
 
+class FinderHandle(ctypes.Structure):
+    _fields_ = [("live", c_uint64), ("at", c_void_p)]
+
+
 class CellStruct(ctypes.Structure):
     _fields_ = [("i", c_uint16), ("j", c_uint16)]
 
@@ -99,9 +103,9 @@ class ReplyStruct(ctypes.Structure):
 
 
 # in the order of PATHSERVE_SIZE_..
-STRUCTS = (MatchHandle, ViewHandle, MapStruct, ClassStruct, RectStruct, PostStruct, TurnStruct, ReplyStruct, CellStruct)
+STRUCTS = (MatchHandle, ViewHandle, MapStruct, ClassStruct, RectStruct, PostStruct, TurnStruct, ReplyStruct, CellStruct, FinderHandle)
 
-MATCH, VIEW, SIZE = POINTER(MatchHandle), POINTER(ViewHandle), POINTER(c_size_t)
+MATCH, VIEW, FINDER, SIZE = POINTER(MatchHandle), POINTER(ViewHandle), POINTER(FinderHandle), POINTER(c_size_t)
 CALLS = {
     "version": (c_uint32, []),
     "answers": (c_uint32, []),
@@ -128,6 +132,13 @@ CALLS = {
     "nearest": (c_uint32, [VIEW, c_uint32, c_int32, c_int32, POINTER(CellStruct)]),
     "standing_at": (c_uint32, [VIEW, c_uint32, POINTER(PostStruct)]),
     "find": (c_uint32, [VIEW, POINTER(PostStruct), POINTER(ReplyStruct), POINTER(CellStruct), c_size_t]),
+    "finder_open": (c_uint32, [FINDER]),
+    "finder_close": (None, [FINDER]),
+    "find_with": (c_uint32, [FINDER, VIEW, POINTER(PostStruct), POINTER(ReplyStruct), POINTER(CellStruct), c_size_t]),
+    "find_all": (
+        c_uint32,
+        [FINDER, VIEW, POINTER(PostStruct), c_size_t, POINTER(ReplyStruct), c_size_t, POINTER(CellStruct), c_size_t],
+    ),
 }
 
 

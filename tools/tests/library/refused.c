@@ -77,6 +77,29 @@ static void tell(const void *bytes, size_t count) {
 static const pathserve_post ask = {.kind = PATHSERVE_PATH, .caller = 1, .class_number = 1, .goal = PATHSERVE_CIRCLE, .x = 688128,
                                    .z = 229376, .goal_x = 98304, .goal_z = 229376, .radius = 65536};
 
+/* A finder answers by the view what pathserve_find has told. */
+static pathserve_status find_again(pathserve_view *view, const pathserve_reply *told, const pathserve_cell *cells) {
+    pathserve_finder finder = {0};
+    pathserve_reply reply, replies[3];
+    pathserve_cell waypoints[64], all[192];
+    const pathserve_post posts[3] = {ask, ask, ask};
+    size_t bytes = sizeof *cells * told->waypoints;
+    pathserve_status status;
+    AGAIN(status, pathserve_finder_open(&finder));
+    for (int round = 0; status == PATHSERVE_DONE && round < 2; round++) {
+        AGAIN(status, pathserve_find_with(&finder, view, &ask, &reply, waypoints, 64));
+        if (status == PATHSERVE_DONE && (memcmp(&reply, told, sizeof reply) || memcmp(waypoints, cells, bytes)))
+            fail("a finder told another path", first_refused);
+    }
+    if (status == PATHSERVE_DONE) AGAIN(status, pathserve_find_all(&finder, view, posts, 3, replies, 3, all, 192));
+    for (size_t k = 0; status == PATHSERVE_DONE && k < 3; k++)
+        if (replies[k].post != k || replies[k].first_waypoint != k * told->waypoints || replies[k].cost != told->cost ||
+            memcmp(all + replies[k].first_waypoint, cells, bytes))
+            fail("a finder told other paths", first_refused);
+    pathserve_finder_close(&finder);
+    return status;
+}
+
 /* A view of a match, another view of the same, and a path that it is asked for. */
 static pathserve_status look(pathserve_match *match) {
     pathserve_view view = {0}, other = {0};
@@ -87,6 +110,7 @@ static pathserve_status look(pathserve_match *match) {
     AGAIN(status, pathserve_view_of(match, &view));
     if (status == PATHSERVE_DONE) AGAIN(status, pathserve_view_again(&view, &other));
     if (status == PATHSERVE_DONE) AGAIN(status, pathserve_find(&other, &ask, &reply, waypoints, 64));
+    if (status == PATHSERVE_DONE) status = find_again(&view, &reply, waypoints);
     if (status == PATHSERVE_DONE) {
         tell(&reply, sizeof reply);
         tell(waypoints, sizeof *waypoints * reply.waypoints);

@@ -1,4 +1,5 @@
-/* Four threads look at what stands while the match goes on: each has a view of its own. Prints nothing where all agree. */
+/* Four threads look at what stands while the match goes on: each has a view and a finder of its own.
+ * Prints nothing where all agree. */
 #include <pthread.h>
 #include <stdio.h>
 #include <string.h>
@@ -13,14 +14,19 @@ static void *look(void *its) {
     pathserve_view *view = its;
     pathserve_reply reply;
     uintptr_t seen = 0;
+    pathserve_finder finder = {0};
+    if (pathserve_finder_open(&finder) != PATHSERVE_DONE) return NULL;
     for (int round = 0; round < ROUNDS; round++) {
         pathserve_view other = {0};
         if (pathserve_view_again(view, &other) != PATHSERVE_DONE) return NULL;
         if (pathserve_find(&other, &ask, &reply, NULL, 0) != PATHSERVE_DONE) return NULL;
         seen += reply.cost + pathserve_passable(&other, 0, 20, 20);
+        if (pathserve_find_with(&finder, &other, &ask, &reply, NULL, 0) != PATHSERVE_DONE) return NULL;
+        seen += reply.cost;
         pathserve_view_close(&other);
     }
     pathserve_view_close(view);
+    pathserve_finder_close(&finder);
     return (void *)seen;
 }
 
