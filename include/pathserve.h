@@ -7,7 +7,7 @@
  *
  *     by text       pathserve_open       feed, finish          waiting, take
  *     by structs    pathserve_open_map   post_all, end_turn    replies, waypoints, journal
- *     to look       pathserve_view_of    passable, region, area, row, nearest, standing_at, find
+ *     to look       pathserve_view_of    passable, region, area, row, nearest, standing_at, find, field, clear, smooth
  *     to find much  pathserve_finder_open   find_with, find_all
  *
  * WHAT YOU PROMISE, for each call. The library's functions are proved to be safe and to give the statuses and the results
@@ -353,6 +353,54 @@ pathserve_status pathserve_find_with(pathserve_finder *finder, pathserve_view *v
 pathserve_status pathserve_find_all(pathserve_finder *finder, pathserve_view *view, const pathserve_post *posts,
                                     size_t post_count, pathserve_reply *replies, size_t reply_count,
                                     pathserve_cell *waypoints, size_t waypoint_count);
+
+/* ---- flow fields, lines of sight, smoothing ---- */
+
+enum { /* what pathserve_field writes of a cell: where a unit that stands there goes next */
+    PATHSERVE_NO_STEP = 0,    /* no legal walk joins the cell and the start of the post: also of an impassable cell */
+    PATHSERVE_STEP_N = 1,     /* to (i, j + 1) */
+    PATHSERVE_STEP_E = 2,     /* to (i + 1, j) */
+    PATHSERVE_STEP_S = 3,     /* to (i, j - 1) */
+    PATHSERVE_STEP_W = 4,     /* to (i - 1, j) */
+    PATHSERVE_STEP_NE = 5,    /* to (i + 1, j + 1) */
+    PATHSERVE_STEP_SE = 6,    /* to (i + 1, j - 1) */
+    PATHSERVE_STEP_SW = 7,    /* to (i - 1, j - 1) */
+    PATHSERVE_STEP_NW = 8,    /* to (i - 1, j + 1) */
+    PATHSERVE_STEP_STAYS = 9  /* nowhere: the cell is one that the field leads to */
+};
+#define PATHSERVE_NO_DISTANCE 18446744073709551615u /* the distance of a cell with PATHSERVE_NO_STEP: the greatest uint64_t */
+
+/* Makes a flow field, one for a whole group of units with a goal in common: of each cell of the map the step to take from there,
+ * and the distance. The post is one of the kind PATHSERVE_PATH. The field leads to the goal's cells that can be reached from
+ * where its path starts; where none can, to the reachable cell in which the path ends, near the goal. Cells of other areas
+ * have no step.
+ * Cell (i, j) is told in item j * width + i of the buffers: in `steps` a PATHSERVE_STEP_.. or PATHSERVE_NO_STEP, in `distances`
+ * what the cheapest legal walk costs, in the units of pathserve_reply.cost. Items are written as far as each buffer reaches, so
+ * (NULL, 0) leaves one out; what is behind the map's last cell stays. Each step is legal, and leads nearer by what it costs: of
+ * several such the one of the least number is taken. The buffers are yours: any number of threads may read them, the view is
+ * needed no more, and they stay as they are while the match goes on.
+ * `reply` tells what pathserve_find would. Where its kind is neither PATHSERVE_AT_GOAL nor PATHSERVE_NEAR_GOAL there is no
+ * field, and the buffers stay.
+ * DONE. BAD_VALUE: another kind, or as of pathserve_post_all. NO_MEMORY, CLOSED, and OTHER of a match. With DONE alone
+ * something is written. It looks at each cell of the map, and takes 12 to 24 bytes a cell until it returns. */
+pathserve_status pathserve_field(pathserve_view *view, const pathserve_post *post, pathserve_reply *reply,
+                                 uint8_t *steps, size_t step_count, uint64_t *distances, size_t distance_count);
+
+/* Whether a straight line between the middles of two cells is clear for the class: 1 where each cell that it touches is
+ * passable, also those of which it touches a corner alone, and 0 elsewhere. 0 of a cell off the map, of a class that there is
+ * not, and of a closed view. A unit's width is in its class's clearance already. */
+uint32_t pathserve_clear(pathserve_view *view, uint32_t class_number, const pathserve_cell *from, const pathserve_cell *to);
+
+/* Smooths a walk of the class that starts in the cell `start` and goes by these waypoints, as pathserve_find or
+ * pathserve_waypoints told them: keeps the fewest waypoints that clear straight lines join, from the start to the last of them.
+ * Each line passes over at most 63 waypoints, and of equally few the later ones are kept. It writes them to the head of the
+ * buffer, in order, and `kept` is how many they are; what is behind them stays. No waypoints are smoothed to none.
+ * DONE. BAD_VALUE exactly where these are no waypoints of a legal walk on this view: the start is impassable or off the map, a
+ * waypoint is not straight or diagonally ahead of the one before, or in the direction that led to that, a step between is
+ * blocked, or there is no such class. So waypoints that an edit has cut are refused. NO_MEMORY, CLOSED, and OTHER of a match.
+ * With DONE alone something is written. */
+pathserve_status pathserve_smooth(pathserve_view *view, uint32_t class_number, const pathserve_cell *start,
+                                  pathserve_cell *waypoints, size_t count, size_t *kept);
 
 /* ======== memory of your own ========
  *

@@ -45,6 +45,20 @@ VIEWED = b"""\
 ....####....
 to the goal, cost 791090: 8,5 8,6 7,7 4,7 2,5 2,4
 """
+# what examples/c/fields.c draws and tells: steps as strokes, * on the goal, # where none leads there
+FIELD = rb"""4 waypoints, smoothed: 4,6 7,6 10,3; its end is not in sight
+####--\|||||
+####---\||||
+----|##-\|||
+---/|##--\|/
+--/||##---*-
+-/|||##--/|\
+/||||##-/|||
+|||||##/||||
+unit 1,1 has 13.5 navcells to go, is there after 11 steps, at 10,3
+unit 4,4 has 9.2 navcells to go, is there after 8 steps, at 10,3
+unit 1,7 can't get there
+"""
 STRICT = ["-std=c11", "-Wall", "-Wextra", "-Werror", "-I", os.path.join(RELEASE, "include")]
 SANE = ["-g", "-fsanitize=address,undefined", "-fno-sanitize-recover=all"]
 
@@ -164,6 +178,11 @@ class Clients(unittest.TestCase):
         for archive in ARCHIVES:
             program = built(self.folder, "examples/c/views.c", archive, SANE)
             self.assertEqual(answers(program), (VIEWED, 0))
+
+    def test_fields(self):
+        for archive in ARCHIVES:
+            program = built(self.folder, "examples/c/fields.c", archive, SANE)
+            self.assertEqual(answers(program), (FIELD, 0))
 
     def test_each_allocation_is_refused_in_turn(self):
         program = built(self.folder, "tools/tests/library/refused.c", "libpathserve_noheap.a", SANE)
@@ -411,6 +430,61 @@ class Posted:
         return make(*numbers, outside=kind.startswith("not-"))
 
 
+KINDS = {1: "point", 2: "circle", 3: "not-circle", 4: "square", 5: "not-square"}
+
+
+class Seen(check.Cells):
+    """The passable cells of a class, as a view shows them."""
+
+    def __init__(self, view, number, size):
+        rows = [view.row(number, j, size[0]) for j in range(size[1])]
+        self.free = {(i, j) for j, row in enumerate(rows) for i, is_free in enumerate(row) if is_free}
+
+    def field(self, targets):
+        """The step and the distance of each cell that has them, by the definition: the first step that leads nearer by its cost."""
+        far = self.distances(*targets)
+        lead = {
+            cell: next(
+                (
+                    number
+                    for number, name in enumerate(check.STEPS, 1)
+                    if (there := self.step(cell, name)) and far[there] + check.cost_of(name) == cost
+                ),
+                9,
+            )
+            for cell, cost in far.items()
+        }
+        return lead, far
+
+    def is_walk(self, start, points):
+        """Whether these are the waypoints of a legal walk from a passable start: each step is tried."""
+        if start not in self.free:
+            return False
+        before, at = None, start
+        for point in points:
+            gaps = point[0] - at[0], point[1] - at[1]
+            name = next((it for it, way in check.STEPS.items() if way == tuple((gap > 0) - (gap < 0) for gap in gaps)), None)
+            if name in (None, before) or 0 not in gaps and abs(gaps[0]) != abs(gaps[1]):
+                return False
+            while at != point:
+                at = self.step(at, name)
+                if at is None:
+                    return False
+            before = name
+        return True
+
+
+def goal_cells(post, standing):
+    """The goal of a path, as the plain program has it."""
+    if post.goal == 6:
+        its = standing[post.id]
+        square = [its.x, its.z, its.ux, its.uz, its.hw, its.hh] if its.kind == 2 else [its.x, its.z, 65536, 0, its.radius, its.radius]
+        return check.Goal("square", [*square[:4], *(it + post.radius for it in square[4:])])
+    numbers = [post.goal_x, post.goal_z]
+    numbers += [post.radius] if post.goal in (2, 3) else [post.ux, post.uz, post.hw, post.hh] if post.goal > 3 else []
+    return check.Goal(KINDS[post.goal], numbers)
+
+
 def stand_after(standing, posts, replies):
     """The adds of what stands after a turn, by the replies to its posts, caller by caller."""
     standing = dict(standing)
@@ -563,6 +637,92 @@ class Python(unittest.TestCase):
             self.assertEqual(library.pathserve_view_again(as_view, other), api.Status.NO_MAP)
             self.assertEqual(library.pathserve_passable(as_view, 0, 0, 0), 0)
             self.assertEqual(finder.find(view, good).kind, api.Kind.AT_GOAL)
+    def paths(self, count):
+        """Each path that is answered in made scripts, with a view of its turn, its class as that shows it, and what stands."""
+        for posted, _ in self.said(count):
+            with posted.open() as match:
+                standing = {}
+                for posts in posted.turns:
+                    match.post(posts)
+                    replies = match.end_turn().replies
+                    standing = stand_after(standing, posts, replies)
+                    with match.view() as view:
+                        for post, reply in zip(sorted(posts, key=lambda post: post.caller), replies):
+                            if post.kind == 5:
+                                yield posted.size, view, Seen(view, post.class_number, posted.size), post, reply, standing
+
+    def test_a_field_is_that_of_the_definition(self):
+        fields = 0
+        for size, view, seen, post, reply, standing in self.paths(60):
+            field = view.field(post, *size)
+            if not reply.path:
+                self.assertIsNone(field)
+                continue
+            self.assertEqual(field.reply, dataclasses.replace(reply, post=0, path=dataclasses.replace(reply.path, waypoints=())))
+            goal = goal_cells(post, standing)
+            hit = [cell for cell in seen.distances(tuple(reply.path.start)) if goal.has(cell)]
+            self.assertEqual(reply.kind.name, "AT_GOAL" if hit else "NEAR_GOAL")
+            lead, far = seen.field(hit or [tuple(reply.path.end)])
+            cells = [(i, j) for j in range(size[1]) for i in range(size[0])]
+            self.assertEqual(list(field.steps), [lead.get(cell, 0) for cell in cells])
+            self.assertEqual(list(field.distances), [far.get(cell, (1 << 64) - 1) for cell in cells])
+            self.assertEqual(field.distance(reply.path.start), reply.path.cost)
+            fields += 1
+        self.assertGreater(fields, 100)
+
+    def test_a_part_of_a_field_leaves_what_is_behind(self):
+        native = self.api.native
+        for size, view, _, post, reply, _ in self.paths(10):
+            whole = view.field(post, *size)
+            for count in (0, 1, size[0] + 1, size[0] * size[1] + 3):
+                steps, far, told = bytearray(b"\xee" * (count + 1)), (native.c_uint64 * (count + 1))(*[7] * (count + 1)), native.ReplyStruct()
+                room = (native.c_uint8 * len(steps)).from_buffer(steps)
+                native.must(view._call("field", post.struct(), told, room, count, far, count))
+                many = min(count, size[0] * size[1]) if whole else 0
+                self.assertEqual(bytes(steps), (whole.steps[:many] if whole else b"") + b"\xee" * (count + 1 - many))
+                self.assertEqual(list(far), (whole.distances[:many] if whole else []) + [7] * (count + 1 - many))
+
+    def test_smoothed_walks_and_what_is_no_walk(self):
+        Cell, tried = self.api.Cell, {True: 0, False: 0}
+        for number, (size, view, seen, post, reply, _) in enumerate(self.paths(60)):
+            if not reply.path:
+                continue
+            start, points = reply.path.start, list(reply.path.waypoints)
+            self.assertEqual(view.smooth(post.class_number, start, points), [Cell(*it) for it in seen.smoothed([start, *points])])
+            at = number % (len(points) + 1)
+            moved = Cell(abs(start.i - 1), start.j)
+            for begins, others in (
+                (start, points[:at] + points[at + 1 :]),
+                (start, points[:at] + points[at : at + 1] * 2 + points[at + 1 :]),
+                (start, points[:at] + [Cell(it.i + 1, it.j) for it in points[at : at + 1]] + points[at + 1 :]),
+                (start, [start, *points]),
+                (start, points + [Cell(size[0], 0)]),
+                (moved, points),
+                (points[0] if points else start, points[1:]),
+            ):
+                is_walk = seen.is_walk(tuple(begins), [tuple(it) for it in others])
+                tried[is_walk] += 1
+                if is_walk:
+                    smoothed = [Cell(*it) for it in seen.smoothed([begins, *others])]
+                    self.assertEqual(view.smooth(post.class_number, begins, others), smoothed)
+                else:
+                    with self.assertRaises(self.api.Failed) as failed:
+                        view.smooth(post.class_number, begins, others)
+                    self.assertEqual(failed.exception.status, self.api.Status.BAD_VALUE)
+            with self.assertRaises(self.api.Failed):
+                view.smooth(16, start, [])
+        self.assertGreater(min(tried.values()), 100)
+
+    def test_lines_of_sight(self):
+        Cell, seen_so = self.api.Cell, {True: 0, False: 0}
+        for number, (size, view, seen, post, _, _) in enumerate(self.paths(40)):
+            for k in range(40):
+                a, b = (Cell((7 * number + 5 * k + it) % (size[0] + 1), (3 * k + 11 * it) % (size[1] + 1)) for it in (0, k))
+                is_clear = seen.is_clear(a, b)
+                seen_so[is_clear] += 1
+                self.assertEqual(view.clear(post.class_number, a, b), is_clear, (a, b))
+            self.assertFalse(view.clear(16, Cell(0, 0), Cell(0, 0)))
+        self.assertGreater(min(seen_so.values()), 200)
 
     def further(self, match, turns):
         """What these turns are told, without their numbers."""

@@ -1,9 +1,11 @@
 pub mod Answered
 pub mod Calls
+pub mod Fields
 pub mod Finders
 pub mod Finds
 pub mod Handles
 pub mod Questions
+pub mod Sights
 pub mod Sizes
 pub mod Statuses
 pub mod Structs

@@ -1,3 +1,5 @@
 -- Definitions that only private contracts cite.
 pub mod Codes
 pub mod Owned
+pub mod PathFields
+pub mod Smoothings

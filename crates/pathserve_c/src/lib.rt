@@ -8,6 +8,7 @@
 //! call takes the state out, works on it, and puts it back. Nothing here starts threads, and no state is global.
 #![tactic(auto)]
 
+mod fields;
 mod finder_calls;
 mod finders;
 mod finds;
@@ -15,6 +16,7 @@ mod handles;
 mod held;
 mod questions;
 mod raw_box;
+mod sights;
 mod states;
 mod statuses;
 mod struct_matches;
@@ -24,6 +26,7 @@ mod texts;
 mod versions;
 mod views;
 
+pub use fields::pathserve_field;
 pub use finder_calls::{
     pathserve_find_all, pathserve_find_with, pathserve_finder_close, pathserve_finder_open,
 };
@@ -33,6 +36,7 @@ pub use handles::{Handle, handles_may_cross};
 pub use held::Held;
 pub use questions::{pathserve_nearest, pathserve_standing_at};
 pub use raw_box::RawBox;
+pub use sights::{pathserve_clear, pathserve_smooth};
 pub use states::State;
 pub use statuses::{
     BAD_LINE, BAD_VALUE, CLOSED, DONE, ENDED, NO_MAP, NO_MEMORY, OPEN, OTHER, PostFault, SMALL,

@@ -106,7 +106,7 @@ fn start_cell(version: &Version, class_number: u32, x: i32, z: i32) -> Option<Ce
 }
 
 /// The class of a number.
-fn class_of(version: &Version, class_number: u32) -> Option<Class>
+pub(crate) fn class_of(version: &Version, class_number: u32) -> Option<Class>
     ensures some { IfSome result (λ class. (class ≡ class_number) × (class_number < length version.now.map.classes)) }
     ensures none { IfNone result (class_number < length version.now.map.classes → ⊥) }
 {

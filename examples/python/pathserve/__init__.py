@@ -14,6 +14,7 @@ from .matches import PostedMatch, TextMatch, Turn
 from .native import BadLine, Failed, OutOfMemory, Status, load
 from .posts import (
     NAVCELL,
+    Cell,
     Goal,
     Kind,
     PassabilityClass,
@@ -31,10 +32,10 @@ from .posts import (
     region,
     remove,
 )
-from .views import View
+from .views import FlowField, View
 
 __all__ = [
-    "NAVCELL", "BadLine", "Failed", "Finder", "Goal", "Kind", "OutOfMemory", "PassabilityClass", "Path", "Post", "PostedMatch", "Rect",
-    "Refusal", "Region", "Reply", "Status", "TextMatch", "Turn", "View", "add_square", "add_unit", "fixed", "load", "move",
-    "path", "region", "remove",
+    "NAVCELL", "BadLine", "Cell", "Failed", "Finder", "FlowField", "Goal", "Kind", "OutOfMemory", "PassabilityClass", "Path",
+    "Post", "PostedMatch", "Rect", "Refusal", "Region", "Reply", "Status", "TextMatch", "Turn", "View", "add_square", "add_unit",
+    "fixed", "load", "move", "path", "region", "remove",
 ]

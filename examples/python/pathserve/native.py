@@ -139,6 +139,9 @@ CALLS = {
         c_uint32,
         [FINDER, VIEW, POINTER(PostStruct), c_size_t, POINTER(ReplyStruct), c_size_t, POINTER(CellStruct), c_size_t],
     ),
+    "field": (c_uint32, [VIEW, POINTER(PostStruct), POINTER(ReplyStruct), c_void_p, c_size_t, POINTER(c_uint64), c_size_t]),
+    "clear": (c_uint32, [VIEW, c_uint32, POINTER(CellStruct), POINTER(CellStruct)]),
+    "smooth": (c_uint32, [VIEW, c_uint32, POINTER(CellStruct), POINTER(CellStruct), c_size_t, SIZE]),
 }
 
 

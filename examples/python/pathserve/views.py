@@ -2,11 +2,18 @@
 from __future__ import annotations
 
 import ctypes
+from dataclasses import dataclass
+from typing import Sequence
 
 from . import native
-from .native import must
+from .native import filled, must
 from .owners import Owner
 from .posts import Cell, Post, Reply, cell_of, post_of, reply_of
+
+# the way of each step of a field, by its number: none, N, E, S, W, NE, SE, SW, NW, and where a unit stays
+WAYS = ((0, 0), (0, 1), (1, 0), (0, -1), (-1, 0), (1, 1), (1, -1), (-1, -1), (-1, 1), (0, 0))
+NO_STEP, STAYS = 0, 9
+NO_DISTANCE = (1 << 64) - 1
 
 
 def word(number: int) -> int:
@@ -17,6 +24,27 @@ def word(number: int) -> int:
 def coordinate(raw: int) -> int:
     """The coordinate, or where it has not 32 bits the least that has: it lies on no map."""
     return raw if -1 << 31 <= raw < 1 << 31 else -1 << 31
+
+
+@dataclass(frozen=True)
+class FlowField:
+    """From each cell of a map of this width the step to take to a goal that a group has in common, row by row: a number of
+    `WAYS`, or NO_STEP where the goal can't be reached, or STAYS on it. Its reply has no waypoints."""
+
+    reply: Reply
+    width: int
+    steps: bytes
+    distances: Sequence[int]
+
+    def next(self, cell: Cell) -> Cell | None:
+        """Where a unit on this cell goes next: the cell itself where it has arrived, None where it can't."""
+        step = self.steps[cell.j * self.width + cell.i]
+        return Cell(cell.i + WAYS[step][0], cell.j + WAYS[step][1]) if step != NO_STEP else None
+
+    def distance(self, cell: Cell) -> int | None:
+        """What the cheapest walk from this cell costs, or None where it has none."""
+        far = self.distances[cell.j * self.width + cell.i]
+        return far if far != NO_DISTANCE else None
 
 
 class View(Owner):
@@ -69,3 +97,26 @@ class View(Owner):
             if reply.waypoints <= room:
                 return reply_of(reply, [cell_of(it) for it in cells])
             room = reply.waypoints
+
+    def field(self, post: Post, width: int, height: int) -> FlowField | None:
+        """The flow field of a path, one for a whole group, on a map of this size. None where no path is answered: `find` says
+        why."""
+        struct, reply, count = post.struct(), native.ReplyStruct(), width * height
+        steps, distances = (ctypes.c_uint8 * count)(), (ctypes.c_uint64 * count)()
+        must(self._call("field", struct, reply, steps, count, distances, count))
+        told = reply_of(reply, ())
+        return FlowField(told, width, bytes(steps), distances) if told.path else None
+
+    def clear(self, class_number: int, a: Cell, b: Cell) -> bool:
+        """Whether a straight line between the middles of two cells touches passable cells alone."""
+        ends = [filled(native.CellStruct, **it._asdict()) for it in (a, b)]
+        return bool(self._call("clear", word(class_number), *ends))
+
+    def smooth(self, class_number: int, start: Cell, waypoints: Sequence[Cell]) -> list[Cell]:
+        """The fewest of a walk's waypoints that clear straight lines join. Failed with BAD_VALUE where these are those of no
+        legal walk from the start."""
+        cells = (native.CellStruct * len(waypoints))(*(filled(native.CellStruct, **it._asdict()) for it in waypoints))
+        kept = ctypes.c_size_t()
+        begins = filled(native.CellStruct, **start._asdict())
+        must(self._call("smooth", word(class_number), begins, cells, len(cells), kept))
+        return [cell_of(it) for it in cells[: kept.value]]

@@ -105,7 +105,9 @@ static pathserve_status look(pathserve_match *match) {
     pathserve_view view = {0}, other = {0};
     pathserve_reply reply;
     pathserve_cell waypoints[64];
-    uint64_t words[1] = {0};
+    uint64_t words[1] = {0}, distances[96] = {0};
+    uint8_t steps[96] = {0};
+    size_t kept = 0;
     pathserve_status status;
     AGAIN(status, pathserve_view_of(match, &view));
     if (status == PATHSERVE_DONE) AGAIN(status, pathserve_view_again(&view, &other));
@@ -116,6 +118,13 @@ static pathserve_status look(pathserve_match *match) {
         tell(waypoints, sizeof *waypoints * reply.waypoints);
         if (pathserve_row(&view, 0, 3, words, 1) != 1) fail("a row was not told", first_refused);
         tell(words, sizeof words);
+        AGAIN(status, pathserve_smooth(&other, ask.class_number, &reply.start, waypoints, reply.waypoints, &kept));
+        if (status == PATHSERVE_DONE) tell(waypoints, sizeof *waypoints * kept);
+    }
+    if (status == PATHSERVE_DONE) AGAIN(status, pathserve_field(&other, &ask, &reply, steps, 96, distances, 96));
+    if (status == PATHSERVE_DONE) {
+        tell(steps, sizeof steps);
+        tell(distances, sizeof distances);
     }
     pathserve_view_close(&other);
     pathserve_view_close(&view);

@@ -163,4 +163,22 @@ extern "C" {
         waypoints: *mut Cell,
         count: usize,
     ) -> u32;
+    pub fn pathserve_field(
+        view: *mut View,
+        post: *const Post,
+        reply: *mut Reply,
+        steps: *mut u8,
+        step_count: usize,
+        distances: *mut u64,
+        distance_count: usize,
+    ) -> u32;
+    pub fn pathserve_clear(view: *mut View, class_number: u32, from: *const Cell, to: *const Cell) -> u32;
+    pub fn pathserve_smooth(
+        view: *mut View,
+        class_number: u32,
+        start: *const Cell,
+        waypoints: *mut Cell,
+        count: usize,
+        kept: *mut usize,
+    ) -> u32;
 }

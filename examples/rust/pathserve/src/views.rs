@@ -81,6 +81,47 @@ impl View {
     }
 }
 
+impl View {
+    /// Makes the flow field of a path, one for a whole group: of each cell, row by row, as far as the buffers reach, the step
+    /// to take (1 to 8 for N, E, S, W, NE, SE, SW and NW, 9 on the goal, 0 where it can't be reached) and the distance. Its
+    /// reply has no waypoints; where it has no path, the buffers stay.
+    pub fn field(&mut self, post: &Post, steps: &mut [u8], distances: &mut [u64]) -> Result<Reply, Error> {
+        let (post, mut reply) = (post.raw(), sys::Reply::default());
+        // SAFETY: the buffers have their lengths.
+        must(unsafe {
+            sys::pathserve_field(
+                &mut self.0,
+                &post,
+                &mut reply,
+                steps.as_mut_ptr(),
+                steps.len(),
+                distances.as_mut_ptr(),
+                distances.len(),
+            )
+        })?;
+        reply.waypoints = 0;
+        Ok(reply_of(&reply, &[]))
+    }
+
+    /// Whether a straight line between the middles of two cells touches passable cells alone.
+    pub fn clear(&mut self, class_number: u32, from: sys::Cell, to: sys::Cell) -> bool {
+        // SAFETY: an exclusive handle.
+        unsafe { sys::pathserve_clear(&mut self.0, class_number, &from, &to) != 0 }
+    }
+
+    /// Keeps the fewest of a walk's waypoints that clear straight lines join. An error where these are those of no legal walk
+    /// from the start.
+    pub fn smooth(&mut self, class_number: u32, start: sys::Cell, waypoints: &mut Vec<sys::Cell>) -> Result<(), Error> {
+        let mut kept = 0;
+        // SAFETY: the buffer has its length.
+        must(unsafe {
+            sys::pathserve_smooth(&mut self.0, class_number, &start, waypoints.as_mut_ptr(), waypoints.len(), &mut kept)
+        })?;
+        waypoints.truncate(kept);
+        Ok(())
+    }
+}
+
 impl Drop for View {
     fn drop(&mut self) {
         // SAFETY: exclusive, and written by the library alone.
