@@ -1,8 +1,7 @@
 -- The flow field of a path that was answered.
-use Rattle.std.proofs.Common.{ℕ, ◌≡◌, Bool, true, false, IsTrue, List, Option, Some, None, Ok, Err, inl, inr, refl, sym, ap, subst, ◌∙◌}
-use Rattle.std.specs.Prelude.{ℤ, Result, IfOk, ⊤}
+use Rattle.std.proofs.Common.{ℕ, ◌≡◌, Bool, true, false, IsTrue, List, Option, Some, None, Ok, Err, inl, inr, refl, sym, ap, subst}
+use Rattle.std.specs.Prelude.{ℤ, Result, IfOk}
 use Rattle.nav_types.specs.declared.cells.Cell.{Cell}
-use Rattle.nav_types.specs.declared.cells.Size.{Size}
 use Rattle.goal_shapes.specs.declared.goals.Goal.{Goal}
 use Rattle.goal_shapes.specs.declared.goals.GoalSpec.{GoalSpec}
 use Rattle.goal_reach.specs.declared.targets.Target.{Target}
@@ -27,8 +26,8 @@ use Rattle.flat_posts.specs.Posts.{IsPost}
 use Rattle.flat_posts.specs.Replies.{flat_reply}
 use Rattle.flat_posts.proofs.FlatForms.{one_post-IsPost}
 use Rattle.flat_ways.specs.Steps.{HasDistance, HasStep}
-use Rattle.pathserve_c.specs.Fields.{FieldRoom, IsFieldBy, IsFieldTo, MakesField}
-use Rattle.pathserve_c.specs.inner.PathFields.{HasField, IsFieldAsked, IsFieldFor, IsFieldNamed, IsFieldToGoal, IsSized, IsWrittenBy, asks_path}
+use Rattle.pathserve_c.specs.Fields.{FieldRoom, IsFieldBy, MakesField}
+use Rattle.pathserve_c.specs.inner.PathFields.{HasField, IsFieldAsked, IsFieldNamed, IsFieldToGoal, IsSized, IsWrittenBy, asks_path}
 
 -- ---- what an answer that is a path says of its request
 

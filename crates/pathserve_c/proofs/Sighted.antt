@@ -1,6 +1,6 @@
 -- Lines of sight from cells and to cells that are impassable, and how many waypoints are kept.
 use Rattle.std.proofs.Common.{ℕ, ◌≡◌, ◌+◌, ◌<◌, ◌≤◌, ◌↔◌, inl, inr, Bool, true, false, IsTrue, IsFalse, List, [], ◌∷◌, ◌++◌, length, map, take, get_or, refl, sym, ap, ◌∙◌, arith}
-use Rattle.std.specs.Prelude.{Err, Option, Some, drop, slice_get, slice_set}
+use Rattle.std.specs.Prelude.{Err, Some, drop, slice_get, slice_set}
 use Rattle.std.proofs.lemmas.Bool.{both_ways}
 use Rattle.std.proofs.lemmas.List.{drop-set-lt, length-map, length-set, map-append, take-append-drop, take_all, take_more, take_more_set}
 use Rattle.nav_types.specs.declared.cells.Cell.{Cell}

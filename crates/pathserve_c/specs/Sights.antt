@@ -1,5 +1,5 @@
 -- Lines of sight, and the smoothing of waypoints that a game holds.
-use Rattle.std.specs.Prelude.{ℕ, Bool, ◌≡◌, ◌⊎◌, ◌++◌, List, length, map, drop, Option, Some, Result, Ok, Err, IsTrue}
+use Rattle.std.specs.Prelude.{ℕ, ◌≡◌, ◌⊎◌, ◌++◌, List, length, map, drop, Option, Some, Result, Ok, Err, IsTrue}
 use Rattle.nav_types.specs.declared.cells.Cell.{Cell}
 use Rattle.nav_types.specs.Cells.{cell_at}
 use Rattle.line_smooth.specs.Smoothed.{AreCorners, IsSmoothing}
