@@ -1,3 +1,5 @@
+mod example;
+
 use crate::fixtures::figures::goal_of;
 use crate::fixtures::texts::{fields_of, places_of, rect_of, size_of};
 use goal_shapes::{Goal, GoalRefusal, cell_box, check, contains, remoteness};

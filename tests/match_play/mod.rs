@@ -9,6 +9,7 @@ use script_text::{ScriptFault, ScriptItem, ScriptReader, have_lines};
 use std::alloc::Global;
 use std::test::*;
 
+mod example;
 mod examples;
 
 use examples::{FIRST, FIRST_ANSWERS, SKIRMISH, SKIRMISH_ANSWERS};

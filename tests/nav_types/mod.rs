@@ -1,3 +1,5 @@
+mod example;
+
 use nav_types::Bytes;
 use std::test::Fail;
 
