@@ -36,7 +36,12 @@ fn have_causes(rt: &impl Abort, alloc: Global, map: &str, rows: &[Row]) {
 }
 
 /// What a script has in the place of its map line.
-const NO_MAP_LINE: [Row; 3] = [
+const NO_MAP_LINE: [Row; 4] = [
+    (
+        "{\"size\":[5,4],\"callers\":2,\"classes\":[{\"name\":\"a\",\"clearance\":\"0\"}]}\n",
+        Cause::MissingKey { key: Key::Version },
+        "the line must have the key \"version\" too",
+    ),
     (
         "",
         Cause::NoLine,
@@ -71,8 +76,8 @@ const THIRD_LINES: [Row; 18] = [
     ),
     (
         "{\"caller\":0,\"end\":1}\n",
-        Cause::NoSuchForm,
-        "the line must be an object with exactly the keys of one form",
+        Cause::SurplusKey { key: Key::Caller },
+        "the line must not have the key \"caller\" beside its others",
     ),
     (
         "{\"caller\":0,\"move\":1}\n",
@@ -206,13 +211,13 @@ const SLIPS: [Slip; 22] = [
         "{\"end\":NaN}\n",
         8,
         Mistake::NoNumber,
-        "byte 8: JSON has no NaN and no Infinity",
+        "byte 8: JSON has no NaN, no Infinity and no None",
     ),
     (
         "{\"end\":-Infinity}\n",
         9,
         Mistake::NoNumber,
-        "byte 9: JSON has no NaN and no Infinity",
+        "byte 9: JSON has no NaN, no Infinity and no None",
     ),
     (
         "{\"end\": +1}\n",

@@ -24,7 +24,7 @@ use Rattle.script_text.specs.Values.{under, array_items}
 use Rattle.script_text.specs.Forms.{entry_of}
 use Rattle.script_text.specs.Goals.{goal_of}
 use Rattle.script_text.specs.Grammar.{IsEntry}
-use Rattle.script_text.specs.Causes.{key_text, is_wanted, is_right, first_wrong, map_fields, fields_of, is_no_entry, wrong_items, wrong_array, wrong_by, wrong_value, form_of, first_version, is_map, is_base, form_cause, line_keys, is_unknown, unknown_key, first_missing, keys_beside, strange_cause, other_version, no_form_cause, version_of, cause_by, value_cause}
+use Rattle.script_text.specs.Causes.{key_text, is_wanted, is_right, first_wrong, map_fields, fields_of, is_no_entry, wrong_items, wrong_array, wrong_by, wrong_value, form_of, first_version, is_map, is_base, form_cause, line_keys, is_unknown, unknown_key, first_missing, named_keys, first_surplus, unfit_by, unfit_cause, strange_cause, other_version, no_form_cause, version_of, cause_by, value_cause}
 use Rattle.script_text.specs.TrueCauses.{HasOneOf, both_adds, keys_of_forms, HasForm, HasNoForm, IsStrange, IsTrueOf}
 use Rattle.script_text.proofs.Members.{are_distinct, open_keys, has_keys-object, get-here, get-there, by_key}
 use Rattle.script_text.proofs.GrammarLines.{entry-from}
@@ -295,13 +295,31 @@ missing_true (l ∷ ks) d k e = by_found (get (key_text l) d) refl (missing_true
     by_found (Some v) at rest h = rest h
     by_found None at rest h = let same : l ≡ k = cc in ap (λ m. get (key_text m) d) (sym same) ∙ at
 
-strange_true : (part : Part) (d : Data) → HasNoForm d → IsTrueOf d (strange_cause (unknown_key d) (first_missing (keys_beside part d) d))
-strange_true part d none = by_keys _ _ refl refl
+surplus_true : (among keys : List Key) (d : Data) (k : Key) → first_surplus among keys d ≡ Some k → IsSome (get (key_text k) d)
+surplus_true [] keys d k e = absurd (cc)
+surplus_true (l ∷ ls) keys d k e = by_test (surplus_true ls keys d k) (is_some (get (key_text l) d)) refl (list_any (λ one. bytes_eq (key_text l) (key_text one)) keys) e
   where
-    by_keys : (unknown : Option (List ℕ)) (missing : Option Key) → unknown_key d ≡ unknown → first_missing (keys_beside part d) d ≡ missing → IsTrueOf d (strange_cause unknown missing)
-    by_keys (Some name) missing e h = (none, unknown_true d name e)
-    by_keys None (Some k) e h = (none, missing_true (keys_beside part d) d k h)
-    by_keys None None e h = none
+    by_test : (first_surplus ls keys d ≡ Some k → IsSome (get (key_text k) d)) → (here : Bool) → is_some (get (key_text l) d) ≡ here → (among : Bool)
+        → cond (here && not among) (Some l) (first_surplus ls keys d) ≡ Some k → IsSome (get (key_text k) d)
+    by_test rest true is false h = let same : l ≡ k = cc in subst (λ j. IsSome (get (key_text j) d)) same is
+    by_test rest true is true h = rest h
+    by_test rest false is among h = rest h
+
+unfit_true : (keys : List Key) (d : Data) → HasNoForm d → IsTrueOf d (unfit_cause keys d)
+unfit_true [] d none = none
+unfit_true (l ∷ ls) d none = by_keys (first_missing (l ∷ ls) d) refl (first_surplus line_keys (l ∷ ls) d) refl
+  where
+    by_keys : (missing : Option Key) → first_missing (l ∷ ls) d ≡ missing → (surplus : Option Key) → first_surplus line_keys (l ∷ ls) d ≡ surplus → IsTrueOf d (unfit_by missing surplus)
+    by_keys (Some k) h surplus e = (none, missing_true (l ∷ ls) d k h)
+    by_keys None h (Some k) e = (none, surplus_true line_keys (l ∷ ls) d k e)
+    by_keys None h None e = none
+
+strange_true : (part : Part) (d : Data) → HasNoForm d → IsTrueOf d (strange_cause (unknown_key d) (named_keys part d) d)
+strange_true part d none = by_keys (unknown_key d) refl
+  where
+    by_keys : (unknown : Option (List ℕ)) → unknown_key d ≡ unknown → IsTrueOf d (strange_cause unknown (named_keys part d) d)
+    by_keys (Some name) e = (none, unknown_true d name e)
+    by_keys None e = unfit_true (named_keys part d) d none
 
 -- ---- rectangles
 
@@ -450,16 +468,21 @@ no_first d none = by_first (first_version d) (first_is d)
     by_first None is = refl
     by_first (Some first) is = absurd (none first (has_form first d is))
 
-strange_is : (unknown : Option (List ℕ)) (missing : Option Key) → IsStrange (Some (strange_cause unknown missing))
-strange_is (Some name) missing = tt
-strange_is None (Some k) = tt
-strange_is None None = tt
+unfit_is : (missing surplus : Option Key) → IsStrange (Some (unfit_by missing surplus))
+unfit_is (Some k) surplus = tt
+unfit_is None (Some k) = tt
+unfit_is None None = tt
+
+strange_is : (unknown : Option (List ℕ)) (keys : List Key) (d : Data) → IsStrange (Some (strange_cause unknown keys d))
+strange_is (Some name) keys d = tt
+strange_is None [] d = tt
+strange_is None (k ∷ ks) d = unfit_is (first_missing (k ∷ ks) d) (first_surplus line_keys (k ∷ ks) d)
 
 strange_none : (part : Part) (first : Option ℕ) (d : Data) → first ≡ None → IsStrange (Some (no_form_cause part first d))
 strange_none part (Some first) d e = absurd (cc)
-strange_none BeforeMap None d e = strange_is (unknown_key d) (first_missing (keys_beside BeforeMap d) d)
-strange_none (InBase rules) None d e = strange_is (unknown_key d) (first_missing (keys_beside (InBase rules) d) d)
-strange_none (InTurns rules) None d e = strange_is (unknown_key d) (first_missing (keys_beside (InTurns rules) d) d)
+strange_none BeforeMap None d e = strange_is (unknown_key d) (named_keys BeforeMap d) d
+strange_none (InBase rules) None d e = strange_is (unknown_key d) (named_keys (InBase rules) d) d
+strange_none (InTurns rules) None d e = strange_is (unknown_key d) (named_keys (InTurns rules) d) d
 
 pub strange_lines : (part : Part) (turn : ℕ) (d : Data) → HasNoForm d → IsStrange (value_cause part turn d)
 strange_lines part turn d none = by_form (form_of (version_of part) d) refl

@@ -1,7 +1,7 @@
 -- What a cause says.
 use Rattle.std.specs.Prelude.{ℕ, List, ◌++◌, codes, decimal}
 use Rattle.script_text.specs.declared.causes.Cause.{Cause}
-use Rattle.script_text.specs.declared.causes.Cause.TheVariants.{BlankLine, ByteOrderMark, TooDeep, NotUtf8, NoJsonAt, EndsInString, EndsInValue, NotJson, UnknownKey, MissingKey, NoSuchForm, WrongValue, WrongRectangle, MissingMask, LaterVersion, NotHere, EndsInsideTurn, NoLine}
+use Rattle.script_text.specs.declared.causes.Cause.TheVariants.{BlankLine, ByteOrderMark, TooDeep, NotUtf8, NoJsonAt, EndsInString, EndsInValue, NotJson, UnknownKey, MissingKey, SurplusKey, NoSuchForm, WrongValue, WrongRectangle, MissingMask, LaterVersion, NotHere, EndsInsideTurn, NoLine}
 use Rattle.script_text.specs.declared.causes.mistakes.Mistake.{Mistake}
 use Rattle.script_text.specs.declared.causes.mistakes.Mistake.TheVariants.{Comment, SingleQuote, NoNumber, NumberStart, BareWord, Control, Escape, TrailingComma, MissingComma, StrayColon, NoValue, BehindValue}
 use Rattle.script_text.specs.declared.causes.keys.Wanted.{Wanted}
@@ -29,7 +29,7 @@ wanted_text (Goal version) = codes "an object with exactly one key: " ++ goal_ke
 abbrev pub mistake_text : Mistake → List ℕ
 mistake_text Comment = codes "JSON has no comments"
 mistake_text SingleQuote = codes "JSON has strings in double quotes only"
-mistake_text NoNumber = codes "JSON has no NaN and no Infinity"
+mistake_text NoNumber = codes "JSON has no NaN, no Infinity and no None"
 mistake_text NumberStart = codes "a number must begin with a digit or a minus sign"
 mistake_text BareWord = codes "only true, false, null and numbers stand without quotes"
 mistake_text Control = codes "a control character must be written as \\u and four digits, in a string"
@@ -52,6 +52,7 @@ cause_text EndsInValue = codes "the line must be one JSON value, and ends inside
 cause_text NotJson = codes "the line must be one JSON value, with brackets that match, keys in quotes with a colon, and numbers as 0, -1.5 or 2e3"
 cause_text (UnknownKey name) = codes "the line must have the keys of one form, and no form has the key \"" ++ name ++ codes "\""
 cause_text (MissingKey key) = codes "the line must have the key \"" ++ key_text key ++ codes "\" too"
+cause_text (SurplusKey key) = codes "the line must not have the key \"" ++ key_text key ++ codes "\" beside its others"
 cause_text NoSuchForm = codes "the line must be an object with exactly the keys of one form"
 cause_text (WrongValue key wanted) = codes "the key \"" ++ key_text key ++ codes "\" must have " ++ wanted_text wanted
 cause_text (WrongRectangle number size) = codes "the key \"base\" must have " ++ wanted_text (Rectangles size) ++ codes "; array " ++ decimal number ++ codes " is wrong"

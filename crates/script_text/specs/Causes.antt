@@ -11,7 +11,7 @@ use Rattle.class_config.specs.Forms.{has_keys, is_class_name, keys_of}
 use Rattle.class_config.specs.Classes.{classes_of}
 use Rattle.posts.specs.declared.posts.Post.{Post}
 use Rattle.script_text.specs.declared.causes.Cause.{Cause}
-use Rattle.script_text.specs.declared.causes.Cause.TheVariants.{BlankLine, ByteOrderMark, TooDeep, NotUtf8, UnknownKey, MissingKey, NoSuchForm, WrongValue, WrongRectangle, MissingMask, LaterVersion, NotHere, EndsInsideTurn, NoLine}
+use Rattle.script_text.specs.declared.causes.Cause.TheVariants.{BlankLine, ByteOrderMark, TooDeep, NotUtf8, UnknownKey, MissingKey, SurplusKey, NoSuchForm, WrongValue, WrongRectangle, MissingMask, LaterVersion, NotHere, EndsInsideTurn, NoLine}
 use Rattle.script_text.specs.declared.causes.keys.Key.{Key}
 use Rattle.script_text.specs.declared.causes.keys.Key.TheVariants as key
 use Rattle.script_text.specs.declared.causes.keys.Wanted.{Wanted}
@@ -196,29 +196,59 @@ version_of BeforeMap = 3
 version_of (InBase rules) = rules.version
 version_of (InTurns rules) = rules.version
 
--- the keys of the add line that has this one: from version 2 on the mask, and one of the shapes
-abbrev pub add_keys_beside : ℕ → Bool → List Key
-add_keys_beside version square = key.Caller ∷ (if square then key.Square else key.Unit) ∷ (if nat_le 2 version then key.Mask ∷ [] else [])
+-- the keys of the add line with this shape: from version 2 on the mask too
+abbrev pub add_keys_named : ℕ → Bool → List Key
+add_keys_named version square = key.Caller ∷ key.Add ∷ (if square then key.Square else key.Unit) ∷ (if nat_le 2 version then key.Mask ∷ [] else [])
 
--- the keys that stand beside the one that names the form of a post line
-abbrev pub post_keys_beside : ℕ → Data → List Key
-post_keys_beside version d = if is_some (get (codes "add") d) then add_keys_beside version (is_some (get (codes "square") d))
-    else (if is_some (get (codes "remove") d) then key.Caller ∷ []
-    else (if nat_le 3 version && is_some (get (codes "move") d) then key.Caller ∷ key.To ∷ []
-    else (if is_some (get (codes "path") d) then key.Caller ∷ key.From ∷ key.Goal ∷ []
-    else (if is_some (get (codes "region") d) then key.Caller ∷ key.At ∷ []
-    else []))))
+-- the keys of the form that a key of the value names, behind the map line: none, where no key names one
+abbrev pub named_later : ℕ → Data → List Key
+named_later version d = if is_some (get (codes "add") d) then add_keys_named version (is_some (get (codes "square") d))
+    else (if is_some (get (codes "remove") d) then key.Caller ∷ key.Remove ∷ []
+    else (if nat_le 3 version && is_some (get (codes "move") d) then key.Caller ∷ key.Move ∷ key.To ∷ []
+    else (if is_some (get (codes "path") d) then key.Caller ∷ key.Path ∷ key.From ∷ key.Goal ∷ []
+    else (if is_some (get (codes "region") d) then key.Caller ∷ key.Region ∷ key.At ∷ []
+    else (if is_some (get (codes "base") d) then key.Base ∷ []
+    else (if is_some (get (codes "end") d) then key.End ∷ []
+    else []))))))
 
--- the same of any line: before the map line, the version names its form
-abbrev pub keys_beside : Part → Data → List Key
-keys_beside BeforeMap d = if is_some (get (codes "version") d) then key.Size ∷ key.Callers ∷ key.Classes ∷ [] else []
-keys_beside part d = post_keys_beside (version_of part) d
+-- the keys of a map line
+abbrev pub map_keys : List Key
+map_keys = key.Version ∷ key.Size ∷ key.Callers ∷ key.Classes ∷ []
 
--- a line with the keys of no form in any version: it has a key that no form has, or it lacks one
-abbrev pub strange_cause : Option (List ℕ) → Option Key → Cause
-strange_cause (Some name) missing = UnknownKey name
-strange_cause None (Some k) = MissingKey k
-strange_cause None None = NoSuchForm
+-- something stands under one of the keys
+abbrev pub has_any : List Key → Data → Bool
+has_any [] d = false
+has_any (k ∷ ks) d = if is_some (get (key_text k) d) then true else has_any ks d
+
+-- the same in any part: before the map line each of its keys names it
+abbrev pub named_keys : Part → Data → List Key
+named_keys BeforeMap d = if has_any map_keys d then map_keys else []
+named_keys (InBase rules) d = named_later rules.version d
+named_keys (InTurns rules) d = named_later rules.version d
+
+-- the key is there and not among the others
+abbrev pub is_surplus : Key → List Key → Data → Bool
+is_surplus k keys d = is_some (get (key_text k) d) && not (list_any (λ one. bytes_eq (key_text k) (key_text one)) keys)
+
+-- the first of these keys that is there and not among the others
+abbrev pub first_surplus : List Key → List Key → Data → Option Key
+first_surplus [] keys d = None
+first_surplus (k ∷ ks) keys d = if is_surplus k keys d then Some k else first_surplus ks keys d
+
+abbrev pub unfit_by : Option Key → Option Key → Cause
+unfit_by (Some k) surplus = MissingKey k
+unfit_by None (Some k) = SurplusKey k
+unfit_by None None = NoSuchForm
+
+-- a line that is to have exactly these keys: it lacks one, or has one too many
+abbrev pub unfit_cause : List Key → Data → Cause
+unfit_cause [] d = NoSuchForm
+unfit_cause (k ∷ ks) d = unfit_by (first_missing (k ∷ ks) d) (first_surplus line_keys (k ∷ ks) d)
+
+-- a line with the keys of no form in any version: it has a key that no form has, or does not fit the form that one names
+abbrev pub strange_cause : Option (List ℕ) → List Key → Data → Cause
+strange_cause (Some name) keys d = UnknownKey name
+strange_cause None keys d = unfit_cause keys d
 
 -- ---- lines in their places
 
@@ -242,7 +272,7 @@ other_version version first = if nat_lt version first then LaterVersion first el
 
 -- a line that has the keys of no form of the script's version
 abbrev pub no_form_cause : Part → Option ℕ → Data → Cause
-no_form_cause part None d = strange_cause (unknown_key d) (first_missing (keys_beside part d) d)
+no_form_cause part None d = strange_cause (unknown_key d) (named_keys part d) d
 no_form_cause BeforeMap (Some first) d = NotHere
 no_form_cause part (Some first) d = other_version (version_of part) first
 

@@ -21,7 +21,7 @@ use nav_types::{NoMemory, Size};
 use serde_json::Value;
 use std::alloc::Global;
 use std::{fmt, str};
-use strange_keys::{missing_key, unknown_key};
+use strange_keys::{unfit_cause, unknown_key};
 use wrong_values::{fields_cause, map_cause};
 
 /// The bytes with which some editors begin a file.
@@ -51,6 +51,9 @@ pub enum Cause {
     UnknownKey { key: ClassName },
     /// The keys are those of no form, in any version. One of them names a form, and this key of the form is not there.
     MissingKey { key: Key },
+    /// The keys are those of no form, in any version. One of them names a form, whose keys are there, and this key is not
+    /// among them.
+    SurplusKey { key: Key },
     /// The value is no object, or its keys are those of no form for another reason.
     NoSuchForm,
     /// The value under this key is not what it must be. Of several, it is the first in the order of the form's keys.
@@ -104,6 +107,12 @@ impl fmt::Display for Cause {
                 )
             }
             Cause::MissingKey { key } => write!(f, "the line must have the key \"{key}\" too"),
+            Cause::SurplusKey { key } => {
+                write!(
+                    f,
+                    "the line must not have the key \"{key}\" beside its others"
+                )
+            }
             Cause::NoSuchForm => f.write_str(
                 "the line must be an object with exactly the keys of one form",
             ),
@@ -272,15 +281,12 @@ fn no_form_cause(part: Part, first: Option<u8>, value: &Value) -> Cause
 
 /// The cause of a line that has the keys of no form in any version.
 fn strange_cause(part: Part, value: &Value) -> Cause
-    ensures { result ≡ why.strange_cause (why.unknown_key (view value.now))
-        (why.first_missing (why.keys_beside part (view value.now)) (view value.now)) }
+    ensures { result ≡ why.strange_cause (why.unknown_key (view value.now)) (why.named_keys part (view value.now))
+        (view value.now) }
 {
-    if let Some(key) = unknown_key(value) {
-        return Cause::UnknownKey { key };
-    }
-    match missing_key(part, value) {
-        Some(key) => Cause::MissingKey { key },
-        None => Cause::NoSuchForm,
+    match unknown_key(value) {
+        Some(key) => Cause::UnknownKey { key },
+        None => unfit_cause(part, value),
     }
 }
 

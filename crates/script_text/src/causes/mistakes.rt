@@ -14,7 +14,7 @@ pub enum Mistake {
     Comment,
     /// A single quote outside strings.
     SingleQuote,
-    /// The first letter of `NaN` or of `Infinity` outside strings.
+    /// The first letter of `NaN`, `None` or `Infinity` outside strings.
     NoNumber,
     /// A number begins with a plus sign or a point.
     NumberStart,
@@ -57,7 +57,7 @@ impl Mistake {
         match self {
             Mistake::Comment => "JSON has no comments",
             Mistake::SingleQuote => "JSON has strings in double quotes only",
-            Mistake::NoNumber => "JSON has no NaN and no Infinity",
+            Mistake::NoNumber => "JSON has no NaN, no Infinity and no None",
             Mistake::NumberStart => "a number must begin with a digit or a minus sign",
             Mistake::BareWord => "only true, false, null and numbers stand without quotes",
             Mistake::Control => {

@@ -6,7 +6,7 @@ ghost use Rattle.serde_json.specs.Find.{get};
 ghost use Rattle.serde_json.specs.View.{view};
 ghost use Rattle.script_text.specs.Causes as why;
 
-use crate::causes::Key;
+use crate::causes::{Cause, Key};
 use crate::parts::Part;
 use crate::versions::{FIRST_WITH_MASKS, FIRST_WITH_MOVES};
 use class_config::ClassName;
@@ -34,6 +34,9 @@ const LINE_KEYS: [Key; 19] = [
     Key::At,
     Key::End,
 ];
+
+/// The keys of a map line.
+const MAP_KEYS: [Key; 4] = [Key::Version, Key::Size, Key::Callers, Key::Classes];
 
 /// The first key of an object that no form has, where it is of the form of a name.
 #[tactic(auto, unfolding(crate::specs::Causes::unknown_key))]
@@ -68,48 +71,52 @@ fn is_unknown(key: &str) -> bool
 fn is_line_key(key: &str) -> bool
     ensures { result ≡ list_any (λ one. bytes_eq key.now (why.key_text one)) why.line_keys }
 {
-    LINE_KEYS.iter().any(|one| key == one.as_str())
+    is_among(key, &LINE_KEYS)
 }
 
-/// The first key that a line lacks of the form that one of its keys names.
-pub(crate) fn missing_key(part: Part, value: &Value) -> Option<Key>
-    ensures { result ≡ why.first_missing (why.keys_beside part (view value.now)) (view value.now) }
+/// The cause of a line whose keys are those of no form, and each of some form.
+pub(crate) fn unfit_cause(part: Part, value: &Value) -> Cause
+    ensures { result ≡ why.unfit_cause (why.named_keys part (view value.now)) (view value.now) }
 {
     match part {
         Part::BeforeMap => {
-            if value.get("version").is_some() {
-                first_missing(&[Key::Size, Key::Callers, Key::Classes], value)
+            if has_any(&MAP_KEYS, value) {
+                unfit_to(&MAP_KEYS, value)
             } else {
-                None
+                Cause::NoSuchForm
             }
         }
-        Part::InBase(rules) | Part::InTurns(rules) => missing_in_post(rules.version, value),
+        Part::InBase(rules) | Part::InTurns(rules) => unfit_post(rules.version, value),
     }
 }
 
-/// The same of a post line.
-fn missing_in_post(version: u8, value: &Value) -> Option<Key>
-    ensures { result ≡ why.first_missing (why.post_keys_beside version (view value.now)) (view value.now) }
+/// The same of a line behind the map line.
+fn unfit_post(version: u8, value: &Value) -> Cause
+    ensures { result ≡ why.unfit_cause (why.named_later version (view value.now)) (view value.now) }
 {
     if value.get("add").is_some() {
-        missing_in_add(version, value)
+        unfit_add(version, value)
     } else if value.get("remove").is_some() {
-        first_missing(&[Key::Caller], value)
+        unfit_to(&[Key::Caller, Key::Remove], value)
     } else if version >= FIRST_WITH_MOVES && value.get("move").is_some() {
-        first_missing(&[Key::Caller, Key::To], value)
+        unfit_to(&[Key::Caller, Key::Move, Key::To], value)
     } else if value.get("path").is_some() {
-        first_missing(&[Key::Caller, Key::From, Key::Goal], value)
+        unfit_to(&[Key::Caller, Key::Path, Key::From, Key::Goal], value)
     } else if value.get("region").is_some() {
-        first_missing(&[Key::Caller, Key::At], value)
+        unfit_to(&[Key::Caller, Key::Region, Key::At], value)
+    } else if value.get("base").is_some() {
+        unfit_to(&[Key::Base], value)
+    } else if value.get("end").is_some() {
+        unfit_to(&[Key::End], value)
     } else {
-        None
+        Cause::NoSuchForm
     }
 }
 
 /// The same of an add line. Where no shape is there, it is the unit.
-fn missing_in_add(version: u8, value: &Value) -> Option<Key>
-    ensures { result ≡ why.first_missing
-        (why.add_keys_beside version (is_some (get (codes "square") (view value.now)))) (view value.now) }
+fn unfit_add(version: u8, value: &Value) -> Cause
+    ensures { result ≡ why.unfit_cause
+        (why.add_keys_named version (is_some (get (codes "square") (view value.now)))) (view value.now) }
 {
     let shape = if value.get("square").is_some() {
         Key::Square
@@ -117,10 +124,62 @@ fn missing_in_add(version: u8, value: &Value) -> Option<Key>
         Key::Unit
     };
     if version >= FIRST_WITH_MASKS {
-        first_missing(&[Key::Caller, shape, Key::Mask], value)
+        unfit_to(&[Key::Caller, Key::Add, shape, Key::Mask], value)
     } else {
-        first_missing(&[Key::Caller, shape], value)
+        unfit_to(&[Key::Caller, Key::Add, shape], value)
     }
+}
+
+/// The cause of a line that is to have exactly these keys, at least one, and has not.
+fn unfit_to(keys: &[Key], value: &Value) -> Cause
+    ensures { result ≡ why.unfit_by (why.first_missing keys.now (view value.now))
+        (why.first_surplus why.line_keys keys.now (view value.now)) }
+{
+    if let Some(key) = first_missing(keys, value) {
+        return Cause::MissingKey { key };
+    }
+    match first_surplus(&LINE_KEYS, keys, value) {
+        Some(key) => Cause::SurplusKey { key },
+        None => Cause::NoSuchForm,
+    }
+}
+
+/// Whether something stands under one of the keys.
+fn has_any(keys: &[Key], value: &Value) -> bool
+    ensures { result ≡ why.has_any keys.now (view value.now) }
+{
+    for key in keys {
+        if value.get(key.as_str()).is_some() {
+            return true;
+        }
+    }
+    false
+}
+
+/// The first of these keys that is there and not among the others.
+fn first_surplus(among: &[Key], keys: &[Key], value: &Value) -> Option<Key>
+    ensures { result ≡ why.first_surplus among.now keys.now (view value.now) }
+{
+    for key in among {
+        if is_surplus(*key, keys, value) {
+            return Some(*key);
+        }
+    }
+    None
+}
+
+/// Whether the key is there and not among the others.
+fn is_surplus(key: Key, keys: &[Key], value: &Value) -> bool
+    ensures { result ≡ why.is_surplus key keys.now (view value.now) }
+{
+    value.get(key.as_str()).is_some() && !is_among(key.as_str(), keys)
+}
+
+/// Whether the key is one of these.
+fn is_among(key: &str, keys: &[Key]) -> bool
+    ensures { result ≡ list_any (λ one. bytes_eq key.now (why.key_text one)) keys.now }
+{
+    keys.iter().any(|one| key == one.as_str())
 }
 
 /// The first of these keys under which nothing stands.
