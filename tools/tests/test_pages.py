@@ -19,7 +19,7 @@ def text_of(page):
 
 class Pages(unittest.TestCase):
     def test_those_made_by_scripts_are_current(self):
-        for name in ("crates", "decisions", "definitions", "head_examples", "layers", "reading_list", "search_pictures", "speed_plots", "test_index", "theorems"):
+        for name in ("crates", "decisions", "definitions", "head_examples", "layers", "reading_list", "search_pictures", "speed_plots", "test_index", "theorems", "unused"):
             out, status, said = tool(f"tools/{name}.py", "--check")
             self.assertEqual(status, 0, out.decode() + said)
 
