@@ -38,12 +38,15 @@ PARTS = {
         ("The chosen walk goes by jump points", "jump_search search:find", "jump_search: Stopping RunEnds"),
         ("A search by a consistent estimate that has ended has every state that the chosen walk needs, at its cost", "jump_search search:find", "jump_search: Measuring Landing Framing Bounding Relaxing Dropping Taking Halting"),
         ("Its end is the first of the nearest targets, and the walk that is traced back by costs is the chosen one", "jump_search search:find", "jump_search: Ending LastRuns Picking GoingBack Answering"),
+        ("The way out of a rectangle without goal cells is an estimate by which a search may go", "jump_search search:find", "jump_search: WaysOut"),
+        ("A run beyond the cost of a walk that is known may be cut off", "jump_search search:find", "jump_search: Bounding Ending"),
         ("The opened number is exact", "jump_search search:trace; jump_search one_opened_number", "jump_search: Opening OneNumber"),
         ("Runs over bitboards stop where the definition says", "class_planes plane_scans:straight; class_planes plane_scans:diagonal", "class_planes: FarLemmas OpeningLemmas StepLemmas StopLemmas"),
         ("The precomputed jump flags are right, also after a change", "class_planes plane_sets:updated", "class_planes: StopLineLemmas StopWordLemmas StopChangeLemmas StopBandLemmas"),
     ],
     "Landmarks": [
         ("No walk costs less than its landmark bound, whatever stands on the map; tables that are added keep that", "landmarks bound_of_walk; landmarks tables:add", "landmarks: Bounds Gentle Marking"),
+        ("The bound that a search takes falls along a legal step by at most its cost, and is an estimate by which it may go", "landmarks span_bound_falls; grid_versions versions:landmarks", "landmarks: Spanning\njump_search: PastWalls\nturn_core: Searchable\ngrid_versions: GuidingLemmas"),
     ],
     "Goals, fields and smoothing": [
         ("The start cell is the nearest passable one; the goal is kept where it can be reached, else the closest reachable cell is the target", "goal_reach nearest_passable; goal_reach made_reachable", "goal_reach: Choosing Ringing Beyond Running Joining"),
