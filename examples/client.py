@@ -9,6 +9,8 @@ import math
 import subprocess
 import sys
 
+LINES_OF_PATH = {"replay": 1, "profile": 2, "flow": 2, "smooth": 2}  # by the program's word: how many lines answer a path
+
 
 def decimal(number):
     """A number as the service reads it: a text, rounded down to a multiple of 1/65536, which 16 decimals write exactly."""
@@ -18,7 +20,7 @@ def decimal(number):
 class Service:
     def __init__(self, program, map_line, word="replay"):
         self.process = subprocess.Popen([program, word], stdin=subprocess.PIPE, stdout=subprocess.PIPE, text=True)
-        self.lines_of_path = 1 if word == "replay" else 2
+        self.lines_of_path = LINES_OF_PATH[word]
         self.send([map_line])
 
     def send(self, lines):
