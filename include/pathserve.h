@@ -6,7 +6,7 @@
  * the same posts get the same answers, byte for byte. docs/FORMAT.md describes each answer.
  *
  *     by text       pathserve_open       feed, finish          waiting, take
- *     by structs    pathserve_open_map   post_all, end_turn    replies, waypoints, journal
+ *     by structs    pathserve_open_map   check, post_all, end_turn   replies, waypoints, journal
  *     to look       pathserve_view_of    passable, region, area, row, nearest, standing_at, find, field, clear, smooth
  *     to find much  pathserve_finder_open   find_with, find_all
  *
@@ -86,7 +86,7 @@ enum {
     PATHSERVE_OTHER = 18,     /* the match was opened by text and the call is one by structs, or the reverse */
     PATHSERVE_ENDED = 19,     /* pathserve_finish has ended the script */
     PATHSERVE_NO_MAP = 20,    /* the script's map line has not been fed yet */
-    PATHSERVE_BAD_VALUE = 21, /* an unknown kind, number or size, or an unused field that is not 0. The call does not say which */
+    PATHSERVE_BAD_VALUE = 21, /* an unknown kind, number or size, or an unused field that is not 0 */
     PATHSERVE_SMALL = 22      /* the buffer is too small: nothing was written, and the size that is needed was */
 };
 
@@ -210,9 +210,24 @@ typedef struct pathserve_post {
 
 /* Adds posts to the turn, after those that it has. The edits of a turn are made caller by caller from 0 on, and post by post:
  * never in the order in which two callers posted. DONE: all were taken. BAD_VALUE: an unknown kind, goal, caller or class, or
- * an unused field that is not 0; none was taken. A value past any other limit is taken, and its reply is a refusal.
+ * an unused field that is not 0; none was taken, and pathserve_check says which. A value past any other limit is taken, and
+ * its reply is a refusal.
  * NO_MEMORY: none was taken. CLOSED, OTHER. */
 pathserve_status pathserve_post_all(pathserve_match *match, const pathserve_post *posts, size_t count);
+
+enum { /* what pathserve_check finds wrong with a post: the first of these, in this order */
+    PATHSERVE_WRONG_KIND = 1,   /* an unknown kind of posts */
+    PATHSERVE_WRONG_CALLER = 2, /* the map has no such caller */
+    PATHSERVE_WRONG_CLASS = 3,  /* a request for a class that the map does not have */
+    PATHSERVE_WRONG_GOAL = 4,   /* a path to an unknown kind of goals */
+    PATHSERVE_NOT_ZERO = 5      /* an unused field is not 0 */
+};
+
+/* Says which of these posts pathserve_post_all would refuse, and why. Nothing is posted, and no memory is needed. DONE: none.
+ * BAD_VALUE: `which` gets the place of the first one, from 0, and `why` a number of the five above. CLOSED, OTHER. Only with
+ * BAD_VALUE is anything written. */
+pathserve_status pathserve_check(pathserve_match *match, const pathserve_post *posts, size_t count, size_t *which,
+                                 uint32_t *why);
 
 /* What a turn came to: its number, from 1; how many regions, region edges and areas all classes have after it; how many
  * replies there are, and waypoints in all of them; and for how many pairs of class and chunk a cell changed (relabelled). */

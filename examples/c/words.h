@@ -28,4 +28,16 @@ static inline const char *word_of_refusal(uint8_t why) {
     return why < sizeof words / sizeof *words ? words[why] : "no such refusal";
 }
 
+/* What pathserve_check finds wrong with a post. */
+static inline const char *words_of_fault(uint32_t why) {
+    switch (why) {
+    case PATHSERVE_WRONG_KIND: return "there is no such kind of posts";
+    case PATHSERVE_WRONG_CALLER: return "the map has no such caller";
+    case PATHSERVE_WRONG_CLASS: return "the map has no class of the number";
+    case PATHSERVE_WRONG_GOAL: return "there is no such kind of goals";
+    case PATHSERVE_NOT_ZERO: return "a field that the kind does not use is not 0";
+    default: return "no such fault";
+    }
+}
+
 #endif

@@ -750,10 +750,16 @@ class Python(unittest.TestCase):
             self.assertEqual(raised.exception.status, api.Status.BAD_VALUE, parts)
         with api.PostedMatch(12, 8, 1, classes) as match:
             good = api.region(0, 0, 0, 0)
-            for bad in (good._replace(kind=7), good._replace(caller=1), good._replace(class_number=1), good._replace(mask=1)):
-                with self.assertRaises(api.Failed) as raised:
-                    match.post([good, bad])
-                self.assertEqual(raised.exception.status, api.Status.BAD_VALUE, bad)
+            path = api.path(0, 0, 0, 0, api.Goal.point(0, 0))
+            bad = {
+                "WRONG_KIND": good._replace(kind=7), "WRONG_CALLER": good._replace(caller=1),
+                "WRONG_CLASS": good._replace(class_number=1), "WRONG_GOAL": path._replace(goal=7), "NOT_ZERO": good._replace(mask=1),
+            }
+            for place, (why, post) in enumerate(bad.items()):
+                with self.assertRaises(api.BadPost) as raised:
+                    match.post([good] * place + [post, good._replace(kind=0)])
+                it = raised.exception
+                self.assertEqual((it.status, it.place, it.why.name), (api.Status.BAD_VALUE, place, why))
             self.assertEqual(match.end_turn().replies, [])
             library = api.load()
             self.assertEqual(library.pathserve_finish(match._handle), api.Status.OTHER)

@@ -1,5 +1,6 @@
 pub mod Answered
 pub mod Calls
+pub mod Checks
 pub mod Fields
 pub mod Finders
 pub mod Finds

@@ -8,6 +8,7 @@
 //! call takes the state out, works on it, and puts it back. Nothing here starts threads, and no state is global.
 #![tactic(auto)]
 
+mod checks;
 mod fields;
 mod finder_calls;
 mod finders;
@@ -26,6 +27,7 @@ mod texts;
 mod versions;
 mod views;
 
+pub use checks::{NOT_ZERO, WRONG_CALLER, WRONG_CLASS, WRONG_GOAL, WRONG_KIND, pathserve_check};
 pub use fields::pathserve_field;
 pub use finder_calls::{
     pathserve_find_all, pathserve_find_with, pathserve_finder_close, pathserve_finder_open,

@@ -11,7 +11,7 @@ one wait for one another, and those of distinct ones do not.
 """
 from .finders import Finder
 from .matches import PostedMatch, TextMatch, Turn
-from .native import BadLine, Failed, OutOfMemory, Status, load
+from .native import BadLine, BadPost, Failed, Fault, OutOfMemory, Status, load
 from .posts import (
     NAVCELL,
     Cell,
@@ -35,7 +35,7 @@ from .posts import (
 from .views import FlowField, View
 
 __all__ = [
-    "NAVCELL", "BadLine", "Cell", "Failed", "Finder", "FlowField", "Goal", "Kind", "OutOfMemory", "PassabilityClass", "Path",
-    "Post", "PostedMatch", "Rect", "Refusal", "Region", "Reply", "Status", "TextMatch", "Turn", "View", "add_square", "add_unit",
-    "fixed", "load", "move", "path", "region", "remove",
+    "NAVCELL", "BadLine", "BadPost", "Cell", "Failed", "Fault", "Finder", "FlowField", "Goal", "Kind", "OutOfMemory",
+    "PassabilityClass", "Path", "Post", "PostedMatch", "Rect", "Refusal", "Region", "Reply", "Status", "TextMatch", "Turn", "View",
+    "add_square", "add_unit", "fixed", "load", "move", "path", "region", "remove",
 ]

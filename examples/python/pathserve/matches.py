@@ -5,7 +5,7 @@ import ctypes
 from typing import Iterable, NamedTuple, Sequence
 
 from . import native
-from .native import OutOfMemory, Status, filled, must
+from .native import BadPost, Fault, OutOfMemory, Status, filled, must
 from .owners import Owner
 from .posts import PassabilityClass, Post, Rect, Reply, cell_of, reply_of
 from .views import View
@@ -80,9 +80,16 @@ class PostedMatch(_Match):
         must(self._call("open_map", its_map, its_classes, len(classes), its_base, len(base)))
 
     def post(self, posts: Iterable[Post]) -> None:
-        """Posts, behind those that the turn has: all or none."""
+        """Posts, behind those that the turn has: all or none. BadPost where one of them is no post of the map."""
         structs = [it.struct() for it in posts]
-        must(self._call("post_all", (native.PostStruct * len(structs))(*structs), len(structs)))
+        its = (native.PostStruct * len(structs))(*structs)
+        with self._lock:
+            status = self._call("post_all", its, len(its))
+            if status == Status.BAD_VALUE:
+                place, why = ctypes.c_size_t(), ctypes.c_uint32()
+                self._call("check", its, len(its), place, why)
+                raise BadPost(place.value, Fault(why.value))
+        must(status)
 
     def end_turn(self) -> Turn:
         """Makes the edits of the turn, and answers its requests on what they leave."""

@@ -40,6 +40,24 @@ class OutOfMemory(Failed, MemoryError):
         self.taken = taken
 
 
+class Fault(enum.IntEnum):
+    """What is wrong first with a post."""
+
+    WRONG_KIND = 1
+    WRONG_CALLER = 2
+    WRONG_CLASS = 3
+    WRONG_GOAL = 4
+    NOT_ZERO = 5
+
+
+class BadPost(Failed):
+    """The post at a place is the first that is none of the map, and why."""
+
+    def __init__(self, place: int, why: Fault) -> None:
+        super().__init__(Status.BAD_VALUE, f"post {place}: {why.name}")
+        self.place, self.why = place, why
+
+
 class BadLine(Failed):
     """A line of the script is not in the grammar. The text that waits ends with its number, as `bad line 3`."""
 
@@ -118,6 +136,7 @@ CALLS = {
     "take": (c_size_t, [MATCH, c_void_p, c_size_t]),
     "open_map": (c_uint32, [MATCH, POINTER(MapStruct), POINTER(ClassStruct), c_size_t, POINTER(RectStruct), c_size_t]),
     "post_all": (c_uint32, [MATCH, POINTER(PostStruct), c_size_t]),
+    "check": (c_uint32, [MATCH, POINTER(PostStruct), c_size_t, SIZE, POINTER(c_uint32)]),
     "end_turn": (c_uint32, [MATCH, POINTER(TurnStruct)]),
     "replies": (c_size_t, [MATCH, c_uint64, POINTER(ReplyStruct), c_size_t]),
     "waypoints": (c_size_t, [MATCH, c_uint64, POINTER(CellStruct), c_size_t]),
