@@ -15,8 +15,9 @@
  * allocation, closing frees, a view copies little, the memory of text that was taken is reused), the offsets of the fields of
  * structs, that a match that has stopped keeps saying so, and how much stack a call needs. Everything rests on the promises
  * below. Nothing checks them: to break one is undefined behaviour.
- *   1. A pointer to a struct is not NULL, is aligned, and points to writable memory, unless it points to `const`. Nothing
- *      else uses that memory until the call returns, and no two pointers of one call overlap.
+ *   1. A pointer to a struct is not NULL, is aligned, and points to writable memory, unless it points to `const`. Until the
+ *      call returns nothing else writes to that memory, and nothing else reads what the call may write to. No two pointers
+ *      of one call overlap, but for two that it only reads.
  *   2. A pointer with a length or a count points to that many items. With 0 it may be NULL.
  *   3. A handle (pathserve_match, pathserve_view, pathserve_finder) is all zero before it is first opened. From then on only
  *      the library writes to it. An open handle may be moved between calls, that is copied, if the old one is never used
@@ -24,7 +25,8 @@
  *   4. Each handle serves one call at a time. It may pass to another thread if a lock, the start or the join of a thread,
  *      or a sequentially consistent atomic orders that. Different threads may use different handles at once.
  *   5. PATHSERVE_STACK bytes of stack are left. No call is made from a signal handler or in the child of a fork.
- *   6. malloc, realloc and free belong to one allocator, or you define the functions at the end of this file.
+ *   6. malloc, realloc and free belong to one allocator, or you define the functions at the end of this file. If several
+ *      threads use handles, these may be called at the same time, and free what another thread has allocated.
  *
  * No function throws, jumps, prints, ends the program, starts a thread, or reads a clock, a file or the environment. There
  * is no global state. You free nothing of the library's except by closing a handle.
@@ -83,7 +85,7 @@ enum {
     PATHSERVE_TOO_LONG = 7,   /* a line has more than 8,388,608 bytes, or the script more than 4,294,967,296 */
     PATHSERVE_CLOSED = 16,    /* the handle is closed */
     PATHSERVE_OPEN = 17,      /* the handle is open already */
-    PATHSERVE_OTHER = 18,     /* the match was opened by text and the call is one by structs, or the reverse */
+    PATHSERVE_OTHER = 18,     /* a handle of another kind: by text for a call by structs, or the reverse; a match for a view */
     PATHSERVE_ENDED = 19,     /* pathserve_finish has ended the script */
     PATHSERVE_NO_MAP = 20,    /* the script's map line has not been fed yet */
     PATHSERVE_BAD_VALUE = 21, /* an unknown kind, number or size, or an unused field that is not 0 */
@@ -152,7 +154,8 @@ size_t pathserve_take(pathserve_match *match, uint8_t *buffer, size_t length);
 typedef int32_t pathserve_fixed;
 #define PATHSERVE_NAVCELL 65536
 
-/* A navcell: its column from the west and its row from the south, both from 0. */
+/* A navcell: its column from the west and its row from the south, both from 0. The point x lies in column x / 65,536. As a
+ * waypoint it stands for its middle: (i * 65,536 + 32,768, j * 65,536 + 32,768). */
 typedef struct pathserve_cell { uint16_t i, j; } pathserve_cell;
 
 /* A map's size in navcells, 1 to 2048 each way, and how many callers it has, 1 to 64. */
@@ -198,7 +201,7 @@ typedef struct pathserve_post {
     uint8_t caller;                 /* from 0 */
     uint8_t class_number;           /* from 0 */
     uint8_t goal;
-    uint16_t mask;                  /* the classes that an obstruction blocks: bit k is for class k */
+    uint16_t mask;                  /* the classes that an obstruction blocks: bit k is for class k; other bits are ignored */
     uint16_t zero;
     uint32_t id;                    /* an obstruction's number, shared by all callers */
     pathserve_fixed x, z;           /* a middle or a point */
@@ -304,7 +307,8 @@ pathserve_status pathserve_journal(pathserve_match *match, uint8_t *buffer, size
  * DONE, CLOSED (the match), OPEN (the view), NO_MAP, NO_MEMORY. */
 pathserve_status pathserve_view_of(pathserve_match *match, pathserve_view *view);
 
-/* Opens a closed view of the same snapshot, for another thread. DONE, CLOSED (`from`), OPEN (`view`), NO_MEMORY. */
+/* Opens a closed view of the same snapshot, for another thread. The call uses `from`, so the thread that has it makes the call,
+ * and hands `view` over. DONE, CLOSED (`from`), OPEN (`view`), NO_MEMORY. */
 pathserve_status pathserve_view_again(pathserve_view *from, pathserve_view *view);
 
 /* Closes a view, before or after its match. Closing a closed view does nothing. */
@@ -334,14 +338,15 @@ uint32_t pathserve_nearest(pathserve_view *view, uint32_t class_number, pathserv
 uint32_t pathserve_standing_at(pathserve_view *view, uint32_t id, pathserve_post *post);
 
 /* Answers a post of the kind PATHSERVE_PATH or PATHSERVE_REGION at once, as a turn without edits would. The match does not
- * learn of it: ask for what is drawn, and post what is played. Writes the reply, and as many waypoints of a path as fit. In the
- * reply, `waypoints` is how many there are, `caller` is the post's, and `post` and `first_waypoint` are 0.
+ * learn of it. Writes the reply, and as many waypoints of a path as fit: a buffer that is too small is no error. In the reply,
+ * `waypoints` is how many there are, `caller` is the post's, and `post` and `first_waypoint` are 0.
  * DONE. BAD_VALUE: another kind, or as for pathserve_post_all. A value past any other limit makes the reply a refusal.
  * NO_MEMORY, CLOSED, and OTHER for a match. Only with DONE is anything written. */
 pathserve_status pathserve_find(pathserve_view *view, const pathserve_post *post, pathserve_reply *reply,
                                 pathserve_cell *waypoints, size_t count);
 
-/* ---- finders: pathserve_find allocates the memory of its search in each call; a finder keeps it from call to call ---- */
+/* ---- finders: pathserve_find allocates the memory of its search in each call; a finder keeps it from call to call.
+ * pathserve_field and pathserve_smooth, below, allocate in each call ---- */
 
 /* Opens a closed finder. It belongs to no match and no map, and serves any view: keep one in each thread that finds paths. It
  * keeps the memory of its searches, some 16 MB at most, until it is closed. DONE, OPEN, NO_MEMORY. */
@@ -359,8 +364,8 @@ pathserve_status pathserve_find_with(pathserve_finder *finder, pathserve_view *v
 /* The same for many posts of the kinds PATHSERVE_PATH and PATHSERVE_REGION, each answered as if alone. Writes a reply to each
  * post, in the order of the posts, and the waypoints of all paths one after another: as many of either as fit, so let
  * `reply_count` be `post_count`. In a reply, `post` is the place of its post, from 0, and `first_waypoint` the place of the
- * path's first waypoint among all. The last path's `first_waypoint` plus its `waypoints` is how many there are: if that is more
- * than the buffer holds, ask for the paths past it again.
+ * path's first waypoint among all. `first_waypoint` plus `waypoints` of the last reply that is a path is how many there are: if
+ * that is more than the buffer holds, ask for the paths past it again.
  * DONE. BAD_VALUE: pathserve_find would refuse one of the posts so. NO_MEMORY, CLOSED, OTHER as above. Only with DONE is
  * anything written. */
 pathserve_status pathserve_find_all(pathserve_finder *finder, pathserve_view *view, const pathserve_post *posts,
