@@ -227,13 +227,15 @@ class Clients(unittest.TestCase):
     @unittest.skipUnless(shutil.which("cargo"), "there is no cargo")
     def test_rust(self):
         where = dict(os.environ, PATHSERVE_LIB_DIR=os.path.join(RELEASE, "lib"), CARGO_TARGET_DIR=self.folder)
-        for name in ("skirmish", "posts", "views"):
+        for name in ("skirmish", "posts", "views", "finders"):
             words = ["cargo", "run", "-q", "--offline", "--example", name]
             folder = os.path.join(RELEASE, "examples", "rust", "pathserve")
             ran = subprocess.run(words, cwd=folder, env=where, input=read("examples/skirmish.script"), capture_output=True)
             self.assertEqual(ran.returncode, 0, ran.stderr.decode())
             if name == "skirmish":
                 self.assertEqual(ran.stdout, read("examples/skirmish.answers"))
+            if name == "finders":
+                self.assertEqual(ran.stdout.count(b"\nunit"), 2)
 
 
 ARM_CC = "aarch64-linux-gnu-gcc"

@@ -32,6 +32,13 @@ pub struct View {
     pub at: *mut c_void,
 }
 
+/// A finder, as a match.
+#[repr(C)]
+pub struct Finder {
+    pub live: u64,
+    pub at: *mut c_void,
+}
+
 #[repr(C)]
 #[derive(Clone, Copy, Debug, Default, PartialEq, Eq)]
 pub struct Cell {
@@ -163,6 +170,28 @@ extern "C" {
         waypoints: *mut Cell,
         count: usize,
     ) -> u32;
+
+    pub fn pathserve_finder_open(finder: *mut Finder) -> u32;
+    pub fn pathserve_finder_close(finder: *mut Finder);
+    pub fn pathserve_find_with(
+        finder: *mut Finder,
+        view: *mut View,
+        post: *const Post,
+        reply: *mut Reply,
+        waypoints: *mut Cell,
+        count: usize,
+    ) -> u32;
+    pub fn pathserve_find_all(
+        finder: *mut Finder,
+        view: *mut View,
+        posts: *const Post,
+        post_count: usize,
+        replies: *mut Reply,
+        reply_count: usize,
+        waypoints: *mut Cell,
+        waypoint_count: usize,
+    ) -> u32;
+
     pub fn pathserve_field(
         view: *mut View,
         post: *const Post,

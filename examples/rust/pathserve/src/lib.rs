@@ -1,7 +1,7 @@
 //! Matches and views of libpathserve as owners: what `pathserve.h` asks of its caller holds by their types.
 //!
-//! A [`TextMatch`], a [`PostedMatch`] and a [`View`] are neither copied nor shared, each call borrows them for itself, they may
-//! move to another thread, and dropping one frees what it has.
+//! A [`TextMatch`], a [`PostedMatch`], a [`View`] and a [`Finder`] are neither copied nor shared, each call borrows them for
+//! itself, they may move to another thread, and dropping one frees what it has.
 //!
 //! ```no_run
 //! let mut game = pathserve::TextMatch::open(pathserve::Report::Replay)?;
@@ -10,10 +10,12 @@
 //! # Ok::<(), pathserve::Error>(())
 //! ```
 
+mod finders;
 mod matches;
 mod posts;
 mod views;
 
+pub use finders::Finder;
 pub use matches::{PostedMatch, Report, TextMatch, Turn};
 pub use pathserve_sys::{Cell, Rect};
 pub use posts::{fixed, Class, Goal, Outcome, Path, Post, Refusal, Reply, NAVCELL};
@@ -21,7 +23,7 @@ pub use views::View;
 
 use pathserve_sys as sys;
 
-/// Why a call did not do what was asked. After each of them but the first two the match or the view is as it was.
+/// Why a call did not do what was asked. After each of them but the first two the match, the view or the finder is as it was.
 #[derive(Clone, Debug, PartialEq, Eq)]
 pub enum Error {
     /// A line of the script is not in the grammar. The match has stopped, and its text ends with the line's number.
