@@ -1,4 +1,5 @@
-// Plays examples/skirmish.script by posts, without a script, and looks at what stands: `node skirmish.mjs [pathserve.wasm]`.
+// Plays examples/skirmish.script by posts, without a script, looks at what stands, and leads a group by a flow field:
+// `node skirmish.mjs [pathserve.wasm]`.
 import { pathToFileURL } from "node:url";
 import { Goal, addSquare, fixed, load, move, path, region, remove } from "./pathserve/pathserve.js";
 
@@ -29,5 +30,16 @@ const view = match.view();
 console.log("siege, from the north:");
 for (let j = 7; j >= 0; j--) console.log("  " + [...view.row(SIEGE, j, 12)].map((it) => "#."[it]).join(""));
 console.log("and back east:", JSON.stringify(view.find(path(1, SIEGE, fixed(1.5), fixed(3.5), Goal.point(fixed(10.5), fixed(3.5)))).path));
-view.close();
-match.close();
+
+const order = ([i, j]) => path(1, SIEGE, fixed(i + 0.5), fixed(j + 0.5), Goal.point(fixed(10.5), fixed(3.5)));
+const group = [[1, 3], [2, 5], [1, 1]], finder = library.finder();
+const found = finder.findAll(view, group.map(order)), field = view.field(order(group[0]), 12, 8);
+console.log("a field for a group:");
+for (let j = 7; j >= 0; j--) console.log("  " + [...field.steps.slice(12 * j, 12 * j + 12)].map((it) => " |-|-/\\/\\*"[it]).join(""));
+group.forEach(([i, j], n) => {
+  let at = { i, j }, count = 0;
+  for (let next = field.next(at); next && (next.i !== at.i || next.j !== at.j); next = field.next(at)) [at, count] = [next, count + 1];
+  const { start, waypoints, cost } = found[n].path, kept = view.smooth(SIEGE, start, waypoints);
+  console.log(`  unit ${i},${j}: cost ${cost}, as the field says ${field.distance(start)}; ${count} steps to ${at.i},${at.j}; waypoints, smoothed: ${JSON.stringify(kept)}`);
+});
+for (const it of [finder, view, match]) it.close();

@@ -97,14 +97,23 @@ class Node(unittest.TestCase):
     def test_numbers_that_do_not_fit_are_refused_before_a_call(self):
         code = """import { pathToFileURL } from "node:url";
           const its = await import(pathToFileURL(process.argv[1])), library = await its.load();
-          const match = library.postedMatch({ width: 8, height: 8, callers: 1, classes: [{ name: "a", clearance: 0 }] });
+          const map = { width: 8, height: 8, callers: 1, classes: [{ name: "a", clearance: 0 }] }, other = await its.load();
+          const match = library.postedMatch(map), finder = library.finder(), post = its.region(0, 0, 0, 0), cell = { i: 0, j: 0 };
+          match.endTurn();
+          const view = match.view();
           const tries = [() => match.post(its.remove(256, 1)), () => match.post(its.remove(0, 2 ** 32)), () => match.post({ kind: 3, idd: 1 }),
             () => match.post(its.addUnit(0, 1, 65536, 0, 0, 1)), () => match.post(its.move(0, 1, 0.5, 0)),
             () => match.post(its.region(0, 1, 0, 0)), () => library.postedMatch({ width: 2 ** 32 + 8, height: 8, callers: 1, classes: [] }),
-            () => library.textMatch("reply"), () => { match.close(); match.endTurn(); }];
+            () => library.textMatch("reply"), () => view.nearest(0, 2 ** 31, 0), () => view.standingAt(-1), () => view.clear(0, cell, { i: 65536, j: 0 }),
+            () => view.smooth(0, { i: 0.5, j: 0 }, []), () => view.smooth(0, cell, [{ i: 2, j: 1 }]), () => view.field(its.remove(0, 1), 8, 8),
+            () => finder.findAll(view, [its.path(0, 0, 0, 0, its.Goal.point(0, 0)), its.region(0, 1, 0, 0)]), () => finder.find(match, post),
+            () => finder.find(other.postedMatch(map), post), () => { view.close(); finder.find(view, post); },
+            () => { finder.close(); finder.find(view, post); }, () => { match.close(); match.endTurn(); }];
           for (const it of tries) try { it(); console.log("taken"); } catch (fault) { console.log(fault.name, fault.status ?? ""); }"""
         ran = node("--input-type=module", "-e", code, PACKAGE)
-        said = ["RangeError", "RangeError", "TypeError", "RangeError", "RangeError", "Failed 21", "RangeError", "Failed 21", "Failed 16"]
+        said = ["RangeError", "RangeError", "TypeError", "RangeError", "RangeError", "Failed 21", "RangeError", "Failed 21"]
+        said += ["RangeError", "RangeError", "RangeError", "RangeError", "Failed 21", "Failed 21", "Failed 21", "Failed 18", "TypeError"]
+        said += ["Failed 16", "Failed 16", "Failed 16"]
         self.assertEqual([it.strip() for it in ran.stdout.decode().splitlines()], said, ran.stderr.decode())
 
     def test_a_line_as_deep_as_can_be_has_room(self):

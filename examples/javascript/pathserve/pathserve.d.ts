@@ -52,6 +52,26 @@ export interface Reply {
   region?: { chunk: Cell; region: number; area: number };
 }
 
+/** How far each step of a field leads, by its number: none, N, E, S, W, NE, SE, SW, NW, and where a unit stays. */
+export const WAYS: readonly (readonly [number, number])[];
+export const NO_STEP: 0;
+export const STAYS: 9;
+
+/** From each cell of a map the step to take to a goal that a group has in common, row by row: see `View.field`. */
+export class FlowField {
+  /** What `find` replies to the path, without waypoints. */
+  readonly reply: Reply;
+  readonly width: number;
+  /** A number of `WAYS` for each cell: NO_STEP where the goal can't be reached, STAYS on it. */
+  readonly steps: Uint8Array;
+  /** The cost of the cheapest walk from each cell: Infinity where it has none. */
+  readonly distances: Float64Array;
+  /** Where a unit on this cell goes next: the cell itself where it has arrived, null where it can't. */
+  next(cell: Cell): Cell | null;
+  /** What the cheapest walk from this cell costs: Infinity where it has none. */
+  distance(cell: Cell): number;
+}
+
 /** A turn's numbers, and the replies to its posts, caller by caller. */
 export interface Turn { turn: number; regions: number; edges: number; areas: number; relabelled: number; replies: Reply[] }
 
@@ -73,6 +93,8 @@ export class Library {
   textMatch(report?: "replay" | "profile" | "flow" | "smooth"): TextMatch;
   /** A match on a map, whose turns are posts. */
   postedMatch(map: MapOfMatch): PostedMatch;
+  /** The memory of searches, for views of any match of this library. */
+  finder(): Finder;
 }
 
 declare class Owner {
@@ -116,6 +138,26 @@ export class View extends Owner {
   area(classNumber: number, i: number, j: number): number;
   /** Which cells of a row are passable: 1 or 0 of each. */
   row(classNumber: number, j: number, width: number): Uint8Array;
+  /** The cell in which a path of a class from the point (x, z) starts: the one that holds it, or else the passable one nearest to
+   * it. Null where there is none, or the point is not on the map. */
+  nearest(classNumber: number, x: number, z: number): Cell | null;
+  /** The post by which caller 0 adds what stands under a number, or null. */
+  standingAt(id: number): Post | null;
   /** Answers a path or a region at once, as a turn without edits would. The match knows nothing of it. */
   find(post: Post): Reply;
+  /** The flow field of a path, one for a whole group, on a map of this size. Null where no path is answered: `find` says why. */
+  field(post: Post, width: number, height: number): FlowField | null;
+  /** Whether a straight line between the middles of two cells touches passable cells alone. */
+  clear(classNumber: number, from: Cell, to: Cell): boolean;
+  /** The fewest of a walk's waypoints that clear straight lines join. Failed with BAD_VALUE where these are those of no legal walk
+   * from the start. */
+  smooth(classNumber: number, start: Cell, waypoints: readonly Cell[]): Cell[];
+}
+
+/** Answers paths and regions by views, as `View.find` does and faster: see `Library.finder`. */
+export class Finder extends Owner {
+  /** What `view.find` answers to the post. */
+  find(view: View, post: Post): Reply;
+  /** What `view.find` answers to each of the posts, in their order. A reply's `post` is the place of its post. */
+  findAll(view: View, posts: readonly Post[]): Reply[];
 }

@@ -1,4 +1,5 @@
-// The library libpathserve for JavaScript: matches by text and by posts, and views. No browser and no Node needs anything else.
+// The library libpathserve for JavaScript: matches by text and by posts, views, and finders. No browser and no Node needs anything
+// else.
 //
 //     const library = await load();
 //     const match = library.textMatch();
@@ -70,7 +71,7 @@ const REPLY = struct(
 );
 const HANDLE = 16, CLASS = 72, CELL = 4, NAME = 64;
 // in the order of PATHSERVE_SIZE_..
-const SIZES = [HANDLE, HANDLE, MAP.size, CLASS, RECT.size, POST.size, TURN.size, REPLY.size, CELL];
+const SIZES = [HANDLE, HANDLE, MAP.size, CLASS, RECT.size, POST.size, TURN.size, REPLY.size, CELL, HANDLE];
 const LEAST = { Uint8: 0, Uint16: 0, Uint32: 0, Int32: -0x80000000 };
 const MOST = { Uint8: 255, Uint16: 65535, Uint32: 0xffffffff, Int32: 0x7fffffff };
 
@@ -91,6 +92,10 @@ export const move = (caller, id, x, z) => ({ kind: 4, caller, id, x, z });
 export const path = (caller, classNumber, x, z, goal) => ({ kind: 5, caller, classNumber, x, z, ...goal });
 /** Asks in which region and area of a class the point (x, z) lies. */
 export const region = (caller, classNumber, x, z) => ({ kind: 6, caller, classNumber, x, z });
+
+/** The post by which caller 0 adds the obstruction of these fields. */
+const addOf = ({ kind, id, mask, x, z, ux, uz, hw, hh, radius }) =>
+  kind === 1 ? addUnit(0, id, mask, x, z, radius) : addSquare(0, id, mask, x, z, ux, uz, hw, hh);
 
 /** Where a path shall lead. */
 export const Goal = Object.freeze({
@@ -115,6 +120,32 @@ function replyOf(it, waypoints) {
     reply.region = { chunk: { i: it["chunk.i"], j: it["chunk.j"] }, region: it.region, area: it.area };
   }
   return reply;
+}
+
+// ---- flow fields
+
+/** How far each step of a field leads, by its number: none, N, E, S, W, NE, SE, SW, NW, and where a unit stays. */
+export const WAYS = Object.freeze([[0, 0], [0, 1], [1, 0], [0, -1], [-1, 0], [1, 1], [1, -1], [-1, -1], [-1, 1], [0, 0]]);
+export const NO_STEP = 0;
+export const STAYS = 9;
+const NO_DISTANCE = 0xffffffff; // the upper half of PATHSERVE_NO_DISTANCE
+
+/** From each cell of a map the step to take to a goal that a group has in common, row by row: see `View.field`. */
+export class FlowField {
+  constructor(reply, width, steps, distances) {
+    Object.assign(this, { reply, width, steps, distances });
+  }
+
+  /** Where a unit on this cell goes next: the cell itself where it has arrived, null where it can't. */
+  next({ i, j }) {
+    const step = this.steps[j * this.width + i];
+    return step === NO_STEP ? null : { i: i + WAYS[step][0], j: j + WAYS[step][1] };
+  }
+
+  /** What the cheapest walk from this cell costs: Infinity where it has none. */
+  distance({ i, j }) {
+    return this.distances[j * this.width + i];
+  }
 }
 
 // ---- the module
@@ -220,6 +251,24 @@ export class Library {
     return Array.from({ length: count }, (_, n) => ({ i: data.getUint16(at + CELL * n, true), j: data.getUint16(at + CELL * n + 2, true) }));
   }
 
+  writeCells(at, cells) {
+    const data = this.data;
+    cells.forEach(({ i, j }, n) => {
+      data.setUint16(at + CELL * n, fitting("i", "Uint16", i), true);
+      data.setUint16(at + CELL * n + 2, fitting("j", "Uint16", j), true);
+    });
+  }
+
+  /** Numbers of 64 bits, of which the greatest is Infinity. */
+  distances(at, count) {
+    const data = this.data, half = (place) => data.getUint32(place, true), far = new Float64Array(count);
+    for (let n = 0; n < count; n++) {
+      const high = half(at + 8 * n + 4);
+      far[n] = high === NO_DISTANCE ? Infinity : high * 2 ** 32 + half(at + 8 * n);
+    }
+    return far;
+  }
+
   /** A match by the text of its script, as the program plays it with the word `replay`, `profile`, `flow` or `smooth`. */
   textMatch(report = "replay") {
     return new TextMatch(this, report);
@@ -228,6 +277,11 @@ export class Library {
   /** A match on a map, whose turns are posts. */
   postedMatch(map) {
     return new PostedMatch(this, map);
+  }
+
+  /** The memory of searches, for views of any match of this library. */
+  finder() {
+    return new Finder(this);
   }
 }
 
@@ -242,10 +296,15 @@ class Owner {
     this.#close = close;
   }
 
-  /** Calls a function with the handle, which is open. */
-  call(name, ...words) {
+  /** The address of the handle, which is open. */
+  get address() {
     if (!this.handle) throw new Failed(Status.CLOSED);
-    return this.library.call(name, BigInt(this.handle), ...words);
+    return BigInt(this.handle);
+  }
+
+  /** Calls a function with the handle. */
+  call(name, ...words) {
+    return this.library.call(name, this.address, ...words);
   }
 
   /** Frees what it has. Closing twice is no harm. */
@@ -401,15 +460,100 @@ export class View extends Owner {
     return cells;
   }
 
+  /** The cell in which a path of a class from the point (x, z) starts: the one that holds it, or else the passable one nearest to
+   * it. Null where there is none, or the point is not on the map. */
+  nearest(classNumber, x, z) {
+    const [at] = this.library.room(CELL), point = [fitting("x", "Int32", x), fitting("z", "Int32", z)];
+    return this.call("nearest", classNumber, ...point, BigInt(at)) ? this.library.cells(at, 1)[0] : null;
+  }
+
+  /** The post by which caller 0 adds what stands under a number, or null. */
+  standingAt(id) {
+    const [at] = this.library.room(POST.size);
+    return this.call("standing_at", fitting("id", "Uint32", id), BigInt(at)) ? addOf(this.library.read(at, POST)) : null;
+  }
+
   /** Answers a path or a region at once, as a turn without edits would. The match knows nothing of it. */
   find(post) {
-    for (let room = 256; ; ) {
-      const [asked, reply, cells] = this.library.room(POST.size, REPLY.size, CELL * room);
-      this.library.write(asked, POST, post);
-      must(this.call("find", ...[asked, reply, cells, room].map(BigInt)));
-      const told = this.library.read(reply, REPLY);
-      if (told.waypoints <= room) return replyOf(told, this.library.cells(cells, told.waypoints));
-      room = told.waypoints;
+    return found(this.library, post, (...words) => this.call("find", ...words));
+  }
+
+  /** The flow field of a path, one for a whole group, on a map of this size. Null where no path is answered: `find` says why. */
+  field(post, width, height) {
+    const { library } = this, count = fitting("width", "Uint16", width) * fitting("height", "Uint16", height);
+    const [asked, reply] = library.room(POST.size, REPLY.size);
+    library.write(asked, POST, post);
+    const far = library.allocate(9 * count), steps = far + 8 * count;
+    try {
+      must(this.call("field", ...[asked, reply, steps, count, far, count].map(BigInt)));
+      const told = replyOf(library.read(reply, REPLY), []);
+      return told.path ? new FlowField(told, width, library.bytes.slice(steps, steps + count), library.distances(far, count)) : null;
+    } finally {
+      library.free(far);
     }
+  }
+
+  /** Whether a straight line between the middles of two cells touches passable cells alone. */
+  clear(classNumber, from, to) {
+    const [at] = this.library.room(2 * CELL);
+    this.library.writeCells(at, [from, to]);
+    return this.call("clear", classNumber, BigInt(at), BigInt(at + CELL)) === 1;
+  }
+
+  /** The fewest of a walk's waypoints that clear straight lines join. Failed with BAD_VALUE where these are those of no legal walk
+   * from the start. */
+  smooth(classNumber, start, waypoints) {
+    const { library } = this, count = waypoints.length, [begins, kept, cells] = library.room(CELL, 8, CELL * count);
+    library.writeCells(begins, [start]);
+    library.writeCells(cells, waypoints);
+    must(this.call("smooth", classNumber, ...[begins, cells, count, kept].map(BigInt)));
+    return library.cells(cells, Number(library.data.getBigUint64(kept, true)));
+  }
+}
+
+/** Answers paths and regions by views, as `View.find` does and faster: see `Library.finder`. */
+export class Finder extends Owner {
+  constructor(library) {
+    super(library, "finder_close");
+    this.opened(this.call("finder_open"));
+  }
+
+  /** What `view.find` answers to the post. */
+  find(view, post) {
+    return found(this.library, post, (...words) => this.#asked(view, "find_with", words));
+  }
+
+  /** What `view.find` answers to each of the posts, in their order. A reply's `post` is the place of its post. */
+  findAll(view, posts) {
+    const { library } = this, count = posts.length;
+    for (let room = 64 * count; ; ) {
+      const [asked, replies, cells] = library.room(POST.size * count, REPLY.size * count, CELL * room);
+      posts.forEach((it, n) => library.write(asked + POST.size * n, POST, it));
+      must(this.#asked(view, "find_all", [asked, count, replies, count, cells, room].map(BigInt)));
+      const told = posts.map((_, n) => library.read(replies + REPLY.size * n, REPLY));
+      const whole = told.reduce((most, it) => Math.max(most, it.firstWaypoint + it.waypoints), 0);
+      if (whole <= room) {
+        const waypoints = library.cells(cells, whole);
+        return told.map((it) => replyOf(it, waypoints));
+      }
+      room = whole;
+    }
+  }
+
+  #asked(view, name, words) {
+    if (view.library !== this.library) throw new TypeError("the view is of another library");
+    return this.call(name, view.address, ...words);
+  }
+}
+
+/** The answer to a post by a call that takes its address, and those of the reply and of room for so many waypoints. */
+function found(library, post, call) {
+  for (let room = 256; ; ) {
+    const [asked, reply, cells] = library.room(POST.size, REPLY.size, CELL * room);
+    library.write(asked, POST, post);
+    must(call(...[asked, reply, cells, room].map(BigInt)));
+    const told = library.read(reply, REPLY);
+    if (told.waypoints <= room) return replyOf(told, library.cells(cells, told.waypoints));
+    room = told.waypoints;
   }
 }

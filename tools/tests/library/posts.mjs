@@ -1,12 +1,14 @@
 // Plays scripts by posts with the package for JavaScript, and writes what the program writes of them: node posts.mjs PACKAGE MODULE
 // < SCRIPTS, before each of which stands its length in a line. Before each text stands 1 and its length. A script of which a
-// post names no class of its map is left out, and 0 0 stands for its text.
+// post names no class of its map is left out, and 0 0 stands for its text. After each turn a view is asked what the turn was, and
+// a finder what the view was; flow fields, lines of sight and smoothed waypoints have to fit the paths.
+import assert from "node:assert/strict";
 import { readFileSync, writeSync } from "node:fs";
 import { pathToFileURL } from "node:url";
 
 const [place, file] = process.argv.slice(2);
 const its = await import(pathToFileURL(place));
-const library = await its.load(readFileSync(file));
+const library = await its.load(readFileSync(file)), finder = library.finder();
 
 /** A decimal, cut to a whole number of which 65,536 are a navcell's side. */
 function raw(text) {
@@ -46,6 +48,59 @@ function lineOf({ caller, post, kind, id, why, path, region }) {
   return `${caller} ${post} ${said}\n`;
 }
 
+/** What stands after posts, in the order of their replies, by number: each as caller 0 would add it. */
+function stand(standing, asked, replies) {
+  asked.forEach((post, n) => {
+    const { kind } = replies[n];
+    if (kind === "added") standing.set(post.id, { ...post, caller: 0 });
+    if (kind === "moved") standing.set(post.id, { ...standing.get(post.id), x: post.x, z: post.z });
+    if (kind === "removed") standing.delete(post.id);
+  });
+}
+
+/** A path is led by its field, and its waypoints are smoothed. */
+function led(view, post, reply, [width, height]) {
+  const field = view.field(post, width, height);
+  if (!reply.path) return assert.equal(field, null);
+  const { start, end, cost, waypoints } = reply.path;
+  assert.deepEqual(field.reply, { ...reply, path: { ...reply.path, waypoints: [] } });
+  assert.deepEqual([field.steps.length, field.distances.length, field.distance(start)], [width * height, width * height, cost]);
+  let at = start, left = cost;
+  for (let next = field.next(at); next.i !== at.i || next.j !== at.j; next = field.next(at)) {
+    left -= next.i !== at.i && next.j !== at.j ? 92682 : 65536;
+    at = next;
+    assert.equal(field.distance(at), left);
+  }
+  assert.equal(left, 0);
+  if (reply.kind === "near-goal") assert.deepEqual(at, end);
+  field.steps.forEach((step, n) => assert.equal(step === its.NO_STEP, field.distances[n] === Infinity));
+  const kept = view.smooth(post.classNumber, start, waypoints), walk = [start, ...kept];
+  assert.deepEqual(kept.at(-1), waypoints.at(-1));
+  assert.ok(kept.every((it) => waypoints.some(({ i, j }) => i === it.i && j === it.j)));
+  kept.forEach((it, n) => assert.ok(view.clear(post.classNumber, walk[n], it)));
+  if (kept.length > 1) assert.ok(waypoints.length > 63 || !view.clear(post.classNumber, start, end));
+}
+
+function looked(match, asked, replies, standing, size) {
+  const view = match.view(), requests = [];
+  stand(standing, asked, replies);
+  for (const id of new Set([...standing.keys(), ...asked.map((it) => it.id ?? 0)])) assert.deepEqual(view.standingAt(id), standing.get(id) ?? null);
+  asked.forEach((post, n) => {
+    if (post.kind < 5) return;
+    const reply = { ...replies[n], post: 0 };
+    requests.push([post, reply]);
+    assert.deepEqual(view.find(post), reply);
+    assert.deepEqual(finder.find(view, post), reply);
+    if (post.kind === 6) return;
+    if (reply.path) assert.deepEqual(view.nearest(post.classNumber, post.x, post.z), reply.path.start);
+    if (reply.kind === "nowhere" || reply.why === "start-outside") assert.equal(view.nearest(post.classNumber, post.x, post.z), null);
+    led(view, post, reply, size);
+  });
+  const all = finder.findAll(view, requests.map(([post]) => post));
+  assert.deepEqual(all, requests.map(([, reply], place) => ({ ...reply, post: place })));
+  view.close();
+}
+
 function played(script) {
   const lines = script.trimEnd().split("\n").map((it) => JSON.parse(it)), { version, size, callers, classes } = lines[0];
   const names = classes.map((it) => it.name), posts = lines.slice(1).map((it) => (it.caller === undefined ? it : postOf(it, version, names)));
@@ -53,14 +108,16 @@ function played(script) {
   const base = posts.flatMap((it) => it.base ?? []).map(([i0, j0, i1, j1, mask]) => ({ i0, j0, i1, j1, mask }));
   const its = classes.map(({ name, clearance }) => ({ name, clearance: raw(clearance) }));
   const match = library.postedMatch({ width: size[0], height: size[1], callers, classes: its, base });
+  const standing = new Map();
   let text = "", waiting = [];
   for (const it of posts) {
     if (it.kind) waiting.push(it);
     if (it.end === undefined) continue;
     match.post(...waiting.slice(0, 1));
     match.post(...waiting.slice(1));
+    const turn = match.endTurn(), asked = waiting.sort((one, other) => one.caller - other.caller);
     waiting = [];
-    const turn = match.endTurn();
+    looked(match, asked, turn.replies, standing, size);
     text += `turn ${turn.turn} regions ${turn.regions} edges ${turn.edges} areas ${turn.areas} relabelled ${turn.relabelled}\n`;
     text += turn.replies.map(lineOf).join("");
   }
@@ -79,5 +136,6 @@ for (let at = 0; at < given.length; ) {
   const text = played(given.toString("utf8", end + 1, at));
   told.push(text === null ? "0 0\n" : `1 ${text.length}\n${text}`);
 }
+finder.close();
 const whole = Buffer.from(told.join(""));
 for (let at = 0; at < whole.length; ) at += writeSync(1, whole, at);

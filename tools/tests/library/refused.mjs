@@ -23,12 +23,26 @@ function again(call) {
 
 const ask = path(1, 1, 688128, 229376, Goal.circle(98304, 229376, 65536));
 
+function lead(view, told) {
+  const finder = again(() => library.finder());
+  try {
+    const [{ path: its }] = again(() => finder.findAll(view, [ask, ask])), field = again(() => view.field(ask, 12, 8));
+    told.push(JSON.stringify([its, again(() => finder.find(view, ask)), field.distance(its.start)]), [...field.steps].join(""));
+    const kept = again(() => view.smooth(1, its.start, its.waypoints));
+    told.push(JSON.stringify([kept, again(() => view.clear(1, its.start, kept[0]))]));
+  } finally {
+    finder.close();
+  }
+}
+
 function look(match, told) {
   const view = again(() => match.view());
   try {
     const other = again(() => view.again());
     try {
       told.push(JSON.stringify(again(() => other.find(ask))), [...view.row(1, 3, 12)].join(""));
+      told.push(...[again(() => view.nearest(1, 688128, 229376)), again(() => view.standingAt(1))].map((it) => JSON.stringify(it)));
+      lead(other, told);
     } finally {
       other.close();
     }
