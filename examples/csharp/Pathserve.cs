@@ -25,6 +25,8 @@ namespace Pathserve
 
     public enum GoalKind : byte { None = 0, Point = 1, Circle = 2, NotCircle = 3, Square = 4, NotSquare = 5, Obstruction = 6 }
 
+    public enum PostFault : uint { None = 0, WrongKind = 1, WrongCaller = 2, WrongClass = 3, WrongGoal = 4, NotZero = 5 }
+
     public enum ReplyKind : byte { Added = 1, Removed = 2, Moved = 3, Refused = 4, Nowhere = 5, AtGoal = 6, NearGoal = 7, InRegion = 8 }
 
     public enum Refusal : byte
@@ -228,6 +230,8 @@ namespace Pathserve
         [DllImport(Library)] internal static extern Status pathserve_open_map(
             ref Handle match, ref Map map, [In] PassabilityClass[] classes, UIntPtr classCount, [In] Rect[] walls, UIntPtr wallCount);
         [DllImport(Library)] internal static extern Status pathserve_post_all(ref Handle match, [In] Post[] posts, UIntPtr count);
+        [DllImport(Library)] internal static extern Status pathserve_check(
+            ref Handle match, [In] Post[] posts, UIntPtr count, ref UIntPtr which, ref PostFault why);
         [DllImport(Library)] internal static extern Status pathserve_end_turn(ref Handle match, out Turn turn);
         [DllImport(Library)] internal static extern UIntPtr pathserve_replies(ref Handle match, ulong first, [Out] Reply[] replies, UIntPtr count);
         [DllImport(Library)] internal static extern UIntPtr pathserve_waypoints(ref Handle match, ulong first, [Out] Cell[] cells, UIntPtr count);
@@ -325,6 +329,17 @@ namespace Pathserve
 
         /// <summary>Posts, after those that the turn has: all or none.</summary>
         public void Post(params Post[] posts) { Native.Must(Native.pathserve_post_all(ref handle, posts, Native.Count(posts))); }
+
+        /// <summary>What is wrong with the first of these posts that `Post` would refuse, and its place. None where it would refuse
+        /// none.</summary>
+        public PostFault Check(Post[] posts, out int which)
+        {
+            UIntPtr place = UIntPtr.Zero;
+            PostFault why = PostFault.None;
+            Native.pathserve_check(ref handle, posts, Native.Count(posts), ref place, ref why);
+            which = (int)place;
+            return why;
+        }
 
         /// <summary>Makes the edits of the turn, and answers its requests on what they leave. The first `Replies` of `replies` are the
         /// replies, caller by caller, and a path has its waypoints from its `FirstWaypoint` on.</summary>

@@ -7,6 +7,9 @@ export const Status: Readonly<{
   DONE: 0; BAD_LINE: 3; NO_MEMORY: 6; TOO_LONG: 7; CLOSED: 16; OPEN: 17; OTHER: 18; ENDED: 19; NO_MAP: 20; BAD_VALUE: 21; SMALL: 22;
 }>;
 
+/** What is wrong with a post, as `check` says it. */
+export const PostFault: Readonly<{ WRONG_KIND: 1; WRONG_CALLER: 2; WRONG_CLASS: 3; WRONG_GOAL: 4; NOT_ZERO: 5 }>;
+
 /** A call that ended with another status than DONE. Of a `feed` without memory, `taken` is how many bytes were taken. */
 export class Failed extends Error {
   readonly status: number;
@@ -121,6 +124,8 @@ export class TextMatch extends Match {
 export class PostedMatch extends Match {
   /** Posts, behind those that the turn has: all or none. */
   post(...posts: Post[]): void;
+  /** The place of the first of these posts that `post` would refuse, and the PostFault; null where it would refuse none. */
+  check(...posts: Post[]): { which: number; why: number } | null;
   /** Makes the edits of the turn, and answers its requests on what they leave. */
   endTurn(): Turn;
   /** The turns that have ended as the bytes of a script, which a TextMatch or the program answers alike. */

@@ -24,6 +24,9 @@ export const Status = Object.freeze({
   DONE: 0, BAD_LINE: 3, NO_MEMORY: 6, TOO_LONG: 7, CLOSED: 16, OPEN: 17, OTHER: 18, ENDED: 19, NO_MAP: 20, BAD_VALUE: 21, SMALL: 22,
 });
 
+/** What is wrong with a post, as `check` says it. */
+export const PostFault = Object.freeze({ WRONG_KIND: 1, WRONG_CALLER: 2, WRONG_CLASS: 3, WRONG_GOAL: 4, NOT_ZERO: 5 });
+
 const nameOf = (status) => Object.keys(Status).find((it) => Status[it] === status) ?? `status ${status}`;
 
 /** A call that ended with another status than DONE. Of a `feed` without memory, `taken` is how many bytes were taken. */
@@ -396,6 +399,16 @@ export class PostedMatch extends Match {
     const [at] = this.library.room(POST.size * posts.length);
     posts.forEach((it, n) => this.library.write(at + POST.size * n, POST, it));
     must(this.call("post_all", BigInt(at), BigInt(posts.length)));
+  }
+
+  /** The place of the first of these posts that `post` would refuse, and the PostFault; null where it would refuse none. */
+  check(...posts) {
+    const [at, which, why] = this.library.room(POST.size * posts.length, 8, 4);
+    posts.forEach((it, n) => this.library.write(at + POST.size * n, POST, it));
+    const status = this.call("check", BigInt(at), BigInt(posts.length), BigInt(which), BigInt(why));
+    if (status !== Status.BAD_VALUE) return null;
+    const { data } = this.library;
+    return { which: Number(data.getBigUint64(which, true)), why: data.getUint32(why, true) };
   }
 
   /** Makes the edits of the turn, and answers its requests on what they leave. */

@@ -18,6 +18,12 @@ pub const NO_MAP: u32 = 20;
 pub const BAD_VALUE: u32 = 21;
 pub const SMALL: u32 = 22;
 
+pub const WRONG_KIND: u32 = 1;
+pub const WRONG_CALLER: u32 = 2;
+pub const WRONG_CLASS: u32 = 3;
+pub const WRONG_GOAL: u32 = 4;
+pub const NOT_ZERO: u32 = 5;
+
 /// A match: all zero before it is opened, written by the library alone, never copied.
 #[repr(C)]
 pub struct Match {
@@ -149,6 +155,7 @@ extern "C" {
         base_count: usize,
     ) -> u32;
     pub fn pathserve_post_all(its: *mut Match, posts: *const Post, count: usize) -> u32;
+    pub fn pathserve_check(its: *mut Match, posts: *const Post, count: usize, which: *mut usize, why: *mut u32) -> u32;
     pub fn pathserve_end_turn(its: *mut Match, turn: *mut Turn) -> u32;
     pub fn pathserve_replies(its: *mut Match, first: u64, replies: *mut Reply, count: usize) -> usize;
     pub fn pathserve_waypoints(its: *mut Match, first: u64, waypoints: *mut Cell, count: usize) -> usize;

@@ -16,7 +16,7 @@ mod posts;
 mod views;
 
 pub use finders::Finder;
-pub use matches::{PostedMatch, Report, TextMatch, Turn};
+pub use matches::{PostFault, PostedMatch, Report, TextMatch, Turn};
 pub use pathserve_sys::{Cell, Rect};
 pub use posts::{fixed, Class, Goal, Outcome, Path, Post, Refusal, Reply, NAVCELL};
 pub use views::View;

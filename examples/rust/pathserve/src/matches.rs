@@ -103,6 +103,33 @@ pub struct Turn {
 /// A match on a map, whose turns are posts.
 pub struct PostedMatch(Owned);
 
+/// What is wrong with a post.
+#[derive(Clone, Copy, Debug, PartialEq, Eq)]
+pub enum PostFault {
+    /// An unknown kind.
+    Kind,
+    /// The map has no such caller.
+    Caller,
+    /// The map has no such class.
+    Class,
+    /// An unknown kind of goals.
+    Goal,
+    /// An unused field is not 0.
+    UnusedField,
+}
+
+impl PostFault {
+    fn of(number: u32) -> PostFault {
+        match number {
+            sys::WRONG_KIND => PostFault::Kind,
+            sys::WRONG_CALLER => PostFault::Caller,
+            sys::WRONG_CLASS => PostFault::Class,
+            sys::WRONG_GOAL => PostFault::Goal,
+            _ => PostFault::UnusedField,
+        }
+    }
+}
+
 impl PostedMatch {
     /// A match on a map of so many navcells and callers. Class k is `classes[k]`, and bit k of a mask is for it.
     pub fn open(
@@ -127,6 +154,16 @@ impl PostedMatch {
         let posts: Vec<sys::Post> = posts.iter().map(Post::raw).collect();
         // SAFETY: a slice with its length.
         must(unsafe { sys::pathserve_post_all(self.handle(), posts.as_ptr(), posts.len()) })
+    }
+
+    /// The place of the first of these posts that `post` would refuse, and what is wrong with it. None where it would refuse
+    /// none.
+    pub fn check(&mut self, posts: &[Post]) -> Option<(usize, PostFault)> {
+        let posts: Vec<sys::Post> = posts.iter().map(Post::raw).collect();
+        let (mut which, mut why) = (0, 0);
+        // SAFETY: a slice with its length, and two numbers that may be written.
+        let status = unsafe { sys::pathserve_check(self.handle(), posts.as_ptr(), posts.len(), &mut which, &mut why) };
+        (status == sys::BAD_VALUE).then(|| (which, PostFault::of(why)))
     }
 
     /// Makes the edits of the turn, and answers its requests on what they leave.
