@@ -7,7 +7,8 @@
  *
  *     by text       pathserve_open       feed, finish          waiting, take
  *     by structs    pathserve_open_map   check, post_all, end_turn   replies, waypoints, journal
- *     to look       pathserve_view_of    passable, region, area, row, nearest, standing_at, find, field, clear, smooth
+ *     to look       pathserve_view_of    passable, region, area, row, nearest, standing_at, standing, find, field,
+ *                                        clear, smooth
  *     to find much  pathserve_finder_open   find_with, find_all
  *
  * WHAT YOU PROMISE, for each call. The library's functions are proved to be safe and to return the statuses and results
@@ -336,6 +337,12 @@ uint32_t pathserve_nearest(pathserve_view *view, uint32_t class_number, pathserv
 /* The obstruction with a number, as the post by which caller 0 would add it. Returns 1 and writes the post; or returns 0 and
  * writes nothing: if there is none, and for a closed view. */
 uint32_t pathserve_standing_at(pathserve_view *view, uint32_t id, pathserve_post *post);
+
+/* Copies the current obstructions, as the posts by which caller 0 would add them, by rising number, starting at place `first`
+ * (from 0): as many as fit. `whole` gets how many there are in all, at most 65,536; so a first call with (NULL, 0) asks for
+ * that. A match on the same map goes on alike from one turn of these posts (docs/C.md, "Lockstep").
+ * DONE. NO_MEMORY, CLOSED, and OTHER for a match. Only with DONE is anything written. */
+pathserve_status pathserve_standing(pathserve_view *view, uint64_t first, pathserve_post *posts, size_t count, uint64_t *whole);
 
 /* Answers a post of the kind PATHSERVE_PATH or PATHSERVE_REGION at once, as a turn without edits would. The match does not
  * learn of it. Writes the reply, and as many waypoints of a path as fit: a buffer that is too small is no error. In the reply,

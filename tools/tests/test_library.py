@@ -577,6 +577,8 @@ class Python(unittest.TestCase):
                     standing = stand_after(standing, posts, replies)
                     asked = [it for it in zip(sorted(posts, key=lambda post: post.caller), replies) if it[0].kind == 5]
                     with match.view() as view:
+                        adds = [standing[number]._replace(caller=0) for number in sorted(standing)]
+                        self.assertEqual(view.standing(), adds)
                         for number in {*standing, *(post.id for post in posts)}:
                             add = standing.get(number)
                             self.assertEqual(view.standing_at(number), add and add._replace(caller=0))

@@ -32,6 +32,7 @@ mod turn_posts;
 mod turns;
 
 pub use cells::FlatCell;
+pub use edits::flat_edit;
 pub use laws::{one_flat_post, one_map, one_post};
 pub use map_parts::{FlatClass, FlatRect};
 pub use maps::{FlatMap, MapFault};

@@ -2,6 +2,7 @@ mod AsBox
 mod Asking
 mod Feeding
 mod FieldLaws
+mod Paged
 mod Places
 mod Sighted
 mod Starts

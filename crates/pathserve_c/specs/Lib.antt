@@ -5,6 +5,7 @@ pub mod Fields
 pub mod Finders
 pub mod Finds
 pub mod Handles
+pub mod Listings
 pub mod Questions
 pub mod Sights
 pub mod Sizes

@@ -88,6 +88,14 @@ class View(Owner):
         is_there = 0 <= number < 1 << 32 and self._call("standing_at", number, struct)
         return post_of(struct) if is_there else None
 
+    def standing(self) -> list[Post]:
+        """All that stands, as the posts by which caller 0 adds it, by rising number."""
+        whole = ctypes.c_uint64()
+        must(self._call("standing", 0, None, 0, whole))
+        structs = (native.PostStruct * whole.value)()
+        must(self._call("standing", 0, structs, len(structs), whole))
+        return [post_of(it) for it in structs]
+
     def find(self, post: Post) -> Reply:
         """Answers a path or a region at once, as a turn without edits would. The match knows nothing of it."""
         struct, reply, room = post.struct(), native.ReplyStruct(), 64

@@ -105,7 +105,8 @@ static pathserve_status look(pathserve_match *match) {
     pathserve_view view = {0}, other = {0};
     pathserve_reply reply;
     pathserve_cell waypoints[64];
-    uint64_t words[1] = {0}, distances[96] = {0};
+    pathserve_post adds[16];
+    uint64_t words[1] = {0}, distances[96] = {0}, standing = 0;
     uint8_t steps[96] = {0};
     size_t kept = 0;
     pathserve_status status;
@@ -121,6 +122,8 @@ static pathserve_status look(pathserve_match *match) {
         AGAIN(status, pathserve_smooth(&other, ask.class_number, &reply.start, waypoints, reply.waypoints, &kept));
         if (status == PATHSERVE_DONE) tell(waypoints, sizeof *waypoints * kept);
     }
+    if (status == PATHSERVE_DONE) AGAIN(status, pathserve_standing(&view, 0, adds, 16, &standing));
+    if (status == PATHSERVE_DONE) tell(adds, sizeof *adds * (standing < 16 ? standing : 16));
     if (status == PATHSERVE_DONE) AGAIN(status, pathserve_field(&other, &ask, &reply, steps, 96, distances, 96));
     if (status == PATHSERVE_DONE) {
         tell(steps, sizeof steps);
