@@ -247,6 +247,8 @@ namespace Pathserve
             ref Handle view, uint classNumber, uint j, [Out] ulong[] words, UIntPtr count);
         [DllImport(Library)] internal static extern uint pathserve_nearest(ref Handle view, uint classNumber, int x, int z, ref Cell cell);
         [DllImport(Library)] internal static extern uint pathserve_standing_at(ref Handle view, uint id, ref Post post);
+        [DllImport(Library)] internal static extern Status pathserve_standing(
+            ref Handle view, ulong first, [Out] Post[] posts, UIntPtr count, ref ulong whole);
         [DllImport(Library)] internal static extern Status pathserve_find(
             ref Handle view, ref Post post, ref Reply reply, [In, Out] Cell[] cells, UIntPtr count);
         [DllImport(Library)] internal static extern Status pathserve_field(
@@ -429,6 +431,16 @@ namespace Pathserve
         {
             Cell cell = new Cell();
             return Native.pathserve_nearest(ref handle, (uint)classNumber, x, z, ref cell) != 0 ? cell : (Cell?)null;
+        }
+
+        /// <summary>All that stands, as the posts by which caller 0 adds it, by rising number.</summary>
+        public Post[] Standing()
+        {
+            ulong whole = 0;
+            Native.Must(Native.pathserve_standing(ref handle, 0, null, UIntPtr.Zero, ref whole));
+            var posts = new Post[whole];
+            Native.Must(Native.pathserve_standing(ref handle, 0, posts, Native.Count(posts), ref whole));
+            return posts;
         }
 
         /// <summary>The post by which caller 0 adds what stands under a number, or null.</summary>

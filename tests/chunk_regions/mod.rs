@@ -249,6 +249,11 @@ fn has_changed(alloc: Global, (rows, row, changed, numbers, same): Change) -> Op
 #[test]
 fn a_changed_row_changes_the_regions(rt: HostRuntime) {
     for change in CHANGES {
-        assert!(rt; has_changed(rt.alloc(), change) == Some(true), "row {} of {}", change.1, change.0);
+        assert!(rt;
+            has_changed(rt.alloc(), change) == Some(true),
+            "row {} of {}",
+            change.1,
+            change.0
+        );
     }
 }

@@ -48,7 +48,9 @@ fn is_told(field: &Field, cell: Cell, step: u8, distance: u64) -> bool {
 /// Whether a number is that of a step.
 fn is_step(dir: Option<Dir>, step: u8) -> bool {
     match dir {
-        Some(dir) => (1..=8).zip(Dir::ALL).any(|(number, other)| number == step && other == dir),
+        Some(dir) => (1..=8)
+            .zip(Dir::ALL)
+            .any(|(number, other)| number == step && other == dir),
         None => step == ARRIVED,
     }
 }
@@ -98,7 +100,10 @@ fn tells_as_the_field(alloc: Global, line: &str) -> Option<bool> {
 #[test]
 fn buffers_have_what_the_field_has(rt: HostRuntime) {
     for line in MAPS.lines() {
-        assert!(rt; tells_as_the_field(rt.alloc(), line) == Some(true), "{line}");
+        assert!(rt;
+            tells_as_the_field(rt.alloc(), line) == Some(true),
+            "{line}"
+        );
     }
 }
 
@@ -116,6 +121,9 @@ fn are_walked(alloc: Global, start: &str, text: &str) -> Option<bool> {
 #[test]
 fn waypoints_are_those_of_legal_walks(rt: HostRuntime) {
     for (start, cells, is_walk) in WALKS {
-        assert!(rt; are_walked(rt.alloc(), start, cells) == Some(is_walk), "{start}: {cells}");
+        assert!(rt;
+            are_walked(rt.alloc(), start, cells) == Some(is_walk),
+            "{start}: {cells}"
+        );
     }
 }

@@ -148,6 +148,8 @@ export class View extends Owner {
   nearest(classNumber: number, x: number, z: number): Cell | null;
   /** The post by which caller 0 adds what stands under a number, or null. */
   standingAt(id: number): Post | null;
+  /** All that stands, as the posts by which caller 0 adds it, by rising number. */
+  standing(): Post[];
   /** Answers a path or a region at once, as a turn without edits would. The match knows nothing of it. */
   find(post: Post): Reply;
   /** The flow field of a path, one for a whole group, on a map of this size. Null where no path is answered: `find` says why. */

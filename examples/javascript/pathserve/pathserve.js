@@ -486,6 +486,16 @@ export class View extends Owner {
     return this.call("standing_at", fitting("id", "Uint32", id), BigInt(at)) ? addOf(this.library.read(at, POST)) : null;
   }
 
+  /** All that stands, as the posts by which caller 0 adds it, by rising number. */
+  standing() {
+    let [whole] = this.library.room(8);
+    must(this.call("standing", 0n, 0n, 0n, BigInt(whole)));
+    const count = Number(this.library.data.getBigUint64(whole, true));
+    const [again, at] = this.library.room(8, POST.size * count);
+    must(this.call("standing", 0n, BigInt(at), BigInt(count), BigInt(again)));
+    return Array.from({ length: count }, (_, n) => addOf(this.library.read(at + POST.size * n, POST)));
+  }
+
   /** Answers a path or a region at once, as a turn without edits would. The match knows nothing of it. */
   find(post) {
     return found(this.library, post, (...words) => this.call("find", ...words));

@@ -65,6 +65,19 @@ impl View {
         (is_there != 0).then(|| add_of(&post))
     }
 
+    /// All that stands, as the posts by which caller 0 adds it, by rising number.
+    pub fn standing(&mut self) -> Result<Vec<Post>, Error> {
+        let (mut posts, mut whole) = (Vec::<sys::Post>::new(), 0);
+        loop {
+            // SAFETY: an exclusive handle, and a buffer with its length.
+            must(unsafe { sys::pathserve_standing(&mut self.0, 0, posts.as_mut_ptr(), posts.len(), &mut whole) })?;
+            if posts.len() as u64 == whole {
+                return Ok(posts.iter().map(add_of).collect());
+            }
+            posts.resize(whole as usize, sys::Post::default());
+        }
+    }
+
     /// Answers a path or a region at once, as a turn without edits would. The match knows nothing of it.
     pub fn find(&mut self, post: &Post) -> Result<Reply, Error> {
         let (post, mut reply, mut waypoints) = (post.raw(), sys::Reply::default(), vec![sys::Cell::default(); 64]);
