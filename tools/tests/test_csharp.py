@@ -30,7 +30,7 @@ class Declarations(unittest.TestCase):
     def test_each_number_is_that_of_the_header(self):
         enums = {name: dict(re.findall(r"(\w+) = (\d+)", words)) for name, words in re.findall(r"(?s)enum (\w+) : \w+\s*\{(.*?)\}", self.code)}
         blocks = [re.findall(r"PATHSERVE_(\w+) = (\d+)", it) for it in re.findall(r"(?ms)^enum \{.*?^\};", self.header)]
-        of = {"Status": "DONE", "Report": "REPLAY", "PostKind": "ADD_UNIT", "GoalKind": "POINT", "ReplyKind": "ADDED", "Refusal": "BAD_SHAPE"}
+        of = {"Status": "DONE", "Report": "REPLAY", "PostKind": "ADD_UNIT", "GoalKind": "POINT", "ReplyKind": "ADDED", "Refusal": "BAD_SHAPE", "PostFault": "WRONG_KIND"}
         self.assertEqual(set(enums), set(of))
         for name, first in of.items():
             block, = (it for it in blocks if it[0][0] == first)
