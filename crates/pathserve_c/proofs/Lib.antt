@@ -2,7 +2,6 @@ mod AsBox
 mod Asking
 mod Feeding
 mod FieldLaws
-mod Paged
 mod Places
 mod Sighted
 mod Starts

@@ -1,6 +1,5 @@
-use Rattle.std.proofs.Common.{◌≡◌, ◌+◌, List, take, sym, subst}
+use Rattle.std.proofs.Common.{◌≡◌, ◌+◌, take, sym, subst}
 use Rattle.std.proofs.lemmas.List.Elements.{All-get_or}
-use Rattle.posts.specs.declared.replies.Reply.{Reply}
 use Rattle.flat_posts.specs.Posts.{bare_post}
 use Rattle.flat_posts.proofs.ReadLists.{zip_more}
 use Rattle.pathserve_c.specs.Answered.{AreAnswered, IsAnswered, IsRequest}

@@ -1,5 +1,4 @@
-use Rattle.std.proofs.Common.{◌≡◌, ℕ, List, ap, length, sym, subst, ◌∙◌}
-use Rattle.posts.specs.declared.posts.Post.{Post}
+use Rattle.std.proofs.Common.{ℕ, ap, length, sym, subst, ◌∙◌}
 use Rattle.script_text.specs.Canon.{HaveLines}
 use Rattle.flat_posts.proofs.TurnLists.{length-turn_of}
 use Rattle.pathserve_c.proofs.Turning.{lines_of_3}
